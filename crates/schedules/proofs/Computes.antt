@@ -1,0 +1,47 @@
+-- For theorems by computation: each name below opens every definition of its module.
+use Rattle.schedules.specs.FileSections as FileSections
+use Rattle.schedules.specs.Nodes as Nodes
+use Rattle.schedules.specs.Trees as Trees
+use Rattle.schedules.specs.Residuals as Residuals
+use Rattle.schedules.specs.Numbering as Numbering
+use Rattle.schedules.specs.Files as Files
+use Rattle.schedules.specs.Compiling as Compiling
+use Rattle.schedules.specs.Calls as Calls
+use Rattle.semantics.proofs.Computes as Semantics
+use native.Mathlib.Decide.{ℕ-discrete}
+
+unfoldable pub fileSections : Unit {0}
+unfolding FileSections.readFileSections FileSections.fileSectionsIn
+fileSections = tt
+
+unfoldable pub nodes : Unit {0}
+unfolding Nodes.kindOf Nodes.childCount Nodes.nodeOf Nodes.readNode Nodes.readNodes Nodes.nodesIn Nodes.nodeReads Nodes.nodeNamed Nodes.actionOf Nodes.listed Nodes.actionsFrom Nodes.actionsOf
+nodes = tt
+
+unfoldable pub trees : Unit {0}
+unfolding Trees.children Trees.ofNone Trees.ofOne Trees.ofTwo Trees.ofSome Trees.treeFrom Trees.onward Trees.found Trees.readForest Trees.readTree Trees.noneLeft Trees.treeOf
+trees = tt
+
+unfoldable pub residuals : Unit {0}
+unfolding Residuals.fresh Residuals.actingAt Residuals.acting Residuals.only Residuals.moveAt Residuals.inside Residuals.after Residuals.allFinished Residuals.joined Residuals.orElse Residuals.move Residuals.same?
+residuals = tt
+
+unfoldable pub numbering : Unit {0}
+unfolding Numbering.numberOf Numbering.meet Numbering.numberFrom Numbering.residualIn Numbering.nodeTargets Numbering.targets Numbering.locations
+numbering = tt
+
+unfoldable pub files : Unit {0}
+unfolding Files.fileHeader Files.fileLength Files.judgeFile Files.ruleControl
+files = tt
+
+unfoldable pub compiling : Unit {0}
+unfolding Compiling.testsOf Compiling.scheduleLocations Compiling.targetCode Compiling.entryOf Compiling.entriesOf Compiling.tableOf Compiling.judgeCompile
+compiling = tt
+
+unfoldable pub calls : Unit {0}
+unfolding Calls.scheduleCounts Calls.readSchedule Calls.ruleProgram Calls.ruleRun Calls.compiledInto Calls.compile
+calls = tt
+
+unfoldable pub schedules : Unit {0}
+unfolding Semantics.semantics ℕ-discrete fileSections nodes trees residuals numbering files compiling calls
+schedules = tt

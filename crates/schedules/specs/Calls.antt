@@ -1,0 +1,54 @@
+-- The calls over a schedule file: all that each returns, and what a lent buffer holds afterwards, for all inputs.
+use mathlib.Core.List.{List}
+use Prim.Native.Nat.{ℕ}
+use lib.ListN.{length}
+use Rattle.semantics.specs.Bytes.{overwrite}
+use Rattle.semantics.specs.Editions.{Edition}
+use Rattle.semantics.specs.Refusals.{Judged, refused, accepted, _>>=_}
+use Rattle.semantics.specs.Plant.{selectors}
+use Rattle.semantics.specs.Calls.{Program, judgeRun, Ran, report}
+use Rattle.schedules.specs.Residuals.{Residual}
+use Rattle.schedules.specs.Files.{Schedule, judgeFile, ruleControl}
+use Rattle.schedules.specs.Compiling.{judgeCompile}
+
+-- ---- the call "reading a schedule": 1 to 12
+pub record ScheduleRead : Type 0 where
+  pub refusal : ℕ
+  pub variables : ℕ
+  pub selectors : ℕ
+  pub nodes : ℕ
+
+unfoldable pub scheduleCounts : Judged Schedule → ScheduleRead
+scheduleCounts (refused n) = record { refusal = n; variables = 0; selectors = 0; nodes = 0 }
+scheduleCounts (accepted s) = record {
+  refusal = 0;
+  variables = length (s .plant .variables);
+  selectors = length (selectors (s .plant));
+  nodes = length (s .nodes);
+}
+
+unfoldable pub readSchedule : Edition → List ℕ → ScheduleRead
+readSchedule ed f = scheduleCounts (judgeFile ed f)
+
+-- ---- the call "running a schedule by the rules": 1 to 12 and 20 to 22
+unfoldable pub ruleProgram : Edition → List ℕ → Judged (Program Residual)
+ruleProgram ed f = do
+  s ← judgeFile ed f
+  accepted (record { plant = s .plant; control = ruleControl s })
+
+unfoldable pub ruleRun : Edition → List ℕ → List ℕ → List ℕ → List ℕ → Ran
+ruleRun ed f start events buffer = report buffer (judgeRun ed (ruleProgram ed f) start events buffer)
+
+-- ---- the call "compiling": 1 to 14
+pub record Compiled : Type 0 where
+  pub refusal : ℕ
+  pub written : ℕ
+  -- the lent buffer afterwards
+  pub table : List ℕ
+
+unfoldable pub compiledInto : List ℕ → Judged (List ℕ) → Compiled
+compiledInto buffer (refused n) = record { refusal = n; written = 0; table = buffer }
+compiledInto buffer (accepted t) = record { refusal = 0; written = length t; table = overwrite t buffer }
+
+unfoldable pub compile : Edition → List ℕ → List ℕ → Compiled
+compile ed f buffer = compiledInto buffer (judgeCompile ed f buffer)

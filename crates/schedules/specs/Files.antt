@@ -1,0 +1,48 @@
+-- Document 01, "Schedule file": conditions 1 to 12, and the control of a schedule.
+use mathlib.Core.Bool.{Bool, true, false, _&&_}
+use mathlib.Core.List.{List, [], _∷_}
+use mathlib.Core.Option.{Option}
+use Prim.Native.Nat.{ℕ}
+use lib.ListN.{length, getD, drop}
+use lib.Dec.{leb, eqb}
+use Rattle.semantics.specs.Bytes.{be2, every}
+use Rattle.semantics.specs.Editions.{Edition}
+use Rattle.semantics.specs.Refusals.{Judged, accepted, _>>=_, _>>_, ensure, need}
+use Rattle.semantics.specs.Plant.{Plant, judgePlant, switchesRead, selectors}
+use Rattle.semantics.specs.Run.{Control}
+use Rattle.semantics.specs.Tables.{actionOrStop}
+use Rattle.schedules.specs.FileSections.{FileSections, fileSectionsIn}
+use Rattle.schedules.specs.Nodes.{Node, nodesIn, nodeNamed, nodeReads, actionsOf}
+use Rattle.schedules.specs.Trees.{Tree, treeOf}
+use Rattle.schedules.specs.Residuals.{Residual, fresh, acting, move}
+
+pub record Schedule : Type 0 where
+  pub sections : FileSections
+  pub plant : Plant
+  pub nodes : List Node
+  pub root : Tree
+
+-- 1: "The file has under 3 bytes or byte 0 is not 1."
+unfoldable pub fileHeader : Edition → List ℕ → Bool
+fileHeader ed f = leb 3 (length f) && eqb (getD f 0 0) (ed .version)
+
+-- 2: "Its length field is not its length."
+unfoldable pub fileLength : List ℕ → Bool
+fileLength f = eqb (be2 (getD f 1 0) (getD f 2 0)) (length f)
+
+unfoldable pub judgeFile : Edition → List ℕ → Judged Schedule
+judgeFile ed f = do
+  ensure 1 (fileHeader ed f)
+  ensure 2 (fileLength f)
+  parts ← need 3 (fileSectionsIn (drop 3 f))
+  -- 4 to 8
+  p ← judgePlant ed (parts .variables) (parts .equations)
+  ns ← need 9 (nodesIn ed (parts .schedule))
+  t ← need 10 (treeOf ns)
+  ensure 11 (every (nodeNamed (length (p .variables)) (selectors p)) ns)
+  ensure 12 (every (nodeReads ed (length (p .variables))) ns && switchesRead ed p)
+  accepted (record { sections = parts; plant = p; nodes = ns; root = t })
+
+-- "A run starts at the fresh root"
+unfoldable pub ruleControl : Schedule → Control Residual
+ruleControl s = record { start = fresh (s .root); acting = acting; action = actionOrStop (actionsOf (s .nodes)); next = move }

@@ -1,0 +1,9 @@
+-- The schedule file, its tree, residuals and moves, the rule run and compiling. One module for each part of document 01, in its order.
+pub mod FileSections
+pub mod Nodes
+pub mod Trees
+pub mod Residuals
+pub mod Numbering
+pub mod Files
+pub mod Compiling
+pub mod Calls

@@ -1,0 +1,39 @@
+-- Papers of document 01 that a table or an expression settles.
+use mathlib.Core.Path.{_≡_, refl}
+use mathlib.Core.Bool.{true}
+use mathlib.Core.List.{List, [], _∷_, _++_}
+use Prim.Native.Nat.{ℕ, _+_}
+use lib.ListN.{replicate}
+use lib.IntN.{ℤ, negsuc}
+use Rattle.semantics.specs.Editions.{edition1}
+use Rattle.semantics.specs.Expressions.{Number, constant, negation, Truth, connect, either, always, compare, at-most, Value, ok, fault, above, valueOf, holds, numberValue, truthValue}
+use Rattle.semantics.specs.Calls.{Ran, tableRun, readTable}
+use Rattle.semantics.proofs.Computes.{semantics}
+use Rattle.semantics.proofs.K1.{k1-table, start-at, k2-events, k2-records, k3-events, k3-records, k4-events, k4-records}
+
+-- K2 by the table: a buffer of just 8 records and 2 bytes more, which stay
+pub K2-table : tableRun edition1 k1-table (start-at 0) k2-events (replicate 104 0 ++ (7 ∷ 8 ∷ []))
+    ≡ record { refusal = 0; taken = 4; turned-away = 4; faulted = 0; records = k2-records (7 ∷ 8 ∷ []) }
+unfolding semantics k1-table k2-events k2-records
+K2-table = refl
+
+-- K3 by the table
+pub K3-table : tableRun edition1 k1-table (start-at 10) k3-events (replicate 26 0)
+    ≡ record { refusal = 0; taken = 0; turned-away = 1; faulted = 1; records = k3-records [] }
+unfolding semantics k1-table k3-events k3-records
+K3-table = refl
+
+-- K4 by the table
+pub K4-table : tableRun edition1 k1-table (start-at 9) k4-events (replicate 26 0)
+    ≡ record { refusal = 0; taken = 2; turned-away = 0; faulted = 0; records = k4-records [] }
+unfolding semantics k1-table k4-events k4-records
+K4-table = refl
+
+-- K9: "Negating −2147483648 faults; true or a fault faults."
+pub K9-negation : (vs : List ℤ) → valueOf vs (negation (constant (negsuc 2147483647))) ≡ fault above
+unfolding semantics
+K9-negation vs = refl
+
+pub K9-bytes : numberValue edition1 [] (0x14 ∷ 0x01 ∷ 0x80 ∷ 0 ∷ 0 ∷ 0 ∷ []) ≡ fault above
+unfolding semantics
+K9-bytes = refl

@@ -1,0 +1,109 @@
+-- The calls: all that each returns, and what a lent buffer holds afterwards, for all inputs.
+-- Document 01: "the rule run 1..12 and 20..22, the table run 15..22".
+use mathlib.Core.Bool.{Bool}
+use mathlib.Core.List.{List, [], _∷_, map, flatMap}
+use Prim.Native.Nat.{ℕ, _+_, _*_, _/_, _%_}
+use lib.ListN.{length}
+use lib.Dec.{leb, eqb}
+use Rattle.semantics.specs.Bytes.{overwrite}
+use Rattle.semantics.specs.Editions.{Edition}
+use Rattle.semantics.specs.Events.{eventsIn}
+use Rattle.semantics.specs.Refusals.{Judged, refused, accepted, _>>=_, _>>_, ensure, need}
+use Rattle.semantics.specs.Plant.{Plant, selectors}
+use Rattle.semantics.specs.Starts.{Start, startIn, startFits}
+use Rattle.semantics.specs.Run.{Control, Answered, at, answers, recordOf, isTaken, isTurnedAway, isFaulted, howMany}
+use Rattle.semantics.specs.Tables.{Table, judgeTable, tableControl}
+
+-- 21: "The event bytes are not a multiple of 3."
+unfoldable pub wholeEvents : ℕ → List ℕ → Bool
+wholeEvents width events = eqb (length events % width) 0
+
+unfoldable pub eventCount : Edition → List ℕ → ℕ
+eventCount ed events = length events / ed .event-bytes
+
+-- answer, set, values, modes
+unfoldable pub recordSize : Edition → Plant → ℕ
+recordSize ed p = 1 + (ed .set-bytes + (4 * length (p .variables) + length (selectors p)))
+
+-- 22: "The record buffer is too short."
+unfoldable pub roomForRecords : Edition → Plant → List ℕ → List ℕ → Bool
+roomForRecords ed p events buffer = leb (eventCount ed events * recordSize ed p) (length buffer)
+
+-- what is run: by the rules or by a table
+pub record Program (S : Type 0) : Type 0 where
+  pub plant : Plant
+  pub control : Control S
+
+module _ {S : Type 0} (ed : Edition) where
+  -- "A run starts at the fresh root, with the starting values and modes lent to it"
+  unfoldable pub runFrom : Program S → Start → List ℕ → List (Answered S)
+  runFrom g st events =
+      answers ed (g .plant) (g .control) (at (g .control .start) (st .values) (st .modes)) (eventsIn (ed .event-bytes) (eventCount ed events) events)
+
+-- what a run says: its answers, and its records one after the other
+pub record Outcome : Type 0 where
+  pub said : List ℕ
+  pub written : List ℕ
+
+module _ {S : Type 0} (ed : Edition) where
+  unfoldable pub outcomeOf : Control S → List (Answered S) → Outcome
+  outcomeOf c l = record { said = map (λ (o : Answered S). o .answer) l; written = flatMap (recordOf ed c) l }
+
+  unfoldable pub judgeRun : Judged (Program S) → List ℕ → List ℕ → List ℕ → Judged Outcome
+  judgeRun program start events buffer = do
+    g ← program
+    st ← need 20 (startIn (g .plant) start)
+    ensure 20 (startFits (g .plant) st)
+    ensure 21 (wholeEvents (ed .event-bytes) events)
+    ensure 22 (roomForRecords ed (g .plant) events buffer)
+    accepted (outcomeOf (g .control) (runFrom ed g st events))
+
+-- what a call that runs returns
+pub record Ran : Type 0 where
+  pub refusal : ℕ
+  pub taken : ℕ
+  pub turned-away : ℕ
+  pub faulted : ℕ
+  -- the lent record buffer afterwards
+  pub records : List ℕ
+
+-- "returns these counts, each the number of the run's events with such an answer"
+unfoldable pub report : List ℕ → Judged Outcome → Ran
+report buffer (refused n) = record { refusal = n; taken = 0; turned-away = 0; faulted = 0; records = buffer }
+report buffer (accepted o) = record {
+  refusal = 0;
+  taken = howMany isTaken (o .said);
+  turned-away = howMany isTurnedAway (o .said);
+  faulted = howMany isFaulted (o .said);
+  records = overwrite (o .written) buffer;
+}
+
+-- ---- the call "running a table": 15 to 22
+unfoldable pub tableProgram : Edition → List ℕ → Judged (Program ℕ)
+tableProgram ed table = do
+  t ← judgeTable ed table
+  accepted (record { plant = t .plant; control = tableControl t })
+
+unfoldable pub tableRun : Edition → List ℕ → List ℕ → List ℕ → List ℕ → Ran
+tableRun ed table start events buffer = report buffer (judgeRun ed (tableProgram ed table) start events buffer)
+
+-- ---- the call "reading a table": 15 to 19
+pub record TableRead : Type 0 where
+  pub refusal : ℕ
+  pub variables : ℕ
+  pub selectors : ℕ
+  pub actions : ℕ
+  pub locations : ℕ
+
+unfoldable pub tableCounts : Judged Table → TableRead
+tableCounts (refused n) = record { refusal = n; variables = 0; selectors = 0; actions = 0; locations = 0 }
+tableCounts (accepted t) = record {
+  refusal = 0;
+  variables = length (t .plant .variables);
+  selectors = length (selectors (t .plant));
+  actions = length (t .actions);
+  locations = length (t .locations);
+}
+
+unfoldable pub readTable : Edition → List ℕ → TableRead
+readTable ed table = tableCounts (judgeTable ed table)

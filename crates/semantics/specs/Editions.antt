@@ -1,0 +1,42 @@
+-- The editions of the formats. Whatever reads or writes bytes takes one; there is one so far.
+use Prim.Native.Nat.{ℕ, _*_, _≤_, _<_}
+use lib.Dec.{lit<, lit≤}
+use Rattle.semantics.specs.Bytes.{Width, one-byte, two-bytes}
+
+-- the numbers that fit a width are below this
+abbrev pub capacity : Width → ℕ
+capacity one-byte = 256
+capacity two-bytes = 65536
+
+pub record Edition : Type 0 where
+  -- byte 0 of a file and of a table
+  pub version : ℕ
+  -- of a node count, an action count, a node's number, a node's length and an action's length
+  pub width : Width
+  -- nodes are numbered below this
+  pub nodes : ℕ
+  -- of a record's set of acting nodes
+  pub set-bytes : ℕ
+  pub event-bytes : ℕ
+  -- what every edition keeps: its numbers fit their bytes, a location's entries are counted in one byte,
+  -- and an event has room for a kind and a selector with its switch
+  pub version-fits : version < 256
+  pub nodes-fit : nodes < capacity width
+  pub entries-fit : nodes ≤ 256
+  pub set-holds : nodes ≤ 8 * set-bytes
+  pub event-holds : 3 ≤ event-bytes
+
+-- "Byte 0 is version 1"; "node count 1..64"; "An event is 3 bytes"; "set of acting nodes (8 bytes, ..)"
+abbrev pub edition1 : Edition
+edition1 = record {
+  version = 1;
+  width = one-byte;
+  nodes = 64;
+  set-bytes = 8;
+  event-bytes = 3;
+  version-fits = lit< tt;
+  nodes-fit = lit< tt;
+  entries-fit = lit≤ tt;
+  set-holds = lit≤ tt;
+  event-holds = lit≤ tt;
+}

@@ -1,0 +1,197 @@
+-- Document 01, "Run by the rules", rule by rule: a relation between a situation, an event's bytes, its answer and the situation after it.
+-- It is written from the paper, one constructor for each rule, in the manner of source 001's rules; `step` of Run is shown to be just it.
+use mathlib.Core.Path.{_≡_}
+use mathlib.Core.Bool.{Bool, true, false}
+use mathlib.Core.List.{List, [], _∷_, _++_, List·Memᴰ as Mem}
+use mathlib.Core.Option.{none, some}
+use Prim.Native.Nat.{ℕ, _+_, _*_, _<_}
+use lib.ListN.{length, getElem?, set}
+use lib.IntN.{ℤ, _+ℤ_}
+use lib.Signed.{leZ, ltZ}
+use Rattle.semantics.specs.Bytes.{Width, one-byte, two-bytes}
+use Rattle.semantics.specs.Editions.{Edition}
+use Rattle.semantics.specs.Expressions.{Side, above, below, ok, fault, numberValue, truthValue}
+use Rattle.semantics.specs.Sections.{Variable, Switch, Mode}
+use Rattle.semantics.specs.Plant.{Plant, currentModes, currentTruths, rateOf}
+use Rattle.semantics.specs.Run.{Action, test, wait, assign, switch, stop, possible, Next, to, finished, halted, idle, Control, Situation, Answered, at, over, faultAnswer}
+
+-- ---- what an event's bytes say
+pub data Zeros : List ℕ → Type 0 where
+  no-zeros : Zeros []
+  one-zero : {l : List ℕ} → Zeros l → Zeros (0 ∷ l)
+
+-- a number and its big-endian bytes
+pub data Names : Width → List ℕ → ℕ → Type 0 where
+  by-one : {n : ℕ} → Names one-byte (n ∷ []) n
+  by-two : {a b : ℕ} → Names two-bytes (a ∷ b ∷ []) (a * 256 + b)
+
+module _ (ed : Edition) where
+  -- "0,0,0 tick"
+  pub record SaysTick (e : List ℕ) : Type 0 where
+    pub unused : List ℕ
+    pub bytes : e ≡ 0 ∷ unused
+    pub zeros : Zeros unused
+
+  -- "1,n,0 pick node n"
+  pub record SaysPick (e : List ℕ) (n : ℕ) : Type 0 where
+    pub name : List ℕ
+    pub unused : List ℕ
+    pub bytes : e ≡ 1 ∷ (name ++ unused)
+    pub names : Names (ed .width) name n
+    pub zeros : Zeros unused
+
+  -- "2,s,k take switch k (from 0) of selector s's current mode"
+  pub record SaysSwitch (e : List ℕ) (s k : ℕ) : Type 0 where
+    pub unused : List ℕ
+    pub bytes : e ≡ 2 ∷ s ∷ k ∷ unused
+    pub zeros : Zeros unused
+
+  -- ---- "up to the first that is true or faults": a walk over truths, and what it stops at
+  pub data Found : Type 0 where
+    nothing a-truth : Found
+    a-fault : Side → Found
+
+  pub data Walks (vs : List ℤ) : List (List ℕ) → Found → Type 0 where
+    walk-ends : Walks vs [] nothing
+    walk-on : {t : List ℕ} {ts : List (List ℕ)} {f : Found} → truthValue ed vs t ≡ ok false → Walks vs ts f → Walks vs (t ∷ ts) f
+    stops-at-truth : {t : List ℕ} {ts : List (List ℕ)} → truthValue ed vs t ≡ ok true → Walks vs (t ∷ ts) a-truth
+    stops-at-fault : {t : List ℕ} {ts : List (List ℕ)} {s : Side} → truthValue ed vs t ≡ fault s → Walks vs (t ∷ ts) (a-fault s)
+
+-- "all acting nodes are CONTINUE", with their truths in node order
+pub data Waits (action : ℕ → Action) : List ℕ → List (List ℕ) → Type 0 where
+  none-waits : Waits action [] []
+  one-waits : {n : ℕ} {t : List ℕ} {ns : List ℕ} {ts : List (List ℕ)} → action n ≡ wait t → Waits action ns ts → Waits action (n ∷ ns) (t ∷ ts)
+
+-- ---- "A value outside its declared range faults."
+pub data Inside (x : Variable) (z : ℤ) : Type 0 where
+  inside : leZ (x .minimum) z ≡ true → leZ z (x .maximum) ≡ true → Inside x z
+
+pub data Outside (x : Variable) (z : ℤ) : Side → Type 0 where
+  too-low : ltZ z (x .minimum) ≡ true → Outside x z below
+  too-high : leZ (x .minimum) z ≡ true → ltZ (x .maximum) z ≡ true → Outside x z above
+
+-- "each driven variable adds its current rate (0 where its CASE's mode gives none)"
+pub record Added (p : Plant) (ms : List ℕ) (vs ys : List ℤ) : Type 0 where
+  pub as-many : length ys ≡ length vs
+  pub each : (v : ℕ) (z : ℤ) → getElem? vs v ≡ some z → getElem? ys v ≡ some (z +ℤ rateOf p ms v)
+
+pub record AllInside (xs : List Variable) (ys : List ℤ) : Type 0 where
+  pub each : (v : ℕ) (x : Variable) (y : ℤ) → getElem? xs v ≡ some x → getElem? ys v ≡ some y → Inside x y
+
+-- the lowest variable outside its range
+pub record FirstOutside (xs : List Variable) (ys : List ℤ) (side : Side) : Type 0 where
+  pub which : ℕ
+  pub variable : Variable
+  pub value : ℤ
+  pub is-variable : getElem? xs which ≡ some variable
+  pub is-value : getElem? ys which ≡ some value
+  pub outside : Outside variable value side
+  pub lower : (v : ℕ) (x : Variable) (y : ℤ) → v < which → getElem? xs v ≡ some x → getElem? ys v ≡ some y → Inside x y
+
+-- ---- "A taken pick that finishes the root is answered 201 and one of a STOP 202, and both end the run; any other taken event is answered 200."
+pub data Goes {S : Type 0} (vs : List ℤ) (ms : List ℕ) : Next S → ℕ → Situation S → Type 0 where
+  goes-on : {y : S} → Goes vs ms (to y) 200 (at y vs ms)
+  finishes : Goes vs ms finished 201 (over vs ms)
+  halts : Goes vs ms halted 202 (over vs ms)
+
+module _ {S : Type 0} (ed : Edition) (p : Plant) (c : Control S) where
+  pub data Rule : Situation S → List ℕ → ℕ → Situation S → Type 0 where
+    -- 23: "The run is over."
+    when-over : {vs : List ℤ} {ms e : List ℕ} → Rule (over vs ms) e 23 (over vs ms)
+    -- 24: "The event's kind is unknown or an unused byte is not 0."
+    when-senseless : {x : S} {vs : List ℤ} {ms e : List ℕ} →
+        (SaysTick ed e → ⊥) → ((n : ℕ) → SaysPick ed e n → ⊥) → ((s k : ℕ) → SaysSwitch ed e s k → ⊥) →
+        Rule (at x vs ms) e 24 (at x vs ms)
+    -- "Pick: acting, switch check, then the node's truth or assignment."
+    -- 25: "The picked node is not acting."
+    pick-idle : {x : S} {vs : List ℤ} {ms e : List ℕ} {n : ℕ} → SaysPick ed e n →
+        (Mem n (c .acting x) → ⊥) → Rule (at x vs ms) e 25 (at x vs ms)
+    -- 28: "The switch check of a pick or tick stops at a true switch."
+    pick-switch-true : {x : S} {vs : List ℤ} {ms e : List ℕ} {n : ℕ} → SaysPick ed e n → Mem n (c .acting x) →
+        Walks ed vs (currentTruths p ms) a-truth → Rule (at x vs ms) e 28 (at x vs ms)
+    pick-switch-fault : {x : S} {vs : List ℤ} {ms e : List ℕ} {n : ℕ} {side : Side} → SaysPick ed e n → Mem n (c .acting x) →
+        Walks ed vs (currentTruths p ms) (a-fault side) → Rule (at x vs ms) e (faultAnswer side) (over vs ms)
+    -- a WHILE or an IF
+    pick-test : {x : S} {vs : List ℤ} {ms e t : List ℕ} {n a : ℕ} {b : Bool} {after : Situation S} → SaysPick ed e n → Mem n (c .acting x) →
+        Walks ed vs (currentTruths p ms) nothing → c .action n ≡ test t → truthValue ed vs t ≡ ok b →
+        Goes vs ms (c .next x n b) a after → Rule (at x vs ms) e a after
+    pick-test-fault : {x : S} {vs : List ℤ} {ms e t : List ℕ} {n : ℕ} {side : Side} → SaysPick ed e n → Mem n (c .acting x) →
+        Walks ed vs (currentTruths p ms) nothing → c .action n ≡ test t → truthValue ed vs t ≡ fault side →
+        Rule (at x vs ms) e (faultAnswer side) (over vs ms)
+    -- a CONTINUE
+    pick-wait : {x : S} {vs : List ℤ} {ms e t : List ℕ} {n a : ℕ} {after : Situation S} → SaysPick ed e n → Mem n (c .acting x) →
+        Walks ed vs (currentTruths p ms) nothing → c .action n ≡ wait t → truthValue ed vs t ≡ ok true →
+        Goes vs ms (c .next x n true) a after → Rule (at x vs ms) e a after
+    -- 29: "The CONTINUE is not yet true."
+    pick-wait-false : {x : S} {vs : List ℤ} {ms e t : List ℕ} {n : ℕ} → SaysPick ed e n → Mem n (c .acting x) →
+        Walks ed vs (currentTruths p ms) nothing → c .action n ≡ wait t → truthValue ed vs t ≡ ok false →
+        Rule (at x vs ms) e 29 (at x vs ms)
+    pick-wait-fault : {x : S} {vs : List ℤ} {ms e t : List ℕ} {n : ℕ} {side : Side} → SaysPick ed e n → Mem n (c .acting x) →
+        Walks ed vs (currentTruths p ms) nothing → c .action n ≡ wait t → truthValue ed vs t ≡ fault side →
+        Rule (at x vs ms) e (faultAnswer side) (over vs ms)
+    -- a RESET or REINITIAL
+    pick-assign : {x : S} {vs : List ℤ} {ms e t : List ℕ} {n v a : ℕ} {z : ℤ} {d : Variable} {after : Situation S} → SaysPick ed e n → Mem n (c .acting x) →
+        Walks ed vs (currentTruths p ms) nothing → c .action n ≡ assign v t → numberValue ed vs t ≡ ok z →
+        getElem? (p .variables) v ≡ some d → Inside d z →
+        Goes (set vs v z) ms (c .next x n true) a after → Rule (at x vs ms) e a after
+    pick-assign-fault : {x : S} {vs : List ℤ} {ms e t : List ℕ} {n v : ℕ} {side : Side} → SaysPick ed e n → Mem n (c .acting x) →
+        Walks ed vs (currentTruths p ms) nothing → c .action n ≡ assign v t → numberValue ed vs t ≡ fault side →
+        Rule (at x vs ms) e (faultAnswer side) (over vs ms)
+    pick-assign-outside : {x : S} {vs : List ℤ} {ms e t : List ℕ} {n v : ℕ} {z : ℤ} {d : Variable} {side : Side} → SaysPick ed e n → Mem n (c .acting x) →
+        Walks ed vs (currentTruths p ms) nothing → c .action n ≡ assign v t → numberValue ed vs t ≡ ok z →
+        getElem? (p .variables) v ≡ some d → Outside d z side → Rule (at x vs ms) e (faultAnswer side) (over vs ms)
+    -- a SWITCH
+    pick-switch : {x : S} {vs : List ℤ} {ms e : List ℕ} {n s m a : ℕ} {after : Situation S} → SaysPick ed e n → Mem n (c .acting x) →
+        Walks ed vs (currentTruths p ms) nothing → c .action n ≡ switch s m →
+        Goes vs (set ms s m) (c .next x n true) a after → Rule (at x vs ms) e a after
+    -- a STOP
+    pick-stop : {x : S} {vs : List ℤ} {ms e : List ℕ} {n a : ℕ} {after : Situation S} → SaysPick ed e n → Mem n (c .acting x) →
+        Walks ed vs (currentTruths p ms) nothing → c .action n ≡ stop →
+        Goes vs ms (c .next x n true) a after → Rule (at x vs ms) e a after
+    -- "Switch (no switch check): it exists, its truth holds, the mode changes."
+    -- 26: "There is no such switch."
+    switch-missing : {x : S} {vs : List ℤ} {ms e : List ℕ} {s k : ℕ} → SaysSwitch ed e s k →
+        ((m : Mode) (w : Switch) → getElem? (currentModes p ms) s ≡ some m → getElem? (m .switches) k ≡ some w → ⊥) →
+        Rule (at x vs ms) e 26 (at x vs ms)
+    switch-taken : {x : S} {vs : List ℤ} {ms e : List ℕ} {s k : ℕ} {m : Mode} {w : Switch} → SaysSwitch ed e s k →
+        getElem? (currentModes p ms) s ≡ some m → getElem? (m .switches) k ≡ some w → truthValue ed vs (w .truth) ≡ ok true →
+        Rule (at x vs ms) e 200 (at x vs (set ms s (w .target)))
+    -- 30: "The switch's truth is false."
+    switch-false : {x : S} {vs : List ℤ} {ms e : List ℕ} {s k : ℕ} {m : Mode} {w : Switch} → SaysSwitch ed e s k →
+        getElem? (currentModes p ms) s ≡ some m → getElem? (m .switches) k ≡ some w → truthValue ed vs (w .truth) ≡ ok false →
+        Rule (at x vs ms) e 30 (at x vs ms)
+    switch-fault : {x : S} {vs : List ℤ} {ms e : List ℕ} {s k : ℕ} {m : Mode} {w : Switch} {side : Side} → SaysSwitch ed e s k →
+        getElem? (currentModes p ms) s ≡ some m → getElem? (m .switches) k ≡ some w → truthValue ed vs (w .truth) ≡ fault side →
+        Rule (at x vs ms) e (faultAnswer side) (over vs ms)
+    -- "Tick: all acting nodes are CONTINUE, switch check, their truths in node order up to the first that is true or faults,
+    -- then each driven variable adds its current rate"
+    -- 27: "A tick while some acting node is no CONTINUE."
+    tick-busy : {x : S} {vs : List ℤ} {ms e : List ℕ} {n : ℕ} → SaysTick ed e → Mem n (c .acting x) →
+        ((t : List ℕ) → c .action n ≡ wait t → ⊥) → Rule (at x vs ms) e 27 (at x vs ms)
+    -- 28
+    tick-switch-true : {x : S} {vs : List ℤ} {ms e : List ℕ} {ts : List (List ℕ)} → SaysTick ed e → Waits (c .action) (c .acting x) ts →
+        Walks ed vs (currentTruths p ms) a-truth → Rule (at x vs ms) e 28 (at x vs ms)
+    tick-switch-fault : {x : S} {vs : List ℤ} {ms e : List ℕ} {ts : List (List ℕ)} {side : Side} → SaysTick ed e → Waits (c .action) (c .acting x) ts →
+        Walks ed vs (currentTruths p ms) (a-fault side) → Rule (at x vs ms) e (faultAnswer side) (over vs ms)
+    -- 31: "A tick whose walk over the CONTINUE truths stops at a true one."
+    tick-wait-true : {x : S} {vs : List ℤ} {ms e : List ℕ} {ts : List (List ℕ)} → SaysTick ed e → Waits (c .action) (c .acting x) ts →
+        Walks ed vs (currentTruths p ms) nothing → Walks ed vs ts a-truth → Rule (at x vs ms) e 31 (at x vs ms)
+    tick-wait-fault : {x : S} {vs : List ℤ} {ms e : List ℕ} {ts : List (List ℕ)} {side : Side} → SaysTick ed e → Waits (c .action) (c .acting x) ts →
+        Walks ed vs (currentTruths p ms) nothing → Walks ed vs ts (a-fault side) → Rule (at x vs ms) e (faultAnswer side) (over vs ms)
+    tick-taken : {x : S} {vs ys : List ℤ} {ms e : List ℕ} {ts : List (List ℕ)} → SaysTick ed e → Waits (c .action) (c .acting x) ts →
+        Walks ed vs (currentTruths p ms) nothing → Walks ed vs ts nothing → Added p ms vs ys → AllInside (p .variables) ys →
+        Rule (at x vs ms) e 200 (at x ys ms)
+    tick-outside : {x : S} {vs ys : List ℤ} {ms e : List ℕ} {ts : List (List ℕ)} {side : Side} → SaysTick ed e → Waits (c .action) (c .acting x) ts →
+        Walks ed vs (currentTruths p ms) nothing → Walks ed vs ts nothing → Added p ms vs ys → FirstOutside (p .variables) ys side →
+        Rule (at x vs ms) e (faultAnswer side) (over vs ms)
+
+  -- the whole list, "from the start to its last event"
+  pub data Derives : Situation S → List (List ℕ) → List (Answered S) → Type 0 where
+    no-events : {s : Situation S} → Derives s [] []
+    one-event : {s t : Situation S} {e : List ℕ} {es : List (List ℕ)} {a : ℕ} {l : List (Answered S)} →
+        Rule s e a t → Derives t es l → Derives s (e ∷ es) (record { answer = a; left = t } ∷ l)
+
+-- what an accepted schedule or table gives to its run: an acting node has its moves, and what is assigned is declared
+pub record Sound {S : Type 0} (p : Plant) (c : Control S) : Type 0 where
+  pub moves : (x : S) (n : ℕ) (b : Bool) → Mem n (c .acting x) → possible (c .action n) b ≡ true → c .next x n b ≡ idle → ⊥
+  pub declares : (x : S) (n v : ℕ) (t : List ℕ) → Mem n (c .acting x) → c .action n ≡ assign v t → v < length (p .variables)

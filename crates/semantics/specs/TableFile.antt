@@ -1,0 +1,157 @@
+-- Document 01, "Table file": the layout of a table, read and written.
+use mathlib.Core.Bool.{Bool, cond}
+use mathlib.Core.List.{List, [], _∷_, _++_, flatMap}
+use mathlib.Core.Option.{Option, none, some}
+use Prim.Native.Nat.{ℕ, _+_, _-_}
+use lib.ListN.{length}
+use lib.Dec.{leb, eqb}
+use Rattle.semantics.specs.Bytes.{out2, out4, out, widthOf, within, Reader, _>>=_, give, guard, from, byte, nat2, number, bytes, times, section2, section4, whole, noBytes, twoBytes, byteAndRest}
+use Rattle.semantics.specs.Editions.{Edition}
+use Rattle.semantics.specs.Run.{Action, test, wait, assign, switch, stop}
+
+pub record NodeAction : Type 0 where
+  pub node : ℕ
+  pub action : Action
+
+pub record Entry : Type 0 where
+  pub node : ℕ
+  pub target : ℕ
+  -- the target on false
+  pub other : ℕ
+
+pub record TableSections : Type 0 where
+  pub variables : List ℕ
+  pub equations : List ℕ
+  pub actions : List ℕ
+  pub locations : List ℕ
+
+-- "FFFE is finished, FFFD halted, FFFF none."
+unfoldable pub FINISHED : ℕ
+FINISHED = 0xfffe
+
+unfoldable pub HALTED : ℕ
+HALTED = 0xfffd
+
+unfoldable pub NONE : ℕ
+NONE = 0xffff
+
+-- of both 13 and 19
+abbrev pub locationLimit : ℕ
+locationLimit = 1024
+
+-- "kind (1 test, 2 wait, 3 assign, 4 switch, 5 stop), operand bytes"
+pub data ActionKind : Type 0 where
+  a-test a-wait an-assignment a-switch a-stop no-kind : ActionKind
+
+unfoldable pub actionKind : ℕ → ActionKind
+actionKind k =
+    cond (eqb k 1) a-test (cond (eqb k 2) a-wait (cond (eqb k 3) an-assignment
+    (cond (eqb k 4) a-switch (cond (eqb k 5) a-stop no-kind))))
+
+unfoldable pub actionOf : ActionKind → List ℕ → Option Action
+actionOf a-test t = some (test t)
+actionOf a-wait t = some (wait t)
+actionOf an-assignment b = byteAndRest assign b
+actionOf a-switch b = twoBytes switch b
+actionOf a-stop b = noBytes stop b
+actionOf no-kind b = none
+
+-- "the variable and equation sections copied, then: actions (2-byte length) ..; locations (4-byte length) .."
+unfoldable pub readTableSections : Reader TableSections
+readTableSections = do
+  vs ← section2
+  es ← section2
+  acts ← section2
+  locs ← section4
+  give (record { variables = vs; equations = es; actions = acts; locations = locs })
+
+-- 16: "Its four sections do not fill it."
+unfoldable pub tableSectionsIn : List ℕ → Option TableSections
+tableSectionsIn = whole readTableSections
+
+module _ (ed : Edition) where
+  -- "a length byte, node, kind, operand bytes"; "kind and operand make 1..200 bytes"
+  unfoldable pub readAction : Reader NodeAction
+  readAction = do
+    l ← number (ed .width)
+    guard (within (widthOf (ed .width) + 1) (widthOf (ed .width) + 200) l) (do
+      n ← number (ed .width)
+      k ← byte
+      b ← bytes (l - (widthOf (ed .width) + 1))
+      a ← from (actionOf (actionKind k) b)
+      give (record { node = n; action = a }))
+
+  -- 18: "An action count is outside 1..64"
+  unfoldable pub readActions : Reader (List NodeAction)
+  readActions = do
+    n ← number (ed .width)
+    guard (within 1 (ed .nodes) n) (times n readAction)
+
+  unfoldable pub actionsIn : List ℕ → Option (List NodeAction)
+  actionsIn = whole readActions
+
+  -- "per entry node (1 byte), target and target on false (2 bytes each)"
+  unfoldable pub readEntry : Reader Entry
+  readEntry = do
+    n ← number (ed .width)
+    t ← nat2
+    u ← nat2
+    give (record { node = n; target = t; other = u })
+
+  -- "per location its entry count, then .."; 19: "an entry count 0"
+  unfoldable pub readLocation : Reader (List Entry)
+  readLocation = do
+    n ← byte
+    guard (leb 1 n) (times n readEntry)
+
+  -- 19: "A location count is outside 1..1,024"
+  unfoldable pub readLocations : Reader (List (List Entry))
+  readLocations = do
+    n ← nat2
+    guard (within 1 locationLimit n) (times n readLocation)
+
+  unfoldable pub locationsIn : List ℕ → Option (List (List Entry))
+  locationsIn = whole readLocations
+
+-- ---- the same, written
+unfoldable pub actionBytes : Action → List ℕ
+actionBytes (test t) = 1 ∷ t
+actionBytes (wait t) = 2 ∷ t
+actionBytes (assign v e) = 3 ∷ v ∷ e
+actionBytes (switch s m) = 4 ∷ s ∷ m ∷ []
+actionBytes stop = 5 ∷ []
+
+unfoldable pub inSection2 : List ℕ → List ℕ
+inSection2 s = out2 (length s) ++ s
+
+unfoldable pub inSection4 : List ℕ → List ℕ
+inSection4 s = out4 (length s) ++ s
+
+module _ (ed : Edition) where
+  unfoldable pub writeAction : NodeAction → List ℕ
+  writeAction a =
+      let b = actionBytes (a .action) in
+      out (ed .width) (widthOf (ed .width) + length b) ++ (out (ed .width) (a .node) ++ b)
+
+  unfoldable pub writeActions : List NodeAction → List ℕ
+  writeActions l = out (ed .width) (length l) ++ flatMap writeAction l
+
+  unfoldable pub writeEntry : Entry → List ℕ
+  writeEntry e = out (ed .width) (e .node) ++ (out2 (e .target) ++ out2 (e .other))
+
+  unfoldable pub writeLocation : List Entry → List ℕ
+  writeLocation es = length es ∷ flatMap writeEntry es
+
+  unfoldable pub writeLocations : List (List Entry) → List ℕ
+  writeLocations l = out2 (length l) ++ flatMap writeLocation l
+
+  -- the four sections
+  unfoldable pub tableBody : List ℕ → List ℕ → List NodeAction → List (List Entry) → List ℕ
+  tableBody variables equations actions locations =
+      inSection2 variables ++ (inSection2 equations ++ (inSection2 (writeActions actions) ++ inSection4 (writeLocations locations)))
+
+  -- "Version 1, whole length (4 bytes), the variable and equation sections copied, then .."
+  unfoldable pub tableBytes : List ℕ → List ℕ → List NodeAction → List (List Entry) → List ℕ
+  tableBytes variables equations actions locations =
+      let body = tableBody variables equations actions locations in
+      ed .version ∷ (out4 (5 + length body) ++ body)

@@ -1,0 +1,112 @@
+-- Document 01, "Table file": conditions 15 to 19, and the control of a table.
+use mathlib.Core.Bool.{Bool, true, false, _&&_, cond}
+use mathlib.Core.List.{List, [], _∷_, map}
+use mathlib.Core.Option.{Option, none, some}
+use Prim.Native.Nat.{ℕ, suc}
+use lib.ListN.{length, getD, drop}
+use lib.Dec.{leb, ltb, eqb}
+use Rattle.semantics.specs.Bytes.{be4, every, isSome}
+use Rattle.semantics.specs.Editions.{Edition}
+use Rattle.semantics.specs.Expressions.{numberIn, truthIn}
+use Rattle.semantics.specs.Refusals.{Judged, accepted, _>>=_, _>>_, ensure, need, only}
+use Rattle.semantics.specs.Sections.{Selector}
+use Rattle.semantics.specs.Plant.{Plant, judgePlant, switchesRead, selectors, modeExists}
+use Rattle.semantics.specs.Run.{Action, test, wait, assign, switch, stop, Next, to, finished, halted, idle, Control}
+use Rattle.semantics.specs.TableFile.{NodeAction, Entry, TableSections, FINISHED, HALTED, NONE, tableSectionsIn, actionsIn, locationsIn}
+
+pub record Table : Type 0 where
+  pub plant : Plant
+  pub actions : List NodeAction
+  pub locations : List (List Entry)
+
+-- 15: "The table has under 5 bytes, or a wrong version or length."
+unfoldable pub tableHeader : Edition → List ℕ → Bool
+tableHeader ed t = leb 5 (length t) && (eqb (getD t 0 0) (ed .version) && eqb (be4 (getD t 1 0) (getD t 2 0) (getD t 3 0) (getD t 4 0)) (length t))
+
+-- from this number on, each greater than the one before it
+unfoldable pub risingFrom : ℕ → List ℕ → Bool
+risingFrom low [] = true
+risingFrom low (n ∷ l) = elim (leb low n) [ true ↦ risingFrom (suc n) l | false ↦ false ]
+
+-- 18: "a node number above 63 or not rising, or a kind, length or operand wrong (.. 11 and 12 judge operands)"
+unfoldable pub operandFits : Edition → ℕ → List Selector → Action → Bool
+operandFits ed variables cs (test t) = isSome (truthIn ed variables t)
+operandFits ed variables cs (wait t) = isSome (truthIn ed variables t)
+operandFits ed variables cs (assign v e) = ltb v variables && isSome (numberIn ed variables e)
+operandFits ed variables cs (switch s m) = modeExists cs s m
+operandFits ed variables cs stop = true
+
+unfoldable pub actionFits : Edition → Plant → NodeAction → Bool
+actionFits ed p a = ltb (a .node) (ed .nodes) && operandFits ed (length (p .variables)) (selectors p) (a .action)
+
+unfoldable pub actionNodes : List NodeAction → List ℕ
+actionNodes l = map (λ (a : NodeAction). a .node) l
+
+unfoldable pub actionsFit : Edition → Plant → List NodeAction → Bool
+actionsFit ed p l = risingFrom 0 (actionNodes l) && every (actionFits ed p) l
+
+-- the action of a node
+unfoldable pub actionAt : List NodeAction → ℕ → Option Action
+actionAt [] n = none
+actionAt (a ∷ l) n = elim (eqb (a .node) n) [ true ↦ some (a .action) | false ↦ actionAt l n ]
+
+-- "each a location or FFFE"
+unfoldable pub goesOn : ℕ → ℕ → Bool
+goesOn locations t = cond (ltb t locations) true (eqb t FINISHED)
+
+-- "Fit targets: tests take two, each a location or FFFE; stop has FFFD, FFFF; others a location or FFFE, then FFFF."
+unfoldable pub targetsFit : ℕ → Action → ℕ → ℕ → Bool
+targetsFit locations (test c) t u = goesOn locations t && goesOn locations u
+targetsFit locations (wait c) t u = goesOn locations t && eqb u NONE
+targetsFit locations (assign v e) t u = goesOn locations t && eqb u NONE
+targetsFit locations (switch s m) t u = goesOn locations t && eqb u NONE
+targetsFit locations stop t u = eqb t HALTED && eqb u NONE
+
+-- 19: "a node unknown or not rising, a target unfit for its kind"
+unfoldable pub entryFits : ℕ → List NodeAction → Entry → Bool
+entryFits locations l e = elim (actionAt l (e .node)) [ none ↦ false | some a ↦ targetsFit locations a (e .target) (e .other) ]
+
+unfoldable pub entryNodes : List Entry → List ℕ
+entryNodes es = map (λ (e : Entry). e .node) es
+
+unfoldable pub locationFits : ℕ → List NodeAction → List Entry → Bool
+locationFits locations l es = risingFrom 0 (entryNodes es) && every (entryFits locations l) es
+
+unfoldable pub locationsFit : List NodeAction → List (List Entry) → Bool
+locationsFit l locations = every (locationFits (length locations) l) locations
+
+unfoldable pub judgeTable : Edition → List ℕ → Judged Table
+judgeTable ed t = do
+  ensure 15 (tableHeader ed t)
+  parts ← need 16 (tableSectionsIn (drop 5 t))
+  -- 17: "Its first two sections break 4..8 or 12."
+  p ← only 17 (judgePlant ed (parts .variables) (parts .equations))
+  ensure 17 (switchesRead ed p)
+  acts ← need 18 (actionsIn ed (parts .actions))
+  ensure 18 (actionsFit ed p acts)
+  locs ← need 19 (locationsIn ed (parts .locations))
+  ensure 19 (locationsFit acts locs)
+  accepted (record { plant = p; actions = acts; locations = locs })
+
+-- ---- "A run of a table starts at location 0 .. The acting nodes are the location's entries, their actions hold the truths and assignments,
+-- a wait stands for CONTINUE .. A taken pick goes to its entry's target, a false test to the second one."
+unfoldable pub goingTo : ℕ → Next ℕ
+goingTo t = cond (eqb t FINISHED) finished (cond (eqb t HALTED) halted (cond (eqb t NONE) idle (to t)))
+
+unfoldable pub entryNext : List Entry → ℕ → Bool → Next ℕ
+entryNext [] n b = idle
+entryNext (e ∷ es) n b = elim (eqb (e .node) n) [ true ↦ goingTo (cond b (e .target) (e .other)) | false ↦ entryNext es n b ]
+
+unfoldable pub entriesAt : Table → ℕ → List Entry
+entriesAt t x = getD (t .locations) x []
+
+unfoldable pub actionOrStop : List NodeAction → ℕ → Action
+actionOrStop l n = elim (actionAt l n) [ none ↦ stop | some a ↦ a ]
+
+unfoldable pub tableControl : Table → Control ℕ
+tableControl t = record {
+  start = 0;
+  acting = λ x. entryNodes (entriesAt t x);
+  action = actionOrStop (t .actions);
+  next = λ x. entryNext (entriesAt t x);
+}
