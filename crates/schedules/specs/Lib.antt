@@ -2,6 +2,7 @@
 pub mod FileSections
 pub mod Nodes
 pub mod Trees
+pub mod Preorder
 pub mod Residuals
 pub mod Numbering
 pub mod Files

@@ -21,7 +21,7 @@ unfolding Refusals._>>=_ Refusals._>>_ Refusals.ensure Refusals.need Refusals.on
 refusals = tt
 
 unfoldable pub expressions : Unit {0}
-unfolding Expressions.numberDepth Expressions.truthDepth Expressions.ranged Expressions.result Expressions.thenValue Expressions.operands Expressions.applied Expressions.eqZ Expressions.compared Expressions.connected Expressions.valueOf Expressions.holds Expressions.formOf Expressions.toNumber Expressions.toTruth Expressions.readVariable Expressions.readNumber Expressions.readTruth Expressions.readForm Expressions.readExpression Expressions.numberIn Expressions.truthIn Expressions.numberValue Expressions.truthValue
+unfolding Expressions.numberDepth Expressions.truthDepth Expressions.ranged Expressions.result Expressions.thenValue Expressions.operands Expressions.applied Expressions.eqZ Expressions.compared Expressions.connected Expressions.valueOf Expressions.holds Expressions.formOf Expressions.operationCode Expressions.comparisonCode Expressions.connectiveCode Expressions.numberBytes Expressions.truthBytes Expressions.fits32 Expressions.numberKnown Expressions.truthKnown Expressions.toNumber Expressions.toTruth Expressions.readVariable Expressions.readNumber Expressions.readTruth Expressions.readForm Expressions.readExpression Expressions.numberIn Expressions.truthIn Expressions.numberValue Expressions.truthValue
 expressions = tt
 
 unfoldable pub sections : Unit {0}

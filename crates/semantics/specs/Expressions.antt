@@ -126,6 +126,50 @@ formOf c =
     (cond (eqb c 0x28) (a-connective both) (cond (eqb c 0x29) (a-connective either)
     (cond (eqb c 0x2a) an-opposite (cond (eqb c 0x2f) a-true unknown)))))))))))))
 
+-- the code of a form, and the bytes of an expression in prefix order
+unfoldable pub operationCode : Operation → ℕ
+operationCode sum = 0x10
+operationCode difference = 0x11
+operationCode product = 0x12
+
+unfoldable pub comparisonCode : Comparison → ℕ
+comparisonCode at-most = 0x20
+comparisonCode less = 0x21
+comparisonCode equal = 0x22
+comparisonCode unequal = 0x23
+
+unfoldable pub connectiveCode : Connective → ℕ
+connectiveCode both = 0x28
+connectiveCode either = 0x29
+
+unfoldable pub numberBytes : Number → List ℕ
+numberBytes (constant z) = 0x01 ∷ out4 (unsigned z)
+numberBytes (variable v) = 0x02 ∷ v ∷ []
+numberBytes (operate o a b) = operationCode o ∷ (numberBytes a ++ numberBytes b)
+numberBytes (negation a) = 0x14 ∷ numberBytes a
+
+unfoldable pub truthBytes : Truth → List ℕ
+truthBytes (compare c a b) = comparisonCode c ∷ (numberBytes a ++ numberBytes b)
+truthBytes (connect c a b) = connectiveCode c ∷ (truthBytes a ++ truthBytes b)
+truthBytes (opposite a) = 0x2a ∷ truthBytes a
+truthBytes always = 0x2f ∷ []
+
+-- so many variables are known, and each constant has 32 bits
+unfoldable pub fits32 : ℤ → Bool
+fits32 z = leZ (negsuc 2147483647) z && leZ z (pos 2147483647)
+
+unfoldable pub numberKnown : ℕ → Number → Bool
+numberKnown variables (constant z) = fits32 z
+numberKnown variables (variable v) = ltb v variables
+numberKnown variables (operate o a b) = numberKnown variables a && numberKnown variables b
+numberKnown variables (negation a) = numberKnown variables a
+
+unfoldable pub truthKnown : ℕ → Truth → Bool
+truthKnown variables (compare c a b) = numberKnown variables a && numberKnown variables b
+truthKnown variables (connect c a b) = truthKnown variables a && truthKnown variables b
+truthKnown variables (opposite a) = truthKnown variables a
+truthKnown variables always = true
+
 -- an expression of either sort
 pub data Expression : Type 0 where
   a-number : Number → Expression

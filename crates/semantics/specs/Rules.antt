@@ -185,6 +185,43 @@ module _ {S : Type 0} (ed : Edition) (p : Plant) (c : Control S) where
         Walks ed vs (currentTruths p ms) nothing → Walks ed vs ts nothing → Added p ms vs ys → FirstOutside (p .variables) ys side →
         Rule (at x vs ms) e (faultAnswer side) (over vs ms)
 
+  -- ---- 23 to 31, each by itself: its sentence, in the situation before the event
+  pub data Sentence : ℕ → Situation S → List ℕ → Type 0 where
+    -- 23: "The run is over."
+    is-over : {vs : List ℤ} {ms e : List ℕ} → Sentence 23 (over vs ms) e
+    -- 24: "The event's kind is unknown or an unused byte is not 0."
+    is-senseless : {x : S} {vs : List ℤ} {ms e : List ℕ} →
+        (SaysTick ed e → ⊥) → ((n : ℕ) → SaysPick ed e n → ⊥) → ((s k : ℕ) → SaysSwitch ed e s k → ⊥) → Sentence 24 (at x vs ms) e
+    -- 25: "The picked node is not acting."
+    is-idle : {x : S} {vs : List ℤ} {ms e : List ℕ} {n : ℕ} → SaysPick ed e n → (Mem n (c .acting x) → ⊥) → Sentence 25 (at x vs ms) e
+    -- 26: "There is no such switch."
+    is-missing : {x : S} {vs : List ℤ} {ms e : List ℕ} {s k : ℕ} → SaysSwitch ed e s k →
+        ((m : Mode) (w : Switch) → getElem? (currentModes p ms) s ≡ some m → getElem? (m .switches) k ≡ some w → ⊥) → Sentence 26 (at x vs ms) e
+    -- 27: "A tick while some acting node is no CONTINUE."
+    is-busy : {x : S} {vs : List ℤ} {ms e : List ℕ} {n : ℕ} → SaysTick ed e → Mem n (c .acting x) →
+        ((t : List ℕ) → c .action n ≡ wait t → ⊥) → Sentence 27 (at x vs ms) e
+    -- 28: "The switch check of a pick or tick stops at a true switch."
+    is-checked-pick : {x : S} {vs : List ℤ} {ms e : List ℕ} {n : ℕ} → SaysPick ed e n →
+        Walks ed vs (currentTruths p ms) a-truth → Sentence 28 (at x vs ms) e
+    is-checked-tick : {x : S} {vs : List ℤ} {ms e : List ℕ} → SaysTick ed e →
+        Walks ed vs (currentTruths p ms) a-truth → Sentence 28 (at x vs ms) e
+    -- 29: "The CONTINUE is not yet true."
+    is-early : {x : S} {vs : List ℤ} {ms e t : List ℕ} {n : ℕ} → SaysPick ed e n → c .action n ≡ wait t →
+        truthValue ed vs t ≡ ok false → Sentence 29 (at x vs ms) e
+    -- 30: "The switch's truth is false."
+    is-false : {x : S} {vs : List ℤ} {ms e : List ℕ} {s k : ℕ} {m : Mode} {w : Switch} → SaysSwitch ed e s k →
+        getElem? (currentModes p ms) s ≡ some m → getElem? (m .switches) k ≡ some w → truthValue ed vs (w .truth) ≡ ok false → Sentence 30 (at x vs ms) e
+    -- 31: "A tick whose walk over the CONTINUE truths stops at a true one."
+    is-due : {x : S} {vs : List ℤ} {ms e : List ℕ} {ts : List (List ℕ)} → SaysTick ed e → Waits (c .action) (c .acting x) ts →
+        Walks ed vs ts a-truth → Sentence 31 (at x vs ms) e
+
+  -- "a fault in the switch check is 203 before 29 or 31 is looked at"
+  pub data CheckFaults : Situation S → List ℕ → Type 0 where
+    pick-check : {x : S} {vs : List ℤ} {ms e : List ℕ} {n : ℕ} {side : Side} → SaysPick ed e n →
+        Walks ed vs (currentTruths p ms) (a-fault side) → CheckFaults (at x vs ms) e
+    tick-check : {x : S} {vs : List ℤ} {ms e : List ℕ} {side : Side} → SaysTick ed e →
+        Walks ed vs (currentTruths p ms) (a-fault side) → CheckFaults (at x vs ms) e
+
   -- the whole list, "from the start to its last event"
   pub data Derives : Situation S → List (List ℕ) → List (Answered S) → Type 0 where
     no-events : {s : Situation S} → Derives s [] []
