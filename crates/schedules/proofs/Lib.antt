@@ -1,1 +1,4 @@
 pub mod Computes
+pub mod Examples
+pub mod Papers
+pub mod Traps

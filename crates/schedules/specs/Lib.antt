@@ -8,3 +8,4 @@ pub mod Numbering
 pub mod Files
 pub mod Compiling
 pub mod Calls
+pub mod Conditions

@@ -2,5 +2,6 @@ pub mod Computes
 pub mod Facts
 pub mod Judging
 pub mod Readers
+pub mod FirstNumber
 pub mod K1
 pub mod Papers

@@ -12,3 +12,4 @@ pub mod TableFile
 pub mod Tables
 pub mod Starts
 pub mod Calls
+pub mod Conditions

@@ -1,0 +1,105 @@
+-- The papers of document 01 that a schedule settles, as theorems about the definitions.
+use mathlib.Core.Path.{_≡_, refl, sym, ap, subst₂, _∙_}
+use mathlib.Core.Bool.{Bool, true, false}
+use mathlib.Core.List.{List, [], _∷_, _++_}
+use mathlib.Core.Option.{Option, none, some, Option·map}
+use Prim.Native.Nat.{ℕ}
+use lib.ListN.{length, replicate}
+use lib.IntN.{ℤ}
+use Rattle.semantics.specs.Editions.{Edition, edition1}
+use Rattle.semantics.specs.Plant.{Plant, among}
+use Rattle.semantics.specs.Run.{pass, switchCheck, Situation, at, over, step, settle, follow, arrive, judge, judgePick, act, allow, _>>_}
+use Rattle.semantics.specs.Tables.{actionOrStop, actionAt}
+use Rattle.semantics.specs.Calls.{Ran}
+use Rattle.semantics.proofs.K1.{k1-file, k1-table, start-at, k2-events, k2-records, k3-events, k3-records, k4-events, k4-records, one-record}
+use Rattle.schedules.specs.FileSections.{FileSections}
+use Rattle.schedules.specs.Nodes.{Node, parallel, while-do, continue-until, reset, stop-all}
+use Rattle.schedules.specs.Trees.{Tree, treeOf, par, halt, leaf, cons, nil}
+use Rattle.schedules.specs.Residuals.{Residual, fresh}
+use Rattle.schedules.specs.Numbering.{locations}
+use Rattle.schedules.specs.Files.{Schedule, ruleControl}
+use Rattle.schedules.specs.Compiling.{testsOf}
+use Rattle.schedules.specs.Calls.{readSchedule, ruleRun, compile}
+use Rattle.semantics.proofs.Computes as Semantics
+use Rattle.semantics.proofs.Facts.{some-is}
+use Rattle.schedules.proofs.Computes.{schedules, nodes, residuals}
+
+-- K1: the table's 75 bytes, and the bytes of the buffer after them as they were
+pub K1 : compile edition1 k1-file (replicate 75 0 ++ (7 ∷ 8 ∷ [])) ≡ record { refusal = 0; written = 75; table = k1-table ++ (7 ∷ 8 ∷ []) }
+unfolding schedules k1-file k1-table
+K1 = refl
+
+-- K2 to K4 by the rules
+pub K2-rules : ruleRun edition1 k1-file (start-at 0) k2-events (replicate 104 0 ++ (7 ∷ 8 ∷ []))
+  ≡ record { refusal = 0; taken = 4; turned-away = 4; faulted = 0; records = k2-records (7 ∷ 8 ∷ []) }
+unfolding schedules k1-file k2-events k2-records
+K2-rules = refl
+
+pub K3-rules : ruleRun edition1 k1-file (start-at 10) k3-events (replicate 26 0)
+  ≡ record { refusal = 0; taken = 0; turned-away = 1; faulted = 1; records = k3-records [] }
+unfolding schedules k1-file k3-events k3-records
+K3-rules = refl
+
+pub K4-rules : ruleRun edition1 k1-file (start-at 9) k4-events (replicate 26 0)
+  ≡ record { refusal = 0; taken = 2; turned-away = 0; faulted = 0; records = k4-records [] }
+unfolding schedules k1-file k4-events k4-records
+K4-rules = refl
+
+-- the number of locations of these nodes
+abbrev pub locationCount : List Node → Option ℕ
+locationCount ns = Option·map (λ (t : Tree). length (locations (testsOf ns) t)) (treeOf ns)
+
+-- K5: "PARALLEL of two RESETs: 3 locations."
+pub K5 : (v w : ℕ) (e f : List ℕ) → locationCount (parallel 2 ∷ reset v e ∷ reset w f ∷ []) ≡ some 3
+unfolding schedules
+K5 v w e f = refl
+
+-- K6: "WHILE over a RESET: 2."
+pub K6 : (v : ℕ) (t e : List ℕ) → locationCount (while-do t ∷ reset v e ∷ []) ≡ some 2
+unfolding schedules
+K6 v t e = refl
+
+-- K7: "PARALLEL of STOP, CONTINUE: 2; picking STOP halts."
+abbrev pub stopOrWait : List ℕ → List Node
+stopOrWait t = parallel 2 ∷ stop-all ∷ continue-until t ∷ []
+
+pub K7-locations : (t : List ℕ) → locationCount (stopOrWait t) ≡ some 2
+unfolding schedules
+K7-locations t = refl
+
+abbrev stopRoot : Tree
+stopRoot = par (halt 1) (cons (leaf 2) nil)
+
+root : (t : List ℕ) → treeOf (stopOrWait t) ≡ some stopRoot
+unfolding schedules
+root t = refl
+
+-- picking node 1 at the fresh root halts
+abbrev picked : Schedule → List ℤ → List ℕ → Type 0
+picked s vs ms = step edition1 (s .plant) (ruleControl s) (at (fresh (s .root)) vs ms) (1 ∷ 1 ∷ 0 ∷ []) ≡ record { answer = 202; left = over vs ms }
+
+stop-picked : (parts : FileSections) (p : Plant) (t : List ℕ) (vs : List ℤ) (ms : List ℕ) → switchCheck edition1 p vs ms ≡ pass tt →
+  picked (record { sections = parts; plant = p; nodes = stopOrWait t; root = stopRoot }) vs ms
+unfolding Semantics.bytes Semantics.events nodes residuals step settle follow arrive judge judgePick act allow _>>_ among ruleControl actionOrStop actionAt
+stop-picked parts p t vs ms h = rw h refl
+
+-- whatever the plant: where the switch check finds nothing, picking the STOP answers 202 and ends the run
+pub K7-halts : (s : Schedule) (t : List ℕ) → s .nodes ≡ stopOrWait t → treeOf (s .nodes) ≡ some (s .root) →
+  (vs : List ℤ) (ms : List ℕ) → switchCheck edition1 (s .plant) vs ms ≡ pass tt →
+  step edition1 (s .plant) (ruleControl s) (at (fresh (s .root)) vs ms) (1 ∷ 1 ∷ 0 ∷ []) ≡ record { answer = 202; left = over vs ms }
+K7-halts s t e f vs ms h =
+    subst₂ (λ ns r. picked (record { sections = s .sections; plant = s .plant; nodes = ns; root = r }) vs ms) (sym e)
+      (some-is (sym (root t) ∙ ap treeOf (sym e) ∙ f)) (stop-picked (s .sections) (s .plant) t vs ms h)
+
+-- K11: "Empty file 1; 01 00 03 gives 3; 01 00 04 gives 2.", whatever the buffer
+pub K11-empty : (buffer : List ℕ) → compile edition1 [] buffer ≡ record { refusal = 1; written = 0; table = buffer }
+unfolding schedules
+K11-empty buffer = refl
+
+pub K11-sections : (buffer : List ℕ) → compile edition1 (0x01 ∷ 0x00 ∷ 0x03 ∷ []) buffer ≡ record { refusal = 3; written = 0; table = buffer }
+unfolding schedules
+K11-sections buffer = refl
+
+pub K11-length : (buffer : List ℕ) → compile edition1 (0x01 ∷ 0x00 ∷ 0x04 ∷ []) buffer ≡ record { refusal = 2; written = 0; table = buffer }
+unfolding schedules
+K11-length buffer = refl

@@ -1,0 +1,222 @@
+-- A call refuses with the first number of its list that applies, and accepts where none does.
+use mathlib.Core.Path.{_≡_, refl, sym, ap, subst, _∙_}
+use mathlib.Core.Bool.{Bool, true, false, not, _&&_, _||_}
+use mathlib.Core.List.{List, [], _∷_, _++_}
+use mathlib.Core.Option.{Option, none, some, bind}
+use Prim.Native.Nat.{ℕ}
+use lib.ListN.{length, drop}
+use Rattle.semantics.specs.Bytes.{every, isSome}
+use Rattle.semantics.specs.Editions.{Edition}
+use Rattle.semantics.specs.Refusals.{Judged, refused, accepted, _>>=_, _>>_, ensure, need, only, refusalOf}
+use Rattle.semantics.specs.Sections.{variablesIn, equationsIn}
+use Rattle.semantics.specs.Plant.{Plant, judgePlant, switchesRead, ordered, equationNamed, drivenOnce, equationReads}
+use Rattle.semantics.specs.TableFile.{tableSectionsIn, actionsIn, locationsIn}
+use Rattle.semantics.specs.Tables.{Table, judgeTable, tableHeader, actionsFit, locationsFit}
+use Rattle.semantics.specs.Starts.{startIn, startFits}
+use Rattle.semantics.specs.Calls.{Program, Outcome, judgeRun, outcomeOf, runFrom, tableProgram, wholeEvents, roomForRecords}
+use Rattle.semantics.specs.Conditions.{Condition, _if_, firstThat, anyApplies, given, is4, is5, is6, is7, is8, is12, plantConditions, plantIn, tableParts, tablePlant, is15, is16, is17, is18, is19, tableConditions, is20, is21, is22, runConditions, tableRunConditions}
+use Rattle.semantics.proofs.Facts.{true-not-false}
+use Rattle.semantics.proofs.Judging
+use Rattle.semantics.proofs.Judging.{refused-not-accepted, accepted-is}
+
+-- n is the number of the first condition that applies
+pub data First (n : ℕ) : List Condition → Type 0 where
+  here : {c : Condition} {l : List Condition} → c .applies ≡ true → c .refusal ≡ n → First n (c ∷ l)
+  further : {c : Condition} {l : List Condition} → c .applies ≡ false → First n l → First n (c ∷ l)
+
+-- none applies
+pub data Clear : List Condition → Type 0 where
+  none-left : Clear []
+  one-clear : {c : Condition} {l : List Condition} → c .applies ≡ false → Clear l → Clear (c ∷ l)
+
+-- what a call makes of its list
+pub data Firsts {A : Type 0} : Judged A → List Condition → Type 0 where
+  refuses : {n : ℕ} {l : List Condition} → First n l → Firsts (refused n) l
+  accepts : {a : A} {l : List Condition} → Clear l → Firsts (accepted a) l
+
+-- ---- the same as one number
+first-that : {n : ℕ} {l : List Condition} → First n l → firstThat l ≡ n
+unfolding firstThat
+first-that (here e h) = rw (e, firstThat) h
+first-that (further e f) = rw (e, firstThat) (first-that f)
+
+clear-that : {l : List Condition} → Clear l → firstThat l ≡ 0
+unfolding firstThat
+clear-that none-left = refl
+clear-that (one-clear e k) = rw (e, firstThat) (clear-that k)
+
+pub first-refusal : {A : Type 0} {j : Judged A} {l : List Condition} → Firsts j l → refusalOf j ≡ firstThat l
+unfolding refusalOf
+first-refusal (refuses f) = sym (first-that f)
+first-refusal (accepts k) = sym (clear-that k)
+
+-- ---- steps of a call
+not-flip : (t : Bool) (b : Bool) → b ≡ not t → t ≡ true → b ≡ false
+not-flip t b e h = rw h at e
+
+pub by-ensure : {A : Type 0} (n : ℕ) (t : Bool) {b : Bool} {j : Judged A} {l : List Condition} → b ≡ not t → (t ≡ true → Firsts j l) → Firsts (ensure n t >> j) ((n if b) ∷ l)
+unfolding ensure _>>_
+by-ensure n true {b} e f = after e (f refl)
+  where
+    after : {A : Type 0} {j : Judged A} {l : List Condition} → b ≡ false → Firsts j l → Firsts j ((n if b) ∷ l)
+    after e (refuses g) = refuses (further e g)
+    after e (accepts k) = accepts (one-clear e k)
+by-ensure n false e f = refuses (here e refl)
+
+pub by-need : {A B : Type 0} (n : ℕ) (o : Option A) {b : Bool} {f : A → Judged B} {l : List Condition} → b ≡ not (isSome o) → ((a : A) → o ≡ some a → Firsts (f a) l) → Firsts (need n o >>= f) ((n if b) ∷ l)
+unfolding need _>>=_ isSome
+by-need n none e f = refuses (here e refl)
+by-need n (some a) {b} e f = after e (f a refl)
+  where
+    after : {B : Type 0} {j : Judged B} {l : List Condition} → b ≡ false → Firsts j l → Firsts j ((n if b) ∷ l)
+    after e (refuses g) = refuses (further e g)
+    after e (accepts k) = accepts (one-clear e k)
+
+first-append : {n : ℕ} {k : List Condition} (l : List Condition) → First n k → First n (k ++ l)
+first-append l (here e h) = here e h
+first-append l (further e f) = further e (first-append l f)
+
+clear-append : {n : ℕ} {k l : List Condition} → Clear k → First n l → First n (k ++ l)
+clear-append none-left f = f
+clear-append (one-clear e k) f = further e (clear-append k f)
+
+clear-both : {k l : List Condition} → Clear k → Clear l → Clear (k ++ l)
+clear-both none-left q = q
+clear-both (one-clear e k) q = one-clear e (clear-both k q)
+
+-- one call's list, then the next one's
+pub by-then : {A B : Type 0} {j : Judged A} {f : A → Judged B} {k l : List Condition} → Firsts j k → ((a : A) → j ≡ accepted a → Firsts (f a) l) → Firsts (j >>= f) (k ++ l)
+unfolding _>>=_
+by-then {l = l} (refuses g) h = refuses (first-append l g)
+by-then {B = B} {f = f} {l = l} (accepts {a = a} {l = k} c) h = go (h a refl)
+  where
+    go : {i : Judged B} → Firsts i l → Firsts i (k ++ l)
+    go (refuses g) = refuses (clear-append c g)
+    go (accepts d) = accepts (clear-both c d)
+
+pub by-end : {A : Type 0} (a : A) → Firsts (accepted a) []
+by-end a = accepts none-left
+
+pub given-some : {A : Type 0} {o : Option A} {a : A} (f : A → Bool) → o ≡ some a → given o f ≡ f a
+unfolding given
+given-some f e = rw e refl
+
+pub bind-some : {A B : Type 0} {o : Option A} {a : A} (f : A → Option B) → o ≡ some a → bind o f ≡ f a
+unfolding bind
+bind-some f e = rw e refl
+
+-- ---- 4 to 8
+module _ (ed : Edition) (vs es : List ℕ) where
+  pub plant-first : Firsts (judgePlant ed vs es) (plantConditions ed vs es)
+  unfolding judgePlant plantConditions is4 is5 is6 is7 is8
+  plant-first =
+      by-need 4 (variablesIn ed vs) refl (λ xs e.
+      by-ensure 5 (every ordered xs) (given-some _ e) (λ h5.
+      by-need 6 (equationsIn es) refl (λ eqs f.
+      by-ensure 7 (every (equationNamed (length xs)) eqs) (given-some _ e ∙ given-some _ f) (λ h7.
+      by-ensure 8 (drivenOnce [] eqs) (given-some _ f) (λ h8. by-end _)))))
+
+  -- the plant that is accepted is the one that stands in the two sections
+  pub plant-is : {p : Plant} → judgePlant ed vs es ≡ accepted p →
+    (variablesIn ed vs ≡ some (p .variables)) × (equationsIn es ≡ some (p .equations))
+  unfolding judgePlant
+  plant-is h =
+      let a = Judging.passed-need 4 (variablesIn ed vs) _ h in
+      let b = Judging.passed-ensure 5 _ _ (a .2) in
+      let c = Judging.passed-need 6 (equationsIn es) _ (b .1) in
+      let d = Judging.passed-ensure 7 _ _ (c .2) in
+      let g = Judging.passed-ensure 8 _ _ (d .1) in
+      let i = accepted-is (g .1) in
+      (a .1 ∙ ap (λ (p : Plant). some (p .variables)) i, c .1 ∙ ap (λ (p : Plant). some (p .equations)) i)
+
+  pub plant-in : {p : Plant} → judgePlant ed vs es ≡ accepted p → plantIn ed vs es ≡ some p
+  unfolding plantIn
+  plant-in h = let k = plant-is h in bind-some _ (k .0) ∙ bind-some _ (k .1)
+
+  -- 12 of the two sections, where they are read as p
+  plant-reads : {p : Plant} → judgePlant ed vs es ≡ accepted p → is12 ed vs es ≡ not (switchesRead ed p)
+  unfolding is12 switchesRead
+  plant-reads h = let k = plant-is h in given-some _ (k .0) ∙ given-some _ (k .1)
+
+first-any : {n : ℕ} {l : List Condition} → First n l → anyApplies l ≡ true
+unfolding anyApplies
+first-any (here e h) = rw (e, anyApplies) refl
+first-any (further e f) = rw (e, anyApplies) (first-any f)
+
+clear-any : {l : List Condition} → Clear l → anyApplies l ≡ false
+unfolding anyApplies
+clear-any none-left = refl
+clear-any (one-clear e k) = rw (e, anyApplies) (clear-any k)
+
+-- one number for a whole list, then the rest
+by-only : {A B : Type 0} (n : ℕ) {j : Judged A} {f : A → Judged B} {b : Bool} {k l : List Condition} → Firsts j k → (anyApplies k ≡ true → b ≡ true) →
+  ((a : A) → j ≡ accepted a → anyApplies k ≡ false → Firsts (f a) ((n if b) ∷ l)) → Firsts (only n j >>= f) ((n if b) ∷ l)
+unfolding only _>>=_
+by-only n (refuses g) h f = refuses (here (h (first-any g)) refl)
+by-only n (accepts {a = a} c) h f = f a refl (clear-any c)
+
+or-true : (a b : Bool) → a ≡ true → (a || b) ≡ true
+or-true a b e = rw e refl
+
+or-false : (a b : Bool) → a ≡ false → (a || b) ≡ b
+or-false a b e = rw e refl
+
+-- one number for what cannot be read and for what does not fit
+pub by-read : {A B : Type 0} (n : ℕ) (o : Option A) (t : A → Bool) {b : Bool} {f : A → Judged B} {l : List Condition} → b ≡ not (given o t) →
+  ((a : A) → o ≡ some a → t a ≡ true → Firsts (f a) l) → Firsts (need n o >>= λ a. ensure n (t a) >> f a) ((n if b) ∷ l)
+unfolding need _>>=_ given
+by-read n none t e f = refuses (here e refl)
+by-read n (some a) t e f = by-ensure n (t a) e (f a refl)
+
+-- ---- 15 to 19
+module _ (ed : Edition) (table : List ℕ) where
+  pub table-first : Firsts (judgeTable ed table) (tableConditions ed table)
+  unfolding judgeTable tableConditions is15 is16 is17 is18 is19 tableParts tablePlant
+  table-first =
+      by-ensure 15 (tableHeader ed table) refl (λ h15.
+      by-need 16 (tableSectionsIn (drop 5 table)) refl (λ parts e.
+      by-only 17 (plant-first ed (parts .variables) (parts .equations)) (λ a. given-some _ e ∙ or-true _ _ a) (λ p j c.
+      by-ensure 17 (switchesRead ed p) (given-some _ e ∙ or-false _ _ c ∙ plant-reads ed (parts .variables) (parts .equations) j) (λ h17.
+      by-read 18 (actionsIn ed (parts .actions)) (actionsFit ed p)
+        (given-some _ e ∙ ap not (given-some _ (bind-some _ e ∙ plant-in ed (parts .variables) (parts .equations) j))) (λ acts f h18.
+      by-read 19 (locationsIn ed (parts .locations)) (locationsFit acts) (given-some _ e ∙ ap not (given-some _ f)) (λ locs g h19. by-end _))))))
+
+  -- the plant of an accepted table
+  pub table-plant : {t : Table} → judgeTable ed table ≡ accepted t → tablePlant ed table ≡ some (t .plant)
+  unfolding judgeTable tablePlant tableParts
+  table-plant h =
+      let a = Judging.passed-ensure 15 _ _ h in
+      let b = Judging.passed-need 16 (tableSectionsIn (drop 5 table)) _ (a .1) in
+      let c = Judging.passed-then (only 17 (judgePlant ed (b .0 .variables) (b .0 .equations))) _ (b .2) in
+      let d = Judging.passed-ensure 17 _ _ (c .2) in
+      let g = Judging.passed-need 18 (actionsIn ed (b .0 .actions)) _ (d .1) in
+      let i = Judging.passed-ensure 18 _ _ (g .2) in
+      let k = Judging.passed-need 19 (locationsIn ed (b .0 .locations)) _ (i .1) in
+      let l = Judging.passed-ensure 19 _ _ (k .2) in
+      bind-some _ (b .1) ∙ plant-in ed (b .0 .variables) (b .0 .equations) (Judging.passed-only 17 _ (c .1)) ∙ ap (λ (t : Table). some (t .plant)) (accepted-is (l .1))
+
+-- ---- 20 to 22, of a program whose plant is the one that its call speaks of
+module _ {S : Type 0} (ed : Edition) (start events buffer : List ℕ) where
+  pub run-first : {j : Judged (Program S)} {plant : Option Plant} {k : List Condition} → Firsts j k → ((g : Program S) → j ≡ accepted g → plant ≡ some (g .plant)) →
+    Firsts (judgeRun ed j start events buffer) (k ++ runConditions ed plant start events buffer)
+  unfolding judgeRun runConditions is20 is21 is22
+  run-first f h = by-then f (λ g e.
+      by-read 20 (startIn (g .plant) start) (startFits (g .plant)) (given-some _ (h g e)) (λ st i h20.
+      by-ensure 21 (wholeEvents (ed .event-bytes) events) refl (λ h21.
+      by-ensure 22 (roomForRecords ed (g .plant) events buffer) (given-some _ (h g e)) (λ h22. by-end _))))
+
+-- a call that makes one more thing of what another accepted keeps its list
+pub by-map : {A B : Type 0} {j : Judged A} (f : A → B) {k : List Condition} → Firsts j k → Firsts (j >>= λ a. accepted (f a)) k
+unfolding _>>=_
+by-map f (refuses g) = refuses g
+by-map f (accepts c) = accepts c
+
+pub table-run-first : (ed : Edition) (table start events buffer : List ℕ) →
+  Firsts (judgeRun ed (tableProgram ed table) start events buffer) (tableRunConditions ed table start events buffer)
+unfolding tableProgram tableRunConditions
+table-run-first ed table start events buffer = run-first ed start events buffer (by-map _ (table-first ed table)) program
+  where
+    program : (g : Program ℕ) → tableProgram ed table ≡ accepted g → tablePlant ed table ≡ some (g .plant)
+    program g e =
+        let a = Judging.passed-then (judgeTable ed table) _ e in
+        table-plant ed table (a .1) ∙ ap (λ (g : Program ℕ). some (g .plant)) (accepted-is (a .2))
