@@ -2,5 +2,8 @@ pub mod Computes
 pub mod Facts
 pub mod Judging
 pub mod Readers
+pub mod SignedBytes
+pub mod ExpressionBytes
 pub mod K1
 pub mod Papers
+pub mod DepthPapers
