@@ -3,5 +3,8 @@ pub mod Facts
 pub mod Judging
 pub mod Readers
 pub mod FirstNumber
+pub mod SignedBytes
+pub mod ExpressionBytes
 pub mod K1
 pub mod Papers
+pub mod DepthPapers
