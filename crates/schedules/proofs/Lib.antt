@@ -1,4 +1,5 @@
 pub mod Computes
+pub mod FirstNumber
 pub mod Examples
 pub mod Papers
 pub mod Traps
