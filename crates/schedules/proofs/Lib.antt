@@ -1,2 +1,3 @@
 pub mod Computes
 pub mod TreeShapes
+pub mod ActingDetermines
