@@ -1,3 +1,4 @@
 pub mod Computes
 pub mod TreeShapes
 pub mod ActingDetermines
+pub mod ResidualsKept
