@@ -3,3 +3,7 @@ pub mod FirstNumber
 pub mod Examples
 pub mod Papers
 pub mod Traps
+pub mod TreeShapes
+pub mod ActingDetermines
+pub mod ResidualsKept
+pub mod MovesFit
