@@ -1,2 +1,4 @@
 pub mod Computes
 pub mod OneTree
+pub mod TreeShapes
+pub mod ReadShapes
