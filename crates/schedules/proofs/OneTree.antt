@@ -3,13 +3,13 @@ use mathlib.Core.Path.{_≡_, refl, sym, ap, subst, _∙_}
 use mathlib.Core.Logic.{_↔_}
 use mathlib.Core.List.{List, [], _∷_, _++_, append-assoc, append-nil}
 use mathlib.Core.Option.{Option, none, some}
-use Prim.Native.Nat.{ℕ, zero, suc, _+_, _≤_, _<_}
+use Prim.Native.Nat.{ℕ, zero, suc, _+_, _≤_}
 use native.Mathlib.Nat.{le-refl}
 use native.Mathlib.Omega.{arith}
 use lib.ListN.{length, length-append}
 use Rattle.semantics.proofs.Facts.{none-not-some, some-is}
 use Rattle.schedules.specs.Nodes.{Node, sequence, parallel, while-do, if-else, continue-until, reset, reinitial, switch-to, stop-all}
-use Rattle.schedules.specs.Trees.{Tree, Forest, leaf, halt, loop, branch, seq, par, nil, cons, children, ofNone, ofOne, ofTwo, ofSome, treeFrom, Walked, lost, walked, onward, found, readForest, readTree, noneLeft, treeOf}
+use Rattle.schedules.specs.Trees.{Tree, Forest, nil, cons, children, ofNone, ofOne, ofTwo, ofSome, treeFrom, Walked, lost, walked, onward, found, readForest, readTree, noneLeft, treeOf}
 use Rattle.schedules.specs.Preorder.{howMany, Written, WrittenAll, a-continue, a-reset, a-reinitial, a-switch, a-stop, a-while, an-if, a-sequence, a-parallel, no-tree, one-tree as next-tree}
 
 -- ---- a walk taken apart
@@ -88,6 +88,7 @@ rooted-written (switch-to s m) (cons t ts) r w = none-not-some (r .made)
 rooted-written {n = n} stop-all nil r no-tree = subst (λ t. Written t n (stop-all ∷ [])) (some-is (r .made)) a-stop
 rooted-written stop-all (cons t ts) r w = none-not-some (r .made)
 
+-- the first node of a written tree, its children and their nodes
 record Headed (t : Tree) (n : ℕ) (ns : List Node) : Type 0 where
   node : Node
   trees : Forest
@@ -112,13 +113,14 @@ written-headed (a-sequence w e) = headed (sym e) refl w
 written-headed (a-parallel w e) = headed (sym e) refl w
 
 -- ---- what is read is written
+-- the nodes that were read stand at the front, and the numbers go on behind them
 pub record Front (W : List Node → Type 0) (n : ℕ) (ns : List Node) (m : ℕ) (ms : List Node) : Type 0 where
   pub nodes : List Node
   pub parted : ns ≡ nodes ++ ms
   pub numbered : m ≡ n + length nodes
   pub written : W nodes
 
-abbrev Sound : (ℕ → List Node → Walked Tree) → Type 0
+abbrev pub Sound : (ℕ → List Node → Walked Tree) → Type 0
 Sound r = (n : ℕ) (ns : List Node) (t : Tree) (m : ℕ) (ms : List Node) → r n ns ≡ walked t m ms → Front (Written t n) n ns m ms
 
 -- a tree and then others
@@ -131,7 +133,7 @@ joined {t} {ts} {us} {n} {m} {l} {k} {ns} {ms} {ls} {ks} e f g p q = record {
   written = subst (λ us. WrittenAll us n (f .nodes ++ g .nodes)) e (next-tree (f .written) (subst (λ i. WrittenAll ts i (g .nodes)) (f .numbered) (g .written)) refl);
 }
 
-forest-sound : (r : ℕ → List Node → Walked Tree) → Sound r → (k n : ℕ) (ns : List Node) {ts : Forest} {m : ℕ} {ms : List Node} → readForest r k n ns ≡ walked ts m ms →
+pub forest-sound : (r : ℕ → List Node → Walked Tree) → Sound r → (k n : ℕ) (ns : List Node) {ts : Forest} {m : ℕ} {ms : List Node} → readForest r k n ns ≡ walked ts m ms →
     (howMany ts ≡ k) × Front (WrittenAll ts n) n ns m ms
 unfolding readForest howMany
 forest-sound r s zero n ns h =
@@ -163,11 +165,12 @@ read-written (suc d) n (x ∷ ns) t m ms h =
       written = rooted-written x (a .value) (record { many = c .0; made = b .0 }) (f .written);
     }
 
--- ---- what is written is read
-abbrev Complete : ℕ → (ℕ → List Node → Walked Tree) → Type 0
+-- ---- what is written is read, whatever follows it
+-- no tree of at most d nodes is turned away
+abbrev pub Complete : ℕ → (ℕ → List Node → Walked Tree) → Type 0
 Complete d r = (t : Tree) (n : ℕ) (ps ms : List Node) → Written t n ps → length ps ≤ d → r n (ps ++ ms) ≡ walked t (n + length ps) ms
 
-forest-complete : (d : ℕ) (r : ℕ → List Node → Walked Tree) → Complete d r → {ts : Forest} {n : ℕ} {ps : List Node} (ms : List Node) → WrittenAll ts n ps → length ps ≤ d →
+pub forest-complete : (d : ℕ) (r : ℕ → List Node → Walked Tree) → Complete d r → {ts : Forest} {n : ℕ} {ps : List Node} (ms : List Node) → WrittenAll ts n ps → length ps ≤ d →
     readForest r (howMany ts) n (ps ++ ms) ≡ walked ts (n + length ps) ms
 unfolding readForest howMany
 forest-complete d r c {n = n} ms no-tree h = ap (λ k. walked nil k ms) (omega arith)
@@ -192,7 +195,6 @@ written-read zero t n ps ms w h =
     absurd (omega arith)
 written-read (suc d) t n ps ms w h =
     let k = written-headed w in
-    let x = k .node in
     let e : length ps ≡ suc (length (k .rest)) = ap length (k .split) in
     let i = forest-complete d (readTree d) (written-read d) ms (k .written) (omega arith) in
     let f = headed-read d (k .rest) ms (k .rooted) i in

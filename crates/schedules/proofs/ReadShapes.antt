@@ -1,19 +1,17 @@
 -- What a tree that is read from nodes looks like: its numbers are those of the nodes, and each node that acts has its action listed.
 use mathlib.Core.Path.{_≡_, refl, sym, ap, subst, _∙_}
-use mathlib.Core.Bool.{Bool, true, false}
 use mathlib.Core.List.{List, [], _∷_, _++_}
 use mathlib.Core.Option.{Option, none, some}
-use Prim.Native.Nat.{ℕ, zero, suc, _+_, _≤_, _<_}
+use Prim.Native.Nat.{ℕ, suc, _+_, _<_}
 use native.Mathlib.Nat.{le-refl}
 use native.Mathlib.Omega.{arith}
 use borrow.Author.Tests.{eq-eqb, ne-eqb}
-use lib.Dec.{eqb}
 use lib.ListN.{length, length-append}
-use Rattle.semantics.specs.Run.{Action, test, wait, assign, switch, stop, isTest}
+use Rattle.semantics.specs.Run.{Action, isTest}
 use Rattle.semantics.specs.TableFile.{NodeAction}
 use Rattle.semantics.specs.Tables.{actionAt, actionOrStop}
-use Rattle.semantics.proofs.Facts.{none-not-some, some-is}
-use Rattle.schedules.specs.Nodes.{Node, sequence, parallel, while-do, if-else, continue-until, reset, reinitial, switch-to, stop-all, actionOf, listed as listing, actionsFrom, actionsOf}
+use Rattle.semantics.proofs.Facts.{none-not-some}
+use Rattle.schedules.specs.Nodes.{Node, actionOf, listed as listing, actionsFrom, actionsOf}
 use Rattle.schedules.specs.Trees.{Tree, Forest, treeOf}
 use Rattle.schedules.specs.Preorder.{Written, WrittenAll, a-continue, a-reset, a-reinitial, a-switch, a-stop, a-while, an-if, a-sequence, a-parallel, no-tree, one-tree as next-tree}
 use Rattle.schedules.proofs.OneTree.{one-tree}
