@@ -2,7 +2,7 @@
 use mathlib.Core.Path.{_≡_}
 use mathlib.Core.Bool.{Bool, true, false}
 use mathlib.Core.List.{List}
-use mathlib.Core.Option.{Option, some}
+use mathlib.Core.Option.{some}
 use Prim.Native.Nat.{ℕ, suc, _≤_, _<_}
 use Rattle.semantics.specs.Run.{Action, test, wait, assign, switch, stop, isTest}
 use Rattle.semantics.specs.TableFile.{NodeAction}
