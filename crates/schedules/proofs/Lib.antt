@@ -7,3 +7,7 @@ pub mod TreeShapes
 pub mod ActingDetermines
 pub mod ResidualsKept
 pub mod MovesFit
+pub mod OneTree
+pub mod ReadShapes
+pub mod ActionsListed
+pub mod NodesRead
