@@ -1,3 +1,4 @@
 pub mod Computes
+pub mod Places
 pub mod Numbered
 pub mod Reached
