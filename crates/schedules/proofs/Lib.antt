@@ -11,3 +11,6 @@ pub mod OneTree
 pub mod ReadShapes
 pub mod ActionsListed
 pub mod NodesRead
+pub mod Places
+pub mod Numbered
+pub mod Reached
