@@ -4,3 +4,6 @@ pub mod Judging
 pub mod Readers
 pub mod K1
 pub mod Papers
+pub mod Verdicts
+pub mod Simulation
+pub mod RunCounts
