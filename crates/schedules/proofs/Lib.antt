@@ -1,2 +1,3 @@
 pub mod Computes
 pub mod TableAgrees
+pub mod ScheduleSound
