@@ -14,3 +14,5 @@ pub mod NodesRead
 pub mod Places
 pub mod Numbered
 pub mod Reached
+pub mod TableAgrees
+pub mod ScheduleSound

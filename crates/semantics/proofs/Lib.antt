@@ -8,3 +8,6 @@ pub mod ExpressionBytes
 pub mod K1
 pub mod Papers
 pub mod DepthPapers
+pub mod Verdicts
+pub mod Simulation
+pub mod RunCounts

@@ -1,0 +1,151 @@
+-- One answer and one record for each event: the three counts add up to the events, and the records are as long as the buffer needs.
+use mathlib.Core.Path.{_≡_, refl, sym, ap, _∙_}
+use mathlib.Core.Bool.{Bool, true, false}
+use mathlib.Core.List.{List, [], _∷_, _++_, map, flatMap}
+use mathlib.Core.Option.{Option, none, some}
+use Prim.Native.Nat.{ℕ, zero, suc, _+_, _*_}
+use native.Mathlib.Nat.{suc-mul, zero-mul, add-comm}
+use native.Mathlib.Omega.{arith}
+use borrow.Author.Tests.{lt-leb, ne-eqb}
+use lib.ListN.{length, length-append}
+use lib.IntN.{ℤ}
+use Rattle.semantics.specs.Bytes.{within, bigEndian, out4}
+use Rattle.semantics.specs.Editions.{Edition}
+use Rattle.semantics.specs.Expressions.{Side, above, below}
+use Rattle.semantics.specs.Plant.{Plant, selectors}
+use Rattle.semantics.specs.Events.{eventIn}
+use Rattle.semantics.specs.Run.{Next, to, finished, halted, idle, Control, Verdict, Moved, nobody, mover, Done, judge, Situation, Answered, faultAnswer, turnedAway, arrive, follow, settle, step, answers, actingSet, valueBytes, recordOf, isTaken, isTurnedAway, isFaulted, howMany}
+use Rattle.semantics.specs.Calls.{recordSize, outcomeOf}
+use Rattle.semantics.proofs.Facts.{within-low, within-high, within-both}
+use Rattle.semantics.proofs.Verdicts.{inJudging, Verdicts, is-away, is-faulty, is-pass, Fair, judge-verdicts}
+
+-- ---- an answer is of just one of the three kinds
+pub data Answer (n : ℕ) : Type 0 where
+  only-taken : isTaken n ≡ true → isTurnedAway n ≡ false → isFaulted n ≡ false → Answer n
+  only-away : isTaken n ≡ false → isTurnedAway n ≡ true → isFaulted n ≡ false → Answer n
+  only-faulted : isTaken n ≡ false → isTurnedAway n ≡ false → isFaulted n ≡ true → Answer n
+
+away-answer : (n : ℕ) → isTurnedAway n ≡ true → Answer n
+unfolding isTaken isTurnedAway isFaulted within
+away-answer n h =
+    let low = within-low 23 31 n h in
+    let high = within-high 23 31 n h in
+    only-away (rw (lt-leb 200 n (omega arith)) refl) h (ne-eqb n 203 (λ e. omega arith))
+
+judged-answer : (n : ℕ) → inJudging n ≡ true → Answer n
+unfolding inJudging isTurnedAway
+judged-answer n h = let low = within-low 24 31 n h in away-answer n (within-both 23 31 n (omega arith) (within-high 24 31 n h))
+
+module _ {A : Type 0} (f : A → Bool) (x : A) (l : List A) where
+  pub counted : f x ≡ true → howMany f (x ∷ l) ≡ suc (howMany f l)
+  unfolding howMany
+  counted h = rw (h, howMany) refl
+
+  pub uncounted : f x ≡ false → howMany f (x ∷ l) ≡ howMany f l
+  unfolding howMany
+  uncounted h = rw (h, howMany) refl
+
+one-counted : (n : ℕ) (l : List ℕ) {k : ℕ} → Answer n → howMany isTaken l + howMany isTurnedAway l + howMany isFaulted l ≡ k →
+    howMany isTaken (n ∷ l) + howMany isTurnedAway (n ∷ l) + howMany isFaulted (n ∷ l) ≡ suc k
+one-counted n l (only-taken t a f) h =
+    let i = counted isTaken n l t in let j = uncounted isTurnedAway n l a in let m = uncounted isFaulted n l f in omega arith
+one-counted n l (only-away t a f) h =
+    let i = uncounted isTaken n l t in let j = counted isTurnedAway n l a in let m = uncounted isFaulted n l f in omega arith
+one-counted n l (only-faulted t a f) h =
+    let i = uncounted isTaken n l t in let j = uncounted isTurnedAway n l a in let m = counted isFaulted n l f in omega arith
+
+-- ---- the bytes of a record
+set-length : (k n : ℕ) → length (bigEndian k n) ≡ k
+unfolding bigEndian
+set-length zero n = refl
+set-length (suc k) n = ap suc (set-length k n)
+
+values-length : (vs : List ℤ) → length (flatMap valueBytes vs) ≡ 4 * length vs
+unfolding flatMap valueBytes out4
+values-length [] = refl
+values-length (v ∷ vs) = let ih = values-length vs in omega arith
+
+-- ---- a step: its answer is of one kind, and values and modes stay as many
+pub record Stepped {S : Type 0} (s : Situation S) (o : Answered S) : Type 0 where
+  pub answered : Answer (o .answer)
+  pub values-kept : length (o .left .values) ≡ length (s .values)
+  pub modes-kept : length (o .left .modes) ≡ length (s .modes)
+
+module _ {S : Type 0} (ed : Edition) (p : Plant) (c : Control S) where
+  away-stepped : (s : Situation S) (n : ℕ) → Answer n → Stepped s (turnedAway n s)
+  unfolding turnedAway
+  away-stepped s n h = record { answered = h; values-kept = refl; modes-kept = refl }
+
+  arrive-stepped : (s : Situation S) (x : Next S) (vs : List ℤ) (ms : List ℕ) → length vs ≡ length (s .values) → length ms ≡ length (s .modes) →
+      Stepped s (arrive s x vs ms)
+  unfolding arrive isTaken isTurnedAway isFaulted within
+  arrive-stepped s (to y) vs ms h k = record { answered = only-taken refl refl refl; values-kept = h; modes-kept = k }
+  arrive-stepped s finished vs ms h k = record { answered = only-taken refl refl refl; values-kept = h; modes-kept = k }
+  arrive-stepped s halted vs ms h k = record { answered = only-taken refl refl refl; values-kept = h; modes-kept = k }
+  arrive-stepped s idle vs ms h k = away-stepped s 25 (only-away refl refl refl)
+
+  follow-stepped : (x : S) (s : Situation S) (m : Moved) (vs : List ℤ) (ms : List ℕ) → length vs ≡ length (s .values) → length ms ≡ length (s .modes) →
+      Stepped s (follow c x s m vs ms)
+  unfolding follow
+  follow-stepped x s nobody vs ms h k = arrive-stepped s (to x) vs ms h k
+  follow-stepped x s (mover n b) vs ms h k = arrive-stepped s (c .next x n b) vs ms h k
+
+  fault-answer : (side : Side) → Answer (faultAnswer side)
+  unfolding faultAnswer isTaken isTurnedAway isFaulted within
+  fault-answer above = only-faulted refl refl refl
+  fault-answer below = only-faulted refl refl refl
+
+  settle-stepped : (x : S) (s : Situation S) {v : Verdict Done} → Verdicts (Fair (c .action) (c .acting x) (s .values) (s .modes)) v →
+      Stepped s (settle c x s v)
+  unfolding settle
+  settle-stepped x s (is-away {n = n} h) = away-stepped s n (judged-answer n h)
+  settle-stepped x s (is-faulty {s = side}) = record { answered = fault-answer side; values-kept = refl; modes-kept = refl }
+  settle-stepped x s (is-pass {a = a} f) = follow-stepped x s (a .moved) (a .values) (a .modes) (f .values-kept) (f .modes-kept)
+
+  pub step-stepped : (s : Situation S) (e : List ℕ) → Stepped s (step ed p c s e)
+  unfolding step isTaken isTurnedAway isFaulted within
+  step-stepped s e = by-place (s .place)
+    where
+      by-place : (o : Option S) → Stepped s
+          (elim o [ none ↦ turnedAway 23 s | some x ↦ settle c x s (judge ed p (c .action) (c .acting x) (s .values) (s .modes) (eventIn ed e)) ])
+      by-place none = away-stepped s 23 (only-away refl refl refl)
+      by-place (some x) = settle-stepped x s (judge-verdicts ed p (c .action) (c .acting x) (s .values) (s .modes) (eventIn ed e))
+
+  -- ---- as many answers as events
+  pub answers-length : (s : Situation S) (es : List (List ℕ)) → length (answers ed p c s es) ≡ length es
+  unfolding answers
+  answers-length s [] = refl
+  answers-length s (e ∷ es) = ap suc (answers-length (step ed p c s e .left) es)
+
+  pub counts-sum : (s : Situation S) (es : List (List ℕ)) →
+      let said = (outcomeOf ed c (answers ed p c s es)) .said in
+      howMany isTaken said + howMany isTurnedAway said + howMany isFaulted said ≡ length es
+  unfolding outcomeOf answers howMany
+  counts-sum s [] = refl
+  counts-sum s (e ∷ es) = one-counted (step ed p c s e .answer) (map (λ (o : Answered S). o .answer) (answers ed p c (step ed p c s e .left) es)) (step-stepped s e .answered) (counts-sum (step ed p c s e .left) es)
+
+  -- ---- as many bytes as the records need
+  pub record-length : (o : Answered S) → length (o .left .values) ≡ length (p .variables) → length (o .left .modes) ≡ length (selectors p) →
+      length (recordOf ed c o) ≡ recordSize ed p
+  unfolding recordOf recordSize
+  record-length o h k =
+      let set = bigEndian (ed .set-bytes) (actingSet c (o .left .place)) in
+      let values = flatMap valueBytes (o .left .values) in
+      let a = length-append set (values ++ o .left .modes) in
+      let b = length-append values (o .left .modes) in
+      let i = set-length (ed .set-bytes) (actingSet c (o .left .place)) in
+      let j = values-length (o .left .values) in
+      omega arith
+
+  pub written-length : (s : Situation S) (es : List (List ℕ)) → length (s .values) ≡ length (p .variables) → length (s .modes) ≡ length (selectors p) →
+      length ((outcomeOf ed c (answers ed p c s es)) .written) ≡ length es * recordSize ed p
+  unfolding outcomeOf answers flatMap
+  written-length s [] h k = sym (zero-mul (recordSize ed p))
+  written-length s (e ∷ es) h k =
+      let o = step-stepped s e in
+      let ih = written-length (step ed p c s e .left) es (o .values-kept ∙ h) (o .modes-kept ∙ k) in
+      let one = record-length (step ed p c s e) (o .values-kept ∙ h) (o .modes-kept ∙ k) in
+      let rest = flatMap (recordOf ed c) (answers ed p c (step ed p c s e .left) es) in
+      let a = length-append (recordOf ed c (step ed p c s e)) rest in
+      let m = suc-mul (length es) (recordSize ed p) in
+      a ∙ rw (one, ih, m) (add-comm _ _)
