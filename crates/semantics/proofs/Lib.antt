@@ -4,3 +4,4 @@ pub mod Judging
 pub mod Readers
 pub mod K1
 pub mod Papers
+pub mod TableBack
