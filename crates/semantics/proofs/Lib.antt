@@ -5,3 +5,4 @@ pub mod Readers
 pub mod K1
 pub mod Papers
 pub mod TableBack
+pub mod BytesOnly
