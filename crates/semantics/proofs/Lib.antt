@@ -11,3 +11,5 @@ pub mod DepthPapers
 pub mod Verdicts
 pub mod Simulation
 pub mod RunCounts
+pub mod TableBack
+pub mod BytesOnly
