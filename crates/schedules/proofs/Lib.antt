@@ -16,3 +16,5 @@ pub mod Numbered
 pub mod Reached
 pub mod TableAgrees
 pub mod ScheduleSound
+pub mod TableAccepted
+pub mod Agreement

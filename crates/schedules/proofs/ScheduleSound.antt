@@ -16,6 +16,7 @@ use Rattle.semantics.specs.Rules.{Sound}
 use Rattle.semantics.specs.TableFile.{NodeAction}
 use Rattle.semantics.specs.Tables.{actionAt, actionOrStop}
 use Rattle.semantics.proofs.Facts.{All, all-nil, all-cons, every-all}
+use Rattle.schedules.proofs.MovesFit.{never-idle}
 use Rattle.schedules.specs.Nodes.{Node, sequence, parallel, while-do, if-else, continue-until, reset, reinitial, switch-to, stop-all, nodeNamed, actionOf, listed, actionsFrom, actionsOf}
 use Rattle.schedules.specs.Residuals.{Residual, acting, move}
 use Rattle.schedules.specs.Files.{Schedule, ruleControl}
@@ -61,13 +62,10 @@ module _ (variables : ℕ) (cs : List Selector) where
       go none i e ih = ih e
       go (some a) i e ih = here-or-later a i (eqb k n) refl e ih
 
--- the parameter is a law of moves: an acting node always moves
-module _ (never-idle : (r : Residual) (n : ℕ) (b : Bool) → Mem n (acting r) → move r n b ≡ idle → ⊥) where
-  pub schedule-sound : (s : Schedule) → every (nodeNamed (length (s .plant .variables)) (selectors (s .plant))) (s .nodes) ≡ true →
-      Sound (s .plant) (ruleControl s)
-  unfolding ruleControl actionsOf
-  schedule-sound s h = record {
+pub schedule-sound : (s : Schedule) → every (nodeNamed (length (s .plant .variables)) (selectors (s .plant))) (s .nodes) ≡ true →
+  Sound (s .plant) (ruleControl s)
+unfolding ruleControl actionsOf
+schedule-sound s h = record {
     moves = λ r n b m e. never-idle r n b m;
     declares = λ r n v t m e.
-        assigned-below (length (s .plant .variables)) (selectors (s .plant)) 0 n v t (every-all (nodeNamed (length (s .plant .variables)) (selectors (s .plant))) (s .nodes) h) e;
-  }
+        assigned-below (length (s .plant .variables)) (selectors (s .plant)) 0 n v t (every-all (nodeNamed (length (s .plant .variables)) (selectors (s .plant))) (s .nodes) h) e }

@@ -33,7 +33,7 @@ getD-map-at f (y ∷ l) (suc k) d h = getD-map-at f l k d h
 
 -- ---- the entries of a location
 module _ (tests : ℕ → Bool) (l : List Residual) (r : Residual) where
-  nodes-of : (ns : List ℕ) → entryNodes (map (entryOf tests l r) ns) ≡ ns
+  pub nodes-of : (ns : List ℕ) → entryNodes (map (entryOf tests l r) ns) ≡ ns
   unfolding entryNodes entryOf
   nodes-of [] = refl
   nodes-of (n ∷ ns) = ap (λ k. n ∷ k) (nodes-of ns)
