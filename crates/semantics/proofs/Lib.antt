@@ -4,3 +4,5 @@ pub mod Judging
 pub mod Readers
 pub mod K1
 pub mod Papers
+pub mod Hearing
+pub mod StepParts
