@@ -3,15 +3,15 @@ use mathlib.Core.Path.{_≡_, refl, sym, ap, subst, _∙_}
 use mathlib.Core.Bool.{Bool, true, false, cond}
 use mathlib.Core.List.{List, [], _∷_, _++_}
 use mathlib.Core.Option.{Option, none, some}
-use Prim.Native.Nat.{ℕ, zero, suc, _*_, _+_}
+use Prim.Native.Nat.{ℕ}
 use native.Mathlib.Omega.{arith}
 use borrow.Author.Tests.{eqb-true}
 use lib.Dec.{eqb}
-use Rattle.semantics.specs.Bytes.{every, be2, Width, one-byte, two-bytes, Read, broken, read, Reader, after, _>>=_, give, fail, byte, nat2, number, just, whole}
+use Rattle.semantics.specs.Bytes.{every, be2, Width, one-byte, two-bytes, Read, broken, read, after, _>>=_, give, fail, byte, nat2, number, just, whole}
 use Rattle.semantics.specs.Editions.{Edition}
 use Rattle.semantics.specs.Events.{Event, tick, pick, take-switch, senseless, EventKind, a-tick, a-pick, a-switch, no-kind, eventKind, unused, readKind, readEvent, eventIn}
 use Rattle.semantics.specs.Rules.{Zeros, no-zeros, one-zero, Names, by-one, by-two, SaysTick, SaysPick, SaysSwitch}
-use Rattle.semantics.proofs.Facts.{true-not-false, none-not-some, some-is}
+use Rattle.semantics.proofs.Facts.{true-not-false}
 use Rattle.semantics.proofs.Readers.{broken-not-read, read-value, split, given, given-rest, byte-read, whole-read}
 
 -- ---- unused bytes

@@ -6,3 +6,4 @@ pub mod K1
 pub mod Papers
 pub mod Hearing
 pub mod StepParts
+pub mod StepRules

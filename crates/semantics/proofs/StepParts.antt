@@ -1,19 +1,19 @@
 -- The stages of a step against the parts of the rules: walks over truths, waits, ranges and rates.
 use mathlib.Core.Path.{_≡_, refl, sym, ap, subst₂, _∙_}
-use mathlib.Core.Bool.{Bool, true, false, not, cond}
-use mathlib.Core.List.{List, [], _∷_, _++_, map, List·Memᴰ as Mem, List·Memᴰ·head as first, List·Memᴰ·tail as later}
-use mathlib.Core.Option.{Option, none, some}
-use Prim.Native.Nat.{ℕ, zero, suc, _+_, _≤_, _<_}
+use mathlib.Core.Bool.{Bool, true, false, not}
+use mathlib.Core.List.{List, [], _∷_, map, List·Memᴰ as Mem, List·Memᴰ·head as first, List·Memᴰ·tail as later}
+use mathlib.Core.Option.{some}
+use Prim.Native.Nat.{ℕ, zero, suc, _+_, _<_}
 use native.Mathlib.Nat.{zero-add}
 use native.Mathlib.Omega.{arith}
-use borrow.Author.Tests.{leb-true, leb-false, le-ltb, lt-ltb, not-true, not-false}
+use borrow.Author.Tests.{leb-true, leb-false, le-ltb, lt-ltb}
 use lib.Dec.{leb, ltb}
 use lib.IntN.{ℤ, pos, negsuc, _+ℤ_}
 use lib.Signed.{leZ, ltZ}
 use lib.ListN.{length, getElem?}
 use Rattle.semantics.specs.Bytes.{every}
 use Rattle.semantics.specs.Editions.{Edition}
-use Rattle.semantics.specs.Expressions.{Side, above, below, Value, ok, fault, ranged, thenValue, truthValue}
+use Rattle.semantics.specs.Expressions.{Side, Value, ok, fault, ranged, thenValue, truthValue}
 use Rattle.semantics.specs.Sections.{Variable}
 use Rattle.semantics.specs.Plant.{Plant, rateOf, declared, allDeclared, added}
 use Rattle.semantics.specs.Run.{Action, test, wait, assign, switch, stop, isWait, waitTruth, Verdict, away, faulty, pass, _>>=_, _>>_, allow, valued, walk}
