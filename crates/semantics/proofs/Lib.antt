@@ -13,3 +13,6 @@ pub mod Simulation
 pub mod RunCounts
 pub mod TableBack
 pub mod BytesOnly
+pub mod Hearing
+pub mod StepParts
+pub mod StepRules
