@@ -17,18 +17,19 @@ use Rattle.semantics.specs.Refusals.{Judged, refused, accepted}
 use Rattle.semantics.specs.Events.{eventsIn}
 use Rattle.semantics.specs.Plant.{Plant, selectors}
 use Rattle.semantics.specs.Starts.{Start, startIn, readStart, startFits}
-use Rattle.semantics.specs.Run.{possible, isTest, Control, Situation, Answered, at, answers, recordOf, howMany, isTaken, isTurnedAway, isFaulted, to}
+use Rattle.semantics.specs.Run.{Action, possible, isTest, Control, Situation, Answered, at, answers, recordOf, howMany, isTaken, isTurnedAway, isFaulted, to}
 use Rattle.semantics.specs.Rules.{Derives, Sound}
 use Rattle.semantics.specs.TableFile.{locationLimit}
 use Rattle.semantics.specs.Tables.{Table, judgeTable, tableControl, actionOrStop}
 use Rattle.semantics.specs.Calls.{Program, Outcome, outcomeOf, runFrom, judgeRun, report, Ran, tableProgram, tableRun, TableRead, tableCounts, readTable, wholeEvents, eventCount, recordSize, roomForRecords}
-use Rattle.semantics.specs.Conditions.{given, is20, is21, is22}
+use Rattle.semantics.specs.Conditions.{Condition, given, is20, is21, is22}
 use Rattle.semantics.proofs.Facts.{true-not-false, All, all-nil, all-cons}
 use Rattle.semantics.proofs.Judging as Judging
 use Rattle.semantics.proofs.Readers as Readers
 use Rattle.semantics.proofs.Simulation.{Agree, runs-agree}
 use Rattle.semantics.proofs.RunCounts.{counts-sum, written-length}
 use Rattle.semantics.proofs.FirstNumber.{First, here, further, Firsts, refuses, accepts, given-some}
+use Rattle.semantics.proofs.StepRules.{answers-derived}
 use Rattle.schedules.specs.Nodes.{actionsOf}
 use Rattle.schedules.specs.Residuals.{Residual, fresh, acting, move, same?}
 use Rattle.schedules.specs.Numbering.{locations}
@@ -68,9 +69,9 @@ pub record Agrees (ed : Edition) (file table : List ℕ) : Type 0 where
   pub schedule-read : judgeFile ed file ≡ accepted schedule
   -- for every start that 20 lets pass, every list of whole events and all buffers that are long enough
   pub runs : (start events by-rules by-table : List ℕ) →
-    is20 ed (some (schedule .plant)) start events by-rules ≡ false → is21 ed (some (schedule .plant)) start events by-rules ≡ false →
-    is22 ed (some (schedule .plant)) start events by-rules ≡ false → is22 ed (some (schedule .plant)) start events by-table ≡ false →
-    (st : Start) × (startIn (schedule .plant) start ≡ some st) ×
+      is20 ed (some (schedule .plant)) start events by-rules ≡ false → is21 ed (some (schedule .plant)) start events by-rules ≡ false →
+      is22 ed (some (schedule .plant)) start events by-rules ≡ false → is22 ed (some (schedule .plant)) start events by-table ≡ false →
+      (st : Start) × (startIn (schedule .plant) start ≡ some st) ×
       RunsAgree ed schedule st events by-rules by-table (ruleRun ed file start events by-rules) (tableRun ed table start events by-table)
 
 -- ---- 20 to 22 passed
@@ -90,8 +91,8 @@ starts ed p start events buffer h = go (startIn p start) refl (not-false _ h)
 -- a run whose start, events and buffer are let pass is accepted with its outcome
 module _ {S : Type 0} (ed : Edition) (p : Plant) (c : Control S) (start events buffer : List ℕ) (b : Starts p start) where
   accepted-run : {j : Judged (Program S)} → j ≡ accepted (record { plant = p; control = c }) →
-    wholeEvents (ed .event-bytes) events ≡ true → roomForRecords ed p events buffer ≡ true →
-    judgeRun ed j start events buffer ≡ accepted (outcomeOf ed c (runFrom ed (record { plant = p; control = c }) (b .st) events))
+      wholeEvents (ed .event-bytes) events ≡ true → roomForRecords ed p events buffer ≡ true →
+      judgeRun ed j start events buffer ≡ accepted (outcomeOf ed c (runFrom ed (record { plant = p; control = c }) (b .st) events))
   unfolding judgeRun
   accepted-run h w r =
       Judging.go-then _ h ∙ Judging.go-need 20 _ (b .start-read) ∙ Judging.go-ensure 20 _ (b .start-fits) ∙ Judging.go-ensure 21 _ w ∙ Judging.go-ensure 22 _ r
@@ -111,3 +112,119 @@ events-length : (w n : ℕ) (l : List ℕ) → length (eventsIn w n l) ≡ n
 unfolding eventsIn
 events-length w zero l = refl
 events-length w (suc n) l = ap suc (events-length w n (drop w l))
+
+outcomes : (a : Action) (b : Bool) → possible a b ≡ true → (b ≡ true) ⊎ (isTest a ≡ true)
+unfolding possible
+outcomes a true c = inl refl
+outcomes a false c = inr c
+
+-- ---- a schedule that compiling takes
+module _ (ed : Edition) (file : List ℕ) (s : Schedule) (h : judgeFile ed file ≡ accepted s) (fits : length (scheduleLocations s) ≤ locationLimit) where
+  rule-program : ruleProgram ed file ≡ accepted (record { plant = s .plant; control = ruleControl s })
+  unfolding ruleProgram
+  rule-program = Judging.go-then _ h
+
+  table-judged : judgeTable ed (tableOf ed s) ≡ accepted (tableFor s)
+  table-judged = table-accepted ed file s (passed ed file s h) fits
+
+  table-program : tableProgram ed (tableOf ed s) ≡ accepted (record { plant = s .plant; control = tableControl (tableFor s) })
+  unfolding tableProgram tableFor
+  table-program = Judging.go-then _ table-judged
+
+  controls-agree : Agree (ruleControl s) (tableControl (tableFor s)) (λ r k. lib.ListN.getElem? (scheduleLocations s) k ≡ some r)
+  unfolding scheduleLocations testsOf
+  controls-agree = table-agrees s fits ((reached (testsOf (s .nodes)) (s .root) fits) .first)
+      (λ x y n b m i c e. closed-under (testsOf (s .nodes)) (s .root) fits m (record { node = n; outcome = b; is-acting = i; can = outcomes (actionOrStop (actionsOf (s .nodes)) n) b c; leads = e }))
+      (λ x k e. number-found same? x (scheduleLocations s) k e) (λ x m. number-exists same? m)
+
+  -- both runs come to one outcome
+  module _ (start events by-rules by-table : List ℕ) (b : Starts (s .plant) start) (w : wholeEvents (ed .event-bytes) events ≡ true)
+      (room : roomForRecords ed (s .plant) events by-rules ≡ true) (room-too : roomForRecords ed (s .plant) events by-table ≡ true) where
+    abbrev begin : Situation Residual
+    begin = at (fresh (s .root)) (b .st .values) (b .st .modes)
+
+    abbrev es : List (List ℕ)
+    es = eventsIn (ed .event-bytes) (eventCount ed events) events
+
+    abbrev told : List (Answered Residual)
+    told = answers ed (s .plant) (ruleControl s) begin es
+
+    by-the-rules : ruleRun ed file start events by-rules ≡ report by-rules (accepted (outcomeOf ed (ruleControl s) told))
+    unfolding ruleRun runFrom ruleControl
+    by-the-rules = ap (report by-rules) (accepted-run ed (s .plant) (ruleControl s) start events by-rules b rule-program w room)
+
+    by-the-table : tableRun ed (tableOf ed s) start events by-table ≡ report by-table (accepted (outcomeOf ed (ruleControl s) told))
+    unfolding tableRun runFrom ruleControl
+    by-the-table = ap (report by-table) (accepted-run ed (s .plant) (tableControl (tableFor s)) start events by-table b table-program w room-too
+        ∙ ap accepted (sym (runs-agree ed (s .plant) controls-agree (b .st .values) (b .st .modes) es)))
+
+    lengths : (length (b .st .values) ≡ length (s .plant .variables)) × (length (b .st .modes) ≡ length (selectors (s .plant)))
+    lengths = start-values (s .plant) start (b .start-read)
+
+    both-agree : RunsAgree ed s (b .st) events by-rules by-table (ruleRun ed file start events by-rules) (tableRun ed (tableOf ed s) start events by-table)
+    unfolding report outcomeOf
+    both-agree = rw (by-the-rules, by-the-table) (record {
+      rules-taken-on = refl;
+      table-taken-on = refl;
+      said = told;
+      derived = answers-derived ed (s .plant) (ruleControl s) (schedule-sound s ((passed ed file s h) .named)) begin es;
+      rules-records = refl;
+      table-records = refl;
+      records-length = written-length ed (s .plant) (ruleControl s) begin es (lengths .0) (lengths .1) ∙ ap (λ n. n * recordSize ed (s .plant)) (events-length (ed .event-bytes) (eventCount ed events) events);
+      rules-counts = (refl, refl, refl);
+      table-counts = (refl, refl, refl);
+      counts-add = counts-sum ed (s .plant) (ruleControl s) begin es ∙ events-length (ed .event-bytes) (eventCount ed events) events;
+    })
+
+-- ---- no refusal has the number 0
+first-not-0 : {l : List Condition} {n : ℕ} → All (λ (c : Condition). c .refusal ≡ 0 → ⊥) l → First n l → n ≡ 0 → ⊥
+first-not-0 (all-cons h k) (here e f) z = h (f ∙ z)
+first-not-0 (all-cons h k) (further e f) z = first-not-0 k f z
+
+never-0 : (ed : Edition) (file buffer : List ℕ) → All (λ (c : Condition). c .refusal ≡ 0 → ⊥) (compileConditions ed file buffer)
+unfolding compileConditions fileConditions
+never-0 ed file buffer =
+    all-cons (no 0) (all-cons (no 1) (all-cons (no 2) (all-cons (no 3) (all-cons (no 4) (all-cons (no 5) (all-cons (no 6)
+    (all-cons (no 7) (all-cons (no 8) (all-cons (no 9) (all-cons (no 10) (all-cons (no 11) (all-cons (no 12) (all-cons (no 13) all-nil)))))))))))))
+  where
+    no : (n : ℕ) → suc n ≡ 0 → ⊥
+    no n e = omega arith
+
+-- what compiling accepted: the schedule, and its locations are no more than a table may hold
+record Taken (ed : Edition) (file buffer table : List ℕ) : Type 0 where
+  of : Schedule
+  of-file : judgeFile ed file ≡ accepted of
+  few : length (scheduleLocations of) ≤ locationLimit
+  is-table : tableOf ed of ≡ table
+
+compile-taken : (ed : Edition) (file buffer : List ℕ) {t : List ℕ} → judgeCompile ed file buffer ≡ accepted t → Taken ed file buffer t
+unfolding judgeCompile
+compile-taken ed file buffer h =
+    let a = Judging.passed-then (judgeFile ed file) _ h in
+    let b = Judging.passed-ensure 13 _ _ (a .2) in
+    let c = Judging.passed-ensure 14 _ _ (b .1) in
+    record { of = a .0; of-file = a .1; few = leb-true (length (scheduleLocations (a .0))) locationLimit (b .0); is-table = Judging.accepted-is (c .1) }
+
+table-agreement : (ed : Edition) (file : List ℕ) (s : Schedule) → judgeFile ed file ≡ accepted s → length (scheduleLocations s) ≤ locationLimit → Agrees ed file (tableOf ed s)
+unfolding readTable tableCounts is21 is22 given
+table-agreement ed file s h fits = record {
+  table-read = ap (λ j. (tableCounts j) .refusal) (table-judged ed file s h fits);
+  schedule = s;
+  schedule-read = h;
+  runs = λ start events by-rules by-table c20 c21 c22 d22.
+      let b = starts ed (s .plant) start events by-rules c20 in
+      (b .st, b .start-read, both-agree ed file s h fits start events by-rules by-table b (not-false _ c21) (not-false _ c22) (not-false _ d22));
+}
+
+-- demand 3, for every file, every room lent for its table, and then every start, every list of events and every two record buffers
+pub agreement : (ed : Edition) (file buffer : List ℕ) → (compile ed file buffer) .refusal ≡ 0 →
+    Agrees ed file (take ((compile ed file buffer) .written) ((compile ed file buffer) .table))
+unfolding compile compiledInto overwrite
+agreement ed file buffer = go (judgeCompile ed file buffer) refl (compile-first ed file buffer)
+  where
+    go : (j : Judged (List ℕ)) → judgeCompile ed file buffer ≡ j → Firsts j (compileConditions ed file buffer) → (compiledInto buffer j) .refusal ≡ 0 →
+        Agrees ed file (take ((compiledInto buffer j) .written) ((compiledInto buffer j) .table))
+    go (refused n) e (refuses f) z = absurd (first-not-0 (never-0 ed file buffer) f z)
+    go (accepted t) e f z =
+        let k = compile-taken ed file buffer e in
+        rw (take-append-seam t (drop (length t) buffer)) (subst (Agrees ed file) (k .is-table) (table-agreement ed file (k .of) (k .of-file) (k .few)))

@@ -47,7 +47,15 @@ passed ed file s h =
     let i = Judging.passed-ensure 11 _ _ (g .2) in
     let j = Judging.passed-ensure 12 _ _ (i .1) in
     subst (Passed ed file) (Judging.accepted-is (j .1)) (record {
-      header = a .0; own-length = b .0; parts = c .1; plant = d .1; nodes = f .1; tree = g .1; named = i .0; reads = j .0 })
+      header = a .0;
+      own-length = b .0;
+      parts = c .1;
+      plant = d .1;
+      nodes = f .1;
+      tree = g .1;
+      named = i .0;
+      reads = j .0;
+    })
 
 module _ (ed : Edition) (file : List ℕ) where
   -- 4 to 8 of the two sections, as conditions of the file
@@ -56,8 +64,8 @@ module _ (ed : Edition) (file : List ℕ) where
   of-parts e is = given-some _ e
 
   of-plant : {parts : FileSections} {A : Type 0} {j : Judged A} {l : List Condition} → fileParts ed file ≡ some parts →
-    Firsts j (plantConditions ed (parts .variables) (parts .equations) ++ l) →
-    Firsts j ((4 if ofPlant ed file is4) ∷ (5 if ofPlant ed file is5) ∷ (6 if ofPlant ed file is6) ∷ (7 if ofPlant ed file is7) ∷ (8 if ofPlant ed file is8) ∷ l)
+      Firsts j (plantConditions ed (parts .variables) (parts .equations) ++ l) →
+      Firsts j ((4 if ofPlant ed file is4) ∷ (5 if ofPlant ed file is5) ∷ (6 if ofPlant ed file is6) ∷ (7 if ofPlant ed file is7) ∷ (8 if ofPlant ed file is8) ∷ l)
   unfolding plantConditions
   of-plant e f = rw (of-parts e is4, of-parts e is5, of-parts e is6, of-parts e is7, of-parts e is8) f
 
@@ -80,7 +88,7 @@ module _ (ed : Edition) (file : List ℕ) where
   file-schedule {s} h =
       let p = passed ed file s h in
       bind-some _ (p .parts) ∙ bind-some _ (bind-some _ (p .parts) ∙ plant-in ed _ _ (p .plant)) ∙ bind-some _ (bind-some _ (p .parts) ∙ p .nodes)
-        ∙ bind-some _ (bind-some _ (bind-some _ (p .parts) ∙ p .nodes) ∙ p .tree)
+      ∙ bind-some _ (bind-some _ (bind-some _ (p .parts) ∙ p .nodes) ∙ p .tree)
 
   pub file-plant : {s : Schedule} → judgeFile ed file ≡ accepted s → filePlant ed file ≡ some (s .plant)
   unfolding filePlant fileParts

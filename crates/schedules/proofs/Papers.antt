@@ -31,17 +31,17 @@ K1 = refl
 
 -- K2 to K4 by the rules
 pub K2-rules : ruleRun edition1 k1-file (start-at 0) k2-events (replicate 104 0 ++ (7 ∷ 8 ∷ []))
-  ≡ record { refusal = 0; taken = 4; turned-away = 4; faulted = 0; records = k2-records (7 ∷ 8 ∷ []) }
+    ≡ record { refusal = 0; taken = 4; turned-away = 4; faulted = 0; records = k2-records (7 ∷ 8 ∷ []) }
 unfolding schedules k1-file k2-events k2-records
 K2-rules = refl
 
 pub K3-rules : ruleRun edition1 k1-file (start-at 10) k3-events (replicate 26 0)
-  ≡ record { refusal = 0; taken = 0; turned-away = 1; faulted = 1; records = k3-records [] }
+    ≡ record { refusal = 0; taken = 0; turned-away = 1; faulted = 1; records = k3-records [] }
 unfolding schedules k1-file k3-events k3-records
 K3-rules = refl
 
 pub K4-rules : ruleRun edition1 k1-file (start-at 9) k4-events (replicate 26 0)
-  ≡ record { refusal = 0; taken = 2; turned-away = 0; faulted = 0; records = k4-records [] }
+    ≡ record { refusal = 0; taken = 2; turned-away = 0; faulted = 0; records = k4-records [] }
 unfolding schedules k1-file k4-events k4-records
 K4-rules = refl
 
@@ -79,17 +79,17 @@ abbrev picked : Schedule → List ℤ → List ℕ → Type 0
 picked s vs ms = step edition1 (s .plant) (ruleControl s) (at (fresh (s .root)) vs ms) (1 ∷ 1 ∷ 0 ∷ []) ≡ record { answer = 202; left = over vs ms }
 
 stop-picked : (parts : FileSections) (p : Plant) (t : List ℕ) (vs : List ℤ) (ms : List ℕ) → switchCheck edition1 p vs ms ≡ pass tt →
-  picked (record { sections = parts; plant = p; nodes = stopOrWait t; root = stopRoot }) vs ms
+    picked (record { sections = parts; plant = p; nodes = stopOrWait t; root = stopRoot }) vs ms
 unfolding Semantics.bytes Semantics.events nodes residuals step settle follow arrive judge judgePick act allow _>>_ among ruleControl actionOrStop actionAt
 stop-picked parts p t vs ms h = rw h refl
 
 -- whatever the plant: where the switch check finds nothing, picking the STOP answers 202 and ends the run
 pub K7-halts : (s : Schedule) (t : List ℕ) → s .nodes ≡ stopOrWait t → treeOf (s .nodes) ≡ some (s .root) →
-  (vs : List ℤ) (ms : List ℕ) → switchCheck edition1 (s .plant) vs ms ≡ pass tt →
-  step edition1 (s .plant) (ruleControl s) (at (fresh (s .root)) vs ms) (1 ∷ 1 ∷ 0 ∷ []) ≡ record { answer = 202; left = over vs ms }
+    (vs : List ℤ) (ms : List ℕ) → switchCheck edition1 (s .plant) vs ms ≡ pass tt →
+    step edition1 (s .plant) (ruleControl s) (at (fresh (s .root)) vs ms) (1 ∷ 1 ∷ 0 ∷ []) ≡ record { answer = 202; left = over vs ms }
 K7-halts s t e f vs ms h =
     subst₂ (λ ns r. picked (record { sections = s .sections; plant = s .plant; nodes = ns; root = r }) vs ms) (sym e)
-      (some-is (sym (root t) ∙ ap treeOf (sym e) ∙ f)) (stop-picked (s .sections) (s .plant) t vs ms h)
+    (some-is (sym (root t) ∙ ap treeOf (sym e) ∙ f)) (stop-picked (s .sections) (s .plant) t vs ms h)
 
 -- K11: "Empty file 1; 01 00 03 gives 3; 01 00 04 gives 2.", whatever the buffer
 pub K11-empty : (buffer : List ℕ) → compile edition1 [] buffer ≡ record { refusal = 1; written = 0; table = buffer }

@@ -63,9 +63,10 @@ module _ (variables : ℕ) (cs : List Selector) where
       go (some a) i e ih = here-or-later a i (eqb k n) refl e ih
 
 pub schedule-sound : (s : Schedule) → every (nodeNamed (length (s .plant .variables)) (selectors (s .plant))) (s .nodes) ≡ true →
-  Sound (s .plant) (ruleControl s)
+    Sound (s .plant) (ruleControl s)
 unfolding ruleControl actionsOf
 schedule-sound s h = record {
-    moves = λ r n b m e. never-idle r n b m;
-    declares = λ r n v t m e.
-        assigned-below (length (s .plant .variables)) (selectors (s .plant)) 0 n v t (every-all (nodeNamed (length (s .plant .variables)) (selectors (s .plant))) (s .nodes) h) e }
+  moves = λ r n b m e. never-idle r n b m;
+  declares = λ r n v t m e.
+      assigned-below (length (s .plant .variables)) (selectors (s .plant)) 0 n v t (every-all (nodeNamed (length (s .plant .variables)) (selectors (s .plant))) (s .nodes) h) e;
+}

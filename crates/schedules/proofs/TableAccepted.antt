@@ -57,8 +57,8 @@ module _ (l : List Residual) where
 
   -- the targets of a node's entry are fit for its action
   targets-fit : (a : Action) {y z : Next Residual} → FitNext (isStop a) y → FitNext (isStop a) z →
-    ((s : Residual) → y ≡ to s → Mem s l) → (isTest a ≡ true → (s : Residual) → z ≡ to s → Mem s l) →
-    targetsFit (length l) a (targetCode l y) (elim (isTest a) [ true ↦ targetCode l z | false ↦ NONE ]) ≡ true
+      ((s : Residual) → y ≡ to s → Mem s l) → (isTest a ≡ true → (s : Residual) → z ≡ to s → Mem s l) →
+      targetsFit (length l) a (targetCode l y) (elim (isTest a) [ true ↦ targetCode l z | false ↦ NONE ]) ≡ true
   unfolding targetsFit isTest isStop NONE
   targets-fit (test t) f g h k = and-both (goes-on f h) (goes-on g (k refl))
   targets-fit (wait t) f g h k = and-both (goes-on f h) refl
@@ -140,8 +140,8 @@ module _ (ed : Edition) (file : List ℕ) (s : Schedule) (g : Passed ed file s) 
       let q = move-fits (of-root r m) kinds n false i in
       let a = actionOrStop acts n in
       rw (p .known .1 ∙ ap some (sym (found-action acts n (p .known .1))), entryFits) (targets-fit l a (p .fits) (q .fits)
-        (λ u e. leads-in m (record { node = n; outcome = true; is-acting = i; can = inl refl; leads = e }))
-        (λ h u e. leads-in m (record { node = n; outcome = false; is-acting = i; can = inr h; leads = e })))
+      (λ u e. leads-in m (record { node = n; outcome = true; is-acting = i; can = inl refl; leads = e }))
+      (λ h u e. leads-in m (record { node = n; outcome = false; is-acting = i; can = inr h; leads = e })))
 
   location-fits : (r : Residual) → Mem r l → locationFits (length l) acts (entriesOf tests l r) ≡ true
   unfolding locationFits entriesOf
@@ -177,7 +177,7 @@ module _ (ed : Edition) (file : List ℕ) (s : Schedule) (g : Passed ed file s) 
   unfolding tableOf tableFor
   table-accepted =
       table-back ed (s .sections .variables) (s .sections .equations) acts (map (entriesOf tests l) l)
-        (g .plant) (and-right (every (nodeReads ed (length (s .plant .variables))) (s .nodes)) (switchesRead ed (s .plant)) (g .reads))
-        acts-some (le-trans (actions-few (s .nodes)) (counted .few-nodes)) acts-short acts-fit
-        (let e = as-many in let k = locations-some in omega arith) (let e = as-many in omega arith)
-        (all-mapped _ (entriesOf tests l) (all-of l entries-some)) locs-fit
+      (g .plant) (and-right (every (nodeReads ed (length (s .plant .variables))) (s .nodes)) (switchesRead ed (s .plant)) (g .reads))
+      acts-some (le-trans (actions-few (s .nodes)) (counted .few-nodes)) acts-short acts-fit
+      (let e = as-many in let k = locations-some in omega arith) (let e = as-many in omega arith)
+      (all-mapped _ (entriesOf tests l) (all-of l entries-some)) locs-fit

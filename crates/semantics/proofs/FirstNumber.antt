@@ -118,7 +118,7 @@ module _ (ed : Edition) (vs es : List ℕ) where
 
   -- the plant that is accepted is the one that stands in the two sections
   pub plant-is : {p : Plant} → judgePlant ed vs es ≡ accepted p →
-    (variablesIn ed vs ≡ some (p .variables)) × (equationsIn es ≡ some (p .equations))
+      (variablesIn ed vs ≡ some (p .variables)) × (equationsIn es ≡ some (p .equations))
   unfolding judgePlant
   plant-is h =
       let a = Judging.passed-need 4 (variablesIn ed vs) _ h in
@@ -150,7 +150,7 @@ clear-any (one-clear e k) = rw (e, anyApplies) (clear-any k)
 
 -- one number for a whole list, then the rest
 by-only : {A B : Type 0} (n : ℕ) {j : Judged A} {f : A → Judged B} {b : Bool} {k l : List Condition} → Firsts j k → (anyApplies k ≡ true → b ≡ true) →
-  ((a : A) → j ≡ accepted a → anyApplies k ≡ false → Firsts (f a) ((n if b) ∷ l)) → Firsts (only n j >>= f) ((n if b) ∷ l)
+    ((a : A) → j ≡ accepted a → anyApplies k ≡ false → Firsts (f a) ((n if b) ∷ l)) → Firsts (only n j >>= f) ((n if b) ∷ l)
 unfolding only _>>=_
 by-only n (refuses g) h f = refuses (here (h (first-any g)) refl)
 by-only n (accepts {a = a} c) h f = f a refl (clear-any c)
@@ -163,7 +163,7 @@ or-false a b e = rw e refl
 
 -- one number for what cannot be read and for what does not fit
 pub by-read : {A B : Type 0} (n : ℕ) (o : Option A) (t : A → Bool) {b : Bool} {f : A → Judged B} {l : List Condition} → b ≡ not (given o t) →
-  ((a : A) → o ≡ some a → t a ≡ true → Firsts (f a) l) → Firsts (need n o >>= λ a. ensure n (t a) >> f a) ((n if b) ∷ l)
+    ((a : A) → o ≡ some a → t a ≡ true → Firsts (f a) l) → Firsts (need n o >>= λ a. ensure n (t a) >> f a) ((n if b) ∷ l)
 unfolding need _>>=_ given
 by-read n none t e f = refuses (here e refl)
 by-read n (some a) t e f = by-ensure n (t a) e (f a refl)
@@ -178,7 +178,7 @@ module _ (ed : Edition) (table : List ℕ) where
       by-only 17 (plant-first ed (parts .variables) (parts .equations)) (λ a. given-some _ e ∙ or-true _ _ a) (λ p j c.
       by-ensure 17 (switchesRead ed p) (given-some _ e ∙ or-false _ _ c ∙ plant-reads ed (parts .variables) (parts .equations) j) (λ h17.
       by-read 18 (actionsIn ed (parts .actions)) (actionsFit ed p)
-        (given-some _ e ∙ ap not (given-some _ (bind-some _ e ∙ plant-in ed (parts .variables) (parts .equations) j))) (λ acts f h18.
+      (given-some _ e ∙ ap not (given-some _ (bind-some _ e ∙ plant-in ed (parts .variables) (parts .equations) j))) (λ acts f h18.
       by-read 19 (locationsIn ed (parts .locations)) (locationsFit acts) (given-some _ e ∙ ap not (given-some _ f)) (λ locs g h19. by-end _))))))
 
   -- the plant of an accepted table
@@ -198,7 +198,7 @@ module _ (ed : Edition) (table : List ℕ) where
 -- ---- 20 to 22, of a program whose plant is the one that its call speaks of
 module _ {S : Type 0} (ed : Edition) (start events buffer : List ℕ) where
   pub run-first : {j : Judged (Program S)} {plant : Option Plant} {k : List Condition} → Firsts j k → ((g : Program S) → j ≡ accepted g → plant ≡ some (g .plant)) →
-    Firsts (judgeRun ed j start events buffer) (k ++ runConditions ed plant start events buffer)
+      Firsts (judgeRun ed j start events buffer) (k ++ runConditions ed plant start events buffer)
   unfolding judgeRun runConditions is20 is21 is22
   run-first f h = by-then f (λ g e.
       by-read 20 (startIn (g .plant) start) (startFits (g .plant)) (given-some _ (h g e)) (λ st i h20.
@@ -212,7 +212,7 @@ by-map f (refuses g) = refuses g
 by-map f (accepts c) = accepts c
 
 pub table-run-first : (ed : Edition) (table start events buffer : List ℕ) →
-  Firsts (judgeRun ed (tableProgram ed table) start events buffer) (tableRunConditions ed table start events buffer)
+    Firsts (judgeRun ed (tableProgram ed table) start events buffer) (tableRunConditions ed table start events buffer)
 unfolding tableProgram tableRunConditions
 table-run-first ed table start events buffer = run-first ed start events buffer (by-map _ (table-first ed table)) program
   where
