@@ -6,3 +6,5 @@ pub mod K1
 pub mod Papers
 pub mod TableBack
 pub mod BytesOnly
+pub mod BytesRead
+pub mod BytesWritten
