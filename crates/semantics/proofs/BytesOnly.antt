@@ -148,7 +148,7 @@ pub record ActionsBytes {S : Type 0} (c : Control S) : Type 0 where
 
 -- ---- one event
 -- a verdict whose answer is a byte and whose outcome has the property
-pub data Fine {A : Type 0} (P : A → Type 0) : Verdict A → Type 0 where
+data Fine {A : Type 0} (P : A → Type 0) : Verdict A → Type 0 where
   fine-away : {n : ℕ} → n < 256 → Fine P (away n)
   fine-faulty : {s : Side} → Fine P (faulty s)
   fine-pass : {a : A} → P a → Fine P (pass a)
@@ -196,12 +196,12 @@ pub record StateBytes (p : Plant) (vs : List ℤ) (ms : List ℕ) : Type 0 where
 abbrev DoneBytes : Plant → Done → Type 0
 DoneBytes p d = StateBytes p (d .values) (d .modes)
 
-all-set : {A : Type 0} {P : A → Type 0} {l : List A} (i : ℕ) (x : A) → P x → All P l → All P (set l i x)
+pub all-set : {A : Type 0} {P : A → Type 0} {l : List A} (i : ℕ) (x : A) → P x → All P l → All P (set l i x)
 all-set i x h all-nil = all-nil
 all-set zero x h (all-cons k q) = all-cons h q
 all-set (suc i) x h (all-cons k q) = all-cons k (all-set i x h q)
 
-all-at : {A : Type 0} {P : A → Type 0} {l : List A} (i : ℕ) (d : A) → All P l → P d → P (getD l i d)
+pub all-at : {A : Type 0} {P : A → Type 0} {l : List A} (i : ℕ) (d : A) → All P l → P d → P (getD l i d)
 all-at i d all-nil h = h
 all-at zero d (all-cons k q) h = k
 all-at (suc i) d (all-cons k q) h = all-at i d q h

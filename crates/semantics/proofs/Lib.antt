@@ -16,3 +16,5 @@ pub mod BytesOnly
 pub mod Hearing
 pub mod StepParts
 pub mod StepRules
+pub mod BytesRead
+pub mod BytesWritten
