@@ -7,3 +7,4 @@ pub mod Papers
 pub mod Hearing
 pub mod StepParts
 pub mod StepRules
+pub mod FirstAnswer
