@@ -18,3 +18,4 @@ pub mod StepParts
 pub mod StepRules
 pub mod BytesRead
 pub mod BytesWritten
+pub mod FirstAnswer
