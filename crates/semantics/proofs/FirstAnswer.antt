@@ -251,7 +251,7 @@ module _ {S : Type 0} (ed : Edition) (p : Plant) (c : Control S) where
   quiet : (vs : List ℤ) (ts : List (List ℕ)) → (Walks ed vs ts a-truth → ⊥) → ((side : Side) → Walks ed vs ts (a-fault side) → ⊥) → Walks ed vs ts nothing
   quiet vs ts f g = let w = found-walk ed vs ts in go (w .0) (w .1)
     where
-      go : (d : Found ed) → Walks ed vs ts d → Walks ed vs ts nothing
+      go : (d : Found) → Walks ed vs ts d → Walks ed vs ts nothing
       go nothing w = w
       go a-truth w = absurd (f w)
       go (a-fault side) w = absurd (g side w)

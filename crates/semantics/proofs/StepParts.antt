@@ -21,12 +21,12 @@ use Rattle.semantics.specs.Rules.{Found, nothing, a-truth, a-fault, Walk
 use Rattle.semantics.proofs.Facts.{true-not-false, none-not-some, some-is, by-cases, every-all, all-mem}
 
 -- ---- walks
-unfoldable pub foundAs : {ed : Edition} → ℕ → Found ed → Verdict (Unit {0})
+unfoldable pub foundAs : ℕ → Found → Verdict (Unit {0})
 foundAs n nothing = pass tt
 foundAs n a-truth = away n
 foundAs n (a-fault s) = faulty s
 
-pub walk-found : {ed : Edition} {vs : List ℤ} {ts : List (List ℕ)} {f : Found ed} → Walks ed vs ts f → (n : ℕ) → walk ed n vs ts ≡ foundAs n f
+pub walk-found : {ed : Edition} {vs : List ℤ} {ts : List (List ℕ)} {f : Found} → Walks ed vs ts f → (n : ℕ) → walk ed n vs ts ≡ foundAs n f
 unfolding walk foundAs _>>=_ _>>_ allow valued
 walk-found walk-ends n = refl
 walk-found (walk-on e w) n = rw (e, walk) (walk-found w n)
@@ -34,11 +34,11 @@ walk-found (stops-at-truth e) n = rw (e, walk) refl
 walk-found (stops-at-fault e) n = rw (e, walk) refl
 
 -- every walk stops somewhere or ends
-pub found-walk : (ed : Edition) (vs : List ℤ) (ts : List (List ℕ)) → (f : Found ed) × Walks ed vs ts f
+pub found-walk : (ed : Edition) (vs : List ℤ) (ts : List (List ℕ)) → (f : Found) × Walks ed vs ts f
 found-walk ed vs [] = (nothing, walk-ends)
 found-walk ed vs (t ∷ ts) = go (truthValue ed vs t) refl (found-walk ed vs ts)
   where
-    go : (v : Value Bool) → truthValue ed vs t ≡ v → ((f : Found ed) × Walks ed vs ts f) → (f : Found ed) × Walks ed vs (t ∷ ts) f
+    go : (v : Value Bool) → truthValue ed vs t ≡ v → ((f : Found) × Walks ed vs ts f) → (f : Found) × Walks ed vs (t ∷ ts) f
     go (ok true) e w = (a-truth, stops-at-truth e)
     go (ok false) e w = (w .0, walk-on e (w .1))
     go (fault s) e w = (a-fault s, stops-at-fault e)

@@ -44,7 +44,7 @@ module _ (ed : Edition) (p : Plant) where
       not-among : among n ns ≡ false
       not-among = by-cases (among n ns) (λ h. absurd (f (among-mem n ns h))) (λ h. h)
 
-  pick-verdict : (action : ℕ → Action) (ns : List ℕ) (vs : List ℤ) (ms : List ℕ) {n : ℕ} {f : Found ed} → Mem n ns → Walks ed vs (currentTruths p ms) f →
+  pick-verdict : (action : ℕ → Action) (ns : List ℕ) (vs : List ℤ) (ms : List ℕ) {n : ℕ} {f : Found} → Mem n ns → Walks ed vs (currentTruths p ms) f →
       judgePick ed p action ns vs ms n ≡ (foundAs 28 f >> act ed p vs ms n (action n))
   unfolding judgePick _>>_ allow switchCheck
   pick-verdict action ns vs ms {n} m w = rw (mem-among n ns m, walk-found w 28) refl
@@ -53,7 +53,7 @@ module _ (ed : Edition) (p : Plant) where
   unfolding judgeTick _>>_ allow
   busy-verdict action ns vs ms m f = rw (acts-every action ns m f) refl
 
-  tick-verdict : (action : ℕ → Action) (ns : List ℕ) (vs : List ℤ) (ms : List ℕ) {ts : List (List ℕ)} {f : Found ed} → Waits action ns ts → Walks ed vs (currentTruths p ms) f →
+  tick-verdict : (action : ℕ → Action) (ns : List ℕ) (vs : List ℤ) (ms : List ℕ) {ts : List (List ℕ)} {f : Found} → Waits action ns ts → Walks ed vs (currentTruths p ms) f →
       judgeTick ed p action ns vs ms ≡ (foundAs 28 f >> (walk ed 31 vs ts >> moveOn p vs ms))
   unfolding judgeTick _>>_ allow switchCheck moveOn
   tick-verdict action ns vs ms w k = rw (waits-every w, walk-found k 28, waits-truths w) refl
@@ -107,12 +107,12 @@ module _ {S : Type 0} (ed : Edition) (p : Plant) (c : Control S) where
   by-event x vs ms e h k = rw (h, k) refl
 
   -- once the picked node acts, and once all acting nodes wait, the switch check decides how it goes on
-  by-pick : (x : S) (vs : List ℤ) (ms : List ℕ) {e : List ℕ} {n : ℕ} {f : Found ed} → SaysPick ed e n → Mem n (c .acting x) → Walks ed vs (currentTruths p ms) f →
+  by-pick : (x : S) (vs : List ℤ) (ms : List ℕ) {e : List ℕ} {n : ℕ} {f : Found} → SaysPick ed e n → Mem n (c .acting x) → Walks ed vs (currentTruths p ms) f →
       step ed p c (at x vs ms) e ≡ settle c x (at x vs ms) (foundAs 28 f >> act ed p vs ms n (c .action n))
   unfolding judge
   by-pick x vs ms {e} w m k = by-event x vs ms e (heard-pick ed w) (pick-verdict ed p (c .action) (c .acting x) vs ms m k)
 
-  by-tick : (x : S) (vs : List ℤ) (ms : List ℕ) {e : List ℕ} {ts : List (List ℕ)} {f : Found ed} → SaysTick ed e → Waits (c .action) (c .acting x) ts → Walks ed vs (currentTruths p ms) f →
+  by-tick : (x : S) (vs : List ℤ) (ms : List ℕ) {e : List ℕ} {ts : List (List ℕ)} {f : Found} → SaysTick ed e → Waits (c .action) (c .acting x) ts → Walks ed vs (currentTruths p ms) f →
       step ed p c (at x vs ms) e ≡ settle c x (at x vs ms) (foundAs 28 f >> (walk ed 31 vs ts >> moveOn p vs ms))
   unfolding judge
   by-tick x vs ms {e} w q k = by-event x vs ms e (heard-tick ed w) (tick-verdict ed p (c .action) (c .acting x) vs ms q k)
@@ -223,12 +223,12 @@ module _ {S : Type 0} (ed : Edition) (p : Plant) (c : Control S) where
     ruled-pick : {n : ℕ} → SaysPick ed e n → Ruled (at x vs ms) e
     ruled-pick {n} w = by-cases (among n (c .acting x)) (λ h. acting (among-mem n (c .acting x) h) (found-walk ed vs (currentTruths p ms))) (λ h. ruled (pick-idle w (λ m. true-not-false (sym (mem-among n (c .acting x) m) ∙ h))))
       where
-        checked : Mem n (c .acting x) → (f : Found ed) → Walks ed vs (currentTruths p ms) f → Ruled (at x vs ms) e
+        checked : Mem n (c .acting x) → (f : Found) → Walks ed vs (currentTruths p ms) f → Ruled (at x vs ms) e
         checked m nothing k = ruled-act w m k (c .action n) refl
         checked m a-truth k = ruled (pick-switch-true w m k)
         checked m (a-fault s) k = ruled (pick-switch-fault w m k)
 
-        acting : Mem n (c .acting x) → ((f : Found ed) × Walks ed vs (currentTruths p ms) f) → Ruled (at x vs ms) e
+        acting : Mem n (c .acting x) → ((f : Found) × Walks ed vs (currentTruths p ms) f) → Ruled (at x vs ms) e
         acting m f = checked m (f .0) (f .1)
 
     ruled-switch : {s k : ℕ} → SaysSwitch ed e s k → Ruled (at x vs ms) e
@@ -254,17 +254,17 @@ module _ {S : Type 0} (ed : Edition) (p : Plant) (c : Control S) where
         moving q k l ys a (all-inside i) = ruled (tick-taken w q k l a i)
         moving q k l ys a (first-outside o) = ruled (tick-outside w q k l a o)
 
-        checked : {ts : List (List ℕ)} → Waits (c .action) (c .acting x) ts → Walks ed vs (currentTruths p ms) nothing → (f : Found ed) → Walks ed vs ts f → Ruled (at x vs ms) e
+        checked : {ts : List (List ℕ)} → Waits (c .action) (c .acting x) ts → Walks ed vs (currentTruths p ms) nothing → (f : Found) → Walks ed vs ts f → Ruled (at x vs ms) e
         checked q k nothing l = moving q k l (added (rateOf p ms) 0 vs) (rates-added p ms vs) (all-lie (p .variables) (added (rateOf p ms) 0 vs))
         checked q k a-truth l = ruled (tick-wait-true w q k l)
         checked q k (a-fault s) l = ruled (tick-wait-fault w q k l)
 
-        quiet : (ts : List (List ℕ)) → Waits (c .action) (c .acting x) ts → (f : Found ed) → Walks ed vs (currentTruths p ms) f → Ruled (at x vs ms) e
+        quiet : (ts : List (List ℕ)) → Waits (c .action) (c .acting x) ts → (f : Found) → Walks ed vs (currentTruths p ms) f → Ruled (at x vs ms) e
         quiet ts q nothing k = let l = found-walk ed vs ts in checked q k (l .0) (l .1)
         quiet ts q a-truth k = ruled (tick-switch-true w q k)
         quiet ts q (a-fault s) k = ruled (tick-switch-fault w q k)
 
-        go : Waiting (c .action) (c .acting x) → ((f : Found ed) × Walks ed vs (currentTruths p ms) f) → Ruled (at x vs ms) e
+        go : Waiting (c .action) (c .acting x) → ((f : Found) × Walks ed vs (currentTruths p ms) f) → Ruled (at x vs ms) e
         go (all-wait {ts = ts} q) f = quiet ts q (f .0) (f .1)
         go (one-acts m f) g = ruled (tick-busy w m f)
 

@@ -25,6 +25,11 @@ pub data Names : Width → List ℕ → ℕ → Type 0 where
   by-one : {n : ℕ} → Names one-byte (n ∷ []) n
   by-two : {a b : ℕ} → Names two-bytes (a ∷ b ∷ []) (a * 256 + b)
 
+-- what a walk over truths stops at
+pub data Found : Type 0 where
+  nothing a-truth : Found
+  a-fault : Side → Found
+
 module _ (ed : Edition) where
   -- "0,0,0 tick"
   pub record SaysTick (e : List ℕ) : Type 0 where
@@ -46,11 +51,7 @@ module _ (ed : Edition) where
     pub bytes : e ≡ 2 ∷ s ∷ k ∷ unused
     pub zeros : Zeros unused
 
-  -- ---- "up to the first that is true or faults": a walk over truths, and what it stops at
-  pub data Found : Type 0 where
-    nothing a-truth : Found
-    a-fault : Side → Found
-
+  -- "up to the first that is true or faults"
   pub data Walks (vs : List ℤ) : List (List ℕ) → Found → Type 0 where
     walk-ends : Walks vs [] nothing
     walk-on : {t : List ℕ} {ts : List (List ℕ)} {f : Found} → truthValue ed vs t ≡ ok false → Walks vs ts f → Walks vs (t ∷ ts) f
