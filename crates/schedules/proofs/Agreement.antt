@@ -191,13 +191,13 @@ never-0 ed file buffer =
     no n e = omega arith
 
 -- what compiling accepted: the schedule, and its locations are no more than a table may hold
-record Taken (ed : Edition) (file buffer table : List ℕ) : Type 0 where
-  of : Schedule
-  of-file : judgeFile ed file ≡ accepted of
-  few : length (scheduleLocations of) ≤ locationLimit
-  is-table : tableOf ed of ≡ table
+pub record Taken (ed : Edition) (file buffer table : List ℕ) : Type 0 where
+  pub of : Schedule
+  pub of-file : judgeFile ed file ≡ accepted of
+  pub few : length (scheduleLocations of) ≤ locationLimit
+  pub is-table : tableOf ed of ≡ table
 
-compile-taken : (ed : Edition) (file buffer : List ℕ) {t : List ℕ} → judgeCompile ed file buffer ≡ accepted t → Taken ed file buffer t
+pub compile-taken : (ed : Edition) (file buffer : List ℕ) {t : List ℕ} → judgeCompile ed file buffer ≡ accepted t → Taken ed file buffer t
 unfolding judgeCompile
 compile-taken ed file buffer h =
     let a = Judging.passed-then (judgeFile ed file) _ h in

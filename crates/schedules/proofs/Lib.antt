@@ -18,3 +18,4 @@ pub mod TableAgrees
 pub mod ScheduleSound
 pub mod TableAccepted
 pub mod Agreement
+pub mod BytesOnly

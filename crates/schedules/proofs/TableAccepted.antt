@@ -76,11 +76,11 @@ unfolding actionAt
 some-action [] n e = none-not-some e
 some-action (x ∷ acts) n e = omega arith
 
-all-of : {A : Type 0} {P : A → Type 0} (l : List A) → ((x : A) → Mem x l → P x) → All P l
+pub all-of : {A : Type 0} {P : A → Type 0} (l : List A) → ((x : A) → Mem x l → P x) → All P l
 all-of [] f = all-nil
 all-of (x ∷ l) f = all-cons (f x (first refl)) (all-of l (λ y m. f y (later m)))
 
-all-mapped : {A B : Type 0} (P : B → Type 0) (f : A → B) {l : List A} → All (λ x. P (f x)) l → All P (map f l)
+pub all-mapped : {A B : Type 0} (P : B → Type 0) (f : A → B) {l : List A} → All (λ x. P (f x)) l → All P (map f l)
 all-mapped P f all-nil = all-nil
 all-mapped P f (all-cons h k) = all-cons h (all-mapped P f k)
 
@@ -94,7 +94,7 @@ module _ (ed : Edition) (file : List ℕ) (s : Schedule) (g : Passed ed file s) 
   abbrev tests : ℕ → Bool
   tests = testsOf (s .nodes)
 
-  counted : Counted ed (s .nodes)
+  pub counted : Counted ed (s .nodes)
   counted = nodes-counted ed (s .sections .schedule) (g .nodes)
 
   -- ---- 18
@@ -108,22 +108,22 @@ module _ (ed : Edition) (file : List ℕ) (s : Schedule) (g : Passed ed file s) 
   both-of all-nil all-nil = all-nil
   both-of (all-cons p ps) (all-cons q qs) = all-cons (p, q) (both-of ps qs)
 
-  acts-fit : actionsFit ed (s .plant) acts ≡ true
+  pub acts-fit : actionsFit ed (s .plant) acts ≡ true
   unfolding actionsFit actionFits actionsOf
   acts-fit = and-both (actions-rise (s .nodes)) (all-every (actionFits ed (s .plant)) (actions-all (λ a. actionFits ed (s .plant) a ≡ true) _ (ed .nodes)
       (λ n x y h e q. and-both (lt-ltb n (ed .nodes) h) (operand-fits ed (length (s .plant .variables)) (selectors (s .plant)) x y e (q .0) (q .1)))
       0 (both-of named reading) (let c = counted .few-nodes in omega arith)))
 
-  acts-short : All Short acts
+  pub acts-short : All Short acts
   unfolding actionsOf
   acts-short = actions-all Short _ (ed .nodes) (λ n x y h e q. q y e) 0 (counted .short-nodes) (let c = counted .few-nodes in omega arith)
 
   -- ---- 19
-  of-root : (r : Residual) → Mem r l → Of (s .root) r
+  pub of-root : (r : Residual) → Mem r l → Of (s .root) r
   unfolding scheduleLocations
   of-root = locations-all tests (s .root) (Of (s .root)) (of-fresh (s .root)) (λ x y h m. kept-to h (m .node) (m .outcome) (m .leads))
 
-  spans : Spans (s .root) 0 (length (s .nodes))
+  pub spans : Spans (s .root) 0 (length (s .nodes))
   spans = (root-shapes (s .nodes) (g .tree)) .0
 
   kinds : Kinds acts (s .root)
@@ -155,10 +155,10 @@ module _ (ed : Edition) (file : List ℕ) (s : Schedule) (g : Passed ed file s) 
       go : {k : List ℕ} → NonEmpty k → 1 ≤ length (map (entryOf tests l r) k)
       go non-empty = omega arith
 
-  as-many : length (map (entriesOf tests l) l) ≡ length l
+  pub as-many : length (map (entriesOf tests l) l) ≡ length l
   as-many = length-map l (entriesOf tests l)
 
-  locs-fit : locationsFit acts (map (entriesOf tests l) l) ≡ true
+  pub locs-fit : locationsFit acts (map (entriesOf tests l) l) ≡ true
   unfolding locationsFit
   locs-fit = rw as-many (all-every (locationFits (length l) acts) (all-mapped _ (entriesOf tests l) (all-of l location-fits)))
 
