@@ -30,6 +30,7 @@ use Rattle.semantics.proofs.Simulation.{Agree, runs-agree}
 use Rattle.semantics.proofs.RunCounts.{counts-sum, written-length}
 use Rattle.semantics.proofs.FirstNumber.{First, here, further, Firsts, refuses, accepts, given-some}
 use Rattle.semantics.proofs.StepRules.{answers-derived}
+pub use Rattle.schedules.specs.Agreement.{RunsAgree, Agrees}
 use Rattle.schedules.specs.Nodes.{actionsOf}
 use Rattle.schedules.specs.Residuals.{Residual, fresh, acting, move, same?}
 use Rattle.schedules.specs.Numbering.{locations}
@@ -43,36 +44,6 @@ use Rattle.schedules.proofs.Reached.{Moves, reached, closed-under}
 use Rattle.schedules.proofs.ScheduleSound.{schedule-sound}
 use Rattle.schedules.proofs.TableAgrees.{tableFor, table-agrees}
 use Rattle.schedules.proofs.TableAccepted.{table-accepted}
-
--- ---- what both runs of one start and one list of events come to
-pub record RunsAgree (ed : Edition) (s : Schedule) (st : Start) (events : List ℕ) (by-rules by-table : List ℕ) (r t : Ran) : Type 0 where
-  -- neither run is refused
-  pub rules-taken-on : r .refusal ≡ 0
-  pub table-taken-on : t .refusal ≡ 0
-  -- what the rule-by-rule relation derives from the fresh root, event by event
-  pub said : List (Answered Residual)
-  pub derived : Derives ed (s .plant) (ruleControl s) (at (fresh (s .root)) (st .values) (st .modes)) (eventsIn (ed .event-bytes) (eventCount ed events) events) said
-  -- both buffers hold just those records, one after the other, and then what they held
-  pub rules-records : r .records ≡ overwrite (flatMap (recordOf ed (ruleControl s)) said) by-rules
-  pub table-records : t .records ≡ overwrite (flatMap (recordOf ed (ruleControl s)) said) by-table
-  pub records-length : length (flatMap (recordOf ed (ruleControl s)) said) ≡ eventCount ed events * recordSize ed (s .plant)
-  -- each count is the number of such answers
-  pub rules-counts : (r .taken ≡ howMany isTaken (map (λ (o : Answered Residual). o .answer) said)) × (r .turned-away ≡ howMany isTurnedAway (map (λ (o : Answered Residual). o .answer) said)) × (r .faulted ≡ howMany isFaulted (map (λ (o : Answered Residual). o .answer) said))
-  pub table-counts : (t .taken ≡ r .taken) × (t .turned-away ≡ r .turned-away) × (t .faulted ≡ r .faulted)
-  pub counts-add : r .taken + r .turned-away + r .faulted ≡ eventCount ed events
-
--- ---- the table of this file
-pub record Agrees (ed : Edition) (file table : List ℕ) : Type 0 where
-  -- the table runner accepts the table
-  pub table-read : (readTable ed table) .refusal ≡ 0
-  pub schedule : Schedule
-  pub schedule-read : judgeFile ed file ≡ accepted schedule
-  -- for every start that 20 lets pass, every list of whole events and all buffers that are long enough
-  pub runs : (start events by-rules by-table : List ℕ) →
-      is20 ed (some (schedule .plant)) start events by-rules ≡ false → is21 ed (some (schedule .plant)) start events by-rules ≡ false →
-      is22 ed (some (schedule .plant)) start events by-rules ≡ false → is22 ed (some (schedule .plant)) start events by-table ≡ false →
-      (st : Start) × (startIn (schedule .plant) start ≡ some st) ×
-      RunsAgree ed schedule st events by-rules by-table (ruleRun ed file start events by-rules) (tableRun ed table start events by-table)
 
 -- ---- 20 to 22 passed
 record Starts (p : Plant) (start : List ℕ) : Type 0 where

@@ -5,7 +5,9 @@ pub mod Trees
 pub mod Preorder
 pub mod Residuals
 pub mod Numbering
+pub mod Reached
 pub mod Files
 pub mod Compiling
 pub mod Calls
 pub mod Conditions
+pub mod Agreement

@@ -17,7 +17,7 @@ use Rattle.semantics.specs.Sections.{Switch, Mode}
 use Rattle.semantics.specs.Plant.{Plant, among, currentModes, currentTruths}
 use Rattle.semantics.specs.Events.{tick, pick, take-switch}
 use Rattle.semantics.specs.Run.{wait, Next, Control, Situation, Answered, at, over, faultAnswer, step}
-use Rattle.semantics.specs.Rules.{SaysTick, SaysPick, SaysSwitch, Found, nothing, a-truth, a-fault, Walks, Waits, Goes, goes-on, finishes, halts, Rule, when-over, when-senseless, pick-idle, pick-switch-true, pick-switch-fault, pick-test, pick-test-fault, pick-wait, pick-wait-false, pick-wait-fault, pick-assign, pick-assign-fault, pick-assign-outside, pick-switch, pick-stop, switch-missing, switch-taken, switch-false, switch-fault, tick-busy, tick-switch-true, tick-switch-fault, tick-wait-true, tick-wait-fault, tick-taken, tick-outside, Sentence, is-over, is-senseless, is-idle, is-missing, is-busy, is-checked-pick, is-checked-tick, is-early, is-false, is-due, CheckFaults, pick-check, tick-check, Sound}
+use Rattle.semantics.specs.Rules.{SaysTick, SaysPick, SaysSwitch, Found, nothing, a-truth, a-fault, Walks, Waits, Goes, goes-on, finishes, halts, Rule, when-over, when-senseless, pick-idle, pick-switch-true, pick-switch-fault, pick-test, pick-test-fault, pick-wait, pick-wait-false, pick-wait-fault, pick-assign, pick-assign-fault, pick-assign-outside, pick-switch, pick-stop, switch-missing, switch-taken, switch-false, switch-fault, tick-busy, tick-switch-true, tick-switch-fault, tick-wait-true, tick-wait-fault, tick-taken, tick-outside, Sentence, is-over, is-senseless, is-idle, is-missing, is-busy, is-checked-pick, is-checked-tick, is-early, is-false, is-due, CheckFaults, pick-check, tick-check, Decides, Sound}
 use Rattle.semantics.proofs.Facts.{true-not-false, by-cases, among-mem, mem-among, within-high}
 use Rattle.semantics.proofs.Hearing.{heard-tick, heard-pick, heard-switch}
 use Rattle.semantics.proofs.StepParts.{foundAs, walk-found, found-walk, Waiting, all-wait, one-acts, waiting, waits-not-acts}
@@ -85,12 +85,6 @@ goes-not-away finishes h = taken-not-away 201 (lit< tt) h
 goes-not-away halts h = taken-not-away 202 (lit< tt) h
 
 module _ {S : Type 0} (ed : Edition) (p : Plant) (c : Control S) where
-  -- sentence n is the first that holds
-  pub record First (s : Situation S) (e : List ℕ) (n : ℕ) : Type 0 where
-    pub applies : Sentence ed p c n s e
-    pub least : (m : ℕ) → m < n → Sentence ed p c m s e → ⊥
-    pub unfaulted : 28 < n → CheckFaults ed p c s e → ⊥
-
   -- ---- what a sentence says of a pick, of a tick and of a switch event
   data OfPick (x : S) (vs : List ℤ) (ms : List ℕ) (n : ℕ) : ℕ → Type 0 where
     of-idle : (Mem n (c .acting x) → ⊥) → OfPick x vs ms n 25
@@ -203,19 +197,19 @@ module _ {S : Type 0} (ed : Edition) (p : Plant) (c : Control S) where
 
   -- ---- a rule that turns away: its sentence is the first
   -- up to 28 nothing is asked of the switch check
-  first-early : {s : Situation S} {e : List ℕ} {n : ℕ} → n ≤ 28 → Sentence ed p c n s e → ((m : ℕ) → Sentence ed p c m s e → n ≤ m) → First s e n
+  first-early : {s : Situation S} {e : List ℕ} {n : ℕ} → n ≤ 28 → Sentence ed p c n s e → ((m : ℕ) → Sentence ed p c m s e → n ≤ m) → Decides ed p c s e n
   first-early {n = n} b q f = record { applies = q; least = λ m l k. clash m l (f m k); unfaulted = λ l. absurd (omega arith) }
     where
       clash : (m : ℕ) → m < n → n ≤ m → ⊥
       clash m l k = omega arith
 
-  first-late : {s : Situation S} {e : List ℕ} {n : ℕ} → Sentence ed p c n s e → ((m : ℕ) → Sentence ed p c m s e → n ≤ m) → (CheckFaults ed p c s e → ⊥) → First s e n
+  first-late : {s : Situation S} {e : List ℕ} {n : ℕ} → Sentence ed p c n s e → ((m : ℕ) → Sentence ed p c m s e → n ≤ m) → (CheckFaults ed p c s e → ⊥) → Decides ed p c s e n
   first-late {n = n} q f g = record { applies = q; least = λ m l k. clash m l (f m k); unfaulted = λ l. g }
     where
       clash : (m : ℕ) → m < n → n ≤ m → ⊥
       clash m l k = omega arith
 
-  first-of-rule : {s t : Situation S} {e : List ℕ} {a : ℕ} → Rule ed p c s e a t → within 23 31 a ≡ true → First s e a
+  first-of-rule : {s t : Situation S} {e : List ℕ} {a : ℕ} → Rule ed p c s e a t → within 23 31 a ≡ true → Decides ed p c s e a
   first-of-rule when-over r = first-early (lit≤ tt) is-over (λ m k. from-23 k)
   first-of-rule (when-senseless f g h) r = first-early (lit≤ tt) (is-senseless f g h) (λ m k. from-24 k)
   first-of-rule (pick-idle w f) r = first-early (lit≤ tt) (is-idle w f) (λ m k. pick-25 (of-pick w k))
@@ -292,11 +286,11 @@ module _ {S : Type 0} (ed : Edition) (p : Plant) (c : Control S) where
   sentence-within (is-due w q h) = refl
 
   -- an event is turned away with n just where n's sentence is the first that holds
-  pub first-answer : Sound p c → (s : Situation S) (e : List ℕ) (n : ℕ) → (((step ed p c s e) .answer ≡ n) × (within 23 31 n ≡ true)) ↔ First s e n
+  pub first-answer : Sound p c → (s : Situation S) (e : List ℕ) (n : ℕ) → (((step ed p c s e) .answer ≡ n) × (within 23 31 n ≡ true)) ↔ Decides ed p c s e n
   first-answer sound s e n = (there, back)
     where
-      there : ((step ed p c s e) .answer ≡ n) × (within 23 31 n ≡ true) → First s e n
-      there h = subst (λ n. First s e n) (h .0) (first-of-rule (rule-of ed p c sound s e) (rw (h .0) (h .1)))
+      there : ((step ed p c s e) .answer ≡ n) × (within 23 31 n ≡ true) → Decides ed p c s e n
+      there h = subst (λ n. Decides ed p c s e n) (h .0) (first-of-rule (rule-of ed p c sound s e) (rw (h .0) (h .1)))
 
-      back : First s e n → ((step ed p c s e) .answer ≡ n) × (within 23 31 n ≡ true)
+      back : Decides ed p c s e n → ((step ed p c s e) .answer ≡ n) × (within 23 31 n ≡ true)
       back f = (ap (λ (o : Answered S). o .answer) (rule-step ed p c (rule-of-first (f .applies) (f .least) (f .unfaulted))), sentence-within (f .applies))

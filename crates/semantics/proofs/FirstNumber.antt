@@ -15,24 +15,10 @@ use Rattle.semantics.specs.Tables.{Table, judgeTable, tableHeader, actio
 use Rattle.semantics.specs.Starts.{startIn, startFits}
 use Rattle.semantics.specs.Calls.{Program, Outcome, judgeRun, outcomeOf, runFrom, tableProgram, wholeEvents, roomForRecords}
 use Rattle.semantics.specs.Conditions.{Condition, _if_, firstThat, anyApplies, given, is4, is5, is6, is7, is8, is12, plantConditions, plantIn, tableParts, tablePlant, is15, is16, is17, is18, is19, tableConditions, is20, is21, is22, runConditions, tableRunConditions}
+pub use Rattle.semantics.specs.Conditions.{First, here, further, Clear, none-left, one-clear, Firsts, refuses, accepts}
 use Rattle.semantics.proofs.Facts.{true-not-false}
 use Rattle.semantics.proofs.Judging
 use Rattle.semantics.proofs.Judging.{refused-not-accepted, accepted-is}
-
--- n is the number of the first condition that applies
-pub data First (n : ℕ) : List Condition → Type 0 where
-  here : {c : Condition} {l : List Condition} → c .applies ≡ true → c .refusal ≡ n → First n (c ∷ l)
-  further : {c : Condition} {l : List Condition} → c .applies ≡ false → First n l → First n (c ∷ l)
-
--- none applies
-pub data Clear : List Condition → Type 0 where
-  none-left : Clear []
-  one-clear : {c : Condition} {l : List Condition} → c .applies ≡ false → Clear l → Clear (c ∷ l)
-
--- what a call makes of its list
-pub data Firsts {A : Type 0} : Judged A → List Condition → Type 0 where
-  refuses : {n : ℕ} {l : List Condition} → First n l → Firsts (refused n) l
-  accepts : {a : A} {l : List Condition} → Clear l → Firsts (accepted a) l
 
 -- ---- the same as one number
 first-that : {n : ℕ} {l : List Condition} → First n l → firstThat l ≡ n

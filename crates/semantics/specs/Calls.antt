@@ -35,7 +35,7 @@ pub record Program (S : Type 0) : Type 0 where
   pub control : Control S
 
 module _ {S : Type 0} (ed : Edition) where
-  -- "A run starts at the fresh root, with the starting values and modes lent to it"
+  -- "A run starts at the fresh root" or at location 0, "with the starting values and modes lent to it"
   unfoldable pub runFrom : Program S → Start → List ℕ → List (Answered S)
   runFrom g st events =
       answers ed (g .plant) (g .control) (at (g .control .start) (st .values) (st .modes)) (eventsIn (ed .event-bytes) (eventCount ed events) events)

@@ -1,5 +1,6 @@
 -- Document 01, "When a file, table or event is turned away": the numbers of a call in their order, each with its sentence as a test of the input alone.
 -- A number is given only where its sentence holds: what a call refuses is shown to be the first of its list that applies.
+use mathlib.Core.Path.{_≡_}
 use mathlib.Core.Bool.{Bool, true, false, not, _&&_, _||_}
 use mathlib.Core.List.{List, [], _∷_, _++_, map}
 use mathlib.Core.Option.{Option, none, some, bind}
@@ -7,6 +8,7 @@ use Prim.Native.Nat.{ℕ}
 use lib.ListN.{length, drop}
 use Rattle.semantics.specs.Bytes.{every, isSome}
 use Rattle.semantics.specs.Editions.{Edition}
+use Rattle.semantics.specs.Refusals.{Judged, refused, accepted}
 use Rattle.semantics.specs.Sections.{variablesIn, equationsIn}
 use Rattle.semantics.specs.Plant.{Plant, ordered, equationNamed, drivenOnce, equationReads}
 use Rattle.semantics.specs.TableFile.{TableSections, tableSectionsIn, actionsIn, locationsIn}
@@ -22,7 +24,23 @@ infix 2 _if_
 abbrev pub _if_ : ℕ → Bool → Condition
 _if_ n b = record { refusal = n; applies = b }
 
--- "A call returns the first that applies", 0 where none does
+-- ---- "A call returns the first that applies"
+-- n is the number of the first condition that applies
+pub data First (n : ℕ) : List Condition → Type 0 where
+  here : {c : Condition} {l : List Condition} → c .applies ≡ true → c .refusal ≡ n → First n (c ∷ l)
+  further : {c : Condition} {l : List Condition} → c .applies ≡ false → First n l → First n (c ∷ l)
+
+-- none applies
+pub data Clear : List Condition → Type 0 where
+  none-left : Clear []
+  one-clear : {c : Condition} {l : List Condition} → c .applies ≡ false → Clear l → Clear (c ∷ l)
+
+-- what a call makes of its list
+pub data Firsts {A : Type 0} : Judged A → List Condition → Type 0 where
+  refuses : {n : ℕ} {l : List Condition} → First n l → Firsts (refused n) l
+  accepts : {a : A} {l : List Condition} → Clear l → Firsts (accepted a) l
+
+-- the same as one number, 0 where none does
 unfoldable pub firstThat : List Condition → ℕ
 firstThat [] = 0
 firstThat (c ∷ l) = elim (c .applies) [ true ↦ c .refusal | false ↦ firstThat l ]

@@ -18,8 +18,8 @@ pub record Edition : Type 0 where
   -- of a record's set of acting nodes
   pub set-bytes : ℕ
   pub event-bytes : ℕ
-  -- what every edition keeps: its numbers fit their bytes, a location's entries are counted in one byte,
-  -- and an event has room for a kind and a selector with its switch
+  -- what every edition keeps: its numbers fit their bytes; a location's entries are counted in one byte, since of 256 nodes
+  -- that act together one more, a PARALLEL, would not act; an event has room for a kind and a selector with its switch
   pub version-fits : version < 256
   pub nodes-fit : nodes < capacity width
   pub entries-fit : nodes ≤ 256

@@ -22,7 +22,7 @@ pub data EventKind : Type 0 where
 unfoldable pub eventKind : ℕ → EventKind
 eventKind k = cond (eqb k 0) a-tick (cond (eqb k 1) a-pick (cond (eqb k 2) a-switch no-kind))
 
--- the bytes left are unused
+-- the bytes left are unused and must be 0
 unfoldable pub unused : Event → Reader Event
 unused e s = cond (every (λ b. eqb b 0) s) (read e []) broken
 

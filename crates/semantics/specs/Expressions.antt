@@ -154,10 +154,11 @@ truthBytes (connect c a b) = connectiveCode c ∷ (truthBytes a ++ truthBytes b)
 truthBytes (opposite a) = 0x2a ∷ truthBytes a
 truthBytes always = 0x2f ∷ []
 
--- so many variables are known, and each constant has 32 bits
+-- a constant of 32 bits
 unfoldable pub fits32 : ℤ → Bool
 fits32 z = leZ (negsuc 2147483647) z && leZ z (pos 2147483647)
 
+-- so many variables are known, and each constant has 32 bits
 unfoldable pub numberKnown : ℕ → Number → Bool
 numberKnown variables (constant z) = fits32 z
 numberKnown variables (variable v) = ltb v variables

@@ -98,6 +98,7 @@ selectors p = selectorsOf (p .equations)
 unfoldable pub modeExists : List Selector → ℕ → ℕ → Bool
 modeExists cs s m = elim (getElem? cs s) [ none ↦ false | some c ↦ ltb m (length (c .modes)) ]
 
+-- of a mode number that no accepted start, switch or node has
 abbrev pub noMode : Mode
 noMode = record { rates = []; switches = [] }
 
@@ -136,10 +137,11 @@ rateOf p ms v = rateAmong (ratesOf (p .equations) ms) v
 unfoldable pub declared : Variable → ℤ → Value ℤ
 declared x z = ranged (x .minimum) (x .maximum) z
 
+-- a variable that is not there is never assigned: 11 and 18 name it
 unfoldable pub declaredAt : List Variable → ℕ → ℤ → Value ℤ
 declaredAt xs v z = elim (getElem? xs v) [ none ↦ fault above | some x ↦ declared x z ]
 
--- all of them in range, or the fault of the lowest variable that is not
+-- all of them in range, or the fault of the lowest variable that is not; there are as many values as variables
 unfoldable pub allDeclared : List Variable → List ℤ → Value (List ℤ)
 allDeclared [] zs = ok zs
 allDeclared (x ∷ xs) [] = ok []

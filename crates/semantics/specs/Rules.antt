@@ -186,7 +186,7 @@ module _ {S : Type 0} (ed : Edition) (p : Plant) (c : Control S) where
         Walks ed vs (currentTruths p ms) nothing → Walks ed vs ts nothing → Added p ms vs ys → FirstOutside (p .variables) ys side →
         Rule (at x vs ms) e (faultAnswer side) (over vs ms)
 
-  -- ---- 23 to 31, each by itself: its sentence, in the situation before the event
+  -- ---- 23 to 31, each by itself: its sentence, in the situation before the event; 24 to 31 speak of a run that is not over
   pub data Sentence : ℕ → Situation S → List ℕ → Type 0 where
     -- 23: "The run is over."
     is-over : {vs : List ℤ} {ms e : List ℕ} → Sentence 23 (over vs ms) e
@@ -216,7 +216,7 @@ module _ {S : Type 0} (ed : Edition) (p : Plant) (c : Control S) where
     is-due : {x : S} {vs : List ℤ} {ms e : List ℕ} {ts : List (List ℕ)} → SaysTick ed e → Waits (c .action) (c .acting x) ts →
         Walks ed vs ts a-truth → Sentence 31 (at x vs ms) e
 
-  -- "a fault in the switch check is 203 before 29 or 31 is looked at"
+  -- the switch check of this pick or tick would fault: "a fault in the switch check is 203 before 29 or 31 is looked at"
   pub data CheckFaults : Situation S → List ℕ → Type 0 where
     pick-check : {x : S} {vs : List ℤ} {ms e : List ℕ} {n : ℕ} {side : Side} → SaysPick ed e n →
         Walks ed vs (currentTruths p ms) (a-fault side) → CheckFaults (at x vs ms) e
@@ -228,6 +228,12 @@ module _ {S : Type 0} (ed : Edition) (p : Plant) (c : Control S) where
     no-events : {s : Situation S} → Derives s [] []
     one-event : {s t : Situation S} {e : List ℕ} {es : List (List ℕ)} {a : ℕ} {l : List (Answered S)} →
         Rule s e a t → Derives t es l → Derives s (e ∷ es) (record { answer = a; left = t } ∷ l)
+
+-- sentence n is the first that holds, and no fault of the switch check comes before it
+pub record Decides {S : Type 0} (ed : Edition) (p : Plant) (c : Control S) (s : Situation S) (e : List ℕ) (n : ℕ) : Type 0 where
+  pub applies : Sentence ed p c n s e
+  pub least : (m : ℕ) → m < n → Sentence ed p c m s e → ⊥
+  pub unfaulted : 28 < n → CheckFaults ed p c s e → ⊥
 
 -- what an accepted schedule or table gives to its run: an acting node has its moves, and what is assigned is declared
 pub record Sound {S : Type 0} (p : Plant) (c : Control S) : Type 0 where

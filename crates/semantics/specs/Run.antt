@@ -213,6 +213,7 @@ module _ {S : Type 0} where
   arrive s (to y) vs ms = record { answer = 200; left = at y vs ms }
   arrive s finished vs ms = record { answer = 201; left = over vs ms }
   arrive s halted vs ms = record { answer = 202; left = over vs ms }
+  -- no acting node is idle: 25 has turned the others away
   arrive s idle vs ms = turnedAway 25 s
 
   unfoldable pub follow : Control S → S → Situation S → Moved → List ℤ → List ℕ → Answered S

@@ -28,7 +28,7 @@ unfoldable pub risingFrom : ℕ → List ℕ → Bool
 risingFrom low [] = true
 risingFrom low (n ∷ l) = elim (leb low n) [ true ↦ risingFrom (suc n) l | false ↦ false ]
 
--- 18: "a node number above 63 or not rising, or a kind, length or operand wrong (.. 11 and 12 judge operands)"
+-- 18: "or operand wrong (.. 11 and 12 judge operands)"
 unfoldable pub operandFits : Edition → ℕ → List Selector → Action → Bool
 operandFits ed variables cs (test t) = isSome (truthIn ed variables t)
 operandFits ed variables cs (wait t) = isSome (truthIn ed variables t)
@@ -36,12 +36,14 @@ operandFits ed variables cs (assign v e) = ltb v variables && isSome (numberIn e
 operandFits ed variables cs (switch s m) = modeExists cs s m
 operandFits ed variables cs stop = true
 
+-- 18: "a node number above 63"
 unfoldable pub actionFits : Edition → Plant → NodeAction → Bool
 actionFits ed p a = ltb (a .node) (ed .nodes) && operandFits ed (length (p .variables)) (selectors p) (a .action)
 
 unfoldable pub actionNodes : List NodeAction → List ℕ
 actionNodes l = map (λ (a : NodeAction). a .node) l
 
+-- 18: "or not rising"; the kinds, lengths and missing bytes are the layout's
 unfoldable pub actionsFit : Edition → Plant → List NodeAction → Bool
 actionsFit ed p l = risingFrom 0 (actionNodes l) && every (actionFits ed p) l
 
@@ -100,6 +102,7 @@ entryNext (e ∷ es) n b = elim (eqb (e .node) n) [ true ↦ goingTo (cond b (e 
 unfoldable pub entriesAt : Table → ℕ → List Entry
 entriesAt t x = getD (t .locations) x []
 
+-- every acting node has an action: 19 knows it
 unfoldable pub actionOrStop : List NodeAction → ℕ → Action
 actionOrStop l n = elim (actionAt l n) [ none ↦ stop | some a ↦ a ]
 
