@@ -95,7 +95,7 @@ module _ (ed : Edition) (file : List ℕ) (s : Schedule) (h : judgeFile ed file 
   unfolding ruleProgram
   rule-program = Judging.go-then _ h
 
-  table-judged : judgeTable ed (tableOf ed s) ≡ accepted (tableFor s)
+  pub table-judged : judgeTable ed (tableOf ed s) ≡ accepted (tableFor s)
   table-judged = table-accepted ed file s (passed ed file s h) fits
 
   table-program : tableProgram ed (tableOf ed s) ≡ accepted (record { plant = s .plant; control = tableControl (tableFor s) })
@@ -148,11 +148,11 @@ module _ (ed : Edition) (file : List ℕ) (s : Schedule) (h : judgeFile ed file 
     })
 
 -- ---- no refusal has the number 0
-first-not-0 : {l : List Condition} {n : ℕ} → All (λ (c : Condition). c .refusal ≡ 0 → ⊥) l → First n l → n ≡ 0 → ⊥
+pub first-not-0 : {l : List Condition} {n : ℕ} → All (λ (c : Condition). c .refusal ≡ 0 → ⊥) l → First n l → n ≡ 0 → ⊥
 first-not-0 (all-cons h k) (here e f) z = h (f ∙ z)
 first-not-0 (all-cons h k) (further e f) z = first-not-0 k f z
 
-never-0 : (ed : Edition) (file buffer : List ℕ) → All (λ (c : Condition). c .refusal ≡ 0 → ⊥) (compileConditions ed file buffer)
+pub never-0 : (ed : Edition) (file buffer : List ℕ) → All (λ (c : Condition). c .refusal ≡ 0 → ⊥) (compileConditions ed file buffer)
 unfolding compileConditions fileConditions
 never-0 ed file buffer =
     all-cons (no 0) (all-cons (no 1) (all-cons (no 2) (all-cons (no 3) (all-cons (no 4) (all-cons (no 5) (all-cons (no 6)

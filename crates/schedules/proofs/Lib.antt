@@ -19,3 +19,5 @@ pub mod ScheduleSound
 pub mod TableAccepted
 pub mod Agreement
 pub mod BytesOnly
+pub mod RowsHold
+pub mod Demand2

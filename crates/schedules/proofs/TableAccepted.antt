@@ -129,7 +129,7 @@ module _ (ed : Edition) (file : List ℕ) (s : Schedule) (g : Passed ed file s) 
   kinds : Kinds acts (s .root)
   kinds = (root-shapes (s .nodes) (g .tree)) .1
 
-  leads-in : {r u : Residual} → Mem r l → Moves tests r u → Mem u l
+  pub leads-in : {r u : Residual} → Mem r l → Moves tests r u → Mem u l
   unfolding scheduleLocations
   leads-in = closed-under tests (s .root) fits
 

@@ -1,9 +1,9 @@
--- What demand 3 says of a file and the table that compiling wrote for it.
+-- What demands 2 and 3 say of a file and the table that compiling wrote for it.
 use mathlib.Core.Path.{_≡_}
 use mathlib.Core.Bool.{false}
-use mathlib.Core.List.{List, map, flatMap}
+use mathlib.Core.List.{List, map, flatMap, List·Memᴰ as Mem}
 use mathlib.Core.Option.{some}
-use Prim.Native.Nat.{ℕ, _+_, _*_}
+use Prim.Native.Nat.{ℕ, _+_, _*_, _<_}
 use lib.ListN.{length}
 use Rattle.semantics.specs.Bytes.{overwrite}
 use Rattle.semantics.specs.Editions.{Edition}
@@ -12,11 +12,36 @@ use Rattle.semantics.specs.Events.{eventsIn}
 use Rattle.semantics.specs.Starts.{Start, startIn}
 use Rattle.semantics.specs.Run.{Answered, at, recordOf, howMany, isTaken, isTurnedAway, isFaulted}
 use Rattle.semantics.specs.Rules.{Derives}
+use Rattle.semantics.specs.TableFile.{locationLimit}
+use Rattle.semantics.specs.Tables.{Table, judgeTable}
 use Rattle.semantics.specs.Calls.{Ran, tableRun, readTable, eventCount, recordSize}
 use Rattle.semantics.specs.Conditions.{is20, is21, is22}
 use Rattle.schedules.specs.Residuals.{Residual, fresh}
+use Rattle.schedules.specs.Nodes.{actionsOf}
+use Rattle.schedules.specs.Reached.{Distinct, Leads, Reached, Rows}
+use Rattle.schedules.specs.Compiling.{testsOf}
 use Rattle.schedules.specs.Files.{Schedule, judgeFile, ruleControl}
 use Rattle.schedules.specs.Calls.{ruleRun}
+
+-- ---- demand 2: the table has every control state that the rules reach, and no other, each with an edge for each move
+pub record TableHolds (ed : Edition) (file table : List ℕ) : Type 0 where
+  pub schedule : Schedule
+  pub schedule-read : judgeFile ed file ≡ accepted schedule
+  pub locations : List Residual
+  pub reached : Reached (testsOf (schedule .nodes)) (schedule .root) locations
+  -- the table's bytes, read back
+  pub back : Table
+  pub table-read : judgeTable ed table ≡ accepted back
+  pub same-plant : back .plant ≡ schedule .plant
+  pub actions : back .actions ≡ actionsOf (schedule .nodes)
+  pub rows : Rows (testsOf (schedule .nodes)) locations (back .locations)
+
+-- more residuals can be reached than a table may hold
+pub record TooMany (s : Schedule) : Type 0 where
+  pub some-reached : List Residual
+  pub distinct : Distinct some-reached
+  pub each : (r : Residual) → Mem r some-reached → Leads (testsOf (s .nodes)) (fresh (s .root)) r
+  pub many : locationLimit < length some-reached
 
 -- ---- what both runs of one start and one list of events come to
 pub record RunsAgree (ed : Edition) (s : Schedule) (st : Start) (events : List ℕ) (by-rules by-table : List ℕ) (r t : Ran) : Type 0 where

@@ -6,8 +6,8 @@ use Prim.Native.Nat.{ℕ, _+_}
 use lib.ListN.{replicate}
 use lib.IntN.{ℤ, negsuc}
 use Rattle.semantics.specs.Editions.{edition1}
-use Rattle.semantics.specs.Expressions.{Number, constant, negation, Truth, connect, either, always, compare, at-most, Value, ok, fault, above, valueOf, holds, numberValue, truthValue}
-use Rattle.semantics.specs.Calls.{Ran, tableRun, readTable}
+use Rattle.semantics.specs.Expressions.{Number, constant, negation, Truth, connect, either, always, Side, fault, above, operands, valueOf, holds, numberValue, truthValue}
+use Rattle.semantics.specs.Calls.{tableRun}
 use Rattle.semantics.proofs.Computes.{semantics}
 use Rattle.semantics.proofs.K1.{k1-table, start-at, k2-events, k2-records, k3-events, k3-records, k4-events, k4-records}
 
@@ -37,3 +37,12 @@ K9-negation vs = refl
 pub K9-bytes : numberValue edition1 [] (0x14 ∷ 0x01 ∷ 0x80 ∷ 0 ∷ 0 ∷ 0 ∷ []) ≡ fault above
 unfolding semantics
 K9-bytes = refl
+
+-- true or a fault faults, whatever faults
+pub K9-or : (vs : List ℤ) (t : Truth) (side : Side) → holds vs t ≡ fault side → holds vs (connect either always t) ≡ fault side
+unfolding holds operands
+K9-or vs t side h = rw h refl
+
+pub K9-or-bytes : truthValue edition1 [] (0x29 ∷ 0x2f ∷ 0x20 ∷ 0x14 ∷ 0x01 ∷ 0x80 ∷ 0 ∷ 0 ∷ 0 ∷ 0x01 ∷ 0 ∷ 0 ∷ 0 ∷ 0 ∷ []) ≡ fault above
+unfolding semantics
+K9-or-bytes = refl
