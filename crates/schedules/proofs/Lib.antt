@@ -1,23 +1,28 @@
 pub mod Computes
-pub mod FirstNumber
+-- papers
 pub mod Examples
 pub mod Papers
 pub mod Traps
+-- trees and residuals
 pub mod TreeShapes
+pub mod OneTree
+pub mod ReadShapes
 pub mod ActingDetermines
 pub mod ResidualsKept
 pub mod MovesFit
-pub mod OneTree
-pub mod ReadShapes
-pub mod ActionsListed
-pub mod NodesRead
+-- numbering
 pub mod Places
 pub mod Numbered
 pub mod Reached
+-- calls
+pub mod FirstNumber
+-- the table of a schedule
+pub mod NodesRead
+pub mod ActionsListed
 pub mod TableAgrees
 pub mod ScheduleSound
 pub mod TableAccepted
-pub mod Agreement
-pub mod BytesOnly
 pub mod RowsHold
+pub mod Agreement
 pub mod Demand2
+pub mod WrittenBytes

@@ -13,9 +13,9 @@ use Rattle.semantics.specs.Tables.{actionOrStop, actionAt}
 use Rattle.semantics.specs.Calls.{Ran}
 use Rattle.semantics.proofs.K1.{k1-file, k1-table, start-at, k2-events, k2-records, k3-events, k3-records, k4-events, k4-records, one-record}
 use Rattle.schedules.specs.FileSections.{FileSections}
-use Rattle.schedules.specs.Nodes.{Node, parallel, while-do, continue-until, reset, stop-all}
-use Rattle.schedules.specs.Trees.{Tree, treeOf, par, halt, leaf, cons, nil}
-use Rattle.schedules.specs.Residuals.{Residual, fresh}
+use Rattle.schedules.specs.Nodes.{Node, parallel, while-do, if-else, continue-until, reset, stop-all}
+use Rattle.schedules.specs.Trees.{Tree, treeOf, par, halt, leaf, branch, cons, nil}
+use Rattle.schedules.specs.Residuals.{Residual, fresh, in-branch, at as at-node}
 use Rattle.schedules.specs.Numbering.{locations}
 use Rattle.schedules.specs.Files.{Schedule, ruleControl}
 use Rattle.schedules.specs.Compiling.{testsOf}
@@ -90,6 +90,13 @@ pub K7-halts : (s : Schedule) (t : List ℕ) → s .nodes ≡ stopOrWait t → t
 K7-halts s t e f vs ms h =
     subst₂ (λ ns r. picked (record { sections = s .sections; plant = s .plant; nodes = ns; root = r }) vs ms) (sym e)
     (some-is (sym (root t) ∙ ap treeOf (sym e) ∙ f)) (stop-picked (s .sections) (s .plant) t vs ms h)
+
+-- "the target on done or true before that on false": an IF's first child has number 1, its second 2
+pub true-first : (v w : ℕ) (t e f : List ℕ) →
+  Option·map (locations (testsOf (if-else t ∷ reset v e ∷ reset w f ∷ []))) (treeOf (if-else t ∷ reset v e ∷ reset w f ∷ []))
+  ≡ some (at-node (branch 0 (leaf 1) (leaf 2)) ∷ in-branch (at-node (leaf 1)) ∷ in-branch (at-node (leaf 2)) ∷ [])
+unfolding schedules
+true-first v w t e f = refl
 
 -- K11: "Empty file 1; 01 00 03 gives 3; 01 00 04 gives 2.", whatever the buffer
 pub K11-empty : (buffer : List ℕ) → compile edition1 [] buffer ≡ record { refusal = 1; written = 0; table = buffer }

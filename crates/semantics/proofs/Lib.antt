@@ -1,21 +1,26 @@
+-- shared laws
 pub mod Computes
 pub mod Facts
 pub mod Judging
 pub mod Readers
-pub mod FirstNumber
 pub mod SignedBytes
-pub mod ExpressionBytes
+-- papers
 pub mod K1
 pub mod Papers
 pub mod DepthPapers
-pub mod Verdicts
-pub mod Simulation
-pub mod RunCounts
-pub mod TableBack
-pub mod BytesOnly
+-- the step and the rules
 pub mod Hearing
 pub mod StepParts
 pub mod StepRules
-pub mod BytesRead
-pub mod BytesWritten
 pub mod FirstAnswer
+-- a run, and two controls that agree
+pub mod Verdicts
+pub mod Simulation
+pub mod RunCounts
+-- calls and formats
+pub mod FirstNumber
+pub mod ExpressionBytes
+pub mod TableBack
+pub mod WrittenRecords
+pub mod WrittenSources
+pub mod WrittenTables

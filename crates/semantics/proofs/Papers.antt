@@ -6,7 +6,7 @@ use Prim.Native.Nat.{ℕ, _+_}
 use lib.ListN.{replicate}
 use lib.IntN.{ℤ, negsuc}
 use Rattle.semantics.specs.Editions.{edition1}
-use Rattle.semantics.specs.Expressions.{Number, constant, negation, Truth, connect, either, always, Side, fault, above, operands, valueOf, holds, numberValue, truthValue}
+use Rattle.semantics.specs.Expressions.{Operation, Number, constant, operate, thenValue, negation, Truth, connect, either, always, Side, fault, above, operands, valueOf, holds, numberValue, truthValue}
 use Rattle.semantics.specs.Calls.{tableRun}
 use Rattle.semantics.proofs.Computes.{semantics}
 use Rattle.semantics.proofs.K1.{k1-table, start-at, k2-events, k2-records, k3-events, k3-records, k4-events, k4-records}
@@ -46,3 +46,8 @@ K9-or vs t side h = rw h refl
 pub K9-or-bytes : truthValue edition1 [] (0x29 ∷ 0x2f ∷ 0x20 ∷ 0x14 ∷ 0x01 ∷ 0x80 ∷ 0 ∷ 0 ∷ 0 ∷ 0x01 ∷ 0 ∷ 0 ∷ 0 ∷ 0 ∷ []) ≡ fault above
 unfolding semantics
 K9-or-bytes = refl
+
+-- of two faults the left operand's comes first
+pub left-fault-first : (vs : List ℤ) (o : Operation) (a b : Number) (s t : Side) → valueOf vs a ≡ fault s → valueOf vs b ≡ fault t → valueOf vs (operate o a b) ≡ fault s
+unfolding valueOf operands thenValue
+left-fault-first vs o a b s t h k = rw (h, k) refl

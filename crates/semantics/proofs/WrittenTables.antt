@@ -17,8 +17,8 @@ use Rattle.semantics.specs.Plant.{Plant}
 use Rattle.semantics.specs.Tables.{risingFrom, actionNodes, entryNodes, actionFits, actionsFit, actionAt, goesOn, targetsFit, entryFits, locationFits, locationsFit}
 use Rattle.semantics.proofs.Facts.{true-not-false, and-left, and-right, every-all, All, all-nil, all-cons, all-append, all-map, all-mem, all-flat}
 use Rattle.semantics.proofs.TableBack.{Short}
-use Rattle.semantics.proofs.BytesRead.{ActionWritten, found}
-use Rattle.semantics.proofs.BytesOnly.{Byte, out2-bytes, out4-bytes, out-bytes}
+use Rattle.semantics.proofs.WrittenSources.{ActionWritten, found}
+use Rattle.semantics.proofs.WrittenRecords.{Byte, out2-bytes, out4-bytes, out-bytes}
 
 -- ---- lengths
 width-small : (w : Width) → widthOf w ≤ 2

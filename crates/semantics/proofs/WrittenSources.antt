@@ -24,7 +24,7 @@ use Rattle.semantics.specs.Calls.{Program, Outcome, runFrom, outcomeOf, 
 use Rattle.semantics.proofs.Facts.{all-mem, none-not-some, some-is, All, all-nil, all-cons, all-append}
 use Rattle.semantics.proofs.Judging.{accepted-is, passed-then, passed-need, passed-ensure, passed-only}
 use Rattle.semantics.proofs.Readers.{broken-not-read, split, given, given-rest, guarded, from-some, byte-read, bytes-read, whole-read}
-use Rattle.semantics.proofs.BytesOnly.{records-bytes, Byte, Bits32, VariableBytes, TargetByte, ModeBytes, SelectorBytes, PlantBytes, ActionByte, ActionsBytes, StateBytes}
+use Rattle.semantics.proofs.WrittenRecords.{records-bytes, Byte, Bits32, VariableBytes, TargetByte, ModeBytes, SelectorBytes, PlantBytes, ActionByte, ActionsBytes, StateBytes}
 
 -- ---- a reader that makes such values of bytes, and leaves bytes
 pub record Made {A : Type 0} (P : A → Type 0) (a : A) (t : List ℕ) : Type 0 where

@@ -17,9 +17,9 @@ use Rattle.semantics.specs.Calls.{Program, Ran}
 use Rattle.semantics.proofs.Facts.{none-not-some, some-is, All, all-nil, all-cons, all-append}
 use Rattle.semantics.proofs.Judging.{accepted-is, passed-then, passed-ensure}
 use Rattle.semantics.proofs.Readers.{bytes-read}
-use Rattle.semantics.proofs.BytesOnly.{Byte}
-use Rattle.semantics.proofs.BytesRead.{Made, Makes, makes-then, makes-give, makes-guard, makes-from, makes-byte, makes-nat2, makes-number, makes-bytes, makes-times, Several, whole-makes, all-drop, plant-bytes, ActionWritten, actions-bytes, ProgramBytes, buffer-bytes}
-use Rattle.semantics.proofs.BytesWritten.{table-bytes, writable}
+use Rattle.semantics.proofs.WrittenRecords.{Byte}
+use Rattle.semantics.proofs.WrittenSources.{Made, Makes, makes-then, makes-give, makes-guard, makes-from, makes-byte, makes-nat2, makes-number, makes-bytes, makes-times, Several, whole-makes, all-drop, plant-bytes, ActionWritten, actions-bytes, ProgramBytes, buffer-bytes}
+use Rattle.semantics.proofs.WrittenTables.{table-bytes, writable}
 use Rattle.schedules.specs.FileSections.{FileSections, readFileSections, fileSectionsIn}
 use Rattle.schedules.specs.Nodes.{Node, sequence, parallel, while-do, if-else, continue-until, reset, reinitial, switch-to, stop-all, Kind, a-sequence, a-parallel, a-while, an-if, a-continue, a-reset, a-reinitial, a-switch, a-stop, no-kind, kindOf, childCount, nodeOf, readNode, readNodes, nodesIn, actionOf, actionsOf}
 use Rattle.schedules.specs.Residuals.{Residual, acting}
