@@ -1,0 +1,4 @@
+pub mod Reading
+pub mod Known
+pub mod Loops
+pub mod Whole

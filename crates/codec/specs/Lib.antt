@@ -1,0 +1,3 @@
+-- What the contracts of code that reads and writes bytes by position cite.
+pub mod Reading
+pub mod Places
