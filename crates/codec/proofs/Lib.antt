@@ -1,4 +1,5 @@
 pub mod Reading
 pub mod Known
 pub mod Loops
+pub mod Places
 pub mod Whole
