@@ -1,6 +1,6 @@
 -- A reader of lists against a place in a slice: one law for each way to put readers together.
 use mathlib.Core.Path.{_≡_, refl, sym, ap, _∙_, subst}
-use mathlib.Core.Bool.{Bool, true, false, cond}
+use mathlib.Core.Bool.{Bool, true, false, cond, and-false}
 use mathlib.Core.List.{List, [], _∷_, _++_}
 use mathlib.Core.Option.{Option, none, some}
 use Prim.Native.Nat.{ℕ, zero, suc, _+_, _-_, _≤_, _<_}
@@ -12,7 +12,7 @@ use lib.Dec.{leb, ltb}
 use lib.IntN.{ℤ}
 use lib.ListN.{length, getD, take, drop, length-drop}
 use lib.Seq.{drop-cons, drop-drop, drop-nil, getD-drop}
-use Rattle.semantics.specs.Bytes.{be2, be4, signed, Width, one-byte, Read, broken, read, Reader, after, _>>=_, give, fail, guard, from, byte, nat2, nat4, int4, number, bytes, section2, section4, just, whole}
+use Rattle.semantics.specs.Bytes.{be2, be4, signed, Width, one-byte, Read, broken, read, Reader, after, _>>=_, give, fail, guard, from, byte, nat2, nat4, int4, number, bytes, section2, section4, just, whole, within}
 use Rattle.semantics.proofs.Facts.{none-not-some}
 use Rattle.codec.specs.Reading.{Took, Reads, reads-at, reads-none}
 
@@ -300,3 +300,13 @@ either {C} a b f g = go (ltb a b) refl
     go : (t : Bool) → ltb a b ≡ t → C
     go true e = f (ltb-true a b e)
     go false e = g (ltb-false a b e)
+
+-- a number outside its bounds; Facts of semantics has within-both
+module _ (a b n : ℕ) where
+  pub within-below : n < a → within a b n ≡ false
+  unfolding within
+  within-below h = rw (lt-leb a n) refl
+
+  pub within-above : b < n → within a b n ≡ false
+  unfolding within
+  within-above h = rw (lt-leb n b, and-false (leb a n)) refl
