@@ -1,7 +1,7 @@
 -- What is known where a reader is known to succeed: a read at a place inverted by rewriting.
 -- Readers of semantics has the same for lists: split, guarded, from-some, whole-read.
 use mathlib.Core.Path.{_≡_, refl, sym, ap, _∙_}
-use mathlib.Core.Bool.{Bool, true, false}
+use mathlib.Core.Bool.{true, false}
 use mathlib.Core.List.{List, [], _∷_, _++_}
 use mathlib.Core.Option.{Option, none, some}
 use Prim.Native.Nat.{ℕ, zero, suc, _+_, _≤_, _<_}
@@ -14,7 +14,7 @@ use lib.Dec.{leb}
 use Rattle.semantics.specs.Bytes.{signed, one-byte, Read, broken, read, Reader, after, _>>=_, give, byte, nat2, nat4, int4, number, bytes, times, section2, section4}
 use Rattle.semantics.proofs.Readers.{broken-not-read, read-value, read-rest, split, given, given-rest, times-read}
 use Rattle.codec.specs.Reading.{Took, Reads}
-use Rattle.codec.proofs.Reading.{lost, drop-past, drop-some, nat2At, nat4At, nat2-at, nat2-short, nat4-at, nat4-short, int4-at, int4-short, section2-at, section2-cut, section2-short, section4-at, section4-cut, section4-short}
+use Rattle.codec.proofs.Reading.{lost, drop-past, drop-some, nat2At, nat4At, nat2-at, nat2-short, nat4-at, nat4-short, int4-at, int4-short, section2-at, section2-cut, section4-at, section4-cut}
 
 -- ---- what follows the first reader
 module _ {A B : Type 0} (f : A → Reader B) {s : List ℕ} {p : ℕ} {b : B} {e : List ℕ} where

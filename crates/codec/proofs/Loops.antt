@@ -1,13 +1,12 @@
 -- A reader n times, as a loop: what i turns took is the loop's invariant.
-use mathlib.Core.Path.{_≡_, refl, sym, ap, _∙_, subst}
+use mathlib.Core.Path.{_≡_, refl, subst}
 use mathlib.Core.Bool.{Bool, true, false, _&&_}
 use mathlib.Core.List.{List, [], _∷_, _++_}
-use mathlib.Core.Option.{Option, none, some}
-use Prim.Native.Nat.{ℕ, zero, suc, _+_, _≤_, _<_}
+use mathlib.Core.Option.{none, some}
+use Prim.Native.Nat.{ℕ, _+_, _≤_, _<_}
 use native.Mathlib.Numerals.{add-one}
-use native.Mathlib.Omega.{arith}
 use lib.ListN.{length, drop}
-use Rattle.semantics.specs.Bytes.{every, broken, read, Reader, give, times}
+use Rattle.semantics.specs.Bytes.{every, broken, Reader, give, times}
 use Rattle.codec.specs.Reading.{Took, Reads, reads-at, reads-none}
 use Rattle.codec.proofs.Known.{snoc, snoc-none, times-length}
 

@@ -2,7 +2,7 @@
 use mathlib.Core.Path.{_≡_, refl, sym, ap, subst, _∙_}
 use mathlib.Core.Bool.{Bool, true, false, cond}
 use mathlib.Core.List.{List, [], _∷_, _++_}
-use mathlib.Core.Option.{Option, none, some}
+use mathlib.Core.Option.{Option}
 use Prim.Native.Nat.{ℕ, zero, suc, _+_, _-_, _≤_, _<_}
 use native.Mathlib.Numerals.{add-one}
 use native.Mathlib.Omega.{arith}
@@ -10,9 +10,8 @@ use borrow.Author.Tests.{leb-true}
 use lib.Dec.{leb}
 use lib.ListN.{length, getD, take, drop, getElem?, length-drop}
 use lib.Seq.{drop-drop}
-use Rattle.semantics.specs.Bytes.{be2, be4, signed, Width, one-byte, two-bytes, Read, broken, read, Reader, after, _>>=_, give, fail, guard, from, byte, nat2, nat4, int4, number, bytes, times, section2, section4}
-use Rattle.semantics.proofs.Facts.{by-cases}
-use Rattle.semantics.proofs.Readers.{broken-not-read, read-value, read-rest, split, given-rest, guarded, from-some}
+use Rattle.semantics.specs.Bytes.{be2, be4, signed, Width, one-byte, two-bytes, Read, broken, read, Reader, _>>=_, give, fail, guard, from, byte, nat2, nat4, int4, number, bytes, times, section2, section4}
+use Rattle.semantics.proofs.Readers.{broken-not-read, read-rest, split, given-rest, guarded, from-some}
 use Rattle.codec.specs.Reading.{Took}
 use Rattle.codec.specs.Places.{placesFrom}
 use Rattle.codec.proofs.Reading.{drop-past, either}
@@ -140,25 +139,36 @@ pub record Placed {A : Type 0} (r : Reader A) (s : List ℕ) (a : List A) (i p :
   pub inside : p ≤ length s
   pub nth : Nth r (drop p s) a i
 
+module _ {A : Type 0} {r : Reader A} {s : List ℕ} {n : ℕ} {l : List ℕ} {a : List A} {e : List ℕ} (c : Cons r n l a e) where
+  first-placed : (from : ℕ) → from ≤ length s → l ≡ drop from s → Placed r s a zero (getD (placesFrom (length s) r (suc n) l) zero 0)
+  first-placed from b k = subst (Placed r s a zero) place (record { inside = b; nth = record { value = c .head; end = c .mid; got = ap r (sym k) ∙ c .first; is = ap (λ z. getElem? z zero) (sym (c .is)) } })
+    where
+      place : from ≡ getD (placesFrom (length s) r (suc n) l) zero 0
+      place =
+          let o : length l ≡ length s - from = ap length k ∙ length-drop from s in
+          let p : from ≡ length s - length l = omega arith in
+          p ∙ ap (λ z. getD z zero 0) (sym (places-next (length s) r n l (c .first)))
+
+  later-placed : (i : ℕ) → Placed r s (c .tail) i (getD (placesFrom (length s) r n (c .mid)) i 0) → Placed r s a (suc i) (getD (placesFrom (length s) r (suc n) l) (suc i) 0)
+  later-placed i x = subst (Placed r s a (suc i)) place (record { inside = x .inside; nth = further-nth (x .nth) })
+    where
+      place : getD (placesFrom (length s) r n (c .mid)) i 0 ≡ getD (placesFrom (length s) r (suc n) l) (suc i) 0
+      place = ap (λ z. getD z (suc i) 0) (sym (places-next (length s) r n l (c .first)))
+
+      further-nth : {j : List ℕ} → Nth r j (c .tail) i → Nth r j a (suc i)
+      further-nth y = record { value = y .value; end = y .end; got = y .got; is = ap (λ z. getElem? z (suc i)) (sym (c .is)) ∙ y .is }
+
 module _ {A : Type 0} {r : Reader A} (t : Takes r) (s : List ℕ) where
   placed-from : (n i from : ℕ) (l : List ℕ) {a : List A} {e : List ℕ} → from ≤ length s → l ≡ drop from s → times n r l ≡ read a e → i < n → Placed r s a i (getD (placesFrom (length s) r n l) i 0)
   placed-from zero i from l b k h j = absurd (omega arith)
-  placed-from (suc n) zero from l {a} b k h j =
-      let c = cons r n h in
-      let o : length l ≡ length s - from = ap length k ∙ length-drop from s in
-      let p : length s - length l ≡ from = omega arith in
-      let q : from ≡ getD (placesFrom (length s) r (suc n) l) zero 0 = sym (ap (λ z. getD z zero 0) (places-next (length s) r n l (c .first)) ∙ p) in
-      subst (Placed r s a zero) q (record { inside = b; nth = record { value = c .head; end = c .mid; got = ap r (sym k) ∙ c .first; is = ap (λ z. getElem? z zero) (sym (c .is)) } })
-  placed-from (suc n) (suc i) from l {a} b k h j =
+  placed-from (suc n) zero from l b k h j = first-placed (cons r n h) from b k
+  placed-from (suc n) (suc i) from l b k h j =
       let c = cons r n h in
       let u = t .leaves l (c .first) in
       let o : length l ≡ length s - from = ap length k ∙ length-drop from s in
       let f = u .few in
       let v : c .mid ≡ drop (from + u .count) s = u .is ∙ ap (drop (u .count)) k ∙ drop-drop (u .count) from s in
-      let x = placed-from n i (from + u .count) (c .mid) (omega arith) v (c .rest) (omega arith) in
-      let q = sym (ap (λ z. getD z (suc i) 0) (places-next (length s) r n l (c .first))) in
-      let y = x .nth in
-      subst (Placed r s a (suc i)) q (record { inside = x .inside; nth = record { value = y .value; end = y .end; got = y .got; is = ap (λ z. getElem? z (suc i)) (sym (c .is)) ∙ y .is } })
+      later-placed c i (placed-from n i (from + u .count) (c .mid) (omega arith) v (c .rest) (omega arith))
 
   -- n values read from a place of the slice on
   pub placed : (n i from : ℕ) {a : List A} {e : List ℕ} → from ≤ length s → times n r (drop from s) ≡ read a e → i < n → Placed r s a i (getD (placesFrom (length s) r n (drop from s)) i 0)

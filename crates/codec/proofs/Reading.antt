@@ -1,9 +1,9 @@
 -- A reader of lists against a place in a slice: one law for each way to put readers together.
 use mathlib.Core.Path.{_≡_, refl, sym, ap, _∙_, subst}
-use mathlib.Core.Bool.{Bool, true, false, cond, and-false}
-use mathlib.Core.List.{List, [], _∷_, _++_}
+use mathlib.Core.Bool.{Bool, true, false, and-false}
+use mathlib.Core.List.{List, [], _∷_}
 use mathlib.Core.Option.{Option, none, some}
-use Prim.Native.Nat.{ℕ, zero, suc, _+_, _-_, _≤_, _<_}
+use Prim.Native.Nat.{ℕ, zero, suc, _+_, _≤_, _<_}
 use native.Mathlib.Nat.{add-zero}
 use native.Mathlib.Numerals.{add-one}
 use native.Mathlib.Omega.{arith}
@@ -12,7 +12,7 @@ use lib.Dec.{leb, ltb}
 use lib.IntN.{ℤ}
 use lib.ListN.{length, getD, take, drop, length-drop}
 use lib.Seq.{drop-cons, drop-drop, drop-nil, getD-drop}
-use Rattle.semantics.specs.Bytes.{be2, be4, signed, Width, one-byte, Read, broken, read, Reader, after, _>>=_, give, fail, guard, from, byte, nat2, nat4, int4, number, bytes, section2, section4, just, whole, within}
+use Rattle.semantics.specs.Bytes.{be2, be4, signed, one-byte, Read, broken, read, Reader, after, _>>=_, give, fail, guard, from, byte, nat2, nat4, int4, number, bytes, section2, section4, just, whole, within}
 use Rattle.semantics.proofs.Facts.{none-not-some}
 use Rattle.codec.specs.Reading.{Took, Reads, reads-at, reads-none}
 

@@ -5,20 +5,13 @@ use Rattle.semantics.specs.Bytes.{signed}
 use borrow.Author.Needs.{needs}
 use Rattle.codec.proofs.int4.Statement.{statement}
 use Rattle.codec.proofs.int4.Tie as tie
-use Rattle.codec.proofs.int4.Reads as reads
-use Rattle.codec.proofs.int4.Lts as lts
-use Rattle.codec.proofs.signed.Reads as signed-reads
-use Rattle.codec.proofs.word.Reads as word-reads
 
--- src/lib.rt:49:12
 word-requires : tie.Need-word-requires
 word-requires c κs = search needs
 
--- src/lib.rt:49:5
 signed-requires : tie.Need-signed-requires
 signed-requires c κs = search needs
 
--- src/lib.rt:45:1
 returns : tie.Need-returns
 returns c = toZ-ofZ w32 (c .signed .result) (record { sfits = c .signed .ok }) ∙ c .signed .ensures ∙ ap signed (c .before .word .ensures)
 

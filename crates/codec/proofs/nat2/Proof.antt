@@ -5,38 +5,28 @@ use Rattle.semantics.specs.Bytes.{be2}
 use borrow.Author.Needs.{needs}
 use Rattle.codec.proofs.nat2.Statement.{statement}
 use Rattle.codec.proofs.nat2.Tie as tie
-use Rattle.codec.proofs.nat2.Reads as reads
-use Rattle.codec.proofs.nat2.Lts as lts
 
--- src/lib.rt:12:6
 shared-slice-read-result : tie.Need-shared-slice-read-result
 shared-slice-read-result c = search needs
 
--- src/lib.rt:12:6
 cast-result : tie.Need-cast-result
 cast-result c = omega (arith, c .shared-slice-known .given (c .before .args .at))
 
--- src/lib.rt:12:5
 mul-result : tie.Need-mul-result
 mul-result c = omega (arith, c .shared-slice-known .given (c .before .args .at))
 
--- src/lib.rt:12:32
 add-result : tie.Need-add-result
 add-result c = search needs
 
--- src/lib.rt:12:30
 shared-slice-read-result-2 : tie.Need-shared-slice-read-result-2
 shared-slice-read-result-2 c = search needs
 
--- src/lib.rt:12:30
 cast-result-2 : tie.Need-cast-result-2
 cast-result-2 c = omega (arith, c .before .shared-slice-known .given (c .before .before .args .at + 1))
 
--- src/lib.rt:12:5
 add-result-2 : tie.Need-add-result-2
 add-result-2 c = omega (arith, c .before .shared-slice-known .given (c .before .before .args .at), c .before .shared-slice-known .given (c .before .before .args .at + 1))
 
--- src/lib.rt:8:1
 returns : tie.Need-returns
 unfolding be2
 returns c = refl
