@@ -1,0 +1,6 @@
+pub mod Reading
+pub mod Known
+pub mod Loops
+pub mod Places
+pub mod Writing
+pub mod Whole

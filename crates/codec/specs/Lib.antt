@@ -1,0 +1,4 @@
+-- What the contracts of code that reads and writes bytes by position cite.
+pub mod Reading
+pub mod Places
+pub mod Writing
