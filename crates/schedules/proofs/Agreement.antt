@@ -1,46 +1,42 @@
 -- Demand 3: the table of an accepted schedule is accepted, and the run by the rules and the run of the table write the same, which the rule-by-rule relation derives.
 use mathlib.Core.Path.{_≡_, refl, sym, ap, subst, _∙_}
-use mathlib.Core.Bool.{Bool, true, false, not, _&&_}
-use mathlib.Core.List.{List, [], _∷_, _++_, map, flatMap}
+use mathlib.Core.Bool.{Bool, true, false}
+use mathlib.Core.List.{List}
 use mathlib.Core.Logic.{_⊎_, inl, inr}
 use mathlib.Core.Option.{Option, none, some}
-use Prim.Native.Nat.{ℕ, zero, suc, _+_, _*_, _≤_, _<_}
+use Prim.Native.Nat.{ℕ, zero, suc, _*_, _≤_}
 use native.Mathlib.Omega.{arith}
 use borrow.Author.Tests.{leb-true, not-false}
-use lib.Dec.{leb}
 use lib.ListN.{length, take, drop}
 use lib.Seq.{take-append-seam}
-use lib.IntN.{ℤ}
-use Rattle.semantics.specs.Bytes.{overwrite, int4, byte, times, whole}
+use Rattle.semantics.specs.Bytes.{overwrite, int4, byte, times}
 use Rattle.semantics.specs.Editions.{Edition}
 use Rattle.semantics.specs.Refusals.{Judged, refused, accepted}
 use Rattle.semantics.specs.Events.{eventsIn}
 use Rattle.semantics.specs.Plant.{Plant, selectors}
 use Rattle.semantics.specs.Starts.{Start, startIn, readStart, startFits}
-use Rattle.semantics.specs.Run.{Action, possible, isTest, Control, Situation, Answered, at, answers, recordOf, howMany, isTaken, isTurnedAway, isFaulted, to}
-use Rattle.semantics.specs.Rules.{Derives, Sound}
+use Rattle.semantics.specs.Run.{Action, possible, isTest, Control, Situation, Answered, at, answers}
 use Rattle.semantics.specs.TableFile.{locationLimit}
-use Rattle.semantics.specs.Tables.{Table, judgeTable, tableControl, actionOrStop}
-use Rattle.semantics.specs.Calls.{Program, Outcome, outcomeOf, runFrom, judgeRun, report, Ran, tableProgram, tableRun, TableRead, tableCounts, readTable, wholeEvents, eventCount, recordSize, roomForRecords}
+use Rattle.semantics.specs.Tables.{judgeTable, tableControl, actionOrStop}
+use Rattle.semantics.specs.Calls.{Program, outcomeOf, runFrom, judgeRun, report, tableProgram, tableRun, tableCounts, readTable, wholeEvents, eventCount, recordSize, roomForRecords}
 use Rattle.semantics.specs.Conditions.{Condition, given, is20, is21, is22}
 use Rattle.semantics.proofs.Facts.{true-not-false, All, all-nil, all-cons}
 use Rattle.semantics.proofs.Judging as Judging
 use Rattle.semantics.proofs.Readers as Readers
 use Rattle.semantics.proofs.Simulation.{Agree, runs-agree}
 use Rattle.semantics.proofs.RunCounts.{counts-sum, written-length}
-use Rattle.semantics.proofs.FirstNumber.{First, here, further, Firsts, refuses, accepts, given-some}
+use Rattle.semantics.proofs.FirstNumber.{First, here, further, Firsts, refuses}
 use Rattle.semantics.proofs.StepRules.{answers-derived}
 pub use Rattle.schedules.specs.Agreement.{RunsAgree, Agrees}
 use Rattle.schedules.specs.Nodes.{actionsOf}
-use Rattle.schedules.specs.Residuals.{Residual, fresh, acting, move, same?}
-use Rattle.schedules.specs.Numbering.{locations}
+use Rattle.schedules.specs.Residuals.{Residual, fresh, same?}
 use Rattle.schedules.specs.Files.{Schedule, judgeFile, ruleControl}
 use Rattle.schedules.specs.Compiling.{testsOf, scheduleLocations, tableOf, judgeCompile}
-use Rattle.schedules.specs.Calls.{ruleProgram, ruleRun, Compiled, compiledInto, compile}
-use Rattle.schedules.specs.Conditions.{filePlant, fileConditions, compileConditions}
-use Rattle.schedules.proofs.FirstNumber.{Passed, passed, compile-first, file-plant}
+use Rattle.schedules.specs.Calls.{ruleProgram, ruleRun, compiledInto, compile}
+use Rattle.schedules.specs.Conditions.{fileConditions, compileConditions}
+use Rattle.schedules.proofs.FirstNumber.{passed, compile-first}
 use Rattle.schedules.proofs.Numbered.{number-found, number-exists}
-use Rattle.schedules.proofs.Reached.{Moves, reached, closed-under}
+use Rattle.schedules.proofs.Reached.{reached, closed-under}
 use Rattle.schedules.proofs.ScheduleSound.{schedule-sound}
 use Rattle.schedules.proofs.TableAgrees.{tableFor, table-agrees}
 use Rattle.schedules.proofs.TableAccepted.{table-accepted}

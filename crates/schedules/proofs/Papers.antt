@@ -1,25 +1,23 @@
 -- The papers of document 01 that a schedule settles, as theorems about the definitions.
 use mathlib.Core.Path.{_≡_, refl, sym, ap, subst₂, _∙_}
-use mathlib.Core.Bool.{Bool, true, false}
 use mathlib.Core.List.{List, [], _∷_, _++_}
-use mathlib.Core.Option.{Option, none, some, Option·map}
+use mathlib.Core.Option.{Option, some, Option·map}
 use Prim.Native.Nat.{ℕ}
 use lib.ListN.{length, replicate}
 use lib.IntN.{ℤ}
-use Rattle.semantics.specs.Editions.{Edition, edition1}
+use Rattle.semantics.specs.Editions.{edition1}
 use Rattle.semantics.specs.Plant.{Plant, among}
-use Rattle.semantics.specs.Run.{pass, switchCheck, Situation, at, over, step, settle, follow, arrive, judge, judgePick, act, allow, _>>_}
+use Rattle.semantics.specs.Run.{pass, switchCheck, at, over, step, settle, follow, arrive, judge, judgePick, act, allow, _>>_}
 use Rattle.semantics.specs.Tables.{actionOrStop, actionAt}
-use Rattle.semantics.specs.Calls.{Ran}
-use Rattle.semantics.proofs.K1.{k1-file, k1-table, start-at, k2-events, k2-records, k3-events, k3-records, k4-events, k4-records, one-record}
+use Rattle.semantics.proofs.K1.{k1-file, k1-table, start-at, k2-events, k2-records, k3-events, k3-records, k4-events, k4-records}
 use Rattle.schedules.specs.FileSections.{FileSections}
 use Rattle.schedules.specs.Nodes.{Node, parallel, while-do, if-else, continue-until, reset, stop-all}
 use Rattle.schedules.specs.Trees.{Tree, treeOf, par, halt, leaf, branch, cons, nil}
-use Rattle.schedules.specs.Residuals.{Residual, fresh, in-branch, at as at-node}
+use Rattle.schedules.specs.Residuals.{fresh, in-branch, at as at-node}
 use Rattle.schedules.specs.Numbering.{locations}
 use Rattle.schedules.specs.Files.{Schedule, ruleControl}
 use Rattle.schedules.specs.Compiling.{testsOf}
-use Rattle.schedules.specs.Calls.{readSchedule, ruleRun, compile}
+use Rattle.schedules.specs.Calls.{ruleRun, compile}
 use Rattle.semantics.proofs.Computes as Semantics
 use Rattle.semantics.proofs.Facts.{some-is}
 use Rattle.schedules.proofs.Computes.{schedules, nodes, residuals}
@@ -93,8 +91,8 @@ K7-halts s t e f vs ms h =
 
 -- "the target on done or true before that on false": an IF's first child has number 1, its second 2
 pub true-first : (v w : ℕ) (t e f : List ℕ) →
-  Option·map (locations (testsOf (if-else t ∷ reset v e ∷ reset w f ∷ []))) (treeOf (if-else t ∷ reset v e ∷ reset w f ∷ []))
-  ≡ some (at-node (branch 0 (leaf 1) (leaf 2)) ∷ in-branch (at-node (leaf 1)) ∷ in-branch (at-node (leaf 2)) ∷ [])
+    Option·map (locations (testsOf (if-else t ∷ reset v e ∷ reset w f ∷ []))) (treeOf (if-else t ∷ reset v e ∷ reset w f ∷ []))
+    ≡ some (at-node (branch 0 (leaf 1) (leaf 2)) ∷ in-branch (at-node (leaf 1)) ∷ in-branch (at-node (leaf 2)) ∷ [])
 unfolding schedules
 true-first v w t e f = refl
 

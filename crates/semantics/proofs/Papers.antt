@@ -1,8 +1,6 @@
 -- Papers of document 01 that a table or an expression settles.
 use mathlib.Core.Path.{_≡_, refl}
-use mathlib.Core.Bool.{true}
 use mathlib.Core.List.{List, [], _∷_, _++_}
-use Prim.Native.Nat.{ℕ, _+_}
 use lib.ListN.{replicate}
 use lib.IntN.{ℤ, negsuc}
 use Rattle.semantics.specs.Editions.{edition1}
