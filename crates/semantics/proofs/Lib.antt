@@ -24,3 +24,4 @@ pub mod TableBack
 pub mod WrittenRecords
 pub mod WrittenSources
 pub mod WrittenTables
+pub mod CallsHold

@@ -13,3 +13,4 @@ pub mod Tables
 pub mod Starts
 pub mod Calls
 pub mod Conditions
+pub mod Statements
