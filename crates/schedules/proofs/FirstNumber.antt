@@ -116,7 +116,7 @@ unfolding scheduleCounts refusalOf
 schedule-refusal (refused n) = refl
 schedule-refusal (accepted s) = refl
 
-compiled-refusal : (buffer : List ℕ) (j : Judged (List ℕ)) → (compiledInto buffer j) .refusal ≡ refusalOf j
+pub compiled-refusal : (buffer : List ℕ) (j : Judged (List ℕ)) → (compiledInto buffer j) .refusal ≡ refusalOf j
 unfolding compiledInto refusalOf
 compiled-refusal buffer (refused n) = refl
 compiled-refusal buffer (accepted t) = refl
