@@ -9,7 +9,7 @@ use mathlib.Core.Option.{some}
 use Prim.Native.Nat.{ℕ, _≤_, _<_}
 use lib.Dec.{lit<, lit≤}
 use lib.ListN.{length, take}
-use Rattle.semantics.specs.Bytes.{within, isSome, overwrite, two-bytes}
+use Rattle.semantics.specs.Bytes.{All, within, isSome, overwrite, two-bytes}
 use Rattle.semantics.specs.Editions.{Edition}
 use Rattle.semantics.specs.Refusals.{accepted}
 use Rattle.semantics.specs.Expressions.{Number, Truth, numberBytes, truthBytes, numberDepth, truthDepth, numberKnown, truthKnown, numberIn, truthIn}
@@ -20,7 +20,6 @@ use Rattle.semantics.specs.Tables.{Table, judgeTable, tableControl}
 use Rattle.semantics.specs.Statements.{RunHolds}
 use Rattle.semantics.specs.Calls.{readTable, tableRun}
 use Rattle.semantics.specs.Conditions.{First, Clear, tableConditions, tableRunConditions}
-use Rattle.semantics.proofs.Facts.{All}
 use Rattle.semantics.proofs.StepRules as StepRules
 use Rattle.semantics.proofs.FirstAnswer as FirstAnswer
 use Rattle.semantics.proofs.FirstNumber as TableNumbers
@@ -71,8 +70,8 @@ reached-of = FileCalls.reached-of
 -- the bytes that compiling writes: at the front of the room, which holds them, and the rest of it unaltered.
 -- Ruled out: a compiler that writes nothing; one that clears the room beyond its table.
 pub written-table : (ed : Edition) (file room : List ℕ) → (compile ed file room) .refusal ≡ 0 →
-  (s : Schedule) × (fileSchedule ed file ≡ some s) × (length (tableOf ed s) ≤ length room) ×
-  (compile ed file room ≡ record { refusal = 0; written = length (tableOf ed s); table = overwrite (tableOf ed s) room })
+    (s : Schedule) × (fileSchedule ed file ≡ some s) × (length (tableOf ed s) ≤ length room) ×
+    (compile ed file room ≡ record { refusal = 0; written = length (tableOf ed s); table = overwrite (tableOf ed s) room })
 written-table = FileCalls.written-table
 
 -- ---- demand 3: "The table runner accepts that table, and for every start and every list of whole events the run by the rules and the run of the table
@@ -99,11 +98,11 @@ sound-table = TableCalls.sound-table
 -- that compiling refuses with 13 and for tables that nobody compiled.
 -- Ruled out: a rule run that writes anything else for a schedule of 1,025 locations; a table run that reads a table with two equal locations wrongly.
 pub rule-run-holds : (ed : Edition) (file start events buffer : List ℕ) → (ruleRun ed file start events buffer) .refusal ≡ 0 →
-  (s : Schedule) × (judgeFile ed file ≡ accepted s) × RunHolds ed (s .plant) (ruleControl s) start events buffer (ruleRun ed file start events buffer)
+    (s : Schedule) × (judgeFile ed file ≡ accepted s) × RunHolds ed (s .plant) (ruleControl s) start events buffer (ruleRun ed file start events buffer)
 rule-run-holds = FileCalls.rule-run-holds
 
 pub table-run-holds : (ed : Edition) (table start events buffer : List ℕ) → (tableRun ed table start events buffer) .refusal ≡ 0 →
-  (t : Table) × (judgeTable ed table ≡ accepted t) × RunHolds ed (t .plant) (tableControl t) start events buffer (tableRun ed table start events buffer)
+    (t : Table) × (judgeTable ed table ≡ accepted t) × RunHolds ed (t .plant) (tableControl t) start events buffer (tableRun ed table start events buffer)
 table-run-holds = TableCalls.table-run-holds
 
 -- the rules derive one list only.
@@ -113,32 +112,32 @@ derives-one d e = StepRules.derived-answers d ∙ sym (StepRules.derived-answers
 -- ---- demand 1: "A refused call returns .. length and counts zero and every lent buffer unwritten."
 -- Ruled out: a refused run that clears its record buffer; a refused compilation that returns a length.
 pub refused-compile : (ed : Edition) (file room : List ℕ) → ((compile ed file room) .refusal ≡ 0 → ⊥) →
-  compile ed file room ≡ record { refusal = (compile ed file room) .refusal; written = 0; table = room }
+    compile ed file room ≡ record { refusal = (compile ed file room) .refusal; written = 0; table = room }
 refused-compile = FileCalls.refused-compile
 
 pub refused-rule-run : (ed : Edition) (file start events buffer : List ℕ) → ((ruleRun ed file start events buffer) .refusal ≡ 0 → ⊥) →
-  ruleRun ed file start events buffer ≡ record { refusal = (ruleRun ed file start events buffer) .refusal; taken = 0; turned-away = 0; faulted = 0; records = buffer }
+    ruleRun ed file start events buffer ≡ record { refusal = (ruleRun ed file start events buffer) .refusal; taken = 0; turned-away = 0; faulted = 0; records = buffer }
 refused-rule-run = FileCalls.refused-rule-run
 
 pub refused-table-run : (ed : Edition) (table start events buffer : List ℕ) → ((tableRun ed table start events buffer) .refusal ≡ 0 → ⊥) →
-  tableRun ed table start events buffer ≡ record { refusal = (tableRun ed table start events buffer) .refusal; taken = 0; turned-away = 0; faulted = 0; records = buffer }
+    tableRun ed table start events buffer ≡ record { refusal = (tableRun ed table start events buffer) .refusal; taken = 0; turned-away = 0; faulted = 0; records = buffer }
 refused-table-run = TableCalls.refused-table-run
 
 pub refused-read-schedule : (ed : Edition) (file : List ℕ) → ((readSchedule ed file) .refusal ≡ 0 → ⊥) →
-  readSchedule ed file ≡ record { refusal = (readSchedule ed file) .refusal; variables = 0; selectors = 0; nodes = 0 }
+    readSchedule ed file ≡ record { refusal = (readSchedule ed file) .refusal; variables = 0; selectors = 0; nodes = 0 }
 refused-read-schedule = FileCalls.refused-read-schedule
 
 pub refused-read-table : (ed : Edition) (table : List ℕ) → ((readTable ed table) .refusal ≡ 0 → ⊥) →
-  readTable ed table ≡ record { refusal = (readTable ed table) .refusal; variables = 0; selectors = 0; actions = 0; locations = 0 }
+    readTable ed table ≡ record { refusal = (readTable ed table) .refusal; variables = 0; selectors = 0; actions = 0; locations = 0 }
 refused-read-table = TableCalls.refused-read-table
 
 -- the counts that the two reading calls return where they accept.
 pub read-schedule-result : (ed : Edition) (file : List ℕ) (s : Schedule) → judgeFile ed file ≡ accepted s →
-  readSchedule ed file ≡ record { refusal = 0; variables = length (s .plant .variables); selectors = length (selectors (s .plant)); nodes = length (s .nodes) }
+    readSchedule ed file ≡ record { refusal = 0; variables = length (s .plant .variables); selectors = length (selectors (s .plant)); nodes = length (s .nodes) }
 read-schedule-result ed file s = FileCalls.read-schedule-result ed file
 
 pub read-table-result : (ed : Edition) (table : List ℕ) (t : Table) → judgeTable ed table ≡ accepted t →
-  readTable ed table ≡ record { refusal = 0; variables = length (t .plant .variables); selectors = length (selectors (t .plant)); actions = length (t .actions); locations = length (t .locations) }
+    readTable ed table ≡ record { refusal = 0; variables = length (t .plant .variables); selectors = length (selectors (t .plant)); actions = length (t .actions); locations = length (t .locations) }
 read-table-result ed table t = TableCalls.read-table-result ed table
 
 -- ---- demand 1: "A refused call returns the first number of the list that applies .. A number is given only where its sentence holds."
@@ -177,11 +176,11 @@ first-answer ed p c = FirstAnswer.first-answer ed p c
 -- 12: bytes are read as an expression exactly where they are its encoding, it is of depth at most 16 and its variables are known.
 -- Ruled out: depth 17 taken; a difference read with its operands changed over.
 pub expression-bytes-number-is : (ed : Edition) (variables : ℕ) (s : List ℕ) (e : Number) → All (λ b. b < 256) s →
-  (numberIn ed variables s ≡ some e) ↔ ((numberBytes ed e ≡ s) × (numberDepth e ≤ 16) × (numberKnown variables e ≡ true))
+    (numberIn ed variables s ≡ some e) ↔ ((numberBytes ed e ≡ s) × (numberDepth e ≤ 16) × (numberKnown variables e ≡ true))
 expression-bytes-number-is = ExpressionBytes.number-is
 
 pub expression-bytes-truth-is : (ed : Edition) (variables : ℕ) (s : List ℕ) (e : Truth) → All (λ b. b < 256) s →
-  (truthIn ed variables s ≡ some e) ↔ ((truthBytes ed e ≡ s) × (truthDepth e ≤ 16) × (truthKnown variables e ≡ true))
+    (truthIn ed variables s ≡ some e) ↔ ((truthBytes ed e ≡ s) × (truthDepth e ≤ 16) × (truthKnown variables e ≡ true))
 expression-bytes-truth-is = ExpressionBytes.truth-is
 
 -- so 12 takes bytes exactly where they are the encoding of some such expression.
@@ -214,7 +213,8 @@ bytes-only-table-run = TableBytes.table-run-bytes
 
 -- an edition of 256 nodes keeps what every edition keeps
 pub edition-256 : (ed : Edition) × (ed .nodes ≡ 256)
-edition-256 = (record {
+edition-256 = (
+  record {
     version = 2;
     width = two-bytes;
     nodes = 256;
@@ -224,4 +224,7 @@ edition-256 = (record {
     nodes-fit = lit< tt;
     entries-fit = lit≤ tt;
     set-holds = lit≤ tt;
-    event-holds = lit≤ tt }, refl)
+    event-holds = lit≤ tt;
+  },
+  refl,
+)

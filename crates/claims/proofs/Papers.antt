@@ -11,7 +11,7 @@ use Rattle.semantics.specs.Editions.{Edition, edition1}
 use Rattle.semantics.specs.Expressions.{constant, negation, Truth, connect, either, always, Side, fault, above, valueOf, holds, truthIn}
 use Rattle.semantics.specs.Run.{pass, switchCheck, at, over, step}
 use Rattle.semantics.specs.Calls.{tableRun}
-use Rattle.semantics.proofs.K1.{one-record, k1-file, k1-table, start-at, k2-events, k2-records, k3-events, k3-records, k4-events, k4-records}
+use Rattle.semantics.specs.K1.{one-record, k1-file, k1-table, start-at, k2-events, k2-records, k3-events, k3-records, k4-events, k4-records}
 use Rattle.semantics.proofs.Facts.{is-some}
 use Rattle.semantics.proofs.DepthPapers as DepthPapers
 use Rattle.semantics.proofs.Papers as Tables
@@ -22,12 +22,10 @@ use Rattle.schedules.specs.Numbering.{locations}
 use Rattle.schedules.specs.Compiling.{testsOf}
 use Rattle.schedules.specs.Files.{Schedule, ruleControl}
 use Rattle.schedules.specs.Calls.{ruleRun, compile}
-use Rattle.schedules.proofs.Examples.{one-wait-file, stop-wait-file, two-rates-file, two-rates-file-2, while-file, stop-reset-file, stop-reset-table, faulty-check-file}
+use Rattle.schedules.specs.Examples.{locationCount, stopOrWait, case-file, case-table, case-events, case-records, one-wait-file, stop-wait-file, two-rates-file, two-rates-file-2, while-file, stop-reset-file, stop-reset-table, faulty-check-file}
 use Rattle.schedules.proofs.Traps as Traps
 use Rattle.schedules.proofs.CasePaper as CasePaper
-use Rattle.schedules.proofs.CasePaper.{case-file, case-table, case-events, case-records}
 use Rattle.schedules.proofs.Papers as Schedules
-use Rattle.schedules.proofs.Papers.{locationCount, stopOrWait}
 
 -- K1, which computes: its table, and the bytes of the buffer after it as they were
 pub K1 : compile edition1 k1-file (replicate 75 0 ++ (7 ∷ 8 ∷ [])) ≡ record { refusal = 0; written = 75; table = k1-table ++ (7 ∷ 8 ∷ []) }
@@ -80,8 +78,8 @@ K10 ed v = (is-some (DepthPapers.K10-taken ed v), DepthPapers.K10-none ed v)
 
 -- "the target on done or true before that on false": an IF's first child has number 1, its second 2
 pub true-first : (v w : ℕ) (t e f : List ℕ) →
-  Option·map (locations (testsOf (if-else t ∷ reset v e ∷ reset w f ∷ []))) (treeOf (if-else t ∷ reset v e ∷ reset w f ∷ []))
-  ≡ some (at-node (branch 0 (leaf 1) (leaf 2)) ∷ in-branch (at-node (leaf 1)) ∷ in-branch (at-node (leaf 2)) ∷ [])
+    Option·map (locations (testsOf (if-else t ∷ reset v e ∷ reset w f ∷ []))) (treeOf (if-else t ∷ reset v e ∷ reset w f ∷ []))
+    ≡ some (at-node (branch 0 (leaf 1) (leaf 2)) ∷ in-branch (at-node (leaf 1)) ∷ in-branch (at-node (leaf 2)) ∷ [])
 true-first = Schedules.true-first
 
 -- ---- a paper of our own: a CASE with rates and switches, a switch event, REINITIAL, an IF and a SWITCH, by the rules and by the table
@@ -89,11 +87,11 @@ pub case-compiled : compile edition1 case-file (replicate 165 0) ≡ record { re
 case-compiled = CasePaper.case-compiled
 
 pub case-rules : ruleRun edition1 case-file (replicate 9 0) case-events (replicate 342 0)
-  ≡ record { refusal = 0; taken = 10; turned-away = 9; faulted = 0; records = case-records }
+    ≡ record { refusal = 0; taken = 10; turned-away = 9; faulted = 0; records = case-records }
 case-rules = CasePaper.case-rules
 
 pub case-by-table : tableRun edition1 case-table (replicate 9 0) case-events (replicate 342 0)
-  ≡ record { refusal = 0; taken = 10; turned-away = 9; faulted = 0; records = case-records }
+    ≡ record { refusal = 0; taken = 10; turned-away = 9; faulted = 0; records = case-records }
 case-by-table = CasePaper.case-by-table
 
 -- ---- negative papers: for each trap that document 01 names a small run that tells the right rule from the wrong one

@@ -88,8 +88,8 @@ outcomes a false c = inr c
 
 -- two programs over one plant, whose outcomes are the same from every start
 judged-same : {S R : Type 0} (ed : Edition) (p : Plant) (c : Control S) (d : Control R) (start events buffer : List ℕ) →
-  ((st : Start) → outcomeOf ed c (runFrom ed (record { plant = p; control = c }) st events) ≡ outcomeOf ed d (runFrom ed (record { plant = p; control = d }) st events)) →
-  judgeRun ed (accepted (record { plant = p; control = c })) start events buffer ≡ judgeRun ed (accepted (record { plant = p; control = d })) start events buffer
+    ((st : Start) → outcomeOf ed c (runFrom ed (record { plant = p; control = c }) st events) ≡ outcomeOf ed d (runFrom ed (record { plant = p; control = d }) st events)) →
+    judgeRun ed (accepted (record { plant = p; control = c })) start events buffer ≡ judgeRun ed (accepted (record { plant = p; control = d })) start events buffer
 unfolding judgeRun _>>=_ need
 judged-same {S} {R} ed p c d start events buffer h = go (startIn p start)
   where
@@ -97,7 +97,7 @@ judged-same {S} {R} ed p c d start events buffer h = go (startIn p start)
     rest st o = ensure 20 (startFits p st) >> (ensure 21 (wholeEvents (ed .event-bytes) events) >> (ensure 22 (roomForRecords ed p events buffer) >> accepted o))
 
     go : (o : Option Start) →
-      (need 20 o >>= λ st. rest st (outcomeOf ed c (runFrom ed (record { plant = p; control = c }) st events))) ≡ (need 20 o >>= λ st. rest st (outcomeOf ed d (runFrom ed (record { plant = p; control = d }) st events)))
+        (need 20 o >>= λ st. rest st (outcomeOf ed c (runFrom ed (record { plant = p; control = c }) st events))) ≡ (need 20 o >>= λ st. rest st (outcomeOf ed d (runFrom ed (record { plant = p; control = d }) st events)))
     go none = refl
     go (some st) = ap (rest st) (h st)
 
@@ -126,7 +126,7 @@ module _ (ed : Edition) (file : List ℕ) (s : Schedule) (h : judgeFile ed file 
   same-runs start events buffer = ap (report buffer)
       (ap (λ j. judgeRun ed j start events buffer) rule-program
       ∙ judged-same ed (s .plant) (ruleControl s) (tableControl (tableFor s)) start events buffer
-          (λ st. runs-agree ed (s .plant) controls-agree (st .values) (st .modes) (eventsIn (ed .event-bytes) (eventCount ed events) events))
+      (λ st. runs-agree ed (s .plant) controls-agree (st .values) (st .modes) (eventsIn (ed .event-bytes) (eventCount ed events) events))
       ∙ sym (ap (λ j. judgeRun ed j start events buffer) table-program))
 
   -- both runs come to one outcome

@@ -39,12 +39,12 @@ compile-nothing buffer (refused n) h = refl
 compile-nothing buffer (accepted t) h = absurd (h refl)
 
 pub refused-compile : (ed : Edition) (file room : List ℕ) → ((compile ed file room) .refusal ≡ 0 → ⊥) →
-  compile ed file room ≡ record { refusal = (compile ed file room) .refusal; written = 0; table = room }
+    compile ed file room ≡ record { refusal = (compile ed file room) .refusal; written = 0; table = room }
 unfolding compile
 refused-compile ed file room h = compile-nothing room (judgeCompile ed file room) h
 
 pub refused-rule-run : (ed : Edition) (file start events buffer : List ℕ) → ((ruleRun ed file start events buffer) .refusal ≡ 0 → ⊥) →
-  ruleRun ed file start events buffer ≡ record { refusal = (ruleRun ed file start events buffer) .refusal; taken = 0; turned-away = 0; faulted = 0; records = buffer }
+    ruleRun ed file start events buffer ≡ record { refusal = (ruleRun ed file start events buffer) .refusal; taken = 0; turned-away = 0; faulted = 0; records = buffer }
 unfolding ruleRun
 refused-rule-run ed file start events buffer h = refused-run buffer (judgeRun ed (ruleProgram ed file) start events buffer) h
 
@@ -54,20 +54,20 @@ counts-nothing (refused n) h = refl
 counts-nothing (accepted s) h = absurd (h refl)
 
 pub refused-read-schedule : (ed : Edition) (file : List ℕ) → ((readSchedule ed file) .refusal ≡ 0 → ⊥) →
-  readSchedule ed file ≡ record { refusal = (readSchedule ed file) .refusal; variables = 0; selectors = 0; nodes = 0 }
+    readSchedule ed file ≡ record { refusal = (readSchedule ed file) .refusal; variables = 0; selectors = 0; nodes = 0 }
 unfolding readSchedule
 refused-read-schedule ed file h = counts-nothing (judgeFile ed file) h
 
 -- ---- accepted
 pub read-schedule-result : (ed : Edition) (file : List ℕ) {s : Schedule} → judgeFile ed file ≡ accepted s →
-  readSchedule ed file ≡ record { refusal = 0; variables = length (s .plant .variables); selectors = length (selectors (s .plant)); nodes = length (s .nodes) }
+    readSchedule ed file ≡ record { refusal = 0; variables = length (s .plant .variables); selectors = length (selectors (s .plant)); nodes = length (s .nodes) }
 unfolding readSchedule scheduleCounts
 read-schedule-result ed file h = rw h refl
 
 -- the table's bytes at the front of the room, which is long enough, and the rest of it as it was
 pub written-table : (ed : Edition) (file room : List ℕ) → (compile ed file room) .refusal ≡ 0 →
-  (s : Schedule) × (fileSchedule ed file ≡ some s) × (length (tableOf ed s) ≤ length room) ×
-  (compile ed file room ≡ record { refusal = 0; written = length (tableOf ed s); table = overwrite (tableOf ed s) room })
+    (s : Schedule) × (fileSchedule ed file ≡ some s) × (length (tableOf ed s) ≤ length room) ×
+    (compile ed file room ≡ record { refusal = 0; written = length (tableOf ed s); table = overwrite (tableOf ed s) room })
 unfolding compile compiledInto judgeCompile
 written-table ed file room z =
     let a = accepted-of (compile-first ed file room) (never-0 ed file room) (sym (compiled-refusal room (judgeCompile ed file room)) ∙ z) in
@@ -90,14 +90,17 @@ rule-numbers ed file start events buffer =
 
 -- also for schedules that compiling refuses with 13
 pub rule-run-holds : (ed : Edition) (file start events buffer : List ℕ) → (ruleRun ed file start events buffer) .refusal ≡ 0 →
-  (s : Schedule) × (judgeFile ed file ≡ accepted s) × RunHolds ed (s .plant) (ruleControl s) start events buffer (ruleRun ed file start events buffer)
+    (s : Schedule) × (judgeFile ed file ≡ accepted s) × RunHolds ed (s .plant) (ruleControl s) start events buffer (ruleRun ed file start events buffer)
 unfolding ruleRun ruleProgram
 rule-run-holds ed file start events buffer z =
     let a = accepted-of (rule-run-first ed file start events buffer) (rule-numbers ed file start events buffer) (sym (ran-refusal buffer (judgeRun ed (ruleProgram ed file) start events buffer)) ∙ z) in
     let b = run-passed ed (ruleProgram ed file) start events buffer (a .1) in
-    let c = Judging.passed-then (judgeFile ed file) _ (b .is-program) in
-    (c .0, c .1, run-built ed (ruleProgram ed file) (c .0 .plant) (ruleControl (c .0)) (sound-rules ed file (c .0) (c .1)) start events buffer (b .program) (Judging.accepted-is (c .2)) (b .st) (b .start-read)
-      (a .1 ∙ ap accepted (sym (b .outcome))))
+    let c = Judging.passed-then (judgeFile ed file) _ (b .is-program) in (
+      c .0,
+      c .1,
+      run-built ed (ruleProgram ed file) (c .0 .plant) (ruleControl (c .0)) (sound-rules ed file (c .0) (c .1)) start events buffer (b .program) (Judging.accepted-is (c .2)) (b .st) (b .start-read)
+          (a .1 ∙ ap accepted (sym (b .outcome))),
+    )
 
 -- what moves lead to from the fresh root is a residual of the tree
 pub reached-of : (tests : ℕ → Bool) (t : Tree) (r : Residual) → Leads tests (fresh t) r → Of t r

@@ -1,6 +1,5 @@
 pub mod Computes
 -- papers
-pub mod Examples
 pub mod Papers
 pub mod Traps
 pub mod CasePaper

@@ -95,7 +95,7 @@ leads k acts [] h n m = absurd (List·Memᴰ·not-nil m)
 leads k acts (e ∷ es) h n m = go h (eqb (e .node) n) refl (List·Memᴰ·cases-cons m) (leads k acts es)
   where
     go : All (λ e. entryFits k acts e ≡ true) (e ∷ es) → (b : Bool) → eqb (e .node) n ≡ b → (n ≡ e .node) ⊎ Mem n (map (λ (e : Entry). e .node) es) →
-      (All (λ e. entryFits k acts e ≡ true) es → (n : ℕ) → Mem n (entryNodes es) → Leads k acts es n) → Leads k acts (e ∷ es) n
+        (All (λ e. entryFits k acts e ≡ true) es → (n : ℕ) → Mem n (entryNodes es) → Leads k acts es n) → Leads k acts (e ∷ es) n
     go (all-cons f g) true i c ih = record { entry = e; fits = f; here = eqb-true (e .node) n i; next = λ b. rw (i, entryNext) refl }
     go (all-cons f g) false i (inl c) ih = absurd (eqb-false (e .node) n i (sym c))
     go (all-cons f g) false i (inr c) ih =
@@ -142,7 +142,7 @@ unfolding entryFits
 known-fits k acts e h = go (actionAt acts (e .node)) refl h
   where
     go : (o : Option Action) → actionAt acts (e .node) ≡ o → elim o [ none ↦ false | some a ↦ targetsFit k a (e .target) (e .other) ] ≡ true →
-      (a : Action) × (actionAt acts (e .node) ≡ some a) × (targetsFit k a (e .target) (e .other) ≡ true)
+        (a : Action) × (actionAt acts (e .node) ≡ some a) × (targetsFit k a (e .target) (e .other) ≡ true)
     go none i h = true-not-false (sym h)
     go (some a) i h = (a, i, h)
 
@@ -161,7 +161,7 @@ module _ (ed : Edition) (table : List ℕ) (t : Table) (h : judgeTable ed table 
       let k = known-fits (length (t .locations)) acts (q .entry) (q .fits) in
       let a = found-or-stop acts (q .entry .node) (k .1) in
       fit-moves (length (t .locations)) (k .0) (q .entry .target) (q .entry .other) ((kept ed table h) .few) (k .2) b
-        (ap (λ y. possible y b) (sym a ∙ ap (actionOrStop acts) (q .here)) ∙ p) (sym (q .next b) ∙ i)
+      (ap (λ y. possible y b) (sym a ∙ ap (actionOrStop acts) (q .here)) ∙ p) (sym (q .next b) ∙ i)
 
   named : (n v : ℕ) (e : List ℕ) → actionOrStop acts n ≡ assign v e → v < length (t .plant .variables)
   unfolding actionsFit actionFits operandFits
@@ -207,22 +207,23 @@ run-passed ed j start events buffer h =
 
 -- a run that is taken on says what the rules derive
 pub run-holds : {S : Type 0} (ed : Edition) (p : Plant) (c : Control S) → Sound p c → (start events buffer : List ℕ) (st : Start) → startIn p start ≡ some st →
-  RunHolds ed p c start events buffer (report buffer (accepted (outcomeOf ed c (runFrom ed (record { plant = p; control = c }) st events))))
+    RunHolds ed p c start events buffer (report buffer (accepted (outcomeOf ed c (runFrom ed (record { plant = p; control = c }) st events))))
 unfolding report outcomeOf runFrom
 run-holds ed p c sound start events buffer st h = record {
-    st = st;
-    start-read = h;
-    said = answers ed p c (at (c .start) (st .values) (st .modes)) (eventsIn (ed .event-bytes) (eventCount ed events) events);
-    derived = answers-derived ed p c sound (at (c .start) (st .values) (st .modes)) (eventsIn (ed .event-bytes) (eventCount ed events) events);
-    result = refl }
+  st = st;
+  start-read = h;
+  said = answers ed p c (at (c .start) (st .values) (st .modes)) (eventsIn (ed .event-bytes) (eventCount ed events) events);
+  derived = answers-derived ed p c sound (at (c .start) (st .values) (st .modes)) (eventsIn (ed .event-bytes) (eventCount ed events) events);
+  result = refl;
+}
 
 -- the same of the call's own result
 pub run-built : {S : Type 0} (ed : Edition) (j : Judged (Program S)) (p : Plant) (c : Control S) → Sound p c → (start events buffer : List ℕ) (g : Program S) → record { plant = p; control = c } ≡ g →
-  (st : Start) → startIn (g .plant) start ≡ some st → judgeRun ed j start events buffer ≡ accepted (outcomeOf ed (g .control) (runFrom ed g st events)) →
-  RunHolds ed p c start events buffer (report buffer (judgeRun ed j start events buffer))
+    (st : Start) → startIn (g .plant) start ≡ some st → judgeRun ed j start events buffer ≡ accepted (outcomeOf ed (g .control) (runFrom ed g st events)) →
+    RunHolds ed p c start events buffer (report buffer (judgeRun ed j start events buffer))
 run-built {S} ed j p c sound start events buffer g e st i k = rw k
     (subst (λ (g : Program S). startIn (g .plant) start ≡ some st → RunHolds ed p c start events buffer (report buffer (accepted (outcomeOf ed (g .control) (runFrom ed g st events))))) e
-      (λ i. run-holds ed p c sound start events buffer st i) i)
+    (λ i. run-holds ed p c sound start events buffer st i) i)
 
 table-numbers : (ed : Edition) (table start events buffer : List ℕ) → All (λ (c : Condition). c .refusal ≡ 0 → ⊥) (tableRunConditions ed table start events buffer)
 unfolding tableRunConditions tableConditions runConditions
@@ -233,7 +234,7 @@ table-numbers ed table start events buffer =
     no n e = omega arith
 
 pub table-run-holds : (ed : Edition) (table start events buffer : List ℕ) → (tableRun ed table start events buffer) .refusal ≡ 0 →
-  (t : Table) × (judgeTable ed table ≡ accepted t) × RunHolds ed (t .plant) (tableControl t) start events buffer (tableRun ed table start events buffer)
+    (t : Table) × (judgeTable ed table ≡ accepted t) × RunHolds ed (t .plant) (tableControl t) start events buffer (tableRun ed table start events buffer)
 unfolding tableRun tableProgram
 table-run-holds ed table start events buffer z =
     let j = judgeRun ed (tableProgram ed table) start events buffer in
@@ -244,13 +245,13 @@ table-run-holds ed table start events buffer z =
 
 -- on a refusal: the number, and nothing written
 pub refused-run : (buffer : List ℕ) (j : Judged Outcome) → ((report buffer j) .refusal ≡ 0 → ⊥) →
-  report buffer j ≡ record { refusal = (report buffer j) .refusal; taken = 0; turned-away = 0; faulted = 0; records = buffer }
+    report buffer j ≡ record { refusal = (report buffer j) .refusal; taken = 0; turned-away = 0; faulted = 0; records = buffer }
 unfolding report
 refused-run buffer (refused n) h = refl
 refused-run buffer (accepted o) h = absurd (h refl)
 
 pub refused-table-run : (ed : Edition) (table start events buffer : List ℕ) → ((tableRun ed table start events buffer) .refusal ≡ 0 → ⊥) →
-  tableRun ed table start events buffer ≡ record { refusal = (tableRun ed table start events buffer) .refusal; taken = 0; turned-away = 0; faulted = 0; records = buffer }
+    tableRun ed table start events buffer ≡ record { refusal = (tableRun ed table start events buffer) .refusal; taken = 0; turned-away = 0; faulted = 0; records = buffer }
 unfolding tableRun
 refused-table-run ed table start events buffer h = refused-run buffer (judgeRun ed (tableProgram ed table) start events buffer) h
 
@@ -260,11 +261,11 @@ counts-zero (refused n) h = refl
 counts-zero (accepted t) h = absurd (h refl)
 
 pub refused-read-table : (ed : Edition) (table : List ℕ) → ((readTable ed table) .refusal ≡ 0 → ⊥) →
-  readTable ed table ≡ record { refusal = (readTable ed table) .refusal; variables = 0; selectors = 0; actions = 0; locations = 0 }
+    readTable ed table ≡ record { refusal = (readTable ed table) .refusal; variables = 0; selectors = 0; actions = 0; locations = 0 }
 unfolding readTable
 refused-read-table ed table h = counts-zero (judgeTable ed table) h
 
 pub read-table-result : (ed : Edition) (table : List ℕ) {t : Table} → judgeTable ed table ≡ accepted t →
-  readTable ed table ≡ record { refusal = 0; variables = length (t .plant .variables); selectors = length (selectors (t .plant)); actions = length (t .actions); locations = length (t .locations) }
+    readTable ed table ≡ record { refusal = 0; variables = length (t .plant .variables); selectors = length (selectors (t .plant)); actions = length (t .actions); locations = length (t .locations) }
 unfolding readTable tableCounts
 read-table-result ed table h = rw h refl

@@ -5,7 +5,6 @@ pub mod Judging
 pub mod Readers
 pub mod SignedBytes
 -- papers
-pub mod K1
 pub mod Papers
 pub mod DepthPapers
 -- the step and the rules

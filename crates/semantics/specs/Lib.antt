@@ -14,3 +14,4 @@ pub mod Starts
 pub mod Calls
 pub mod Conditions
 pub mod Statements
+pub mod K1

@@ -19,8 +19,9 @@ pub record RunHolds {S : Type 0} (ed : Edition) (p : Plant) (c : Control S) (sta
   pub said : List (Answered S)
   pub derived : Derives ed p c (at (c .start) (st .values) (st .modes)) (eventsIn (ed .event-bytes) (eventCount ed events) events) said
   pub result : r ≡ record {
-      refusal = 0;
-      taken = howMany isTaken (map (λ (o : Answered S). o .answer) said);
-      turned-away = howMany isTurnedAway (map (λ (o : Answered S). o .answer) said);
-      faulted = howMany isFaulted (map (λ (o : Answered S). o .answer) said);
-      records = overwrite (flatMap (recordOf ed c) said) buffer }
+    refusal = 0;
+    taken = howMany isTaken (map (λ (o : Answered S). o .answer) said);
+    turned-away = howMany isTurnedAway (map (λ (o : Answered S). o .answer) said);
+    faulted = howMany isFaulted (map (λ (o : Answered S). o .answer) said);
+    records = overwrite (flatMap (recordOf ed c) said) buffer;
+  }
