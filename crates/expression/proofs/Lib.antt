@@ -1,7 +1,7 @@
-pub mod Widths
-pub mod Cases
-pub mod Ends
-pub mod Codes
-pub mod Steps
-pub mod Wholes
+mod Cases
+mod Codes
+mod Ends
+mod Steps
 pub mod Values
+mod Wholes
+pub mod Widths

@@ -1,13 +1,16 @@
 // Numbers and truths: judged from their bytes (condition 12) and evaluated.
 ghost use mathlib.Core.Path.{_≡_};
 ghost use Prim.Native.Nat.{_+_, _≤_};
-ghost use lib.ListN.{length, drop, getD};
+ghost use lib.ListN.{length};
 ghost use lib.IntN.{negℤ};
 ghost use Rattle.semantics.specs.Bytes.{be4, signed as signedOf, isSome};
 ghost use Rattle.semantics.specs.Editions.{edition1};
-ghost use Rattle.semantics.specs.Expressions.{ok, fault, applied, compared, connected, result, numberIn, truthIn, readExpression};
+ghost use Rattle.semantics.specs.Expressions.{ok, fault, applied, compared, connected, result, numberIn, truthIn};
 ghost use Rattle.expression.specs.Answers.{numberOf, truthOf, numberAnswer, truthAnswer};
 ghost use Rattle.expression.specs.Founds.{sideOf, found, wordAt, numberAt, nextOf, operationOf, comparisonOf, connectiveOf, constantAt, variableAt, operated, related, joined, negated, opposed};
+
+// "Depth is at most 16"
+const DEPTH: usize = 16;
 
 // A number's value, or the side on which a result lies outside its range; malformed where condition 12 turns the bytes away.
 pub enum Number {
@@ -38,7 +41,7 @@ enum Found {
 pub fn number_value(s: &[u8], vars: &[i32]) -> Number
     ensures { λ r. ⌜ r ≡ numberAnswer (now (vars .entry)) (numberIn edition1 (length (now (vars .entry))) (now (s .entry))) ⌝ }
 {
-    match eval(s, vars, 0, 16) {
+    match eval(s, vars, 0, DEPTH) {
         Found::ANumber(z, n) => {
             if n == s.len() {
                 Number::Is(z)
@@ -61,7 +64,7 @@ pub fn number_value(s: &[u8], vars: &[i32]) -> Number
 pub fn truth_value(s: &[u8], vars: &[i32]) -> Truth
     ensures { λ r. ⌜ r ≡ truthAnswer (now (vars .entry)) (truthIn edition1 (length (now (vars .entry))) (now (s .entry))) ⌝ }
 {
-    match eval(s, vars, 0, 16) {
+    match eval(s, vars, 0, DEPTH) {
         Found::ATruth(b, n) => {
             if n == s.len() {
                 plain_truth(b)
