@@ -1,12 +1,11 @@
 -- What the calls over a schedule file return and leave: on a refusal nothing but the number; where they accept, what the definitions give and the rules derive.
 use mathlib.Core.Path.{_≡_, refl, sym, ap, _∙_}
 use mathlib.Core.Bool.{Bool}
-use mathlib.Core.List.{List, [], _∷_}
+use mathlib.Core.List.{List}
 use mathlib.Core.Option.{some}
 use Prim.Native.Nat.{ℕ, suc, _≤_}
 use native.Mathlib.Omega.{arith}
 use borrow.Author.Tests.{leb-true}
-use lib.Dec.{leb}
 use lib.ListN.{length}
 use Rattle.semantics.specs.Bytes.{overwrite}
 use Rattle.semantics.specs.Editions.{Edition}
@@ -16,7 +15,7 @@ use Rattle.semantics.specs.Rules.{Sound}
 use Rattle.semantics.specs.Calls.{judgeRun}
 use Rattle.semantics.specs.Conditions.{Condition, runConditions}
 use Rattle.semantics.specs.Statements.{RunHolds}
-use Rattle.semantics.proofs.Facts.{All, all-nil, all-cons, all-append}
+use Rattle.semantics.proofs.Facts.{All, all-nil, all-cons}
 use Rattle.semantics.proofs.Judging as Judging
 use Rattle.semantics.proofs.FirstNumber.{ran-refusal}
 use Rattle.semantics.proofs.CallsHold.{accepted-of, run-passed, run-built, refused-run}
@@ -24,9 +23,9 @@ use Rattle.schedules.specs.Trees.{Tree}
 use Rattle.schedules.specs.Residuals.{Residual, fresh}
 use Rattle.schedules.specs.Reached.{Leads, stays, goes, Of}
 use Rattle.schedules.specs.Files.{Schedule, judgeFile, ruleControl}
-use Rattle.schedules.specs.Compiling.{tableOf, scheduleLocations, judgeCompile}
+use Rattle.schedules.specs.Compiling.{tableOf, judgeCompile}
 use Rattle.schedules.specs.Calls.{readSchedule, scheduleCounts, ruleProgram, ruleRun, compile, compiledInto}
-use Rattle.schedules.specs.Conditions.{fileSchedule, fileConditions, compileConditions, ruleRunConditions}
+use Rattle.schedules.specs.Conditions.{fileSchedule, fileConditions, ruleRunConditions}
 use Rattle.schedules.proofs.FirstNumber.{passed, file-schedule, rule-run-first, compile-first, compiled-refusal}
 use Rattle.schedules.proofs.ResidualsKept.{of-fresh, kept-to}
 use Rattle.schedules.proofs.ScheduleSound.{schedule-sound}

@@ -1,40 +1,36 @@
 -- What the calls over a table return and leave: on a refusal nothing but the number; where they accept, what the rules derive.
 use mathlib.Core.Path.{_≡_, refl, sym, ap, subst, _∙_}
-use mathlib.Core.Bool.{Bool, true, false, _&&_, cond}
-use mathlib.Core.List.{List, [], _∷_, map, flatMap, List·Memᴰ as Mem, List·Memᴰ·not-nil, List·Memᴰ·cases-cons, List·Memᴰ·head as first, List·Memᴰ·tail as later}
+use mathlib.Core.Bool.{Bool, true, false, cond}
+use mathlib.Core.List.{List, [], _∷_, map, List·Memᴰ as Mem, List·Memᴰ·not-nil, List·Memᴰ·cases-cons}
 use mathlib.Core.Logic.{_⊎_, inl, inr}
 use mathlib.Core.Option.{Option, none, some}
 use Prim.Native.Nat.{ℕ, zero, suc, _≤_, _<_}
 use native.Mathlib.Omega.{arith}
-use borrow.Author.Tests.{eqb-true, eqb-false, eq-eqb, ne-eqb, ltb-true}
-use lib.Dec.{ltb, eqb, leb}
-use lib.ListN.{length, getD, drop}
-use Rattle.semantics.specs.Bytes.{every, times, nat2}
+use borrow.Author.Tests.{eqb-true, eqb-false, ne-eqb, ltb-true}
+use lib.Dec.{ltb, eqb}
+use lib.ListN.{length, getD}
+use Rattle.semantics.specs.Bytes.{every, nat2}
 use Rattle.semantics.specs.Editions.{Edition}
 use Rattle.semantics.specs.Events.{eventsIn}
-use Rattle.semantics.specs.Refusals.{Judged, refused, accepted, only, refusalOf}
-use Rattle.semantics.specs.Plant.{Plant, judgePlant, selectors}
+use Rattle.semantics.specs.Refusals.{Judged, refused, accepted, refusalOf}
+use Rattle.semantics.specs.Plant.{Plant, selectors}
 use Rattle.semantics.specs.Starts.{Start, startIn}
-use Rattle.semantics.specs.Run.{Action, test, wait, assign, switch, stop, possible, isTest, Next, to, finished, halted, idle, Control, Answered, at, answers, recordOf}
-use Rattle.semantics.specs.Rules.{Derives, Sound}
-use Rattle.semantics.specs.TableFile.{NodeAction, Entry, FINISHED, HALTED, NONE, locationLimit, tableSectionsIn, actionsIn, readLocation, readLocations, locationsIn}
+use Rattle.semantics.specs.Run.{Action, test, wait, assign, switch, stop, possible, isTest, Next, to, finished, halted, idle, Control, at, answers}
+use Rattle.semantics.specs.Rules.{Sound}
+use Rattle.semantics.specs.TableFile.{NodeAction, Entry, FINISHED, HALTED, NONE, locationLimit, readLocation, readLocations, locationsIn}
 use Rattle.semantics.specs.Tables.{Table, judgeTable, operandFits, actionFits, actionsFit, actionAt, actionOrStop, goesOn, targetsFit, entryFits, entryNodes, locationFits, locationsFit, risingFrom, actionNodes, goingTo, entryNext, entriesAt, tableControl}
-use Rattle.semantics.specs.Calls.{Program, Outcome, outcomeOf, runFrom, judgeRun, report, Ran, eventCount, tableProgram, tableRun, TableRead, tableCounts, readTable}
+use Rattle.semantics.specs.Calls.{Program, Outcome, outcomeOf, runFrom, judgeRun, report, eventCount, tableProgram, tableRun, tableCounts, readTable}
 use Rattle.semantics.specs.Conditions.{Condition, First, here, further, Firsts, refuses, accepts, tableConditions, runConditions, tableRunConditions}
 use Rattle.semantics.specs.Statements.{RunHolds}
-use Rattle.semantics.proofs.Facts.{true-not-false, none-not-some, some-is, and-left, and-right, within-high, All, all-nil, all-cons, all-mem, every-all}
+use Rattle.semantics.proofs.Facts.{true-not-false, and-left, and-right, within-high, All, all-nil, all-cons, all-mem, every-all}
 use Rattle.semantics.proofs.Judging as Judging
 use Rattle.semantics.proofs.Readers as Readers
 use Rattle.semantics.proofs.FirstNumber.{table-run-first, ran-refusal}
 use Rattle.semantics.proofs.StepRules.{answers-derived}
+use Rattle.semantics.proofs.TablePassed.{table-passed}
 use Rattle.semantics.proofs.WrittenSources.{found}
 
--- ---- an accepted table, condition by condition
-pub record Kept (ed : Edition) (table : List ℕ) (t : Table) : Type 0 where
-  pub acts-fit : actionsFit ed (t .plant) (t .actions) ≡ true
-  pub locs-fit : locationsFit (t .actions) (t .locations) ≡ true
-  pub few : length (t .locations) ≤ locationLimit
-
+-- ---- an accepted table
 few-locations : (ed : Edition) (s : List ℕ) {ls : List (List Entry)} → locationsIn ed s ≡ some ls → length ls ≤ locationLimit
 unfolding locationsIn readLocations
 few-locations ed s h =
@@ -44,19 +40,6 @@ few-locations ed s h =
     let d = within-high 1 locationLimit (a .value) (b .0) in
     let e = c .0 in
     omega arith
-
-pub kept : (ed : Edition) (table : List ℕ) {t : Table} → judgeTable ed table ≡ accepted t → Kept ed table t
-unfolding judgeTable
-kept ed table h =
-    let a = Judging.passed-ensure 15 _ _ h in
-    let b = Judging.passed-need 16 (tableSectionsIn (drop 5 table)) _ (a .1) in
-    let c = Judging.passed-then (only 17 (judgePlant ed (b .0 .variables) (b .0 .equations))) _ (b .2) in
-    let d = Judging.passed-ensure 17 _ _ (c .2) in
-    let g = Judging.passed-need 18 (actionsIn ed (b .0 .actions)) _ (d .1) in
-    let i = Judging.passed-ensure 18 _ _ (g .2) in
-    let k = Judging.passed-need 19 (locationsIn ed (b .0 .locations)) _ (i .1) in
-    let l = Judging.passed-ensure 19 _ _ (k .2) in
-    subst (Kept ed table) (Judging.accepted-is (l .1)) (record { acts-fit = i .0; locs-fit = l .0; few = few-locations ed (b .0 .locations) (k .1) })
 
 -- ---- a target that fits leads somewhere
 goes : (k t : ℕ) → k ≤ locationLimit → goesOn k t ≡ true → goingTo t ≡ idle → ⊥
@@ -153,21 +136,21 @@ module _ (ed : Edition) (table : List ℕ) (t : Table) (h : judgeTable ed table 
 
   row-fits : (x : ℕ) → All (λ e. entryFits (length (t .locations)) acts e ≡ true) (getD (t .locations) x [])
   unfolding locationsFit
-  row-fits x = entries-fit (length (t .locations)) acts (t .locations) x (every-all (locationFits (length (t .locations)) acts) (t .locations) ((kept ed table h) .locs-fit))
+  row-fits x = entries-fit (length (t .locations)) acts (t .locations) x (every-all (locationFits (length (t .locations)) acts) (t .locations) ((table-passed ed table h) .locs-fit))
 
   row-moves : (x n : ℕ) (b : Bool) → Mem n (entryNodes (getD (t .locations) x [])) → possible (actionOrStop acts n) b ≡ true → entryNext (getD (t .locations) x []) n b ≡ idle → ⊥
   row-moves x n b m p i =
       let q = leads (length (t .locations)) acts (getD (t .locations) x []) (row-fits x) n m in
       let k = known-fits (length (t .locations)) acts (q .entry) (q .fits) in
       let a = found-or-stop acts (q .entry .node) (k .1) in
-      fit-moves (length (t .locations)) (k .0) (q .entry .target) (q .entry .other) ((kept ed table h) .few) (k .2) b
+      fit-moves (length (t .locations)) (k .0) (q .entry .target) (q .entry .other) (let q = table-passed ed table h in few-locations ed (q .parts .locations) (q .locs)) (k .2) b
       (ap (λ y. possible y b) (sym a ∙ ap (actionOrStop acts) (q .here)) ∙ p) (sym (q .next b) ∙ i)
 
   named : (n v : ℕ) (e : List ℕ) → actionOrStop acts n ≡ assign v e → v < length (t .plant .variables)
   unfolding actionsFit actionFits operandFits
   named n v e i =
       let f = found acts n (in-list acts n v e i) in
-      let g = all-mem (every-all (actionFits ed (t .plant)) acts (and-right (risingFrom 0 (actionNodes acts)) _ ((kept ed table h) .acts-fit))) (f .listed) in
+      let g = all-mem (every-all (actionFits ed (t .plant)) acts (and-right (risingFrom 0 (actionNodes acts)) _ ((table-passed ed table h) .acts-fit))) (f .listed) in
       let o = and-right (ltb (f .entry .node) (ed .nodes)) (operandFits ed (length (t .plant .variables)) (selectors (t .plant)) (f .entry .action)) g in
       let d : operandFits ed (length (t .plant .variables)) (selectors (t .plant)) (assign v e) ≡ true = ap (operandFits ed (length (t .plant .variables)) (selectors (t .plant))) (sym (f .action-is)) ∙ o in
       ltb-true v (length (t .plant .variables)) (and-left (ltb v (length (t .plant .variables))) _ d)
