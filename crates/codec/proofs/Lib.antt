@@ -4,3 +4,4 @@ pub mod Loops
 pub mod Places
 pub mod Writing
 pub mod Whole
+pub mod Sections

@@ -4,6 +4,7 @@ ghost use mathlib.Core.List.{_∷_, []};
 ghost use Prim.Native.Nat.{_+_, _%_, _≤_, _<_};
 ghost use lib.ListN.{length, getD};
 ghost use Rattle.semantics.specs.Bytes as bytes;
+ghost use Rattle.codec.specs.Ends.{endOf};
 ghost use Rattle.codec.specs.Writing.{Wrote};
 
 // the two bytes at a place
@@ -51,6 +52,36 @@ pub fn int4(s: &[u8], at: usize) -> i32
     ensures { λ r. ⌜ r ≡ bytes.signed (bytes.be4 (getD (now (s .entry)) at 0) (getD (now (s .entry)) (at + 1) 0) (getD (now (s .entry)) (at + 2) 0) (getD (now (s .entry)) (at + 3) 0)) ⌝ }
 {
     signed(word(s, at))
+}
+
+// where the section at a place ends, its length in two bytes; 0 where there is none
+pub fn end2(s: &[u8], at: usize) -> usize
+    requires { ⌜ at ≤ length (now s) ⌝ }
+    ensures { λ r. ⌜ r ≡ endOf bytes.section2 (now (s .entry)) at ⌝ }
+{
+    if s.len() - at < 2 {
+        return 0;
+    }
+    let n = nat2(s, at);
+    if s.len() - at - 2 < n {
+        return 0;
+    }
+    at + 2 + n
+}
+
+// the same, its length in four bytes
+pub fn end4(s: &[u8], at: usize) -> usize
+    requires { ⌜ at ≤ length (now s) ⌝ }
+    ensures { λ r. ⌜ r ≡ endOf bytes.section4 (now (s .entry)) at ⌝ }
+{
+    if s.len() - at < 4 {
+        return 0;
+    }
+    let n = nat4(s, at);
+    if s.len() - at - 4 < n {
+        return 0;
+    }
+    at + 4 + n
 }
 
 // the lowest byte

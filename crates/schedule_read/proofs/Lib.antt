@@ -1,0 +1,4 @@
+pub mod PartsStand
+pub mod Payloads
+pub mod Passing
+pub mod ModeCounts

@@ -1,0 +1,185 @@
+-- The three sections of a schedule file, and where they stand.
+use mathlib.Core.Path.{_≡_, refl, sym, ap, subst, _∙_}
+use mathlib.Core.Bool.{Bool, true, false, not, cond}
+use mathlib.Core.List.{List}
+use mathlib.Core.Option.{Option, none, some}
+use Prim.Native.Nat.{ℕ, _+_, _-_, _≤_, _<_}
+use native.Mathlib.Omega.{arith}
+use borrow.Author.Tests.{leb-true, le-leb, lt-leb, not-false}
+use lib.Dec.{leb, eqb}
+use lib.ListN.{length, getD, take, drop}
+use Rattle.semantics.specs.Bytes.{broken, read, after, _>>=_, give, section2, just, whole}
+use Rattle.semantics.specs.Editions.{edition1}
+use Rattle.semantics.proofs.Facts.{and-left}
+use Rattle.semantics.proofs.Readers.{read-value, read-rest, split, given, whole-read}
+use Rattle.schedules.specs.FileSections.{FileSections, readFileSections, fileSectionsIn}
+use Rattle.schedules.specs.Files.{fileHeader, fileLength}
+use Rattle.codec.proofs.Reading.{drop-past, drop-some, nat2At}
+use Rattle.codec.proofs.Sections.{Section, cuts2, section-of}
+use Rattle.schedule_read.specs.declared.parts.Parts.{Parts}
+use Rattle.schedule_read.specs.FileParts.{noParts, partsAt, partsIn, partsRead, partsOf, sectionsAt}
+
+-- ---- 1 and 2
+-- both hold
+pub record Opened (f : List ℕ) : Type 0 where
+  pub header : fileHeader edition1 f ≡ true
+  pub length-field : fileLength f ≡ true
+
+module _ (f : List ℕ) where
+  pub header-short : length f < 3 → false ≡ fileHeader edition1 f
+  unfolding fileHeader
+  header-short h = rw (lt-leb 3 (length f) h) refl
+
+  pub header-version : 3 ≤ length f → eqb (getD f 0 0) 1 ≡ fileHeader edition1 f
+  unfolding fileHeader
+  header-version h = rw (le-leb 3 (length f) h) refl
+
+  pub header-room : fileHeader edition1 f ≡ true → 3 ≤ length f
+  unfolding fileHeader
+  header-room e = leb-true 3 (length f) (and-left (leb 3 (length f)) _ e)
+
+  pub opened : {h l : Bool} → h ≡ fileHeader edition1 f → not h ≡ false → l ≡ fileLength f → not l ≡ false → Opened f
+  opened e i k j = record { header = sym e ∙ not-false _ i; length-field = sym k ∙ not-false _ j }
+
+  pub room : Opened f → 3 ≤ length f
+  room o = header-room (o .header)
+
+  pub length-read : {n : ℕ} → n ≡ nat2At f 1 → eqb n (length f) ≡ fileLength f
+  unfolding fileLength
+  length-read e = rw e refl
+
+  -- ---- what the code answers
+  pub refused-1 : fileHeader edition1 f ≡ false → noParts 1 ≡ partsOf f
+  unfolding partsOf
+  refused-1 h = rw h refl
+
+  pub refused-2 : fileHeader edition1 f ≡ true → fileLength f ≡ false → noParts 2 ≡ partsOf f
+  unfolding partsOf
+  refused-2 h k = rw (h, k) refl
+
+  pub refused-3 : Opened f → fileSectionsIn (drop 3 f) ≡ none → noParts 3 ≡ partsOf f
+  unfolding partsOf partsRead
+  refused-3 o e = rw (o .header, o .length-field, e) refl
+
+  read-parts : {s : FileSections} → Opened f → fileSectionsIn (drop 3 f) ≡ some s → partsIn s ≡ partsOf f
+  unfolding partsOf partsRead
+  read-parts o e = rw (o .header, o .length-field, e) refl
+
+-- ---- 3
+pub some-left : (a b : ℕ) {n : ℕ} → n < a - b → b < a
+some-left a b h = omega arith
+
+broken-sections : (l : List ℕ) → readFileSections l ≡ broken → fileSectionsIn l ≡ none
+unfolding fileSectionsIn whole just
+broken-sections l e = rw e refl
+
+module _ (f : List ℕ) where
+  pub no-variables : section2 (drop 3 f) ≡ broken → fileSectionsIn (drop 3 f) ≡ none
+  unfolding readFileSections _>>=_ after
+  no-variables k = broken-sections _ (rw k refl)
+
+  module _ {v : ℕ} (vs : Section 2 section2 f 3 v) where
+    pub no-equations : section2 (drop v f) ≡ broken → fileSectionsIn (drop 3 f) ≡ none
+    unfolding readFileSections _>>=_ after
+    no-equations k = broken-sections _ (rw (vs .got, k) refl)
+
+    module _ {e : ℕ} (es : Section 2 section2 f v e) where
+      pub no-schedule : section2 (drop e f) ≡ broken → fileSectionsIn (drop 3 f) ≡ none
+      unfolding readFileSections _>>=_ after
+      no-schedule k = broken-sections _ (rw (vs .got, es .got, k) refl)
+
+      module _ {s : ℕ} (ns : Section 2 section2 f e s) where
+        sections : FileSections
+        sections = record { variables = vs .value; equations = es .value; schedule = ns .value }
+
+        all-read : readFileSections (drop 3 f) ≡ read sections (drop s f)
+        unfolding readFileSections _>>=_ after give sections
+        all-read = rw (vs .got, es .got, ns .got) refl
+
+        pub left-over : s < length f → fileSectionsIn (drop 3 f) ≡ none
+        unfolding fileSectionsIn whole just
+        left-over h = rw (all-read, drop-some s f h) refl
+
+        filled : length f ≤ s → fileSectionsIn (drop 3 f) ≡ some sections
+        unfolding fileSectionsIn whole just
+        filled h = rw (all-read, drop-past s f h) refl
+
+        pub parts-found : Opened f → length f - s ≤ 0 → partsAt v e s ≡ partsOf f
+        unfolding partsIn sections
+        parts-found o h = same _ _ _ (vs .is) (es .is) (ns .is) ∙ read-parts f o (filled (omega arith))
+          where
+            same : {v e s : ℕ} (x y z : ℕ) → v ≡ 5 + x → e ≡ v + 2 + y → s ≡ e + 2 + z → partsAt v e s ≡ partsAt (5 + x) (5 + x + 2 + y) (5 + x + 2 + y + 2 + z)
+            same x y z h i j = cc
+
+-- ---- where the sections stand
+pub record Inside (f : List ℕ) (start stop : ℕ) : Type 0 where
+  pub ordered : start ≤ stop
+  pub inside : stop ≤ length f
+
+-- where nothing is refused, the three parts are the sections
+pub record Accepted (f : List ℕ) (p : Parts) : Type 0 where
+  pub opened : Opened f
+  pub are : fileSectionsIn (drop 3 f) ≡ some (sectionsAt f p)
+  pub variables : Inside f (p .«variables_from») (p .«variables_to»)
+  pub equations : Inside f (p .«equations_from») (p .«equations_to»)
+  pub schedule : Inside f (p .«schedule_from») (p .«schedule_to»)
+
+spans : {f : List ℕ} {p q : ℕ} → Section 2 section2 f p q → Inside f (p + 2) q
+spans s = let e = s .is in record { ordered = omega arith; inside = s .inside }
+
+-- the value and the rest of a section that was read
+stood : {f x m : List ℕ} {p q : ℕ} (s : Section 2 section2 f p q) → section2 (drop p f) ≡ read x m → (x ≡ take (q - (p + 2)) (drop (p + 2) f)) × (m ≡ drop q f)
+stood s e =
+    let k = sym e ∙ s .got in
+    (read-value k ∙ sym (s .stands), read-rest k)
+
+abbrev joined : List ℕ → List ℕ → List ℕ → FileSections
+joined x y z = record { variables = x; equations = y; schedule = z }
+
+chain : (f x y z : List ℕ) {m n u : List ℕ} → Opened f → fileSectionsIn (drop 3 f) ≡ some (joined x y z) → section2 (drop 3 f) ≡ read x m → section2 m ≡ read y n → section2 n ≡ read z u → Accepted f (partsIn (joined x y z))
+unfolding partsIn sectionsAt
+chain f x y z o w a b c =
+    let v = 5 + length x in
+    let e = v + 2 + length y in
+    let vs = section-of cuts2 f 3 (room f o) a in
+    let i = stood vs a in
+    let b′ = ap section2 (sym (i .1)) ∙ b in
+    let es = section-of cuts2 f v (vs .inside) b′ in
+    let j = stood es b′ in
+    let c′ = ap section2 (sym (j .1)) ∙ c in
+    let ns = section-of cuts2 f e (es .inside) c′ in
+    record {
+      opened = o;
+      are = w ∙ ap some (same (i .0) (j .0) ((stood ns c′) .0));
+      variables = spans vs;
+      equations = spans es;
+      schedule = spans ns;
+    }
+  where
+    same : {x x′ y y′ z z′ : List ℕ} → x ≡ x′ → y ≡ y′ → z ≡ z′ → joined x y z ≡ joined x′ y′ z′
+    same h i j = cc
+
+sections-stand : (f : List ℕ) {s : FileSections} → Opened f → fileSectionsIn (drop 3 f) ≡ some s → Accepted f (partsIn s)
+unfolding fileSectionsIn readFileSections
+sections-stand f {s} o e =
+    let a = split section2 _ (whole-read readFileSections (drop 3 f) e) in
+    let b = split section2 _ (a .then) in
+    let c = split section2 _ (b .then) in
+    let g = given _ (c .rest) (c .then) in
+    subst (λ s. Accepted f (partsIn s)) g (chain f (a .value) (b .value) (c .value) o (e ∙ ap some (sym g)) (a .first) (b .first) (c .first))
+
+pub accepted-parts : (f : List ℕ) → partsOf f .refusal ≡ 0 → Accepted f (partsOf f)
+unfolding partsOf partsRead
+accepted-parts f h = first (fileHeader edition1 f) refl h
+  where
+    third : (o : Option FileSections) → Opened f → fileSectionsIn (drop 3 f) ≡ o → partsRead o .refusal ≡ 0 → Accepted f (partsOf f)
+    third none a e k = absurd (omega arith)
+    third (some s) a e k = subst (Accepted f) (read-parts f a e) (sections-stand f a e)
+
+    second : (b : Bool) → fileHeader edition1 f ≡ true → fileLength f ≡ b → cond b (partsRead (fileSectionsIn (drop 3 f))) (noParts 2) .refusal ≡ 0 → Accepted f (partsOf f)
+    second true e i k = third (fileSectionsIn (drop 3 f)) (record { header = e; length-field = i }) refl k
+    second false e i k = absurd (omega arith)
+
+    first : (b : Bool) → fileHeader edition1 f ≡ b → cond b (cond (fileLength f) (partsRead (fileSectionsIn (drop 3 f))) (noParts 2)) (noParts 1) .refusal ≡ 0 → Accepted f (partsOf f)
+    first true e k = second (fileLength f) e refl k
+    first false e k = absurd (omega arith)

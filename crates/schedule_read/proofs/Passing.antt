@@ -1,0 +1,63 @@
+-- A pass over all nodes by their index, with a test of each.
+use mathlib.Core.Path.{_≡_, refl, sym, ap, _∙_}
+use mathlib.Core.Bool.{Bool, true, false}
+use mathlib.Core.List.{List, [], _∷_}
+use mathlib.Core.Option.{some}
+use Prim.Native.Nat.{ℕ, zero, suc, _+_, _-_, _≤_, _<_}
+use native.Mathlib.Numerals.{add-one}
+use native.Mathlib.Omega.{arith}
+use lib.ListN.{length, getD, take, drop, getElem?}
+use Rattle.semantics.specs.Bytes.{every}
+use Rattle.semantics.proofs.Facts.{none-not-some, some-is, at-exists}
+use Rattle.schedules.specs.Nodes.{Node}
+use Rattle.schedule_read.specs.Indexed.{NodesAt, Indexed, Made, Tells, Passes}
+
+-- ---- every element from number i on
+every-next : {A : Type 0} (P : A → Bool) (l : List A) (i : ℕ) {x : A} → getElem? l i ≡ some x → P x ≡ true → every P (drop i l) ≡ every P (drop (suc i) l)
+unfolding every
+every-next P [] i h e = none-not-some h
+every-next P (y ∷ l) zero h e = let t : P y ≡ true = ap P (some-is h) ∙ e in rw (t, every) refl
+every-next P (y ∷ l) (suc i) h e = every-next P l i h e
+
+every-stop : {A : Type 0} (P : A → Bool) (l : List A) (i : ℕ) {x : A} → getElem? l i ≡ some x → P x ≡ false → every P (drop i l) ≡ false
+unfolding every
+every-stop P [] i h e = none-not-some h
+every-stop P (y ∷ l) zero h e = let t : P y ≡ false = ap P (some-is h) ∙ e in rw (t, every) refl
+every-stop P (y ∷ l) (suc i) h e = every-stop P l i h e
+
+every-end : {A : Type 0} (P : A → Bool) (l : List A) (i : ℕ) → length l ≤ i → every P (drop i l) ≡ true
+unfolding every
+every-end P [] zero h = refl
+every-end P [] (suc i) h = refl
+every-end P (y ∷ l) zero h = absurd (omega arith)
+every-end P (y ∷ l) (suc i) h = every-end P l i (omega arith)
+
+-- ---- the nodes before number i pass P
+pub record Passing (P : Node → Bool) (s kinds starts ends : List ℕ) (count i : ℕ) : Type 0 where
+  pub of : (ns : List Node) → NodesAt s kinds starts ends count ns → every P ns ≡ every P (drop i ns)
+
+module _ {s kinds starts ends : List ℕ} {count : ℕ} where
+  -- what code slices out of s
+  pub made : (i : ℕ) → i < count → Indexed s kinds starts ends count → Made (getD kinds i 0) (take (getD ends i 0 - getD starts i 0) (drop (getD starts i 0) s))
+  made i h d =
+      let x = at-exists (d .nodes) i (omega (arith, d .at .counted)) in
+      record { node = x .0; is = d .at .entries i h .node ∙ x .1 }
+
+  module _ (P : Node → Bool) where
+    pub pass-start : Passing P s kinds starts ends count 0
+    pass-start = record { of = λ ns d. refl }
+
+    pub pass-end : {i : ℕ} → count ≤ i → Passing P s kinds starts ends count i → Passes P s kinds starts ends count true
+    pass-end {i} h k = record { of = λ ns d. sym (k .of ns d ∙ every-end P ns i (omega (arith, d .counted))) }
+
+    module _ {i : ℕ} {r : Bool} (h : i < count) (k : Passing P s kinds starts ends count i) (t : Tells P (getD kinds i 0) (take (getD ends i 0 - getD starts i 0) (drop (getD starts i 0) s)) r) where
+      here : (ns : List Node) → NodesAt s kinds starts ends count ns → (x : Node) × (getElem? ns i ≡ some x) × (P x ≡ r)
+      here ns d =
+          let x = at-exists ns i (omega (arith, d .counted)) in
+          (x .0, x .1, sym (t .of (x .0) (d .entries i h .node ∙ x .1)))
+
+      pub pass-next : r ≡ true → Passing P s kinds starts ends count (i + 1)
+      pass-next e = record { of = λ ns d. let y = here ns d in k .of ns d ∙ rw add-one (every-next P ns i (y .1) (y .2 ∙ e)) }
+
+      pub pass-stop : r ≡ false → Passes P s kinds starts ends count false
+      pass-stop e = record { of = λ ns d. let y = here ns d in sym (k .of ns d ∙ every-stop P ns i (y .1) (y .2 ∙ e)) }

@@ -1,0 +1,56 @@
+-- Where the three sections of a schedule file stand.
+use mathlib.Core.Bool.{cond}
+use mathlib.Core.List.{List}
+use mathlib.Core.Option.{Option, none, some}
+use Prim.Native.Nat.{ℕ, _+_, _-_}
+use lib.ListN.{length, take, drop}
+use Rattle.semantics.specs.Editions.{edition1}
+use Rattle.schedules.specs.FileSections.{FileSections, fileSectionsIn}
+use Rattle.schedules.specs.Files.{fileHeader, fileLength}
+use Rattle.schedule_read.specs.declared.parts.Parts.{Parts}
+
+-- a refusal
+abbrev pub noParts : ℕ → Parts
+noParts n = record {
+  refusal = n;
+  «variables_from» = 0;
+  «variables_to» = 0;
+  «equations_from» = 0;
+  «equations_to» = 0;
+  «schedule_from» = 0;
+  «schedule_to» = 0;
+}
+
+-- the sections that end at v, e and s: after the header of 3 bytes each has its length before it, in 2 bytes
+abbrev pub partsAt : ℕ → ℕ → ℕ → Parts
+partsAt v e s = record {
+  refusal = 0;
+  «variables_from» = 5;
+  «variables_to» = v;
+  «equations_from» = v + 2;
+  «equations_to» = e;
+  «schedule_from» = e + 2;
+  «schedule_to» = s;
+}
+
+unfoldable pub partsIn : FileSections → Parts
+partsIn s =
+    let v = 5 + length (s .variables) in
+    let e = v + 2 + length (s .equations) in
+    partsAt v e (e + 2 + length (s .schedule))
+
+unfoldable pub partsRead : Option FileSections → Parts
+partsRead none = noParts 3
+partsRead (some s) = partsIn s
+
+-- 1, 2, 3, or where the sections stand
+unfoldable pub partsOf : List ℕ → Parts
+partsOf f = cond (fileHeader edition1 f) (cond (fileLength f) (partsRead (fileSectionsIn (drop 3 f))) (noParts 2)) (noParts 1)
+
+-- the sections that stand there
+unfoldable pub sectionsAt : List ℕ → Parts → FileSections
+sectionsAt f p = record {
+  variables = take (p .«variables_to» - p .«variables_from») (drop (p .«variables_from») f);
+  equations = take (p .«equations_to» - p .«equations_from») (drop (p .«equations_from») f);
+  schedule = take (p .«schedule_to» - p .«schedule_from») (drop (p .«schedule_from») f);
+}

@@ -1,0 +1,58 @@
+-- Nodes by their index, selectors by their mode counts, and what a test of each node answers.
+use mathlib.Core.Path.{_≡_}
+use mathlib.Core.Bool.{Bool}
+use mathlib.Core.List.{List}
+use mathlib.Core.Option.{some}
+use Prim.Native.Nat.{ℕ, _-_, _≤_, _<_}
+use lib.ListN.{length, getD, take, drop, getElem?}
+use Rattle.semantics.specs.Bytes.{every}
+use Rattle.semantics.specs.Sections.{Selector}
+use Rattle.schedules.specs.Nodes.{Node, kindOf, nodeOf}
+
+-- ---- nodes
+-- entry i has the kind of node i, and where its payload starts and ends in s
+pub record NodeAt (s kinds starts ends : List ℕ) (ns : List Node) (i : ℕ) : Type 0 where
+  pub node : nodeOf (kindOf (getD kinds i 0)) (take (getD ends i 0 - getD starts i 0) (drop (getD starts i 0) s)) ≡ getElem? ns i
+  pub ordered : getD starts i 0 ≤ getD ends i 0
+  pub inside : getD ends i 0 ≤ length s
+
+-- ns are the nodes of which this is the index
+pub record NodesAt (s kinds starts ends : List ℕ) (count : ℕ) (ns : List Node) : Type 0 where
+  pub counted : length ns ≡ count
+  pub few : count ≤ 64
+  pub kinds-full : length kinds ≡ 64
+  pub starts-full : length starts ≡ 64
+  pub ends-full : length ends ≡ 64
+  pub entries : (i : ℕ) → i < count → NodeAt s kinds starts ends ns i
+
+-- it is the index of some nodes
+pub record Indexed (s kinds starts ends : List ℕ) (count : ℕ) : Type 0 where
+  pub nodes : List Node
+  pub at : NodesAt s kinds starts ends count nodes
+
+-- a kind and a payload make a node
+pub record Made (k : ℕ) (b : List ℕ) : Type 0 where
+  pub node : Node
+  pub is : nodeOf (kindOf k) b ≡ some node
+
+-- ---- selectors
+-- cs are the selectors of which modes has the mode counts
+pub record ModesAt (modes : List ℕ) (selectors : ℕ) (cs : List Selector) : Type 0 where
+  pub counted : length cs ≡ selectors
+  pub few : selectors ≤ 16
+  pub full : length modes ≡ 16
+  pub entries : (j : ℕ) (c : Selector) → getElem? cs j ≡ some c → getD modes j 0 ≡ length (c .modes)
+
+-- they are the mode counts of some selectors
+pub record Selected (modes : List ℕ) (selectors : ℕ) : Type 0 where
+  pub all : List Selector
+  pub at : ModesAt modes selectors all
+
+-- ---- tests
+-- r answers whether the node of this kind and payload passes P
+pub record Tells (P : Node → Bool) (k : ℕ) (b : List ℕ) (r : Bool) : Type 0 where
+  pub of : (x : Node) → nodeOf (kindOf k) b ≡ some x → r ≡ P x
+
+-- r answers whether each of the nodes of which this is the index passes P
+pub record Passes (P : Node → Bool) (s kinds starts ends : List ℕ) (count : ℕ) (r : Bool) : Type 0 where
+  pub of : (ns : List Node) → NodesAt s kinds starts ends count ns → r ≡ every P ns

@@ -1,0 +1,3 @@
+-- What the contracts of the readers of a schedule file cite.
+pub mod FileParts
+pub mod Indexed

@@ -1,0 +1,4 @@
+// Reading a schedule file.
+pub mod names;
+pub mod operands;
+pub mod parts;
