@@ -1,0 +1,3 @@
+pub mod Pads
+pub mod NodeForms
+pub mod NodeIndex
