@@ -9,13 +9,13 @@ use borrow.Author.Tests.{le-leb, ne-eqb}
 use lib.Dec.{leb, eqb}
 use lib.ListN.{length, getD, take, drop, length-drop}
 use lib.Seq.{drop-drop}
-use Rattle.semantics.specs.Bytes.{isSome, within, broken, read, Read, from, give, fail, guard, after, _>>=_, number, byte, bytes, noBytes, twoBytes, byteAndRest}
+use Rattle.semantics.specs.Bytes.{isSome, read, from, give, fail, guard, after, _>>=_, number, byte, bytes, noBytes, twoBytes, byteAndRest}
 use Rattle.semantics.specs.Editions.{edition1}
-use Rattle.semantics.proofs.Facts.{none-not-some, true-not-false, within-both, within-low}
-use Rattle.semantics.proofs.Readers.{guarded, from-some, broken-not-read}
-use Rattle.schedules.specs.Nodes.{Node, Kind, kindOf, childCount, nodeOf, readNode}
-use Rattle.codec.specs.Reading.{Took, Reads, reads-at, reads-none}
-use Rattle.codec.proofs.Reading.{lost, drop-some, then-number, no-number, then-byte, no-byte, then-bytes, no-bytes, then-guard, no-guard, within-below, within-above, either}
+use Rattle.semantics.proofs.Facts.{within-both, within-low}
+use Rattle.semantics.proofs.Readers.{guarded, from-some}
+use Rattle.schedules.specs.Nodes.{Node, kindOf, childCount, nodeOf, readNode}
+use Rattle.codec.specs.Reading.{Reads}
+use Rattle.codec.proofs.Reading.{lost, drop-some, then-number, no-number, then-byte, no-byte, no-bytes, then-guard, no-guard, within-below, within-above, either}
 use Rattle.codec.proofs.Known.{after-number, not-number, after-byte, not-past, after-bytes, not-short}
 use Rattle.codec.proofs.Places.{Takes, takes-then, takes-number, takes-guard, takes-byte, takes-bytes, takes-from}
 use Rattle.schedule_read.specs.Index.{oneCount, isRead}

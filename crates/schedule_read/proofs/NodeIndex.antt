@@ -1,16 +1,16 @@
 -- The loop that fills the index, and what the index says of each node.
 use mathlib.Core.Path.{_≡_, refl, sym, ap, _∙_, subst}
-use mathlib.Core.Bool.{Bool, true, false}
-use mathlib.Core.List.{List, [], _∷_, _++_, map}
+use mathlib.Core.Bool.{true, false}
+use mathlib.Core.List.{List, [], _∷_, map}
 use mathlib.Core.Option.{Option, none, some}
-use Prim.Native.Nat.{ℕ, zero, suc, _+_, _-_, _≤_, _<_}
+use Prim.Native.Nat.{ℕ, _+_, _-_, _≤_, _<_}
 use native.Mathlib.Omega.{arith}
-use lib.ListN.{length, getD, take, drop, set, getElem?, replicate}
+use lib.ListN.{length, getD, drop, set, replicate}
 use Rattle.semantics.specs.Bytes.{Read, broken, read, after, _>>=_, guard, fail, byte, number, times, just, whole, within}
 use Rattle.semantics.specs.Editions.{edition1}
-use Rattle.semantics.proofs.Facts.{none-not-some, some-is, true-not-false, within-both, within-low, within-high}
+use Rattle.semantics.proofs.Facts.{true-not-false, within-both, within-low, within-high}
 use Rattle.semantics.proofs.Readers.{split, guarded, byte-read, whole-read}
-use Rattle.schedules.specs.Nodes.{Node, kindOf, nodeOf, readNode, readNodes, nodesIn}
+use Rattle.schedules.specs.Nodes.{Node, readNode, readNodes, nodesIn}
 use Rattle.codec.specs.Reading.{Took}
 use Rattle.codec.proofs.Reading.{drop-past, drop-some, within-below, within-above}
 use Rattle.codec.proofs.Known.{snoc-none, times-length}
@@ -19,7 +19,7 @@ use Rattle.codec.proofs.Places.{places-start, places-length, places-more, place
 use Rattle.schedule_read.specs.Index.{pad, kindAt, startAt, endAt, nodePlaces, notNodes, index, nodesOf, isRead, Entry, Indexed}
 use Rattle.schedule_read.specs.declared.nodes.Nodes.{Nodes}
 use Rattle.schedule_read.proofs.Pads.{pad-none, pad-map-snoc, pad-map, length-pad, map-length}
-use Rattle.schedule_read.proofs.NodeForms.{Was, was, takes-node}
+use Rattle.schedule_read.proofs.NodeForms.{was, takes-node}
 
 abbrev Any : {A : Type 0} → A → Unit {0} → Type 0
 Any a x = Unit {0}

@@ -28,7 +28,7 @@ unfolding pad
 getD-pad n d i e l h = List·getD-append l (replicate (n - length l) d) e i h
 
 -- ---- the lists that they hold
-pub map-snoc : (f : ℕ → ℕ) (l : List ℕ) (x : ℕ) → map f (l ++ (x ∷ [])) ≡ map f l ++ (f x ∷ [])
+pub map-snoc : {A : Type 0} (f : A → ℕ) (l : List A) (x : A) → map f (l ++ (x ∷ [])) ≡ map f l ++ (f x ∷ [])
 map-snoc f [] x = refl
 map-snoc f (y ∷ l) x = ap (λ z. f y ∷ z) (map-snoc f l x)
 

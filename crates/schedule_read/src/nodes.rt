@@ -1,6 +1,5 @@
 // The layout of the schedule section (9), and its nodes by number.
 ghost use mathlib.Core.Path.{_≡_};
-ghost use Prim.Native.Nat.{ℕ};
 ghost use lib.ListN.{drop};
 ghost use Rattle.semantics.specs.Bytes.{isSome};
 ghost use Rattle.semantics.specs.Editions.{edition1};
