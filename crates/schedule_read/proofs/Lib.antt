@@ -2,3 +2,14 @@ pub mod PartsStand
 pub mod Payloads
 pub mod Passing
 pub mod ModeCounts
+pub mod Pads
+-- nodes
+mod NodeForms
+pub mod NodeIndex
+pub mod NodeKinds
+-- the tree
+pub mod ChildCounts
+pub mod TreeEnds
+mod WalkSteps
+pub mod WholeTree
+pub mod LaidTree

@@ -1,4 +1,6 @@
 // Reading a schedule file.
 pub mod names;
+pub mod nodes;
 pub mod operands;
 pub mod parts;
+pub mod tree;

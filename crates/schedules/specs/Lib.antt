@@ -3,6 +3,7 @@ pub mod FileSections
 pub mod Nodes
 pub mod Trees
 pub mod Preorder
+pub mod Laid
 pub mod Residuals
 pub mod Numbering
 pub mod Reached
