@@ -1,0 +1,280 @@
+// The equation section: its layout (6), its names (7), and where its modes stand.
+ghost use mathlib.Core.Path.{_≡_};
+ghost use mathlib.Core.Bool.{true, _&&_};
+ghost use Prim.Native.Nat.{ℕ, _+_, _≤_, _<_};
+ghost use lib.ListN.{length};
+ghost use Rattle.semantics.specs.Bytes.{times, every};
+ghost use Rattle.semantics.specs.Sections as sections;
+ghost use Rattle.semantics.specs.Plant as names;
+ghost use Rattle.codec.specs.Reading.{Reads};
+ghost use Rattle.plant.specs.Equations.{Says, view, seen, refusalIn};
+
+pub struct Equations {
+    pub refusal: u8,
+    pub selectors: usize,
+    pub modes: [usize; 16],
+    pub places: [usize; 128],
+    pub steady: [i32; 32],
+}
+
+// the place after what was read, and whether its names are there
+enum Step {
+    At(usize, bool),
+    Broken,
+}
+
+// the same of a whole slice
+enum Seen {
+    Kept(bool),
+    Lost,
+}
+
+fn both(a: bool, b: bool) -> bool
+    ensures { λ r. ⌜ r ≡ (a && b) ⌝ }
+{
+    if a { b } else { false }
+}
+
+fn rate(s: &[u8], at: usize, variables: u8) -> Step
+    requires { ⌜ at ≤ length (now s) ⌝ }
+    ensures { λ r. ⌜ Reads sections.readRate (Says (names.rateNamed variables)) (now (s .entry)) at (view r) ⌝ }
+{
+    if s.len() - at < 5 {
+        return Step::Broken;
+    }
+    Step::At(at + 5, s[at] < variables)
+}
+
+fn rates(s: &[u8], at: usize, n: u8, variables: u8) -> Step
+    requires { ⌜ at ≤ length (now s) ⌝ }
+    ensures { λ r. ⌜ Reads (times n sections.readRate) (Says (every (names.rateNamed variables))) (now (s .entry)) at (view r) ⌝ }
+{
+    let mut p = at;
+    let mut named = true;
+    let mut i: u8 = 0;
+    while i < n {
+        let w = rate(s, p, variables);
+        match w {
+            Step::At(q, x) => {
+                p = q;
+                named = both(named, x);
+            }
+            Step::Broken => {
+                return Step::Broken;
+            }
+        }
+        i += 1;
+    }
+    Step::At(p, named)
+}
+
+fn switch(s: &[u8], at: usize, modes: u8) -> Step
+    requires { ⌜ at ≤ length (now s) ⌝ }
+    ensures { λ r. ⌜ Reads sections.readSwitch (Says (names.switchNamed modes)) (now (s .entry)) at (view r) ⌝ }
+{
+    if s.len() <= at {
+        return Step::Broken;
+    }
+    let l = s[at];
+    if l < 1 {
+        return Step::Broken;
+    }
+    if s.len() - at - 1 < l as usize {
+        return Step::Broken;
+    }
+    Step::At(at + 1 + l as usize, s[at + 1] < modes)
+}
+
+fn switches(s: &[u8], at: usize, n: u8, modes: u8) -> Step
+    requires { ⌜ at ≤ length (now s) ⌝ }
+    ensures { λ r. ⌜ Reads (times n sections.readSwitch) (Says (every (names.switchNamed modes))) (now (s .entry)) at (view r) ⌝ }
+{
+    let mut p = at;
+    let mut named = true;
+    let mut i: u8 = 0;
+    while i < n {
+        let w = switch(s, p, modes);
+        match w {
+            Step::At(q, x) => {
+                p = q;
+                named = both(named, x);
+            }
+            Step::Broken => {
+                return Step::Broken;
+            }
+        }
+        i += 1;
+    }
+    Step::At(p, named)
+}
+
+fn mode(s: &[u8], at: usize, variables: u8, modes: u8) -> Step
+    requires { ⌜ at ≤ length (now s) ⌝ }
+    ensures { λ r. ⌜ Reads sections.readMode (Says (names.modeNamed variables modes)) (now (s .entry)) at (view r) ⌝ }
+{
+    if s.len() <= at {
+        return Step::Broken;
+    }
+    let w = rates(s, at + 1, s[at], variables);
+    match w {
+        Step::At(p, x) => {
+            if s.len() <= p {
+                return Step::Broken;
+            }
+            let v = switches(s, p + 1, s[p], modes);
+            match v {
+                Step::At(q, y) => Step::At(q, both(x, y)),
+                Step::Broken => Step::Broken,
+            }
+        }
+        Step::Broken => Step::Broken,
+    }
+}
+
+fn modes(s: &[u8], at: usize, n: u8, variables: u8) -> Step
+    requires { ⌜ at ≤ length (now s) ⌝ }
+    ensures { λ r. ⌜ Reads (times n sections.readMode) (Says (every (names.modeNamed variables n))) (now (s .entry)) at (view r) ⌝ }
+{
+    let mut p = at;
+    let mut named = true;
+    let mut i: u8 = 0;
+    while i < n {
+        let w = mode(s, p, variables, n);
+        match w {
+            Step::At(q, x) => {
+                p = q;
+                named = both(named, x);
+            }
+            Step::Broken => {
+                return Step::Broken;
+            }
+        }
+        i += 1;
+    }
+    Step::At(p, named)
+}
+
+fn steady(s: &[u8], at: usize, variables: u8) -> Step
+    requires { ⌜ at ≤ length (now s) ⌝ }
+    ensures { λ r. ⌜ Reads sections.readSteady (Says (names.equationNamed variables)) (now (s .entry)) at (view r) ⌝ }
+{
+    rate(s, at, variables)
+}
+
+fn choice(s: &[u8], at: usize, variables: u8) -> Step
+    requires { ⌜ at ≤ length (now s) ⌝ }
+    ensures { λ r. ⌜ Reads sections.readChoice (Says (names.equationNamed variables)) (now (s .entry)) at (view r) ⌝ }
+{
+    if s.len() - at < 2 {
+        return Step::Broken;
+    }
+    let first = s[at];
+    let n = s[at + 1];
+    if n < 1 {
+        return Step::Broken;
+    }
+    if n > 8 {
+        return Step::Broken;
+    }
+    let w = modes(s, at + 1 + 1, n, variables);
+    match w {
+        Step::At(q, x) => Step::At(q, both(first < n, x)),
+        Step::Broken => Step::Broken,
+    }
+}
+
+// the kind, then an equation of that kind
+fn kind(s: &[u8], variables: u8) -> Step
+    ensures { λ r. ⌜ Reads sections.readKind (Says (names.equationNamed variables)) (now (s .entry)) 0 (view r) ⌝ }
+{
+    if s.len() < 1 {
+        return Step::Broken;
+    }
+    let k = s[0];
+    match k {
+        1 => steady(s, 1, variables),
+        2 => choice(s, 1, variables),
+        _ => Step::Broken,
+    }
+}
+
+fn equation_in(s: &[u8], variables: u8) -> Seen
+    ensures { λ r. ⌜ r ≡ seen (names.equationNamed variables) (sections.equationIn (now (s .entry))) ⌝ }
+{
+    let w = kind(s, variables);
+    match w {
+        Step::At(q, x) => {
+            if q < s.len() {
+                return Seen::Lost;
+            }
+            Seen::Kept(x)
+        }
+        Step::Broken => Seen::Lost,
+    }
+}
+
+fn equation(s: &[u8], at: usize, variables: u8) -> Step
+    requires { ⌜ at ≤ length (now s) ⌝ }
+    ensures { λ r. ⌜ Reads sections.readEquation (Says (names.equationNamed variables)) (now (s .entry)) at (view r) ⌝ }
+{
+    if s.len() - at < 2 {
+        return Step::Broken;
+    }
+    let n = codec::nat2(s, at);
+    let b = at + 2;
+    if s.len() - b < n {
+        return Step::Broken;
+    }
+    let e = b + n;
+    let w = equation_in(&s[b..e], variables);
+    match w {
+        Seen::Kept(x) => Step::At(e, x),
+        Seen::Lost => Step::Broken,
+    }
+}
+
+fn some_equations(s: &[u8], at: usize, n: u8, variables: u8) -> Step
+    requires { ⌜ at ≤ length (now s) ⌝ }
+    ensures { λ r. ⌜ Reads (times n sections.readEquation) (Says (every (names.equationNamed variables))) (now (s .entry)) at (view r) ⌝ }
+{
+    let mut p = at;
+    let mut named = true;
+    let mut i: u8 = 0;
+    while i < n {
+        let w = equation(s, p, variables);
+        match w {
+            Step::At(q, x) => {
+                p = q;
+                named = both(named, x);
+            }
+            Step::Broken => {
+                return Step::Broken;
+            }
+        }
+        i += 1;
+    }
+    Step::At(p, named)
+}
+
+// 6 where the layout is broken, 7 where a name is missing, else 0
+fn refusal(s: &[u8], variables: u8) -> u8
+    ensures { λ r. ⌜ r ≡ refusalIn (now (s .entry)) variables ⌝ }
+{
+    if s.len() < 1 {
+        return 6;
+    }
+    let n = s[0];
+    if n > 16 {
+        return 6;
+    }
+    let w = some_equations(s, 1, n, variables);
+    match w {
+        Step::At(q, x) => {
+            if q < s.len() {
+                return 6;
+            }
+            if x { 0 } else { 7 }
+        }
+        Step::Broken => 6,
+    }
+}
