@@ -1,1 +1,7 @@
 pub mod EquationParts
+pub mod EquationSizes
+pub mod EquationPlaces
+pub mod EquationIndex
+pub mod Padding
+pub mod EquationCases
+pub mod EquationAnswer

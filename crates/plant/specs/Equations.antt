@@ -5,12 +5,13 @@ use mathlib.Core.List.{List, [], _∷_, _++_, map}
 use mathlib.Core.Option.{Option, none, some}
 use Prim.Native.Nat.{ℕ, _+_, _-_, _*_}
 use lib.IntN.{ℤ, pos}
-use lib.ListN.{length, set, replicate}
-use Rattle.semantics.specs.Bytes.{every}
+use lib.ListN.{length, drop, set, replicate}
+use Rattle.semantics.specs.Bytes.{every, Reader, read}
 use Rattle.semantics.specs.Refusals.{Judged, refused, accepted, refusalOf, need, ensure, _>>=_, _>>_}
 use Rattle.semantics.specs.Sections.{Rate, Switch, Mode, Selector, Equation, steady, choice, equationsIn}
 use Rattle.semantics.specs.Plant.{equationNamed, selectorsOf}
 use Rattle.plant.specs.declared.equations.Equations.{Equations}
+use Rattle.plant.specs.declared.equations.Cases.{Cases}
 use Rattle.plant.specs.declared.equations.Step.{Step}
 use Rattle.plant.specs.declared.equations.Step.the-variants.{At, Broken}
 use Rattle.plant.specs.declared.equations.Seen.{Seen}
@@ -92,6 +93,23 @@ equationsOf s variables = answerTo (judgeEquations s variables)
 
 unfoldable pub refusalIn : List ℕ → ℕ → ℕ
 refusalIn s variables = refusalOf (judgeEquations s variables)
+
+-- what r reads stands at place p of s
+pub record Stands {A : Type 0} (r : Reader A) (s : List ℕ) (p : ℕ) : Type 0 where
+  pub value : A
+  pub rest : List ℕ
+  pub got : r (drop p s) ≡ read value rest
+
+-- a section whose layout is right
+pub record SectionStands (s : List ℕ) : Type 0 where
+  pub equations : List Equation
+  pub read : equationsIn s ≡ some equations
+
+-- what the code notes of the CASEs
+pub record CasesOf (es : List Equation) (r : Cases) : Type 0 where
+  pub count : r .count ≡ length (selectorsOf es)
+  pub modes : r .modes ≡ pad 16 0 (map modeCount (selectorsOf es))
+  pub places : r .places ≡ pad 128 0 (modePlaces 1 es)
 
 -- ---- the answers of the code's own readers
 -- a reader's answer as Reading has it

@@ -1,13 +1,16 @@
 // The equation section: its layout (6), its names (7), and where its modes stand.
 ghost use mathlib.Core.Path.{_≡_};
 ghost use mathlib.Core.Bool.{true, _&&_};
+ghost use mathlib.Core.List.{_∷_, []};
 ghost use Prim.Native.Nat.{ℕ, _+_, _≤_, _<_};
-ghost use lib.ListN.{length};
+ghost use lib.ListN.{length, set, replicate};
+ghost use lib.Seq.{sets};
+ghost use lib.IntN.{pos};
 ghost use Rattle.semantics.specs.Bytes.{times, every};
 ghost use Rattle.semantics.specs.Sections as sections;
 ghost use Rattle.semantics.specs.Plant as names;
 ghost use Rattle.codec.specs.Reading.{Reads};
-ghost use Rattle.plant.specs.Equations.{Says, view, seen, refusalIn};
+ghost use Rattle.plant.specs.Equations.{Says, view, seen, refusalIn, Stands, SectionStands, sizes, switchSize, modeSize, startsFrom, steadyRates, putRates, CasesOf, equationsOf, refusedEquations};
 
 pub struct Equations {
     pub refusal: u8,
@@ -15,6 +18,13 @@ pub struct Equations {
     pub modes: [usize; 16],
     pub places: [usize; 128],
     pub steady: [i32; 32],
+}
+
+// the selectors: how many, of each its modes, and where these stand
+struct Cases {
+    count: usize,
+    modes: [usize; 16],
+    places: [usize; 128],
 }
 
 // the place after what was read, and whether its names are there
@@ -35,17 +45,17 @@ fn both(a: bool, b: bool) -> bool
     if a { b } else { false }
 }
 
-fn rate(s: &[u8], at: usize, variables: u8) -> Step
+fn rate(s: &[u8], at: usize, variables: usize) -> Step
     requires { ⌜ at ≤ length (now s) ⌝ }
     ensures { λ r. ⌜ Reads sections.readRate (Says (names.rateNamed variables)) (now (s .entry)) at (view r) ⌝ }
 {
     if s.len() - at < 5 {
         return Step::Broken;
     }
-    Step::At(at + 5, s[at] < variables)
+    Step::At(at + 5, (s[at] as usize) < variables)
 }
 
-fn rates(s: &[u8], at: usize, n: u8, variables: u8) -> Step
+fn rates(s: &[u8], at: usize, n: u8, variables: usize) -> Step
     requires { ⌜ at ≤ length (now s) ⌝ }
     ensures { λ r. ⌜ Reads (times n sections.readRate) (Says (every (names.rateNamed variables))) (now (s .entry)) at (view r) ⌝ }
 {
@@ -108,7 +118,7 @@ fn switches(s: &[u8], at: usize, n: u8, modes: u8) -> Step
     Step::At(p, named)
 }
 
-fn mode(s: &[u8], at: usize, variables: u8, modes: u8) -> Step
+fn mode(s: &[u8], at: usize, variables: usize, modes: u8) -> Step
     requires { ⌜ at ≤ length (now s) ⌝ }
     ensures { λ r. ⌜ Reads sections.readMode (Says (names.modeNamed variables modes)) (now (s .entry)) at (view r) ⌝ }
 {
@@ -131,7 +141,7 @@ fn mode(s: &[u8], at: usize, variables: u8, modes: u8) -> Step
     }
 }
 
-fn modes(s: &[u8], at: usize, n: u8, variables: u8) -> Step
+fn modes(s: &[u8], at: usize, n: u8, variables: usize) -> Step
     requires { ⌜ at ≤ length (now s) ⌝ }
     ensures { λ r. ⌜ Reads (times n sections.readMode) (Says (every (names.modeNamed variables n))) (now (s .entry)) at (view r) ⌝ }
 {
@@ -154,14 +164,14 @@ fn modes(s: &[u8], at: usize, n: u8, variables: u8) -> Step
     Step::At(p, named)
 }
 
-fn steady(s: &[u8], at: usize, variables: u8) -> Step
+fn steady(s: &[u8], at: usize, variables: usize) -> Step
     requires { ⌜ at ≤ length (now s) ⌝ }
     ensures { λ r. ⌜ Reads sections.readSteady (Says (names.equationNamed variables)) (now (s .entry)) at (view r) ⌝ }
 {
     rate(s, at, variables)
 }
 
-fn choice(s: &[u8], at: usize, variables: u8) -> Step
+fn choice(s: &[u8], at: usize, variables: usize) -> Step
     requires { ⌜ at ≤ length (now s) ⌝ }
     ensures { λ r. ⌜ Reads sections.readChoice (Says (names.equationNamed variables)) (now (s .entry)) at (view r) ⌝ }
 {
@@ -184,7 +194,7 @@ fn choice(s: &[u8], at: usize, variables: u8) -> Step
 }
 
 // the kind, then an equation of that kind
-fn kind(s: &[u8], variables: u8) -> Step
+fn kind(s: &[u8], variables: usize) -> Step
     ensures { λ r. ⌜ Reads sections.readKind (Says (names.equationNamed variables)) (now (s .entry)) 0 (view r) ⌝ }
 {
     if s.len() < 1 {
@@ -198,7 +208,7 @@ fn kind(s: &[u8], variables: u8) -> Step
     }
 }
 
-fn equation_in(s: &[u8], variables: u8) -> Seen
+fn equation_in(s: &[u8], variables: usize) -> Seen
     ensures { λ r. ⌜ r ≡ seen (names.equationNamed variables) (sections.equationIn (now (s .entry))) ⌝ }
 {
     let w = kind(s, variables);
@@ -213,7 +223,7 @@ fn equation_in(s: &[u8], variables: u8) -> Seen
     }
 }
 
-fn equation(s: &[u8], at: usize, variables: u8) -> Step
+fn equation(s: &[u8], at: usize, variables: usize) -> Step
     requires { ⌜ at ≤ length (now s) ⌝ }
     ensures { λ r. ⌜ Reads sections.readEquation (Says (names.equationNamed variables)) (now (s .entry)) at (view r) ⌝ }
 {
@@ -233,7 +243,7 @@ fn equation(s: &[u8], at: usize, variables: u8) -> Step
     }
 }
 
-fn some_equations(s: &[u8], at: usize, n: u8, variables: u8) -> Step
+fn some_equations(s: &[u8], at: usize, n: u8, variables: usize) -> Step
     requires { ⌜ at ≤ length (now s) ⌝ }
     ensures { λ r. ⌜ Reads (times n sections.readEquation) (Says (every (names.equationNamed variables))) (now (s .entry)) at (view r) ⌝ }
 {
@@ -257,7 +267,7 @@ fn some_equations(s: &[u8], at: usize, n: u8, variables: u8) -> Step
 }
 
 // 6 where the layout is broken, 7 where a name is missing, else 0
-fn refusal(s: &[u8], variables: u8) -> u8
+fn refusal(s: &[u8], variables: usize) -> u8
     ensures { λ r. ⌜ r ≡ refusalIn (now (s .entry)) variables ⌝ }
 {
     if s.len() < 1 {
@@ -276,5 +286,140 @@ fn refusal(s: &[u8], variables: u8) -> u8
             if x { 0 } else { 7 }
         }
         Step::Broken => 6,
+    }
+}
+
+// the place after n switches
+fn switches_end(s: &[u8], at: usize, n: u8) -> usize
+    requires { ⌜ Stands (times n sections.readSwitch) (now s) at ⌝ }
+    ensures { λ r. ⌜ ((t : Stands (times n sections.readSwitch) (now (s .entry)) at) → r ≡ at + sizes switchSize (t .value)) ⌝ }
+{
+    let mut p = at;
+    let mut left = n;
+    while 0 < left {
+        p = p + 1 + s[p] as usize;
+        left -= 1;
+    }
+    p
+}
+
+// the place after a mode
+fn mode_end(s: &[u8], at: usize) -> usize
+    requires { ⌜ Stands sections.readMode (now s) at ⌝ }
+    ensures { λ r. ⌜ ((t : Stands sections.readMode (now (s .entry)) at) → r ≡ at + modeSize (t .value)) ⌝ }
+{
+    let k = at + 1 + 5 * (s[at] as usize);
+    switches_end(s, k + 1, s[k])
+}
+
+// the places of n modes, noted from entry `from` on
+fn mode_places(s: &[u8], at: usize, n: u8, from: usize, places: &mut [usize; 128])
+    requires { ⌜ (from + n ≤ 128) × Stands (times n sections.readMode) (now s) at ⌝ }
+    ensures { λ _. ⌜ ((t : Stands (times n sections.readMode) (now (s .entry)) at) → now (places .exit) ≡ sets (now (places .entry)) from (startsFrom modeSize at (t .value))) ⌝ }
+{
+    let mut p = at;
+    let mut i = from;
+    let mut left = n;
+    while 0 < left {
+        places[i] = p;
+        p = mode_end(s, p);
+        i += 1;
+        left -= 1;
+    }
+}
+
+fn selectors(s: &[u8]) -> Cases
+    requires { ⌜ SectionStands (now s) ⌝ }
+    ensures { λ r. ⌜ ((t : SectionStands (now (s .entry))) → CasesOf (t .equations) r) ⌝ }
+{
+    let mut count = 0;
+    let mut modes = [0usize; 16];
+    let mut places = [0usize; 128];
+    let mut p = 1;
+    let mut left = s[0];
+    while 0 < left {
+        let k = p + 2;
+        if s[k] != 1 {
+            let n = s[k + 2];
+            modes[count] = n as usize;
+            mode_places(s, k + 3, n, 8 * count, &mut places);
+            count += 1;
+        }
+        p = k + codec::nat2(s, p);
+        left -= 1;
+    }
+    Cases {
+        count,
+        modes,
+        places,
+    }
+}
+
+// a rate for a variable; there are 32
+fn put_rate(rates: [i32; 32], v: usize, z: i32) -> [i32; 32]
+    ensures { λ r. ⌜ r ≡ set rates v z ⌝ }
+{
+    if v >= 32 {
+        return rates;
+    }
+    let mut put = rates;
+    put[v] = z;
+    put
+}
+
+// the rates with that of an equation of kind 1 put in
+fn with_steady(s: &[u8], at: usize, rates: [i32; 32]) -> [i32; 32]
+    requires { ⌜ Stands sections.readKind (now s) at ⌝ }
+    ensures { λ r. ⌜ ((t : Stands sections.readKind (now (s .entry)) at) → r ≡ putRates (steadyRates (t .value ∷ [])) rates) ⌝ }
+{
+    if s[at] != 1 {
+        return rates;
+    }
+    put_rate(rates, s[at + 1] as usize, codec::int4(s, at + 2))
+}
+
+// the rates of the equations of kind 1 among n; of two for one variable the first stays
+fn steady_rates(s: &[u8], at: usize, n: u8) -> [i32; 32]
+    requires { ⌜ Stands (times n sections.readEquation) (now s) at ⌝ }
+    ensures { λ r. ⌜ ((t : Stands (times n sections.readEquation) (now (s .entry)) at) → r ≡ putRates (steadyRates (t .value)) (replicate 32 (pos 0))) ⌝ }
+{
+    if n == 0 {
+        return [0i32; 32];
+    }
+    let k = at + 2;
+    let rates = steady_rates(s, k + codec::nat2(s, at), n - 1);
+    with_steady(s, k, rates)
+}
+
+fn refused(number: u8) -> Equations
+    ensures { λ r. ⌜ r ≡ refusedEquations number ⌝ }
+{
+    Equations {
+        refusal: number,
+        selectors: 0,
+        modes: [0usize; 16],
+        places: [0usize; 128],
+        steady: [0i32; 32],
+    }
+}
+
+pub fn read(s: &[u8], variables: usize) -> Equations
+    ensures { λ r. ⌜ r ≡ equationsOf (now (s .entry)) variables ⌝ }
+{
+    let number = refusal(s, variables);
+    if number != 0 {
+        return refused(number);
+    }
+    let found = selectors(s);
+    let selectors = found.count;
+    let modes = found.modes;
+    let places = found.places;
+    let steady = steady_rates(s, 1, s[0]);
+    Equations {
+        refusal: 0,
+        selectors,
+        modes,
+        places,
+        steady,
     }
 }

@@ -16,8 +16,11 @@ add-t4 c = search needs
 shared-slice-read-t8 : tie.Need-shared-slice-read-t8
 shared-slice-read-t8 c = search needs
 
+cast-t5 : tie.Need-cast-t5
+cast-t5 c = omega (arith, c .shared-slice-known .given (c .before .before .args .at))
+
 returns-2 : tie.Need-returns-2
 returns-2 c = rate-there _ _ _ (omega arith)
 
 pub rate-spec : {M : Type 1} → statement M
-rate-spec = tie.close (tie.spec sub-if1 returns add-t4 shared-slice-read-t8 returns-2)
+rate-spec = tie.close (tie.spec sub-if1 returns add-t4 shared-slice-read-t8 cast-t5 returns-2)
