@@ -15,7 +15,7 @@ use Rattle.semantics.specs.Sections.{Switch, Mode, Equation, steady, choice, re
 use Rattle.semantics.proofs.Readers.{given}
 use Rattle.plant.specs.Equations.{sizes, switchSize, modeSize, equationSize, startsFrom, putRates, steadyRates, Stands}
 use Rattle.plant.proofs.EquationSizes.{Cuts, cuts-switch, cuts-mode, cuts-equation}
-use Rattle.plant.proofs.EquationPlaces.{same-value, Headed, headed, SwitchAt, switch-at, ModeAt, mode-at, switchesFrom, kind-before, steady-at, choice-at, equation-at}
+use Rattle.plant.proofs.EquationPlaces.{same-value, Headed, headed, SwitchStands, switch-at, ModeAt, mode-at, switchesFrom, kind-before, steady-at, choice-at, equation-at}
 
 -- ---- n values from place at on, of which so many are left from place p on
 pub record Ahead {A : Type 0} (r : Reader A) (size : A → ℕ) (s : List ℕ) (at n p left : ℕ) : Type 0 where

@@ -69,14 +69,14 @@ unfolding readKind _>>=_ after byte
 kind-before s p h = before-end readKind s p refl h
 
 -- ---- a switch: its length, its target, its truth
-pub record SwitchAt (s : List ℕ) (p : ℕ) (w : Switch) : Type 0 where
+pub record SwitchStands (s : List ℕ) (p : ℕ) (w : Switch) : Type 0 where
   pub some : 1 ≤ getD s p 0
   pub fits : p + 1 + getD s p 0 ≤ length s
   pub target : w .target ≡ getD s (p + 1) 0
   pub truth : w .truth ≡ take (getD s p 0 - 1) (drop (p + 2) s)
   pub size : switchSize w ≡ 1 + getD s p 0
 
-switch-made : (s : List ℕ) (p : ℕ) {w : Switch} → 1 ≤ getD s p 0 → p + 1 + getD s p 0 ≤ length s → record { target = getD s (p + 1) 0; truth = take (getD s p 0 - 1) (drop (p + 1 + 1) s) } ≡ w → SwitchAt s p w
+switch-made : (s : List ℕ) (p : ℕ) {w : Switch} → 1 ≤ getD s p 0 → p + 1 + getD s p 0 ≤ length s → record { target = getD s (p + 1) 0; truth = take (getD s p 0 - 1) (drop (p + 1 + 1) s) } ≡ w → SwitchStands s p w
 unfolding switchSize
 switch-made s p {w} i j k =
     let two : p + 1 + 1 ≡ p + 2 = omega arith in
@@ -84,7 +84,7 @@ switch-made s p {w} i j k =
     let n : length (take (getD s p 0 - 1) (drop (p + 2) s)) ≡ getD s p 0 - 1 = length-take-le (getD s p 0 - 1) (drop (p + 2) s) (omega (arith, length-drop (p + 2) s)) in
     record { some = i; fits = j; target = ap (λ (w : Switch). w .target) (sym k); truth = t; size = omega (arith, ap length t) }
 
-pub switch-at : (s : List ℕ) (p : ℕ) {w : Switch} {e : List ℕ} → readSwitch (drop p s) ≡ read w e → SwitchAt s p w
+pub switch-at : (s : List ℕ) (p : ℕ) {w : Switch} {e : List ℕ} → readSwitch (drop p s) ≡ read w e → SwitchStands s p w
 unfolding readSwitch
 switch-at s p h =
     let i = switch-before s p h in

@@ -5,3 +5,4 @@ pub mod EquationIndex
 pub mod Padding
 pub mod EquationCases
 pub mod EquationAnswer
+pub mod EquationLookups

@@ -1,16 +1,17 @@
 -- The equation section: conditions 6 and 7, and what a run looks up in it.
 use mathlib.Core.Path.{_≡_}
-use mathlib.Core.Bool.{Bool}
+use mathlib.Core.Bool.{Bool, true, false}
 use mathlib.Core.List.{List, [], _∷_, _++_, map}
 use mathlib.Core.Option.{Option, none, some}
 use Prim.Native.Nat.{ℕ, _+_, _-_, _*_}
 use lib.IntN.{ℤ, pos}
-use lib.ListN.{length, drop, set, replicate}
-use Rattle.semantics.specs.Bytes.{every, Reader, read}
+use lib.ListN.{length, take, drop, getElem?, set, replicate}
+use Rattle.semantics.specs.Bytes.{every, Reader, broken, read}
 use Rattle.semantics.specs.Refusals.{Judged, refused, accepted, refusalOf, need, ensure, _>>=_, _>>_}
-use Rattle.semantics.specs.Sections.{Rate, Switch, Mode, Selector, Equation, steady, choice, equationsIn}
-use Rattle.semantics.specs.Plant.{equationNamed, selectorsOf}
+use Rattle.semantics.specs.Sections.{Rate, Switch, Mode, Selector, Equation, steady, choice, readMode, equationsIn}
+use Rattle.semantics.specs.Plant.{equationNamed, selectorsOf, noMode}
 use Rattle.plant.specs.declared.equations.Equations.{Equations}
+use Rattle.plant.specs.declared.equations.SwitchAt.{SwitchAt}
 use Rattle.plant.specs.declared.equations.Cases.{Cases}
 use Rattle.plant.specs.declared.equations.Step.{Step}
 use Rattle.plant.specs.declared.equations.Step.the-variants.{At, Broken}
@@ -94,12 +95,31 @@ equationsOf s variables = answerTo (judgeEquations s variables)
 unfoldable pub refusalIn : List ℕ → ℕ → ℕ
 refusalIn s variables = refusalOf (judgeEquations s variables)
 
+-- ---- places that are known
 -- what r reads stands at place p of s
 pub record Stands {A : Type 0} (r : Reader A) (s : List ℕ) (p : ℕ) : Type 0 where
   pub value : A
   pub rest : List ℕ
   pub got : r (drop p s) ≡ read value rest
 
+-- ---- what a run looks up
+-- the mode that stands at place q
+unfoldable pub modeAt : List ℕ → ℕ → Mode
+modeAt s q = elim (readMode (drop q s)) [ broken ↦ noMode | read m rest ↦ m ]
+
+-- where switch k of it starts: after the rates, the switch count and the switches before it
+unfoldable pub switchPlace : ℕ → Mode → ℕ → ℕ
+switchPlace q m k = q + 2 + 5 * length (m .rates) + sizes switchSize (take k (m .switches))
+
+-- a switch that starts at p: its truth stands after its length and target
+unfoldable pub switchFrom : ℕ → Option Switch → SwitchAt
+switchFrom p none = record { there = false; target = 0; from = 0; to = 0 }
+switchFrom p (some w) = record { there = true; target = w .target; from = p + 2; to = p + 2 + length (w .truth) }
+
+unfoldable pub switchOf : List ℕ → ℕ → ℕ → SwitchAt
+switchOf s q k = switchFrom (switchPlace q (modeAt s q) k) (getElem? (modeAt s q .switches) k)
+
+-- ---- what the code's own functions say
 -- a section whose layout is right
 pub record SectionStands (s : List ℕ) : Type 0 where
   pub equations : List Equation

@@ -10,7 +10,7 @@ ghost use Rattle.semantics.specs.Bytes.{times, every};
 ghost use Rattle.semantics.specs.Sections as sections;
 ghost use Rattle.semantics.specs.Plant as names;
 ghost use Rattle.codec.specs.Reading.{Reads};
-ghost use Rattle.plant.specs.Equations.{Says, view, seen, refusalIn, Stands, SectionStands, sizes, switchSize, modeSize, startsFrom, steadyRates, putRates, CasesOf, equationsOf, refusedEquations};
+ghost use Rattle.plant.specs.Equations.{Says, view, seen, refusalIn, Stands, SectionStands, sizes, switchSize, modeSize, startsFrom, steadyRates, putRates, CasesOf, equationsOf, refusedEquations, modeAt, switchOf};
 
 pub struct Equations {
     pub refusal: u8,
@@ -18,6 +18,14 @@ pub struct Equations {
     pub modes: [usize; 16],
     pub places: [usize; 128],
     pub steady: [i32; 32],
+}
+
+// a switch of a mode: its target, and where its truth stands
+pub struct SwitchAt {
+    pub there: bool,
+    pub target: u8,
+    pub from: usize,
+    pub to: usize,
 }
 
 // the selectors: how many, of each its modes, and where these stand
@@ -355,16 +363,13 @@ fn selectors(s: &[u8]) -> Cases
     }
 }
 
-// a rate for a variable; there are 32
-fn put_rate(rates: [i32; 32], v: usize, z: i32) -> [i32; 32]
-    ensures { λ r. ⌜ r ≡ set rates v z ⌝ }
+// a rate for a variable, where there is one of that number
+fn put_rate(rates: &mut [i32], v: usize, z: i32)
+    ensures { λ _. ⌜ now (rates .exit) ≡ set (now (rates .entry)) v z ⌝ }
 {
-    if v >= 32 {
-        return rates;
+    if v < rates.len() {
+        rates[v] = z;
     }
-    let mut put = rates;
-    put[v] = z;
-    put
 }
 
 // the rates with that of an equation of kind 1 put in
@@ -375,7 +380,9 @@ fn with_steady(s: &[u8], at: usize, rates: [i32; 32]) -> [i32; 32]
     if s[at] != 1 {
         return rates;
     }
-    put_rate(rates, s[at + 1] as usize, codec::int4(s, at + 2))
+    let mut put = rates;
+    put_rate(&mut put, s[at + 1] as usize, codec::int4(s, at + 2));
+    put
 }
 
 // the rates of the equations of kind 1 among n; of two for one variable the first stays
@@ -421,5 +428,52 @@ pub fn read(s: &[u8], variables: usize) -> Equations
         modes,
         places,
         steady,
+    }
+}
+
+// the rates with those of the mode at q put in; of two for one variable the first stays
+pub fn rates_at(s: &[u8], q: usize, rates: [i32; 32]) -> [i32; 32]
+    requires { ⌜ Stands sections.readMode (now s) q ⌝ }
+    ensures { λ r. ⌜ r ≡ putRates (modeAt (now (s .entry)) q .rates) rates ⌝ }
+{
+    let mut put = rates;
+    let mut left = s[q] as usize;
+    while 0 < left {
+        left -= 1;
+        let p = q + 1 + 5 * left;
+        put_rate(&mut put, s[p] as usize, codec::int4(s, p + 1));
+    }
+    put
+}
+
+// how many switches the mode at q has
+pub fn switch_count(s: &[u8], q: usize) -> usize
+    requires { ⌜ Stands sections.readMode (now s) q ⌝ }
+    ensures { λ r. ⌜ r ≡ length (modeAt (now (s .entry)) q .switches) ⌝ }
+{
+    let c = q + 1 + 5 * (s[q] as usize);
+    s[c] as usize
+}
+
+// switch k of the mode at q
+pub fn switch_at(s: &[u8], q: usize, k: usize) -> SwitchAt
+    requires { ⌜ Stands sections.readMode (now s) q ⌝ }
+    ensures { λ r. ⌜ r ≡ switchOf (now (s .entry)) q k ⌝ }
+{
+    let c = q + 1 + 5 * (s[q] as usize);
+    if s[c] as usize <= k {
+        return SwitchAt {
+            there: false,
+            target: 0,
+            from: 0,
+            to: 0,
+        };
+    }
+    let p = switches_end(s, c + 1, k as u8);
+    SwitchAt {
+        there: true,
+        target: s[p + 1],
+        from: p + 2,
+        to: p + 1 + s[p] as usize,
     }
 }
