@@ -1,0 +1,56 @@
+-- The answer about an equation section, from the number of its refusal and what was noted of it.
+use mathlib.Core.Path.{_≡_, refl, sym, ap, _∙_}
+use mathlib.Core.Bool.{Bool, true, false}
+use mathlib.Core.List.{List}
+use mathlib.Core.Option.{Option, none, some}
+use Prim.Native.Nat.{ℕ, _<_}
+use native.Mathlib.Omega.{arith}
+use lib.IntN.{ℤ, pos}
+use lib.ListN.{length, getD, replicate}
+use Rattle.semantics.specs.Bytes.{every, times}
+use Rattle.semantics.specs.Refusals.{Judged, refused, accepted, refusalOf, need, ensure, _>>=_, _>>_}
+use Rattle.semantics.specs.Sections.{Equation, readEquation, equationsIn}
+use Rattle.semantics.specs.Plant.{equationNamed}
+use Rattle.plant.specs.Equations.{judgeEquations, refusalIn, equationsOf, answerTo, refusedEquations, acceptedEquations, steadyRates, putRates, Stands, SectionStands, CasesOf}
+use Rattle.plant.specs.declared.equations.Cases.{Cases}
+use Rattle.plant.specs.declared.equations.Equations.{Equations}
+use Rattle.plant.proofs.EquationCases.{section-at, equations-stand}
+
+pub answer-refused : (s : List ℕ) (variables n : ℕ) → n ≡ refusalIn s variables → (n ≡ 0 → ⊥) → refusedEquations n ≡ equationsOf s variables
+unfolding refusalIn equationsOf answerTo refusalOf
+answer-refused s variables n e h = go (judgeEquations s variables) e
+  where
+    go : (j : Judged (List Equation)) → n ≡ refusalOf j → refusedEquations n ≡ answerTo j
+    go (refused m) i = ap refusedEquations i
+    go (accepted es) i = absurd (h i)
+
+-- a section with no refusal
+pub record Taken (s : List ℕ) (variables : ℕ) : Type 0 where
+  pub section : SectionStands s
+  pub named : every (equationNamed variables) (section .equations) ≡ true
+  pub judged : judgeEquations s variables ≡ accepted (section .equations)
+
+pub taken-0 : (s : List ℕ) (variables : ℕ) → 0 ≡ refusalIn s variables → Taken s variables
+unfolding refusalIn refusalOf judgeEquations need ensure _>>=_ _>>_
+taken-0 s variables h = go (equationsIn s) refl h
+  where
+    both : (es : List Equation) (b : Bool) → equationsIn s ≡ some es → every (equationNamed variables) es ≡ b → 0 ≡ refusalOf (ensure 7 b >> accepted es) → Taken s variables
+    both es true i j k = record { section = record { equations = es; read = i }; named = j; judged = rw (i, j) refl }
+    both es false i j k = absurd (omega arith)
+
+    go : (o : Option (List Equation)) → equationsIn s ≡ o → 0 ≡ refusalOf (need 6 o >>= (λ es. ensure 7 (every (equationNamed variables) es) >> accepted es)) → Taken s variables
+    go none i k = absurd (omega arith)
+    go (some es) i k = both es (every (equationNamed variables) es) i refl k
+
+module _ (s : List ℕ) (variables : ℕ) (t : Taken s variables) where
+  pub some-byte : 0 < length s
+  some-byte = section-at s (t .section .read) .some-byte
+
+  pub all-stand : Stands (times (getD s 0 0) readEquation) s 1
+  all-stand = equations-stand s (t .section)
+
+  pub answer-taken : {r : Cases} {rates : List ℤ} → ((t : SectionStands s) → CasesOf (t .equations) r) → ((t : Stands (times (getD s 0 0) readEquation) s 1) → rates ≡ putRates (steadyRates (t .value)) (replicate 32 (pos 0))) → record { refusal = 0; selectors = r .count; modes = r .modes; places = r .places; steady = rates } ≡ equationsOf s variables
+  unfolding equationsOf answerTo acceptedEquations
+  answer-taken f g =
+      let a = f (t .section) in
+      rw (t .judged, a .count, a .modes, a .places, g (equations-stand s (t .section))) refl

@@ -1,0 +1,44 @@
+use native.Mathlib.Omega.{arith}
+use borrow.Author.Tests.{ne-eqb}
+use Rattle.semantics.specs.Sections.{readKind}
+use Rattle.codec.proofs.Reading.{then-byte, no-byte, fails}
+use borrow.Author.Needs.{needs}
+use Rattle.plant.proofs.equations.kind.Statement.{statement}
+use Rattle.plant.proofs.equations.kind.Tie as tie
+
+returns : tie.Need-returns
+unfolding readKind
+returns c = no-byte _ (omega arith)
+
+shared-slice-read-k : tie.Need-shared-slice-read-k
+shared-slice-read-k c = search needs
+
+steady-requires : tie.Need-steady-requires
+steady-requires c κs = search needs
+
+choice-requires : tie.Need-choice-requires
+choice-requires c κs = search needs
+
+returns-2 : tie.Need-returns-2
+unfolding readKind
+returns-2 c = then-byte _ (omega arith) (rw (c .before .match .keys1) (c .steady .ensures))
+
+returns-3 : tie.Need-returns-3
+unfolding readKind
+returns-3 c = then-byte _ (omega arith) (rw (c .before .match .keys2) (c .choice .ensures))
+
+returns-4 : tie.Need-returns-4
+unfolding readKind
+returns-4 c = then-byte _ (omega arith) (rw (ne-eqb _ _ (c .match .rest .0 .1), ne-eqb _ _ (c .match .rest .1)) fails)
+
+pub kind-spec : {M : Type 1} → statement M
+kind-spec =
+    tie.close
+    (tie.spec
+    returns
+    shared-slice-read-k
+    steady-requires
+    choice-requires
+    returns-2
+    returns-3
+    returns-4)

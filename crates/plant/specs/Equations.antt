@@ -1,0 +1,146 @@
+-- The equation section: conditions 6 and 7, and what a run looks up in it.
+use mathlib.Core.Path.{_≡_}
+use mathlib.Core.Bool.{Bool, true, false}
+use mathlib.Core.List.{List, [], _∷_, _++_, map}
+use mathlib.Core.Option.{Option, none, some}
+use Prim.Native.Nat.{ℕ, _+_, _-_, _*_}
+use lib.IntN.{ℤ, pos}
+use lib.ListN.{length, take, drop, getElem?, set, replicate}
+use Rattle.semantics.specs.Bytes.{every, Reader, broken, read}
+use Rattle.semantics.specs.Refusals.{Judged, refused, accepted, refusalOf, need, ensure, _>>=_, _>>_}
+use Rattle.semantics.specs.Sections.{Rate, Switch, Mode, Selector, Equation, steady, choice, readMode, equationsIn}
+use Rattle.semantics.specs.Plant.{equationNamed, selectorsOf, noMode}
+use Rattle.plant.specs.declared.equations.Equations.{Equations}
+use Rattle.plant.specs.declared.equations.SwitchAt.{SwitchAt}
+use Rattle.plant.specs.declared.equations.Cases.{Cases}
+use Rattle.plant.specs.declared.equations.Step.{Step}
+use Rattle.plant.specs.declared.equations.Step.the-variants.{At, Broken}
+use Rattle.plant.specs.declared.equations.Seen.{Seen}
+use Rattle.plant.specs.declared.equations.Seen.the-variants.{Kept, Lost}
+
+-- ---- conditions 6 and 7, as judgePlant has them
+unfoldable pub judgeEquations : List ℕ → ℕ → Judged (List Equation)
+judgeEquations s variables = do
+  es ← need 6 (equationsIn s)
+  ensure 7 (every (equationNamed variables) es)
+  accepted es
+
+-- ---- how many bytes a part of the section takes
+unfoldable pub sizes : {A : Type 0} → (A → ℕ) → List A → ℕ
+sizes size [] = 0
+sizes size (x ∷ l) = size x + sizes size l
+
+-- length, target, truth
+unfoldable pub switchSize : Switch → ℕ
+switchSize w = 2 + length (w .truth)
+
+-- rate count, rates of 5 bytes, switch count, switches
+unfoldable pub modeSize : Mode → ℕ
+modeSize m = 2 + 5 * length (m .rates) + sizes switchSize (m .switches)
+
+-- length (2 bytes), kind, and a rate, or initial mode, mode count, modes
+unfoldable pub equationSize : Equation → ℕ
+equationSize (steady r) = 8
+equationSize (choice c) = 5 + sizes modeSize (c .modes)
+
+-- ---- places
+-- of values that stand one after the other, the first at p
+unfoldable pub startsFrom : {A : Type 0} → (A → ℕ) → ℕ → List A → List ℕ
+startsFrom size p [] = []
+startsFrom size p (x ∷ l) = p ∷ startsFrom size (p + size x) l
+
+unfoldable pub pad : {A : Type 0} → ℕ → A → List A → List A
+pad n d l = l ++ replicate (n - length l) d
+
+-- of the modes of each CASE, eight entries for a CASE; the first equation stands at p
+unfoldable pub modePlaces : ℕ → List Equation → List ℕ
+modePlaces p [] = []
+modePlaces p (steady r ∷ es) = modePlaces (p + equationSize (steady r)) es
+modePlaces p (choice c ∷ es) = pad 8 0 (startsFrom modeSize (p + 5) (c .modes)) ++ modePlaces (p + equationSize (choice c)) es
+
+unfoldable pub modeCount : Selector → ℕ
+modeCount c = length (c .modes)
+
+-- ---- rates
+unfoldable pub steadyRates : List Equation → List Rate
+steadyRates [] = []
+steadyRates (steady r ∷ es) = r ∷ steadyRates es
+steadyRates (choice c ∷ es) = steadyRates es
+
+-- the rate of each variable, where these rates are put in: of two of one variable the first stays
+unfoldable pub putRates : List Rate → List ℤ → List ℤ
+putRates [] l = l
+putRates (r ∷ rs) l = set (putRates rs l) (r .driven) (r .rate)
+
+-- ---- the answer
+unfoldable pub refusedEquations : ℕ → Equations
+refusedEquations n = record { refusal = n; selectors = 0; modes = replicate 16 0; places = replicate 128 0; steady = replicate 32 (pos 0) }
+
+unfoldable pub acceptedEquations : List Equation → Equations
+acceptedEquations es = record {
+  refusal = 0;
+  selectors = length (selectorsOf es);
+  modes = pad 16 0 (map modeCount (selectorsOf es));
+  places = pad 128 0 (modePlaces 1 es);
+  steady = putRates (steadyRates es) (replicate 32 (pos 0));
+}
+
+unfoldable pub answerTo : Judged (List Equation) → Equations
+answerTo (refused n) = refusedEquations n
+answerTo (accepted es) = acceptedEquations es
+
+unfoldable pub equationsOf : List ℕ → ℕ → Equations
+equationsOf s variables = answerTo (judgeEquations s variables)
+
+unfoldable pub refusalIn : List ℕ → ℕ → ℕ
+refusalIn s variables = refusalOf (judgeEquations s variables)
+
+-- ---- places that are known
+-- what r reads stands at place p of s
+pub record Stands {A : Type 0} (r : Reader A) (s : List ℕ) (p : ℕ) : Type 0 where
+  pub value : A
+  pub rest : List ℕ
+  pub got : r (drop p s) ≡ read value rest
+
+-- ---- what a run looks up
+-- the mode that stands at place q
+unfoldable pub modeAt : List ℕ → ℕ → Mode
+modeAt s q = elim (readMode (drop q s)) [ broken ↦ noMode | read m rest ↦ m ]
+
+-- where switch k of it starts: after the rates, the switch count and the switches before it
+unfoldable pub switchPlace : ℕ → Mode → ℕ → ℕ
+switchPlace q m k = q + 2 + 5 * length (m .rates) + sizes switchSize (take k (m .switches))
+
+-- a switch that starts at p: its truth stands after its length and target
+unfoldable pub switchFrom : ℕ → Option Switch → SwitchAt
+switchFrom p none = record { there = false; target = 0; from = 0; to = 0 }
+switchFrom p (some w) = record { there = true; target = w .target; from = p + 2; to = p + 2 + length (w .truth) }
+
+unfoldable pub switchOf : List ℕ → ℕ → ℕ → SwitchAt
+switchOf s q k = switchFrom (switchPlace q (modeAt s q) k) (getElem? (modeAt s q .switches) k)
+
+-- ---- what the code's own functions say
+-- a section whose layout is right
+pub record SectionStands (s : List ℕ) : Type 0 where
+  pub equations : List Equation
+  pub read : equationsIn s ≡ some equations
+
+-- what the code notes of the CASEs
+pub record CasesOf (es : List Equation) (r : Cases) : Type 0 where
+  pub count : r .count ≡ length (selectorsOf es)
+  pub modes : r .modes ≡ pad 16 0 (map modeCount (selectorsOf es))
+  pub places : r .places ≡ pad 128 0 (modePlaces 1 es)
+
+-- ---- the answers of the code's own readers
+-- a reader's answer as Reading has it
+abbrev pub view : Step → Option (ℕ × Bool)
+view (At q x) = some (q, x)
+view Broken = none
+
+-- the answer of a test
+abbrev pub Says : {A : Type 0} → (A → Bool) → A → Bool → Type 0
+Says P a x = x ≡ P a
+
+unfoldable pub seen : {A : Type 0} → (A → Bool) → Option A → Seen
+seen P none = Lost
+seen P (some a) = Kept (P a)

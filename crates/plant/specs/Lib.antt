@@ -1,0 +1,2 @@
+-- What the contracts of the code that reads a plant's sections cite.
+pub mod Equations

@@ -1,0 +1,479 @@
+// The equation section: its layout (6), its names (7), and where its modes stand.
+ghost use mathlib.Core.Path.{_≡_};
+ghost use mathlib.Core.Bool.{true, _&&_};
+ghost use mathlib.Core.List.{_∷_, []};
+ghost use Prim.Native.Nat.{ℕ, _+_, _≤_, _<_};
+ghost use lib.ListN.{length, set, replicate};
+ghost use lib.Seq.{sets};
+ghost use lib.IntN.{pos};
+ghost use Rattle.semantics.specs.Bytes.{times, every};
+ghost use Rattle.semantics.specs.Sections as sections;
+ghost use Rattle.semantics.specs.Plant as names;
+ghost use Rattle.codec.specs.Reading.{Reads};
+ghost use Rattle.plant.specs.Equations.{Says, view, seen, refusalIn, Stands, SectionStands, sizes, switchSize, modeSize, startsFrom, steadyRates, putRates, CasesOf, equationsOf, refusedEquations, modeAt, switchOf};
+
+pub struct Equations {
+    pub refusal: u8,
+    pub selectors: usize,
+    pub modes: [usize; 16],
+    pub places: [usize; 128],
+    pub steady: [i32; 32],
+}
+
+// a switch of a mode: its target, and where its truth stands
+pub struct SwitchAt {
+    pub there: bool,
+    pub target: u8,
+    pub from: usize,
+    pub to: usize,
+}
+
+// the selectors: how many, of each its modes, and where these stand
+struct Cases {
+    count: usize,
+    modes: [usize; 16],
+    places: [usize; 128],
+}
+
+// the place after what was read, and whether its names are there
+enum Step {
+    At(usize, bool),
+    Broken,
+}
+
+// the same of a whole slice
+enum Seen {
+    Kept(bool),
+    Lost,
+}
+
+fn both(a: bool, b: bool) -> bool
+    ensures { λ r. ⌜ r ≡ (a && b) ⌝ }
+{
+    if a { b } else { false }
+}
+
+fn rate(s: &[u8], at: usize, variables: usize) -> Step
+    requires { ⌜ at ≤ length (now s) ⌝ }
+    ensures { λ r. ⌜ Reads sections.readRate (Says (names.rateNamed variables)) (now (s .entry)) at (view r) ⌝ }
+{
+    if s.len() - at < 5 {
+        return Step::Broken;
+    }
+    Step::At(at + 5, (s[at] as usize) < variables)
+}
+
+fn rates(s: &[u8], at: usize, n: u8, variables: usize) -> Step
+    requires { ⌜ at ≤ length (now s) ⌝ }
+    ensures { λ r. ⌜ Reads (times n sections.readRate) (Says (every (names.rateNamed variables))) (now (s .entry)) at (view r) ⌝ }
+{
+    let mut p = at;
+    let mut named = true;
+    let mut i: u8 = 0;
+    while i < n {
+        let w = rate(s, p, variables);
+        match w {
+            Step::At(q, x) => {
+                p = q;
+                named = both(named, x);
+            }
+            Step::Broken => {
+                return Step::Broken;
+            }
+        }
+        i += 1;
+    }
+    Step::At(p, named)
+}
+
+fn switch(s: &[u8], at: usize, modes: u8) -> Step
+    requires { ⌜ at ≤ length (now s) ⌝ }
+    ensures { λ r. ⌜ Reads sections.readSwitch (Says (names.switchNamed modes)) (now (s .entry)) at (view r) ⌝ }
+{
+    if s.len() <= at {
+        return Step::Broken;
+    }
+    let l = s[at];
+    if l < 1 {
+        return Step::Broken;
+    }
+    if s.len() - at - 1 < l as usize {
+        return Step::Broken;
+    }
+    Step::At(at + 1 + l as usize, s[at + 1] < modes)
+}
+
+fn switches(s: &[u8], at: usize, n: u8, modes: u8) -> Step
+    requires { ⌜ at ≤ length (now s) ⌝ }
+    ensures { λ r. ⌜ Reads (times n sections.readSwitch) (Says (every (names.switchNamed modes))) (now (s .entry)) at (view r) ⌝ }
+{
+    let mut p = at;
+    let mut named = true;
+    let mut i: u8 = 0;
+    while i < n {
+        let w = switch(s, p, modes);
+        match w {
+            Step::At(q, x) => {
+                p = q;
+                named = both(named, x);
+            }
+            Step::Broken => {
+                return Step::Broken;
+            }
+        }
+        i += 1;
+    }
+    Step::At(p, named)
+}
+
+fn mode(s: &[u8], at: usize, variables: usize, modes: u8) -> Step
+    requires { ⌜ at ≤ length (now s) ⌝ }
+    ensures { λ r. ⌜ Reads sections.readMode (Says (names.modeNamed variables modes)) (now (s .entry)) at (view r) ⌝ }
+{
+    if s.len() <= at {
+        return Step::Broken;
+    }
+    let w = rates(s, at + 1, s[at], variables);
+    match w {
+        Step::At(p, x) => {
+            if s.len() <= p {
+                return Step::Broken;
+            }
+            let v = switches(s, p + 1, s[p], modes);
+            match v {
+                Step::At(q, y) => Step::At(q, both(x, y)),
+                Step::Broken => Step::Broken,
+            }
+        }
+        Step::Broken => Step::Broken,
+    }
+}
+
+fn modes(s: &[u8], at: usize, n: u8, variables: usize) -> Step
+    requires { ⌜ at ≤ length (now s) ⌝ }
+    ensures { λ r. ⌜ Reads (times n sections.readMode) (Says (every (names.modeNamed variables n))) (now (s .entry)) at (view r) ⌝ }
+{
+    let mut p = at;
+    let mut named = true;
+    let mut i: u8 = 0;
+    while i < n {
+        let w = mode(s, p, variables, n);
+        match w {
+            Step::At(q, x) => {
+                p = q;
+                named = both(named, x);
+            }
+            Step::Broken => {
+                return Step::Broken;
+            }
+        }
+        i += 1;
+    }
+    Step::At(p, named)
+}
+
+fn steady(s: &[u8], at: usize, variables: usize) -> Step
+    requires { ⌜ at ≤ length (now s) ⌝ }
+    ensures { λ r. ⌜ Reads sections.readSteady (Says (names.equationNamed variables)) (now (s .entry)) at (view r) ⌝ }
+{
+    rate(s, at, variables)
+}
+
+fn choice(s: &[u8], at: usize, variables: usize) -> Step
+    requires { ⌜ at ≤ length (now s) ⌝ }
+    ensures { λ r. ⌜ Reads sections.readChoice (Says (names.equationNamed variables)) (now (s .entry)) at (view r) ⌝ }
+{
+    if s.len() - at < 2 {
+        return Step::Broken;
+    }
+    let first = s[at];
+    let n = s[at + 1];
+    if n < 1 {
+        return Step::Broken;
+    }
+    if n > 8 {
+        return Step::Broken;
+    }
+    let w = modes(s, at + 1 + 1, n, variables);
+    match w {
+        Step::At(q, x) => Step::At(q, both(first < n, x)),
+        Step::Broken => Step::Broken,
+    }
+}
+
+// the kind, then an equation of that kind
+fn kind(s: &[u8], variables: usize) -> Step
+    ensures { λ r. ⌜ Reads sections.readKind (Says (names.equationNamed variables)) (now (s .entry)) 0 (view r) ⌝ }
+{
+    if s.len() < 1 {
+        return Step::Broken;
+    }
+    let k = s[0];
+    match k {
+        1 => steady(s, 1, variables),
+        2 => choice(s, 1, variables),
+        _ => Step::Broken,
+    }
+}
+
+fn equation_in(s: &[u8], variables: usize) -> Seen
+    ensures { λ r. ⌜ r ≡ seen (names.equationNamed variables) (sections.equationIn (now (s .entry))) ⌝ }
+{
+    let w = kind(s, variables);
+    match w {
+        Step::At(q, x) => {
+            if q < s.len() {
+                return Seen::Lost;
+            }
+            Seen::Kept(x)
+        }
+        Step::Broken => Seen::Lost,
+    }
+}
+
+fn equation(s: &[u8], at: usize, variables: usize) -> Step
+    requires { ⌜ at ≤ length (now s) ⌝ }
+    ensures { λ r. ⌜ Reads sections.readEquation (Says (names.equationNamed variables)) (now (s .entry)) at (view r) ⌝ }
+{
+    if s.len() - at < 2 {
+        return Step::Broken;
+    }
+    let n = codec::nat2(s, at);
+    let b = at + 2;
+    if s.len() - b < n {
+        return Step::Broken;
+    }
+    let e = b + n;
+    let w = equation_in(&s[b..e], variables);
+    match w {
+        Seen::Kept(x) => Step::At(e, x),
+        Seen::Lost => Step::Broken,
+    }
+}
+
+fn some_equations(s: &[u8], at: usize, n: u8, variables: usize) -> Step
+    requires { ⌜ at ≤ length (now s) ⌝ }
+    ensures { λ r. ⌜ Reads (times n sections.readEquation) (Says (every (names.equationNamed variables))) (now (s .entry)) at (view r) ⌝ }
+{
+    let mut p = at;
+    let mut named = true;
+    let mut i: u8 = 0;
+    while i < n {
+        let w = equation(s, p, variables);
+        match w {
+            Step::At(q, x) => {
+                p = q;
+                named = both(named, x);
+            }
+            Step::Broken => {
+                return Step::Broken;
+            }
+        }
+        i += 1;
+    }
+    Step::At(p, named)
+}
+
+// 6 where the layout is broken, 7 where a name is missing, else 0
+fn refusal(s: &[u8], variables: usize) -> u8
+    ensures { λ r. ⌜ r ≡ refusalIn (now (s .entry)) variables ⌝ }
+{
+    if s.len() < 1 {
+        return 6;
+    }
+    let n = s[0];
+    if n > 16 {
+        return 6;
+    }
+    let w = some_equations(s, 1, n, variables);
+    match w {
+        Step::At(q, x) => {
+            if q < s.len() {
+                return 6;
+            }
+            if x { 0 } else { 7 }
+        }
+        Step::Broken => 6,
+    }
+}
+
+// the place after n switches
+fn switches_end(s: &[u8], at: usize, n: u8) -> usize
+    requires { ⌜ Stands (times n sections.readSwitch) (now s) at ⌝ }
+    ensures { λ r. ⌜ ((t : Stands (times n sections.readSwitch) (now (s .entry)) at) → r ≡ at + sizes switchSize (t .value)) ⌝ }
+{
+    let mut p = at;
+    let mut left = n;
+    while 0 < left {
+        p = p + 1 + s[p] as usize;
+        left -= 1;
+    }
+    p
+}
+
+// the place after a mode
+fn mode_end(s: &[u8], at: usize) -> usize
+    requires { ⌜ Stands sections.readMode (now s) at ⌝ }
+    ensures { λ r. ⌜ ((t : Stands sections.readMode (now (s .entry)) at) → r ≡ at + modeSize (t .value)) ⌝ }
+{
+    let k = at + 1 + 5 * (s[at] as usize);
+    switches_end(s, k + 1, s[k])
+}
+
+// the places of n modes, noted from entry `from` on
+fn mode_places(s: &[u8], at: usize, n: u8, from: usize, places: &mut [usize; 128])
+    requires { ⌜ (from + n ≤ 128) × Stands (times n sections.readMode) (now s) at ⌝ }
+    ensures { λ _. ⌜ ((t : Stands (times n sections.readMode) (now (s .entry)) at) → now (places .exit) ≡ sets (now (places .entry)) from (startsFrom modeSize at (t .value))) ⌝ }
+{
+    let mut p = at;
+    let mut i = from;
+    let mut left = n;
+    while 0 < left {
+        places[i] = p;
+        p = mode_end(s, p);
+        i += 1;
+        left -= 1;
+    }
+}
+
+fn selectors(s: &[u8]) -> Cases
+    requires { ⌜ SectionStands (now s) ⌝ }
+    ensures { λ r. ⌜ ((t : SectionStands (now (s .entry))) → CasesOf (t .equations) r) ⌝ }
+{
+    let mut count = 0;
+    let mut modes = [0usize; 16];
+    let mut places = [0usize; 128];
+    let mut p = 1;
+    let mut left = s[0];
+    while 0 < left {
+        let k = p + 2;
+        if s[k] != 1 {
+            let n = s[k + 2];
+            modes[count] = n as usize;
+            mode_places(s, k + 3, n, 8 * count, &mut places);
+            count += 1;
+        }
+        p = k + codec::nat2(s, p);
+        left -= 1;
+    }
+    Cases {
+        count,
+        modes,
+        places,
+    }
+}
+
+// a rate for a variable, where there is one of that number
+fn put_rate(rates: &mut [i32], v: usize, z: i32)
+    ensures { λ _. ⌜ now (rates .exit) ≡ set (now (rates .entry)) v z ⌝ }
+{
+    if v < rates.len() {
+        rates[v] = z;
+    }
+}
+
+// the rates with that of an equation of kind 1 put in
+fn with_steady(s: &[u8], at: usize, rates: [i32; 32]) -> [i32; 32]
+    requires { ⌜ Stands sections.readKind (now s) at ⌝ }
+    ensures { λ r. ⌜ ((t : Stands sections.readKind (now (s .entry)) at) → r ≡ putRates (steadyRates (t .value ∷ [])) rates) ⌝ }
+{
+    if s[at] != 1 {
+        return rates;
+    }
+    let mut put = rates;
+    put_rate(&mut put, s[at + 1] as usize, codec::int4(s, at + 2));
+    put
+}
+
+// the rates of the equations of kind 1 among n; of two for one variable the first stays
+fn steady_rates(s: &[u8], at: usize, n: u8) -> [i32; 32]
+    requires { ⌜ Stands (times n sections.readEquation) (now s) at ⌝ }
+    ensures { λ r. ⌜ ((t : Stands (times n sections.readEquation) (now (s .entry)) at) → r ≡ putRates (steadyRates (t .value)) (replicate 32 (pos 0))) ⌝ }
+{
+    if n == 0 {
+        return [0i32; 32];
+    }
+    let k = at + 2;
+    let rates = steady_rates(s, k + codec::nat2(s, at), n - 1);
+    with_steady(s, k, rates)
+}
+
+fn refused(number: u8) -> Equations
+    ensures { λ r. ⌜ r ≡ refusedEquations number ⌝ }
+{
+    Equations {
+        refusal: number,
+        selectors: 0,
+        modes: [0usize; 16],
+        places: [0usize; 128],
+        steady: [0i32; 32],
+    }
+}
+
+pub fn read(s: &[u8], variables: usize) -> Equations
+    ensures { λ r. ⌜ r ≡ equationsOf (now (s .entry)) variables ⌝ }
+{
+    let number = refusal(s, variables);
+    if number != 0 {
+        return refused(number);
+    }
+    let found = selectors(s);
+    let selectors = found.count;
+    let modes = found.modes;
+    let places = found.places;
+    let steady = steady_rates(s, 1, s[0]);
+    Equations {
+        refusal: 0,
+        selectors,
+        modes,
+        places,
+        steady,
+    }
+}
+
+// the rates with those of the mode at q put in; of two for one variable the first stays
+pub fn rates_at(s: &[u8], q: usize, rates: [i32; 32]) -> [i32; 32]
+    requires { ⌜ Stands sections.readMode (now s) q ⌝ }
+    ensures { λ r. ⌜ r ≡ putRates (modeAt (now (s .entry)) q .rates) rates ⌝ }
+{
+    let mut put = rates;
+    let mut left = s[q] as usize;
+    while 0 < left {
+        left -= 1;
+        let p = q + 1 + 5 * left;
+        put_rate(&mut put, s[p] as usize, codec::int4(s, p + 1));
+    }
+    put
+}
+
+// how many switches the mode at q has
+pub fn switch_count(s: &[u8], q: usize) -> usize
+    requires { ⌜ Stands sections.readMode (now s) q ⌝ }
+    ensures { λ r. ⌜ r ≡ length (modeAt (now (s .entry)) q .switches) ⌝ }
+{
+    let c = q + 1 + 5 * (s[q] as usize);
+    s[c] as usize
+}
+
+// switch k of the mode at q
+pub fn switch_at(s: &[u8], q: usize, k: usize) -> SwitchAt
+    requires { ⌜ Stands sections.readMode (now s) q ⌝ }
+    ensures { λ r. ⌜ r ≡ switchOf (now (s .entry)) q k ⌝ }
+{
+    let c = q + 1 + 5 * (s[q] as usize);
+    if s[c] as usize <= k {
+        return SwitchAt {
+            there: false,
+            target: 0,
+            from: 0,
+            to: 0,
+        };
+    }
+    let p = switches_end(s, c + 1, k as u8);
+    SwitchAt {
+        there: true,
+        target: s[p + 1],
+        from: p + 2,
+        to: p + 1 + s[p] as usize,
+    }
+}
