@@ -1,0 +1,2 @@
+-- What the contracts of the plant's readers cite.
+pub mod Variables
