@@ -1,11 +1,10 @@
 -- Readers that take a fixed number of bytes.
-use mathlib.Core.Path.{_≡_, refl, sym, ap, _∙_}
-use mathlib.Core.List.{List, [], _∷_}
-use Prim.Native.Nat.{ℕ, zero, suc, _+_, _*_, _≤_}
+use mathlib.Core.Path.{_≡_, ap}
+use mathlib.Core.List.{List, []}
+use Prim.Native.Nat.{ℕ, zero, suc, _+_, _*_}
 use native.Mathlib.Nat.{zero-mul, suc-mul}
 use native.Mathlib.Omega.{arith}
-use lib.IntN.{ℤ}
-use lib.ListN.{length, drop, length-drop}
+use lib.ListN.{length}
 use Rattle.semantics.specs.Bytes.{be4, signed, Reader, read, _>>=_, give, byte, nat4, int4, times}
 use Rattle.semantics.proofs.Readers.{split, given-rest, byte-read}
 use Rattle.codec.proofs.Known.{cons}
@@ -34,7 +33,3 @@ pub costs-times : {A : Type 0} {r : Reader A} {k : ℕ} (n : ℕ) → Costs r k 
 unfolding times
 costs-times {r = r} {k = k} zero c = record { spent = λ l h. let e = ap length (given-rest [] l h) in let m = zero-mul k in omega arith }
 costs-times {r = r} {k = k} (suc n) c = record { spent = λ l h. let t = cons r n h in let m = suc-mul n k in omega (arith, c .spent l (t .first), costs-times n c .spent (t .mid) (t .rest)) }
-
--- at a place of a slice
-pub costs-inside : {A : Type 0} {r : Reader A} {k : ℕ} → Costs r k → (s : List ℕ) (p : ℕ) {a : A} {e : List ℕ} → p ≤ length s → r (drop p s) ≡ read a e → p + k ≤ length s
-costs-inside c s p i h = omega (arith, c .spent (drop p s) h, length-drop p s)

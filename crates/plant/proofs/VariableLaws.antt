@@ -9,7 +9,7 @@ use lib.IntN.{ℤ, pos}
 use lib.ListN.{length, getD, getElem?, drop}
 use Rattle.semantics.specs.Bytes.{every}
 use Rattle.semantics.specs.Editions.{edition1}
-use Rattle.semantics.specs.Refusals.{Judged, refused, _>>=_, _>>_, ensure, need}
+use Rattle.semantics.specs.Refusals.{refused, _>>=_, _>>_, ensure, need}
 use Rattle.semantics.specs.Sections.{Variable, readVariable, variablesIn}
 use Rattle.semantics.specs.Plant.{ordered, judgePlant}
 use Rattle.semantics.proofs.Facts.{none-not-some, some-is}

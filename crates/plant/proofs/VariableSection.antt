@@ -1,11 +1,10 @@
 -- The variable section: its size, the values at a place, and what the answer says of each variable.
-use mathlib.Core.Path.{_≡_, refl, sym, ap, _∙_, subst}
-use mathlib.Core.Bool.{Bool, true, false, _&&_, cond, and-false}
+use mathlib.Core.Path.{_≡_, refl, sym, ap, _∙_}
+use mathlib.Core.Bool.{Bool, true, false, and-false}
 use mathlib.Core.List.{List, [], _∷_, _++_, map, append-assoc, append-nil}
 use mathlib.Core.Option.{Option, none, some}
 use Prim.Native.Nat.{ℕ, zero, suc, _+_, _-_, _*_, _≤_, _<_}
 use native.Mathlib.Nat.{add-zero, sub-zero}
-use native.Mathlib.Numerals.{add-one}
 use native.Mathlib.Omega.{arith}
 use borrow.Author.Tests.{ltb-true, ltb-false, le-leb, lt-leb}
 use lib.IntN.{ℤ, pos, negsuc}
@@ -15,17 +14,17 @@ use mir.Val.{toZ, ofZ}
 use mir.ValLaws.{toZ-ofZ}
 use lib.ListN.{length, getD, set, drop, replicate, getElem?, length-append, length-map, List·getD-append}
 use lib.Seq.{set-at}
-use Rattle.semantics.specs.Bytes.{every, within, signed, read, Reader, after, _>>=_, give, guard, byte, int4, times, just, whole}
+use Rattle.semantics.specs.Bytes.{every, within, signed, read, after, _>>=_, give, guard, byte, times, just, whole}
 use Rattle.semantics.specs.Editions.{edition1}
 use Rattle.semantics.specs.Sections.{Variable, readVariable, readVariables, variablesIn}
 use Rattle.semantics.specs.Plant.{ordered}
 use Rattle.semantics.proofs.Facts.{true-not-false, none-not-some, some-is, at-below, within-low, within-high, within-both}
 use Rattle.semantics.proofs.Readers.{read-rest, read-value, split, given, guarded, byte-read, whole-read}
 use Rattle.codec.proofs.Reading.{nat4At, int4-at, drop-past, drop-some}
-use Rattle.codec.proofs.Known.{Cons, cons, times-length}
+use Rattle.codec.proofs.Known.{cons}
 use Rattle.plant.specs.declared.variables.Variables.{Variables}
 use Rattle.plant.specs.Variables.{pad, column, answer, refusedBy, orderedOr, variablesOf, Sized, Counted}
-use Rattle.plant.proofs.Costs.{Costs, costs-give, costs-then, costs-int4, costs-times, costs-inside}
+use Rattle.plant.proofs.Costs.{Costs, costs-give, costs-then, costs-int4, costs-times}
 
 -- ---- size
 costs-variable : Costs (readVariable edition1) 12
@@ -209,7 +208,7 @@ going-start s n z =
       initials-are = refl;
     }
 
-module _ (s : List ℕ) (n i p : ℕ) {lows highs initials : List ℤ} (g : Going s n i p lows highs initials) (h : i < n) (k : p + 12 ≤ length s) where
+module _ {s : List ℕ} {n i p : ℕ} {lows highs initials : List ℤ} (g : Going s n i p lows highs initials) (h : i < n) (k : p + 12 ≤ length s) where
   -- the variable at p is the next one
   record Next : Type 0 where
     tail : List Variable
@@ -241,9 +240,9 @@ module _ (s : List ℕ) (n i p : ℕ) {lows highs initials : List ℤ} (g : Goin
     initials-are = ap (λ l. set l i first) (g .initials-are) ∙ column-more (λ (v : Variable). v .initial) (g .done) (variableAt s p) i first d (g .many) j;
   }
 
-pub ended : (s : List ℕ) (n i p : ℕ) {lows highs initials : List ℤ} → Going s n i p lows highs initials → i ≡ n → _≡_ {A = Variables} (record { refusal = 0; count = n; lows = lows; highs = highs; initials = initials }) (variablesOf s)
+pub ended : {s : List ℕ} {n i p : ℕ} {lows highs initials : List ℤ} → Going s n i p lows highs initials → i ≡ n → _≡_ {A = Variables} (record { refusal = 0; count = n; lows = lows; highs = highs; initials = initials }) (variablesOf s)
 unfolding every times
-ended s n i p {lows} {highs} {initials} g e =
+ended {s} {n} {i} {p} {lows} {highs} {initials} g e =
     let z : n - i ≡ 0 = omega arith in
     let r : g .rest ≡ [] = sym (given [] (drop p s) (ap (λ m. times m (readVariable edition1) (drop p s)) (sym z) ∙ g .got)) in
     let o : every ordered (g .all) ≡ true = g .so-far ∙ ap (every ordered) r in

@@ -1,2 +1,3 @@
 -- What the contracts of the plant's readers cite.
 pub mod Variables
+pub mod Driven

@@ -41,23 +41,21 @@ refused-requires c κs = search needs
 returns : tie.Need-returns Inv-loop μ-loop
 returns c =
     let low = value (c .before .before .before .before .int4 .ok) (c .before .before .before .before .int4 .ensures) in
-    let high = value (c .before .before .before .int42 .ok) (c .before .before .before .int42 .ensures) in
     let first = value (c .before .before .int43 .ok) (c .before .before .int43 .ensures) in
     let l = c .before .before .before .before .before .before .loop in
     let a = c .before .before .before .before .before .before .before .before .args in
-    c .refused .ensures ∙ sym (stopped (a .s .now) (a .n) (l .i) (l .p) (l .inv .2) (omega arith) (omega arith) (below-minimum (variableAt (a .s .now) (l .p)) (lt-as first low (c .before .if1 .taken))))
+    c .refused .ensures ∙ sym (stopped (l .inv .2) (omega arith) (omega arith) (below-minimum (variableAt (a .s .now) (l .p)) (lt-as first low (c .before .if1 .taken))))
 
 refused-requires-2 : tie.Need-refused-requires-2 Inv-loop μ-loop
 refused-requires-2 c κs = search needs
 
 returns-2 : tie.Need-returns-2 Inv-loop μ-loop
 returns-2 c =
-    let low = value (c .before .before .before .before .before .int4 .ok) (c .before .before .before .before .before .int4 .ensures) in
     let high = value (c .before .before .before .before .int42 .ok) (c .before .before .before .before .int42 .ensures) in
     let first = value (c .before .before .before .int43 .ok) (c .before .before .before .int43 .ensures) in
     let l = c .before .before .before .before .before .before .before .loop in
     let a = c .before .before .before .before .before .before .before .before .before .args in
-    c .refused2 .ensures ∙ sym (stopped (a .s .now) (a .n) (l .i) (l .p) (l .inv .2) (omega arith) (omega arith) (above-maximum (variableAt (a .s .now) (l .p)) (lt-as high first (c .before .if2 .taken))))
+    c .refused2 .ensures ∙ sym (stopped (l .inv .2) (omega arith) (omega arith) (above-maximum (variableAt (a .s .now) (l .p)) (lt-as high first (c .before .if2 .taken))))
 
 mul-lows : tie.Need-mul-lows Inv-loop μ-loop
 mul-lows c = omega arith
@@ -100,13 +98,12 @@ loop-again c =
     let l = c .before .before .before .before .before .before .loop in
     let a = c .before .before .before .before .before .before .before .before .args in
     let o = in-order (variableAt (a .s .now) (l .p)) (lt-as first low (c .before .if1 .left)) (lt-as high first (c .if2 .left)) in
-    (omega arith, omega arith, going-next (a .s .now) (a .n) (l .i) (l .p) (l .inv .2) (omega arith) (omega arith) o _ _ _ low high first (omega arith))
+    (omega arith, omega arith, going-next (l .inv .2) (omega arith) (omega arith) o _ _ _ low high first (omega arith))
 
 returns-3 : tie.Need-returns-3 Inv-loop μ-loop
 returns-3 c =
     let l = c .before .loop in
-    let a = c .before .before .before .args in
-    ended (a .s .now) (a .n) (l .i) (l .p) (l .inv .2) (omega arith)
+    ended (l .inv .2) (omega arith)
 
 pub values-spec : {M : Type 1} → statement M
 values-spec =
