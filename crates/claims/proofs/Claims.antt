@@ -1,40 +1,45 @@
 -- The mission's demands as theorems about the definitions: each statement written out, under the sentence that it settles, and proved by one citation.
--- They hold for a tree of any size and over any edition, so that 256 nodes need no second proof.
+-- They hold for a tree of any size and over any edition, so that 256 nodes need no second proof: `edition-256` shows that such an edition is one.
 -- What each statement rules out is named by two wrong products that it does not let by.
-use mathlib.Core.Path.{_≡_}
-use mathlib.Core.Bool.{Bool, true, false}
-use mathlib.Core.List.{List, List·Memᴰ as Mem}
+use mathlib.Core.Path.{_≡_, refl, sym, _∙_}
+use mathlib.Core.Bool.{Bool, true}
+use mathlib.Core.List.{List}
 use mathlib.Core.Logic.{_↔_, _⊎_}
 use mathlib.Core.Option.{some}
 use Prim.Native.Nat.{ℕ, _≤_, _<_}
+use lib.Dec.{lit<, lit≤}
 use lib.ListN.{length, take}
-use Rattle.semantics.specs.Bytes.{within, isSome}
+use Rattle.semantics.specs.Bytes.{All, within, isSome, overwrite, two-bytes}
 use Rattle.semantics.specs.Editions.{Edition}
 use Rattle.semantics.specs.Refusals.{accepted}
 use Rattle.semantics.specs.Expressions.{Number, Truth, numberBytes, truthBytes, numberDepth, truthDepth, numberKnown, truthKnown, numberIn, truthIn}
-use Rattle.semantics.specs.Plant.{Plant}
-use Rattle.semantics.specs.Run.{Control, Situation, step}
-use Rattle.semantics.specs.Rules.{Rule, Sound, Decides}
+use Rattle.semantics.specs.Plant.{Plant, selectors}
+use Rattle.semantics.specs.Run.{Control, Situation, Answered, step}
+use Rattle.semantics.specs.Rules.{Rule, Derives, Sound, Decides}
+use Rattle.semantics.specs.Tables.{Table, judgeTable, tableControl}
+use Rattle.semantics.specs.Statements.{RunHolds}
 use Rattle.semantics.specs.Calls.{readTable, tableRun}
 use Rattle.semantics.specs.Conditions.{First, Clear, tableConditions, tableRunConditions}
-use Rattle.semantics.proofs.Facts.{All}
 use Rattle.semantics.proofs.StepRules as StepRules
 use Rattle.semantics.proofs.FirstAnswer as FirstAnswer
 use Rattle.semantics.proofs.FirstNumber as TableNumbers
+use Rattle.semantics.proofs.CallsHold as TableCalls
 use Rattle.semantics.proofs.ExpressionBytes as ExpressionBytes
 use Rattle.semantics.proofs.WrittenSources as TableBytes
 use Rattle.schedules.specs.Nodes.{Node}
 use Rattle.schedules.specs.Trees.{Tree, treeOf}
 use Rattle.schedules.specs.Preorder.{Written}
-use Rattle.schedules.specs.Residuals.{Residual, acting}
-use Rattle.schedules.specs.Reached.{Of}
-use Rattle.schedules.specs.Files.{Schedule, judgeFile}
+use Rattle.schedules.specs.Residuals.{Residual, fresh, acting}
+use Rattle.schedules.specs.Reached.{Leads, Of}
+use Rattle.schedules.specs.Files.{Schedule, judgeFile, ruleControl}
+use Rattle.schedules.specs.Compiling.{tableOf}
 use Rattle.schedules.specs.Calls.{readSchedule, ruleRun, compile}
-use Rattle.schedules.specs.Conditions.{fileConditions, compileConditions, ruleRunConditions}
+use Rattle.schedules.specs.Conditions.{fileSchedule, fileConditions, compileConditions, ruleRunConditions}
 use Rattle.schedules.specs.Agreement.{TableHolds, TooMany, Agrees}
 use Rattle.schedules.proofs.Demand2 as Demand2
 use Rattle.schedules.proofs.Agreement as Agreement
 use Rattle.schedules.proofs.FirstNumber as FileNumbers
+use Rattle.schedules.proofs.CallsHold as FileCalls
 use Rattle.schedules.proofs.ActingDetermines as ActingDetermines
 use Rattle.schedules.proofs.ReadShapes as ReadShapes
 use Rattle.schedules.proofs.OneTree as OneTree
@@ -44,7 +49,7 @@ use Rattle.schedules.proofs.WrittenBytes as WrittenBytes
 -- each has an edge for each move and no other, numbered in the paper's order."
 -- Ruled out: one fixed table; a table with a location left out, or with one twice.
 pub reached : (ed : Edition) (file room : List ℕ) → (compile ed file room) .refusal ≡ 0 →
-  TableHolds ed file (take ((compile ed file room) .written) ((compile ed file room) .table))
+    TableHolds ed file (take ((compile ed file room) .written) ((compile ed file room) .table))
 reached = Demand2.table-holds
 
 -- "There are over 1,024 locations.": given exactly where more can be reached.
@@ -53,66 +58,142 @@ pub refused-13 : (ed : Edition) (file room : List ℕ) → ((compile ed file roo
 refused-13 = Demand2.refused-13
 
 -- a location may be kept as its set of acting nodes: two residuals of the tree that is read, no PARALLEL in them wholly finished, with the same acting nodes are equal.
--- Ruled out: a residual that forgets which child of an IF it is in; one that forgets which children of a PARALLEL are finished.
+-- Ruled out: a residual that remembers more than it acts on (how often a WHILE went round); a reader that gives two nodes one number.
 pub acting-determines : (ns : List Node) (t : Tree) → treeOf ns ≡ some t → (r s : Residual) → Of t r → Of t s → acting r ≡ acting s → r ≡ s
 acting-determines ns t h r s p q = ActingDetermines.acting-determines p q ((ReadShapes.root-shapes ns h) .0)
+
+-- and what moves lead to from the fresh root is such a residual.
+-- Ruled out: a SEQUENCE that forgets its later children; a PARALLEL that goes on when all its children are finished.
+pub reached-of : (tests : ℕ → Bool) (t : Tree) (r : Residual) → Leads tests (fresh t) r → Of t r
+reached-of = FileCalls.reached-of
+
+-- the bytes that compiling writes: at the front of the room, which holds them, and the rest of it unaltered.
+-- Ruled out: a compiler that writes nothing; one that clears the room beyond its table.
+pub written-table : (ed : Edition) (file room : List ℕ) → (compile ed file room) .refusal ≡ 0 →
+    (s : Schedule) × (fileSchedule ed file ≡ some s) × (length (tableOf ed s) ≤ length room) ×
+    (compile ed file room ≡ record { refusal = 0; written = length (tableOf ed s); table = overwrite (tableOf ed s) room })
+written-table = FileCalls.written-table
 
 -- ---- demand 3: "The table runner accepts that table, and for every start and every list of whole events the run by the rules and the run of the table
 -- write the same records, byte for byte, and the same counts. One claim about the whole list."
 -- Ruled out: two runners that both fault before their first move (the records are those that the rules derive); invented counts.
 pub agreement : (ed : Edition) (file room : List ℕ) → (compile ed file room) .refusal ≡ 0 →
-  Agrees ed file (take ((compile ed file room) .written) ((compile ed file room) .table))
+    Agrees ed file (take ((compile ed file room) .written) ((compile ed file room) .table))
 agreement = Agreement.agreement
 
 -- the executable step of one event is just the rule-by-rule relation.
 -- Ruled out: a step that skips the switch check; a fault that keeps the run going.
 pub step-rules : {S : Type 0} (ed : Edition) (p : Plant) (c : Control S) → Sound p c → (s : Situation S) (e : List ℕ) (a : ℕ) (t : Situation S) →
-  (step ed p c s e ≡ record { answer = a; left = t }) ↔ Rule ed p c s e a t
+    (step ed p c s e ≡ record { answer = a; left = t }) ↔ Rule ed p c s e a t
 step-rules = StepRules.step-rules
 
+-- what `step-rules` and `first-answer` ask of a run, every accepted schedule and every accepted table gives.
+pub sound-rules : (ed : Edition) (file : List ℕ) (s : Schedule) → judgeFile ed file ≡ accepted s → Sound (s .plant) (ruleControl s)
+sound-rules = FileCalls.sound-rules
+
+pub sound-table : (ed : Edition) (table : List ℕ) (t : Table) → judgeTable ed table ≡ accepted t → Sound (t .plant) (tableControl t)
+sound-table = TableCalls.sound-table
+
+-- "The records of the rule run, and those of the table run, equal this section's byte for byte.": for every call that is not refused, also for schedules
+-- that compiling refuses with 13 and for tables that nobody compiled.
+-- Ruled out: a rule run that writes anything else for a schedule of 1,025 locations; a table run that reads a table with two equal locations wrongly.
+pub rule-run-holds : (ed : Edition) (file start events buffer : List ℕ) → (ruleRun ed file start events buffer) .refusal ≡ 0 →
+    (s : Schedule) × (judgeFile ed file ≡ accepted s) × RunHolds ed (s .plant) (ruleControl s) start events buffer (ruleRun ed file start events buffer)
+rule-run-holds = FileCalls.rule-run-holds
+
+pub table-run-holds : (ed : Edition) (table start events buffer : List ℕ) → (tableRun ed table start events buffer) .refusal ≡ 0 →
+    (t : Table) × (judgeTable ed table ≡ accepted t) × RunHolds ed (t .plant) (tableControl t) start events buffer (tableRun ed table start events buffer)
+table-run-holds = TableCalls.table-run-holds
+
+-- the rules derive one list only.
+pub derives-one : {S : Type 0} {ed : Edition} {p : Plant} {c : Control S} {s : Situation S} {es : List (List ℕ)} {l m : List (Answered S)} → Derives ed p c s es l → Derives ed p c s es m → l ≡ m
+derives-one d e = StepRules.derived-answers d ∙ sym (StepRules.derived-answers e)
+
+-- ---- demand 1: "A refused call returns .. length and counts zero and every lent buffer unwritten."
+-- Ruled out: a refused run that clears its record buffer; a refused compilation that returns a length.
+pub refused-compile : (ed : Edition) (file room : List ℕ) → ((compile ed file room) .refusal ≡ 0 → ⊥) →
+    compile ed file room ≡ record { refusal = (compile ed file room) .refusal; written = 0; table = room }
+refused-compile = FileCalls.refused-compile
+
+pub refused-rule-run : (ed : Edition) (file start events buffer : List ℕ) → ((ruleRun ed file start events buffer) .refusal ≡ 0 → ⊥) →
+    ruleRun ed file start events buffer ≡ record { refusal = (ruleRun ed file start events buffer) .refusal; taken = 0; turned-away = 0; faulted = 0; records = buffer }
+refused-rule-run = FileCalls.refused-rule-run
+
+pub refused-table-run : (ed : Edition) (table start events buffer : List ℕ) → ((tableRun ed table start events buffer) .refusal ≡ 0 → ⊥) →
+    tableRun ed table start events buffer ≡ record { refusal = (tableRun ed table start events buffer) .refusal; taken = 0; turned-away = 0; faulted = 0; records = buffer }
+refused-table-run = TableCalls.refused-table-run
+
+pub refused-read-schedule : (ed : Edition) (file : List ℕ) → ((readSchedule ed file) .refusal ≡ 0 → ⊥) →
+    readSchedule ed file ≡ record { refusal = (readSchedule ed file) .refusal; variables = 0; selectors = 0; nodes = 0 }
+refused-read-schedule = FileCalls.refused-read-schedule
+
+pub refused-read-table : (ed : Edition) (table : List ℕ) → ((readTable ed table) .refusal ≡ 0 → ⊥) →
+    readTable ed table ≡ record { refusal = (readTable ed table) .refusal; variables = 0; selectors = 0; actions = 0; locations = 0 }
+refused-read-table = TableCalls.refused-read-table
+
+-- the counts that the two reading calls return where they accept.
+pub read-schedule-result : (ed : Edition) (file : List ℕ) (s : Schedule) → judgeFile ed file ≡ accepted s →
+    readSchedule ed file ≡ record { refusal = 0; variables = length (s .plant .variables); selectors = length (selectors (s .plant)); nodes = length (s .nodes) }
+read-schedule-result ed file s = FileCalls.read-schedule-result ed file
+
+pub read-table-result : (ed : Edition) (table : List ℕ) (t : Table) → judgeTable ed table ≡ accepted t →
+    readTable ed table ≡ record { refusal = 0; variables = length (t .plant .variables); selectors = length (selectors (t .plant)); actions = length (t .actions); locations = length (t .locations) }
+read-table-result ed table t = TableCalls.read-table-result ed table
+
 -- ---- demand 1: "A refused call returns the first number of the list that applies .. A number is given only where its sentence holds."
+-- The sentences of 10, 12, 13 and 23 to 31 have a second statement of their own: `one-tree`, `expression-bytes-*`, `refused-13`, `first-answer`.
 -- For each of the five calls: its number is the first of its list that applies, or it is 0 and none does.
 -- Ruled out: a compiler that refuses all; 7 given where 6 applies as well.
 pub first-number-read-schedule : (ed : Edition) (file : List ℕ) →
-  First ((readSchedule ed file) .refusal) (fileConditions ed file) ⊎ (((readSchedule ed file) .refusal ≡ 0) × Clear (fileConditions ed file))
+    First ((readSchedule ed file) .refusal) (fileConditions ed file) ⊎ (((readSchedule ed file) .refusal ≡ 0) × Clear (fileConditions ed file))
 first-number-read-schedule = FileNumbers.read-schedule-first
 
 pub first-number-compile : (ed : Edition) (file room : List ℕ) →
-  First ((compile ed file room) .refusal) (compileConditions ed file room) ⊎ (((compile ed file room) .refusal ≡ 0) × Clear (compileConditions ed file room))
+    First ((compile ed file room) .refusal) (compileConditions ed file room) ⊎ (((compile ed file room) .refusal ≡ 0) × Clear (compileConditions ed file room))
 first-number-compile = FileNumbers.compiling-first
 
 pub first-number-rule-run : (ed : Edition) (file start events buffer : List ℕ) →
-  First ((ruleRun ed file start events buffer) .refusal) (ruleRunConditions ed file start events buffer) ⊎
-  (((ruleRun ed file start events buffer) .refusal ≡ 0) × Clear (ruleRunConditions ed file start events buffer))
+    First ((ruleRun ed file start events buffer) .refusal) (ruleRunConditions ed file start events buffer) ⊎
+    (((ruleRun ed file start events buffer) .refusal ≡ 0) × Clear (ruleRunConditions ed file start events buffer))
 first-number-rule-run = FileNumbers.run-rules-first
 
 pub first-number-read-table : (ed : Edition) (table : List ℕ) →
-  First ((readTable ed table) .refusal) (tableConditions ed table) ⊎ (((readTable ed table) .refusal ≡ 0) × Clear (tableConditions ed table))
+    First ((readTable ed table) .refusal) (tableConditions ed table) ⊎ (((readTable ed table) .refusal ≡ 0) × Clear (tableConditions ed table))
 first-number-read-table = TableNumbers.read-table-first
 
 pub first-number-table-run : (ed : Edition) (table start events buffer : List ℕ) →
-  First ((tableRun ed table start events buffer) .refusal) (tableRunConditions ed table start events buffer) ⊎
-  (((tableRun ed table start events buffer) .refusal ≡ 0) × Clear (tableRunConditions ed table start events buffer))
+    First ((tableRun ed table start events buffer) .refusal) (tableRunConditions ed table start events buffer) ⊎
+    (((tableRun ed table start events buffer) .refusal ≡ 0) × Clear (tableRunConditions ed table start events buffer))
 first-number-table-run = TableNumbers.run-table-first
 
 -- "23..31 are per event ..; the run's steps are taken in their order": an event's answer is n of 23 to 31 exactly where n's sentence holds
 -- in the situation before it, no earlier number's does, and no fault of the switch check comes first.
 -- Ruled out: 29 answered while the switch check faults; 28 answered for a node that does not act.
 pub first-answer : {S : Type 0} (ed : Edition) (p : Plant) (c : Control S) → Sound p c → (s : Situation S) (e : List ℕ) (n : ℕ) →
-  (((step ed p c s e) .answer ≡ n) × (within 23 31 n ≡ true)) ↔ Decides ed p c s e n
+    (((step ed p c s e) .answer ≡ n) × (within 23 31 n ≡ true)) ↔ Decides ed p c s e n
 first-answer ed p c = FirstAnswer.first-answer ed p c
 
--- 12: bytes are taken exactly where they are the encoding of a number or truth of depth at most 16 with known variables.
--- Ruled out: depth 17 taken; bytes left over taken.
+-- 12: bytes are read as an expression exactly where they are its encoding, it is of depth at most 16 and its variables are known.
+-- Ruled out: depth 17 taken; a difference read with its operands changed over.
+pub expression-bytes-number-is : (ed : Edition) (variables : ℕ) (s : List ℕ) (e : Number) → All (λ b. b < 256) s →
+    (numberIn ed variables s ≡ some e) ↔ ((numberBytes ed e ≡ s) × (numberDepth e ≤ 16) × (numberKnown variables e ≡ true))
+expression-bytes-number-is = ExpressionBytes.number-is
+
+pub expression-bytes-truth-is : (ed : Edition) (variables : ℕ) (s : List ℕ) (e : Truth) → All (λ b. b < 256) s →
+    (truthIn ed variables s ≡ some e) ↔ ((truthBytes ed e ≡ s) × (truthDepth e ≤ 16) × (truthKnown variables e ≡ true))
+expression-bytes-truth-is = ExpressionBytes.truth-is
+
+-- so 12 takes bytes exactly where they are the encoding of some such expression.
+-- Ruled out: bytes left over taken; an unknown code taken.
 pub expression-bytes-number : (ed : Edition) (variables : ℕ) (s : List ℕ) → All (λ b. b < 256) s →
-  (isSome (numberIn ed variables s) ≡ true) ↔ ((e : Number) × (numberBytes e ≡ s) × (numberDepth e ≤ 16) × (numberKnown variables e ≡ true))
+    (isSome (numberIn ed variables s) ≡ true) ↔ ((e : Number) × (numberBytes ed e ≡ s) × (numberDepth e ≤ 16) × (numberKnown variables e ≡ true))
 expression-bytes-number = ExpressionBytes.expression-bytes
 
 pub expression-bytes-truth : (ed : Edition) (variables : ℕ) (s : List ℕ) → All (λ b. b < 256) s →
-  (isSome (truthIn ed variables s) ≡ true) ↔ ((e : Truth) × (truthBytes e ≡ s) × (truthDepth e ≤ 16) × (truthKnown variables e ≡ true))
+    (isSome (truthIn ed variables s) ≡ true) ↔ ((e : Truth) × (truthBytes ed e ≡ s) × (truthDepth e ≤ 16) × (truthKnown variables e ≡ true))
 expression-bytes-truth = ExpressionBytes.truth-bytes
 
--- 10 is not given exactly where the nodes are a tree written in preorder, and that tree is the one that is compiled and run.
+-- the nodes make just one tree, which 10 asks, exactly where they are a tree written in preorder; `reached` and `agreement` say that this tree is compiled and run.
 -- Ruled out: a reader that gives up at some depth; one that leaves nodes over.
 pub one-tree : (ns : List Node) (t : Tree) → (treeOf ns ≡ some t) ↔ Written t 0 ns
 one-tree = OneTree.one-tree
@@ -123,9 +204,27 @@ pub bytes-only-compile : (ed : Edition) (file room : List ℕ) → All (λ b. b 
 bytes-only-compile = WrittenBytes.compile-bytes
 
 pub bytes-only-rule-run : (ed : Edition) (file start events buffer : List ℕ) → All (λ b. b < 256) file → All (λ b. b < 256) start → All (λ b. b < 256) buffer →
-  All (λ b. b < 256) ((ruleRun ed file start events buffer) .records)
+    All (λ b. b < 256) ((ruleRun ed file start events buffer) .records)
 bytes-only-rule-run = WrittenBytes.rule-run-bytes
 
 pub bytes-only-table-run : (ed : Edition) (table start events buffer : List ℕ) → All (λ b. b < 256) table → All (λ b. b < 256) start → All (λ b. b < 256) buffer →
-  All (λ b. b < 256) ((tableRun ed table start events buffer) .records)
+    All (λ b. b < 256) ((tableRun ed table start events buffer) .records)
 bytes-only-table-run = TableBytes.table-run-bytes
+
+-- an edition of 256 nodes keeps what every edition keeps
+pub edition-256 : (ed : Edition) × (ed .nodes ≡ 256)
+edition-256 = (
+  record {
+    version = 2;
+    width = two-bytes;
+    nodes = 256;
+    set-bytes = 32;
+    event-bytes = 4;
+    version-fits = lit< tt;
+    nodes-fit = lit< tt;
+    entries-fit = lit≤ tt;
+    set-holds = lit≤ tt;
+    event-holds = lit≤ tt;
+  },
+  refl,
+)

@@ -1,25 +1,31 @@
 -- The bench papers of document 01 that are theorems, and the negative papers, each cited where it is proved.
 use mathlib.Core.Path.{_≡_}
 use mathlib.Core.List.{List, [], _∷_, _++_}
-use mathlib.Core.Option.{some, none}
+use mathlib.Core.Bool.{true}
+use mathlib.Core.Option.{some, none, Option·map}
 use Prim.Native.Nat.{ℕ}
 use lib.ListN.{replicate}
 use lib.IntN.{ℤ, negsuc}
+use Rattle.semantics.specs.Bytes.{isSome}
 use Rattle.semantics.specs.Editions.{Edition, edition1}
 use Rattle.semantics.specs.Expressions.{constant, negation, Truth, connect, either, always, Side, fault, above, valueOf, holds, truthIn}
 use Rattle.semantics.specs.Run.{pass, switchCheck, at, over, step}
 use Rattle.semantics.specs.Calls.{tableRun}
-use Rattle.semantics.proofs.K1.{k1-file, k1-table, start-at, k2-events, k2-records, k3-events, k3-records, k4-events, k4-records}
+use Rattle.semantics.specs.K1.{one-record, k1-file, k1-table, start-at, k2-events, k2-records, k3-events, k3-records, k4-events, k4-records}
+use Rattle.semantics.proofs.Facts.{is-some}
+use Rattle.semantics.proofs.DepthPapers as DepthPapers
 use Rattle.semantics.proofs.Papers as Tables
-use Rattle.schedules.specs.Nodes.{Node, parallel, while-do, reset}
-use Rattle.schedules.specs.Trees.{treeOf}
-use Rattle.schedules.specs.Residuals.{fresh}
+use Rattle.schedules.specs.Nodes.{parallel, while-do, if-else, reset}
+use Rattle.schedules.specs.Trees.{treeOf, branch, leaf}
+use Rattle.schedules.specs.Residuals.{fresh, in-branch, at as at-node}
+use Rattle.schedules.specs.Numbering.{locations}
+use Rattle.schedules.specs.Compiling.{testsOf}
 use Rattle.schedules.specs.Files.{Schedule, ruleControl}
 use Rattle.schedules.specs.Calls.{ruleRun, compile}
+use Rattle.schedules.specs.Examples.{locationCount, stopOrWait, case-file, case-table, case-events, case-records, one-wait-file, stop-wait-file, two-rates-file, two-rates-file-2, while-file, stop-reset-file, stop-reset-table, faulty-check-file}
+use Rattle.schedules.proofs.Traps as Traps
+use Rattle.schedules.proofs.CasePaper as CasePaper
 use Rattle.schedules.proofs.Papers as Schedules
--- the negative papers: for each trap a run that tells the right rule from the wrong one
-pub use Rattle.schedules.proofs.Traps.{or-evaluates-both, stop-ends-all, tick-adds-all-or-none, tick-adds-all-or-none-2, while-starts-nothing, unreached-action, check-faults-before-29, check-faults-before-31}
-use Rattle.schedules.proofs.Papers.{locationCount, stopOrWait}
 
 -- K1, which computes: its table, and the bytes of the buffer after it as they were
 pub K1 : compile edition1 k1-file (replicate 75 0 ++ (7 ∷ 8 ∷ [])) ≡ record { refusal = 0; written = 75; table = k1-table ++ (7 ∷ 8 ∷ []) }
@@ -27,17 +33,17 @@ K1 = Schedules.K1
 
 -- K2: "K1 from 0: tick 27, pick 1 200, pick 2 29, tick 200, tick 200, tick 31, pick 2 201, tick 23; taken 4, turned away 4."
 pub K2 : (ruleRun edition1 k1-file (start-at 0) k2-events (replicate 104 0 ++ (7 ∷ 8 ∷ [])) ≡ record { refusal = 0; taken = 4; turned-away = 4; faulted = 0; records = k2-records (7 ∷ 8 ∷ []) })
-  × (tableRun edition1 k1-table (start-at 0) k2-events (replicate 104 0 ++ (7 ∷ 8 ∷ [])) ≡ record { refusal = 0; taken = 4; turned-away = 4; faulted = 0; records = k2-records (7 ∷ 8 ∷ []) })
+    × (tableRun edition1 k1-table (start-at 0) k2-events (replicate 104 0 ++ (7 ∷ 8 ∷ [])) ≡ record { refusal = 0; taken = 4; turned-away = 4; faulted = 0; records = k2-records (7 ∷ 8 ∷ []) })
 K2 = (Schedules.K2-rules, Tables.K2-table)
 
 -- K3: "K1 from 10: pick 1 203, value 10; tick 23."
 pub K3 : (ruleRun edition1 k1-file (start-at 10) k3-events (replicate 26 0) ≡ record { refusal = 0; taken = 0; turned-away = 1; faulted = 1; records = k3-records [] })
-  × (tableRun edition1 k1-table (start-at 10) k3-events (replicate 26 0) ≡ record { refusal = 0; taken = 0; turned-away = 1; faulted = 1; records = k3-records [] })
+    × (tableRun edition1 k1-table (start-at 10) k3-events (replicate 26 0) ≡ record { refusal = 0; taken = 0; turned-away = 1; faulted = 1; records = k3-records [] })
 K3 = (Schedules.K3-rules, Tables.K3-table)
 
 -- K4: "K1 from 9: pick 1 200, pick 2 201."
 pub K4 : (ruleRun edition1 k1-file (start-at 9) k4-events (replicate 26 0) ≡ record { refusal = 0; taken = 2; turned-away = 0; faulted = 0; records = k4-records [] })
-  × (tableRun edition1 k1-table (start-at 9) k4-events (replicate 26 0) ≡ record { refusal = 0; taken = 2; turned-away = 0; faulted = 0; records = k4-records [] })
+    × (tableRun edition1 k1-table (start-at 9) k4-events (replicate 26 0) ≡ record { refusal = 0; taken = 2; turned-away = 0; faulted = 0; records = k4-records [] })
 K4 = (Schedules.K4-rules, Tables.K4-table)
 
 -- K5: "PARALLEL of two RESETs: 3 locations."
@@ -50,18 +56,78 @@ K6 = Schedules.K6
 
 -- K7: "PARALLEL of STOP, CONTINUE: 2; picking STOP halts."
 pub K7 : ((t : List ℕ) → locationCount (stopOrWait t) ≡ some 2)
-  × ((s : Schedule) (t : List ℕ) → s .nodes ≡ stopOrWait t → treeOf (s .nodes) ≡ some (s .root) →
-      (vs : List ℤ) (ms : List ℕ) → switchCheck edition1 (s .plant) vs ms ≡ pass tt →
-      step edition1 (s .plant) (ruleControl s) (at (fresh (s .root)) vs ms) (1 ∷ 1 ∷ 0 ∷ []) ≡ record { answer = 202; left = over vs ms })
+    × ((s : Schedule) (t : List ℕ) → s .nodes ≡ stopOrWait t → treeOf (s .nodes) ≡ some (s .root) →
+    (vs : List ℤ) (ms : List ℕ) → switchCheck edition1 (s .plant) vs ms ≡ pass tt →
+    step edition1 (s .plant) (ruleControl s) (at (fresh (s .root)) vs ms) (1 ∷ 1 ∷ 0 ∷ []) ≡ record { answer = 202; left = over vs ms })
 K7 = (Schedules.K7-locations, Schedules.K7-halts)
 
 -- K9: "Negating −2147483648 faults; true or a fault faults."
 pub K9 : ((vs : List ℤ) → valueOf vs (negation (constant (negsuc 2147483647))) ≡ fault above)
-  × ((vs : List ℤ) (t : Truth) (side : Side) → holds vs t ≡ fault side → holds vs (connect either always t) ≡ fault side)
+    × ((vs : List ℤ) (t : Truth) (side : Side) → holds vs t ≡ fault side → holds vs (connect either always t) ≡ fault side)
 K9 = (Tables.K9-negation, Tables.K9-or)
 
 -- K11: "Empty file 1; 01 00 03 gives 3; 01 00 04 gives 2."
 pub K11 : (buffer : List ℕ) → (compile edition1 [] buffer ≡ record { refusal = 1; written = 0; table = buffer })
-  × (compile edition1 (0x01 ∷ 0x00 ∷ 0x03 ∷ []) buffer ≡ record { refusal = 3; written = 0; table = buffer })
-  × (compile edition1 (0x01 ∷ 0x00 ∷ 0x04 ∷ []) buffer ≡ record { refusal = 2; written = 0; table = buffer })
+    × (compile edition1 (0x01 ∷ 0x00 ∷ 0x03 ∷ []) buffer ≡ record { refusal = 3; written = 0; table = buffer })
+    × (compile edition1 (0x01 ∷ 0x00 ∷ 0x04 ∷ []) buffer ≡ record { refusal = 2; written = 0; table = buffer })
 K11 buffer = (Schedules.K11-empty buffer, Schedules.K11-sections buffer, Schedules.K11-length buffer)
+
+-- K10: "Depth 16 is taken, 17 gives 12."
+pub K10 : (ed : Edition) (v : ℕ) → (isSome (truthIn ed v (replicate 15 0x2a ++ (0x2f ∷ []))) ≡ true) × (truthIn ed v (replicate 16 0x2a ++ (0x2f ∷ [])) ≡ none)
+K10 ed v = (is-some (DepthPapers.K10-taken ed v), DepthPapers.K10-none ed v)
+
+-- "the target on done or true before that on false": an IF's first child has number 1, its second 2
+pub true-first : (v w : ℕ) (t e f : List ℕ) →
+    Option·map (locations (testsOf (if-else t ∷ reset v e ∷ reset w f ∷ []))) (treeOf (if-else t ∷ reset v e ∷ reset w f ∷ []))
+    ≡ some (at-node (branch 0 (leaf 1) (leaf 2)) ∷ in-branch (at-node (leaf 1)) ∷ in-branch (at-node (leaf 2)) ∷ [])
+true-first = Schedules.true-first
+
+-- ---- a paper of our own: a CASE with rates and switches, a switch event, REINITIAL, an IF and a SWITCH, by the rules and by the table
+pub case-compiled : compile edition1 case-file (replicate 165 0) ≡ record { refusal = 0; written = 165; table = case-table }
+case-compiled = CasePaper.case-compiled
+
+pub case-rules : ruleRun edition1 case-file (replicate 9 0) case-events (replicate 342 0)
+    ≡ record { refusal = 0; taken = 10; turned-away = 9; faulted = 0; records = case-records }
+case-rules = CasePaper.case-rules
+
+pub case-by-table : tableRun edition1 case-table (replicate 9 0) case-events (replicate 342 0)
+    ≡ record { refusal = 0; taken = 10; turned-away = 9; faulted = 0; records = case-records }
+case-by-table = CasePaper.case-by-table
+
+-- ---- negative papers: for each trap that document 01 names a small run that tells the right rule from the wrong one
+-- "or" that skips its right side would answer 201: the pick of CONTINUE UNTIL (true or a fault) faults
+pub or-evaluates-both : ruleRun edition1 one-wait-file (start-at 0) (1 ∷ 0 ∷ 0 ∷ []) (replicate 13 9)
+    ≡ record { refusal = 0; taken = 0; turned-away = 0; faulted = 1; records = one-record 203 0 0 [] }
+or-evaluates-both = Traps.or-evaluates-both
+
+-- a STOP that ends one branch would leave the CONTINUE to act: after the STOP no node acts, and the next pick is 23
+pub stop-ends-all : ruleRun edition1 stop-wait-file (start-at 0) (1 ∷ 1 ∷ 0 ∷ 1 ∷ 2 ∷ 0 ∷ []) (replicate 26 9)
+    ≡ record { refusal = 0; taken = 1; turned-away = 1; faulted = 0; records = one-record 202 0 0 (one-record 23 0 0 []) }
+stop-ends-all = Traps.stop-ends-all
+
+-- a tick that adds rates one variable at a time past a fault would leave 1 in the variable that stays in its range
+pub tick-adds-all-or-none : ruleRun edition1 two-rates-file (replicate 8 0) (0 ∷ 0 ∷ 0 ∷ []) (replicate 17 9)
+    ≡ record { refusal = 0; taken = 0; turned-away = 0; faulted = 1; records = one-record 203 0 0 (replicate 4 0) }
+tick-adds-all-or-none = Traps.tick-adds-all-or-none
+
+pub tick-adds-all-or-none-2 : ruleRun edition1 two-rates-file-2 (replicate 8 0) (0 ∷ 0 ∷ 0 ∷ []) (replicate 17 9)
+    ≡ record { refusal = 0; taken = 0; turned-away = 0; faulted = 1; records = one-record 203 0 0 (replicate 4 0) }
+tick-adds-all-or-none-2 = Traps.tick-adds-all-or-none-2
+
+-- a WHILE that starts its body's first move itself would set 7 at once: picking it makes the RESET act, and the RESET's own pick sets 7
+pub while-starts-nothing : ruleRun edition1 while-file (start-at 0) (1 ∷ 0 ∷ 0 ∷ 1 ∷ 1 ∷ 0 ∷ []) (replicate 26 9)
+    ≡ record { refusal = 0; taken = 2; turned-away = 0; faulted = 0; records = one-record 200 2 0 (one-record 200 1 7 []) }
+while-starts-nothing = Traps.while-starts-nothing
+
+-- "per node of kinds 3..9, reached or not": the RESET after a STOP has its action, and no location
+pub unreached-action : compile edition1 stop-reset-file (replicate 50 9) ≡ record { refusal = 0; written = 50; table = stop-reset-table }
+unreached-action = Traps.unreached-action
+
+-- "a fault in the switch check is 203 before 29 or 31 is looked at": a pick of the CONTINUE that is false, and a tick while the other is true
+pub check-faults-before-29 : ruleRun edition1 faulty-check-file (replicate 5 0) (1 ∷ 1 ∷ 0 ∷ []) (replicate 14 9)
+    ≡ record { refusal = 0; taken = 0; turned-away = 0; faulted = 1; records = one-record 203 0 0 (0 ∷ []) }
+check-faults-before-29 = Traps.check-faults-before-29
+
+pub check-faults-before-31 : ruleRun edition1 faulty-check-file (replicate 5 0) (0 ∷ 0 ∷ 0 ∷ []) (replicate 14 9)
+    ≡ record { refusal = 0; taken = 0; turned-away = 0; faulted = 1; records = one-record 203 0 0 (0 ∷ []) }
+check-faults-before-31 = Traps.check-faults-before-31

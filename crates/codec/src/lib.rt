@@ -14,6 +14,7 @@ pub fn nat2(s: &[u8], at: usize) -> usize
     (s[at] as usize) * 256 + s[at + 1] as usize
 }
 
+// the four bytes at a place, in 32 bits
 fn word(s: &[u8], at: usize) -> u32
     requires { ⌜ at + 4 ≤ length (now s) ⌝ }
     ensures { λ r. ⌜ r ≡ bytes.be4 (getD (now (s .entry)) at 0) (getD (now (s .entry)) (at + 1) 0) (getD (now (s .entry)) (at + 2) 0) (getD (now (s .entry)) (at + 3) 0) ⌝ }
@@ -33,6 +34,7 @@ pub fn nat4(s: &[u8], at: usize) -> usize
     word(s, at) as usize
 }
 
+// the number that 32 bits stand for
 pub fn signed(u: u32) -> i32
     ensures { λ r. ⌜ r ≡ bytes.signed u ⌝ }
 {
@@ -51,6 +53,7 @@ pub fn int4(s: &[u8], at: usize) -> i32
     signed(word(s, at))
 }
 
+// the lowest byte
 fn low(n: usize) -> u8
     ensures { λ r. ⌜ r ≡ n % 256 ⌝ }
 {
@@ -86,6 +89,7 @@ pub fn put4(d: &mut [u8], i: usize, n: usize) -> usize
     put1(d, l, low(n))
 }
 
+// the 32 bits of a signed number
 fn unsigned(z: i32) -> u32
     ensures { λ r. ⌜ r ≡ bytes.unsigned z ⌝ }
 {

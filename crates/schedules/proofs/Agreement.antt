@@ -1,46 +1,43 @@
 -- Demand 3: the table of an accepted schedule is accepted, and the run by the rules and the run of the table write the same, which the rule-by-rule relation derives.
 use mathlib.Core.Path.{_≡_, refl, sym, ap, subst, _∙_}
-use mathlib.Core.Bool.{Bool, true, false, not, _&&_}
-use mathlib.Core.List.{List, [], _∷_, _++_, map, flatMap}
+use mathlib.Core.Bool.{Bool, true, false}
+use mathlib.Core.List.{List}
 use mathlib.Core.Logic.{_⊎_, inl, inr}
 use mathlib.Core.Option.{Option, none, some}
-use Prim.Native.Nat.{ℕ, zero, suc, _+_, _*_, _≤_, _<_}
+use Prim.Native.Nat.{ℕ, zero, suc, _*_, _≤_}
 use native.Mathlib.Omega.{arith}
 use borrow.Author.Tests.{leb-true, not-false}
-use lib.Dec.{leb}
 use lib.ListN.{length, take, drop}
 use lib.Seq.{take-append-seam}
-use lib.IntN.{ℤ}
-use Rattle.semantics.specs.Bytes.{overwrite, int4, byte, times, whole}
+use Rattle.semantics.specs.Bytes.{overwrite, int4, byte, times}
 use Rattle.semantics.specs.Editions.{Edition}
-use Rattle.semantics.specs.Refusals.{Judged, refused, accepted}
+use Rattle.semantics.specs.Refusals.{Judged, refused, accepted, _>>=_, _>>_, ensure, need}
 use Rattle.semantics.specs.Events.{eventsIn}
 use Rattle.semantics.specs.Plant.{Plant, selectors}
 use Rattle.semantics.specs.Starts.{Start, startIn, readStart, startFits}
-use Rattle.semantics.specs.Run.{Action, possible, isTest, Control, Situation, Answered, at, answers, recordOf, howMany, isTaken, isTurnedAway, isFaulted, to}
-use Rattle.semantics.specs.Rules.{Derives, Sound}
+use Rattle.semantics.specs.Run.{Action, possible, isTest, Control, Situation, Answered, at, answers}
 use Rattle.semantics.specs.TableFile.{locationLimit}
-use Rattle.semantics.specs.Tables.{Table, judgeTable, tableControl, actionOrStop}
-use Rattle.semantics.specs.Calls.{Program, Outcome, outcomeOf, runFrom, judgeRun, report, Ran, tableProgram, tableRun, TableRead, tableCounts, readTable, wholeEvents, eventCount, recordSize, roomForRecords}
+use Rattle.semantics.specs.Tables.{judgeTable, tableControl, actionOrStop}
+use Rattle.semantics.specs.Calls.{Program, Outcome, outcomeOf, runFrom, judgeRun, report, tableProgram, tableRun, tableCounts, readTable, wholeEvents, eventCount, recordSize, roomForRecords}
 use Rattle.semantics.specs.Conditions.{Condition, given, is20, is21, is22}
 use Rattle.semantics.proofs.Facts.{true-not-false, All, all-nil, all-cons}
 use Rattle.semantics.proofs.Judging as Judging
 use Rattle.semantics.proofs.Readers as Readers
 use Rattle.semantics.proofs.Simulation.{Agree, runs-agree}
 use Rattle.semantics.proofs.RunCounts.{counts-sum, written-length}
-use Rattle.semantics.proofs.FirstNumber.{First, here, further, Firsts, refuses, accepts, given-some}
+use Rattle.semantics.proofs.FirstNumber.{First, here, further, Firsts, refuses}
 use Rattle.semantics.proofs.StepRules.{answers-derived}
 pub use Rattle.schedules.specs.Agreement.{RunsAgree, Agrees}
 use Rattle.schedules.specs.Nodes.{actionsOf}
-use Rattle.schedules.specs.Residuals.{Residual, fresh, acting, move, same?}
-use Rattle.schedules.specs.Numbering.{locations}
+use Rattle.schedules.specs.Residuals.{Residual, fresh, same?}
 use Rattle.schedules.specs.Files.{Schedule, judgeFile, ruleControl}
 use Rattle.schedules.specs.Compiling.{testsOf, scheduleLocations, tableOf, judgeCompile}
-use Rattle.schedules.specs.Calls.{ruleProgram, ruleRun, Compiled, compiledInto, compile}
-use Rattle.schedules.specs.Conditions.{filePlant, fileConditions, compileConditions}
-use Rattle.schedules.proofs.FirstNumber.{Passed, passed, compile-first, file-plant}
+use Rattle.schedules.specs.Calls.{ruleProgram, ruleRun, compiledInto, compile}
+use Rattle.schedules.specs.Conditions.{fileConditions, compileConditions}
+use Rattle.schedules.proofs.FirstNumber.{passed, file-schedule, compile-first}
+use Rattle.schedules.proofs.OneTree.{one-tree}
 use Rattle.schedules.proofs.Numbered.{number-found, number-exists}
-use Rattle.schedules.proofs.Reached.{Moves, reached, closed-under}
+use Rattle.schedules.proofs.Reached.{reached, closed-under}
 use Rattle.schedules.proofs.ScheduleSound.{schedule-sound}
 use Rattle.schedules.proofs.TableAgrees.{tableFor, table-agrees}
 use Rattle.schedules.proofs.TableAccepted.{table-accepted}
@@ -89,6 +86,21 @@ unfolding possible
 outcomes a true c = inl refl
 outcomes a false c = inr c
 
+-- two programs over one plant, whose outcomes are the same from every start
+judged-same : {S R : Type 0} (ed : Edition) (p : Plant) (c : Control S) (d : Control R) (start events buffer : List ℕ) →
+    ((st : Start) → outcomeOf ed c (runFrom ed (record { plant = p; control = c }) st events) ≡ outcomeOf ed d (runFrom ed (record { plant = p; control = d }) st events)) →
+    judgeRun ed (accepted (record { plant = p; control = c })) start events buffer ≡ judgeRun ed (accepted (record { plant = p; control = d })) start events buffer
+unfolding judgeRun _>>=_ need
+judged-same {S} {R} ed p c d start events buffer h = go (startIn p start)
+  where
+    rest : Start → Outcome → Judged Outcome
+    rest st o = ensure 20 (startFits p st) >> (ensure 21 (wholeEvents (ed .event-bytes) events) >> (ensure 22 (roomForRecords ed p events buffer) >> accepted o))
+
+    go : (o : Option Start) →
+        (need 20 o >>= λ st. rest st (outcomeOf ed c (runFrom ed (record { plant = p; control = c }) st events))) ≡ (need 20 o >>= λ st. rest st (outcomeOf ed d (runFrom ed (record { plant = p; control = d }) st events)))
+    go none = refl
+    go (some st) = ap (rest st) (h st)
+
 -- ---- a schedule that compiling takes
 module _ (ed : Edition) (file : List ℕ) (s : Schedule) (h : judgeFile ed file ≡ accepted s) (fits : length (scheduleLocations s) ≤ locationLimit) where
   rule-program : ruleProgram ed file ≡ accepted (record { plant = s .plant; control = ruleControl s })
@@ -107,6 +119,15 @@ module _ (ed : Edition) (file : List ℕ) (s : Schedule) (h : judgeFile ed file 
   controls-agree = table-agrees s fits ((reached (testsOf (s .nodes)) (s .root) fits) .first)
       (λ x y n b m i c e. closed-under (testsOf (s .nodes)) (s .root) fits m (record { node = n; outcome = b; is-acting = i; can = outcomes (actionOrStop (actionsOf (s .nodes)) n) b c; leads = e }))
       (λ x k e. number-found same? x (scheduleLocations s) k e) (λ x m. number-exists same? m)
+
+  -- whatever is lent, both calls go the same way
+  pub same-runs : (start events buffer : List ℕ) → ruleRun ed file start events buffer ≡ tableRun ed (tableOf ed s) start events buffer
+  unfolding ruleRun tableRun runFrom ruleControl
+  same-runs start events buffer = ap (report buffer)
+      (ap (λ j. judgeRun ed j start events buffer) rule-program
+      ∙ judged-same ed (s .plant) (ruleControl s) (tableControl (tableFor s)) start events buffer
+      (λ st. runs-agree ed (s .plant) controls-agree (st .values) (st .modes) (eventsIn (ed .event-bytes) (eventCount ed events) events))
+      ∙ sym (ap (λ j. judgeRun ed j start events buffer) table-program))
 
   -- both runs come to one outcome
   module _ (start events by-rules by-table : List ℕ) (b : Starts (s .plant) start) (w : wholeEvents (ed .event-bytes) events ≡ true)
@@ -182,6 +203,9 @@ table-agreement ed file s h fits = record {
   table-read = ap (λ j. (tableCounts j) .refusal) (table-judged ed file s h fits);
   schedule = s;
   schedule-read = h;
+  of-file = file-schedule ed file h;
+  tree = (one-tree (s .nodes) (s .root)) .0 ((passed ed file s h) .tree);
+  same = same-runs ed file s h fits;
   runs = λ start events by-rules by-table c20 c21 c22 d22.
       let b = starts ed (s .plant) start events by-rules c20 in
       (b .st, b .start-read, both-agree ed file s h fits start events by-rules by-table b (not-false _ c21) (not-false _ c22) (not-false _ d22));

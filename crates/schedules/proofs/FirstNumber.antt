@@ -1,26 +1,26 @@
 -- Reading a schedule, running it by the rules and compiling it refuse with the first number that applies.
-use mathlib.Core.Path.{_≡_, refl, sym, ap, subst, _∙_}
-use mathlib.Core.Bool.{Bool, true, false, not, _&&_}
-use mathlib.Core.List.{List, [], _∷_, _++_}
+use mathlib.Core.Path.{_≡_, refl, ap, subst, _∙_}
+use mathlib.Core.Bool.{Bool, true, _&&_}
+use mathlib.Core.List.{List, _∷_, _++_}
 use mathlib.Core.Logic.{_⊎_}
-use mathlib.Core.Option.{Option, none, some, bind}
+use mathlib.Core.Option.{some}
 use Prim.Native.Nat.{ℕ}
 use lib.ListN.{length, drop}
 use lib.Dec.{leb}
-use Rattle.semantics.specs.Bytes.{every, isSome}
+use Rattle.semantics.specs.Bytes.{every}
 use Rattle.semantics.specs.Editions.{Edition}
-use Rattle.semantics.specs.Refusals.{Judged, refused, accepted, _>>=_, _>>_, ensure, need, refusalOf}
-use Rattle.semantics.specs.Plant.{Plant, judgePlant, selectors, switchesRead}
+use Rattle.semantics.specs.Refusals.{Judged, refused, accepted, _>>=_, _>>_, refusalOf}
+use Rattle.semantics.specs.Plant.{judgePlant, selectors, switchesRead}
 use Rattle.semantics.specs.TableFile.{locationLimit}
 use Rattle.semantics.specs.Calls.{Program, judgeRun}
-use Rattle.semantics.specs.Conditions.{Condition, _if_, given, is4, is5, is6, is7, is8, plantConditions, plantIn, runConditions}
+use Rattle.semantics.specs.Conditions.{Condition, _if_, is4, is5, is6, is7, is8, plantConditions}
 use Rattle.semantics.proofs.Judging as Judging
-use Rattle.semantics.proofs.FirstNumber.{First, here, further, Clear, none-left, one-clear, Firsts, refuses, accepts, by-ensure, by-need, by-then, by-map, by-end, given-some, bind-some, plant-first, plant-in, run-first, first-or-none, ran-refusal}
+use Rattle.semantics.proofs.FirstNumber.{First, Clear, Firsts, by-ensure, by-need, by-then, by-map, by-end, given-some, bind-some, plant-first, plant-in, run-first, first-or-none, ran-refusal}
 use Rattle.schedules.specs.FileSections.{FileSections, fileSectionsIn}
-use Rattle.schedules.specs.Nodes.{Node, nodesIn, nodeNamed, nodeReads}
-use Rattle.schedules.specs.Trees.{Tree, treeOf}
+use Rattle.schedules.specs.Nodes.{nodesIn, nodeNamed, nodeReads}
+use Rattle.schedules.specs.Trees.{treeOf}
 use Rattle.schedules.specs.Residuals.{Residual}
-use Rattle.schedules.specs.Files.{Schedule, judgeFile, fileHeader, fileLength, ruleControl}
+use Rattle.schedules.specs.Files.{Schedule, judgeFile, fileHeader, fileLength}
 use Rattle.schedules.specs.Compiling.{scheduleLocations, tableOf, judgeCompile}
 use Rattle.schedules.specs.Calls.{ruleProgram, ruleRun, readSchedule, scheduleCounts, compile, compiledInto}
 use Rattle.schedules.specs.Conditions.{fileParts, filePlant, fileNodes, fileTree, fileSchedule, is1, is2, is3, ofPlant, is9, is10, is11, is12, is13, is14, fileConditions, compileConditions, ruleRunConditions}
@@ -116,7 +116,7 @@ unfolding scheduleCounts refusalOf
 schedule-refusal (refused n) = refl
 schedule-refusal (accepted s) = refl
 
-compiled-refusal : (buffer : List ℕ) (j : Judged (List ℕ)) → (compiledInto buffer j) .refusal ≡ refusalOf j
+pub compiled-refusal : (buffer : List ℕ) (j : Judged (List ℕ)) → (compiledInto buffer j) .refusal ≡ refusalOf j
 unfolding compiledInto refusalOf
 compiled-refusal buffer (refused n) = refl
 compiled-refusal buffer (accepted t) = refl
@@ -127,12 +127,12 @@ module _ (ed : Edition) (file : List ℕ) where
   read-schedule-first = rw (schedule-refusal (judgeFile ed file)) (first-or-none (file-first ed file))
 
   pub compiling-first : (buffer : List ℕ) →
-    First ((compile ed file buffer) .refusal) (compileConditions ed file buffer) ⊎ (((compile ed file buffer) .refusal ≡ 0) × Clear (compileConditions ed file buffer))
+      First ((compile ed file buffer) .refusal) (compileConditions ed file buffer) ⊎ (((compile ed file buffer) .refusal ≡ 0) × Clear (compileConditions ed file buffer))
   unfolding compile
   compiling-first buffer = rw (compiled-refusal buffer (judgeCompile ed file buffer)) (first-or-none (compile-first ed file buffer))
 
   pub run-rules-first : (start events buffer : List ℕ) →
-    First ((ruleRun ed file start events buffer) .refusal) (ruleRunConditions ed file start events buffer) ⊎
-    (((ruleRun ed file start events buffer) .refusal ≡ 0) × Clear (ruleRunConditions ed file start events buffer))
+      First ((ruleRun ed file start events buffer) .refusal) (ruleRunConditions ed file start events buffer) ⊎
+      (((ruleRun ed file start events buffer) .refusal ≡ 0) × Clear (ruleRunConditions ed file start events buffer))
   unfolding ruleRun
   run-rules-first start events buffer = rw (ran-refusal buffer (judgeRun ed (ruleProgram ed file) start events buffer)) (first-or-none (rule-run-first ed file start events buffer))

@@ -1,8 +1,8 @@
 pub mod Computes
 -- papers
-pub mod Examples
 pub mod Papers
 pub mod Traps
+pub mod CasePaper
 -- trees and residuals
 pub mod TreeShapes
 pub mod OneTree
@@ -25,4 +25,5 @@ pub mod TableAccepted
 pub mod RowsHold
 pub mod Agreement
 pub mod Demand2
+pub mod CallsHold
 pub mod WrittenBytes

@@ -1,25 +1,24 @@
 -- The papers of document 01 that a schedule settles, as theorems about the definitions.
 use mathlib.Core.Path.{_≡_, refl, sym, ap, subst₂, _∙_}
-use mathlib.Core.Bool.{Bool, true, false}
 use mathlib.Core.List.{List, [], _∷_, _++_}
-use mathlib.Core.Option.{Option, none, some, Option·map}
+use mathlib.Core.Option.{some, Option·map}
 use Prim.Native.Nat.{ℕ}
-use lib.ListN.{length, replicate}
+use lib.ListN.{replicate}
 use lib.IntN.{ℤ}
-use Rattle.semantics.specs.Editions.{Edition, edition1}
+use Rattle.semantics.specs.Editions.{edition1}
 use Rattle.semantics.specs.Plant.{Plant, among}
-use Rattle.semantics.specs.Run.{pass, switchCheck, Situation, at, over, step, settle, follow, arrive, judge, judgePick, act, allow, _>>_}
+use Rattle.semantics.specs.Run.{pass, switchCheck, at, over, step, settle, follow, arrive, judge, judgePick, act, allow, _>>_}
 use Rattle.semantics.specs.Tables.{actionOrStop, actionAt}
-use Rattle.semantics.specs.Calls.{Ran}
-use Rattle.semantics.proofs.K1.{k1-file, k1-table, start-at, k2-events, k2-records, k3-events, k3-records, k4-events, k4-records, one-record}
+use Rattle.semantics.specs.K1.{k1-file, k1-table, start-at, k2-events, k2-records, k3-events, k3-records, k4-events, k4-records}
+use Rattle.schedules.specs.Examples.{locationCount, stopOrWait}
 use Rattle.schedules.specs.FileSections.{FileSections}
-use Rattle.schedules.specs.Nodes.{Node, parallel, while-do, if-else, continue-until, reset, stop-all}
+use Rattle.schedules.specs.Nodes.{parallel, while-do, if-else, reset}
 use Rattle.schedules.specs.Trees.{Tree, treeOf, par, halt, leaf, branch, cons, nil}
-use Rattle.schedules.specs.Residuals.{Residual, fresh, in-branch, at as at-node}
+use Rattle.schedules.specs.Residuals.{fresh, in-branch, at as at-node}
 use Rattle.schedules.specs.Numbering.{locations}
 use Rattle.schedules.specs.Files.{Schedule, ruleControl}
 use Rattle.schedules.specs.Compiling.{testsOf}
-use Rattle.schedules.specs.Calls.{readSchedule, ruleRun, compile}
+use Rattle.schedules.specs.Calls.{ruleRun, compile}
 use Rattle.semantics.proofs.Computes as Semantics
 use Rattle.semantics.proofs.Facts.{some-is}
 use Rattle.schedules.proofs.Computes.{schedules, nodes, residuals}
@@ -45,10 +44,6 @@ pub K4-rules : ruleRun edition1 k1-file (start-at 9) k4-events (replicate 26 0)
 unfolding schedules k1-file k4-events k4-records
 K4-rules = refl
 
--- the number of locations of these nodes
-abbrev pub locationCount : List Node → Option ℕ
-locationCount ns = Option·map (λ (t : Tree). length (locations (testsOf ns) t)) (treeOf ns)
-
 -- K5: "PARALLEL of two RESETs: 3 locations."
 pub K5 : (v w : ℕ) (e f : List ℕ) → locationCount (parallel 2 ∷ reset v e ∷ reset w f ∷ []) ≡ some 3
 unfolding schedules
@@ -60,9 +55,6 @@ unfolding schedules
 K6 v t e = refl
 
 -- K7: "PARALLEL of STOP, CONTINUE: 2; picking STOP halts."
-abbrev pub stopOrWait : List ℕ → List Node
-stopOrWait t = parallel 2 ∷ stop-all ∷ continue-until t ∷ []
-
 pub K7-locations : (t : List ℕ) → locationCount (stopOrWait t) ≡ some 2
 unfolding schedules
 K7-locations t = refl
@@ -93,8 +85,8 @@ K7-halts s t e f vs ms h =
 
 -- "the target on done or true before that on false": an IF's first child has number 1, its second 2
 pub true-first : (v w : ℕ) (t e f : List ℕ) →
-  Option·map (locations (testsOf (if-else t ∷ reset v e ∷ reset w f ∷ []))) (treeOf (if-else t ∷ reset v e ∷ reset w f ∷ []))
-  ≡ some (at-node (branch 0 (leaf 1) (leaf 2)) ∷ in-branch (at-node (leaf 1)) ∷ in-branch (at-node (leaf 2)) ∷ [])
+    Option·map (locations (testsOf (if-else t ∷ reset v e ∷ reset w f ∷ []))) (treeOf (if-else t ∷ reset v e ∷ reset w f ∷ []))
+    ≡ some (at-node (branch 0 (leaf 1) (leaf 2)) ∷ in-branch (at-node (leaf 1)) ∷ in-branch (at-node (leaf 2)) ∷ [])
 unfolding schedules
 true-first v w t e f = refl
 

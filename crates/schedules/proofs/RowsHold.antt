@@ -3,18 +3,17 @@ use mathlib.Core.Path.{_≡_, refl, sym, ap, subst, _∙_}
 use mathlib.Core.Bool.{Bool, true, false}
 use mathlib.Core.List.{List, [], _∷_, map, List·Memᴰ as Mem, List·Memᴰ·head as first, List·Memᴰ·tail as later, List·Memᴰ·not-nil, List·Memᴰ·cases-cons}
 use mathlib.Core.Logic.{_⊎_, inl, inr}
-use mathlib.Core.Option.{Option, none, some, Option·getD}
+use mathlib.Core.Option.{some}
 use Prim.Native.Nat.{ℕ, zero, suc, _≤_}
 use lib.ListN.{length, getElem?}
 use Rattle.semantics.specs.Editions.{Edition}
 use Rattle.semantics.specs.Run.{Next, to, finished, halted, idle}
-use Rattle.semantics.specs.TableFile.{Entry, FINISHED, HALTED, NONE, locationLimit}
+use Rattle.semantics.specs.TableFile.{NONE, locationLimit}
 use Rattle.semantics.proofs.Facts.{none-not-some, some-is, at-mem}
 use Rattle.schedules.specs.Residuals.{Residual, acting, move, same?}
-use Rattle.schedules.specs.Numbering.{numberOf}
 use Rattle.schedules.specs.Files.{Schedule}
 use Rattle.schedules.specs.Compiling.{testsOf, scheduleLocations, targetCode, entryOf, entriesOf}
-use Rattle.schedules.specs.Reached.{Moves, Stands, at-location, at-finish, at-halt, Edge, Row, Rows}
+use Rattle.schedules.specs.Reached.{Stands, at-location, at-finish, at-halt, Edge, Row, Rows}
 use Rattle.schedules.proofs.FirstNumber.{Passed}
 use Rattle.schedules.proofs.Numbered.{number-found, number-exists}
 use Rattle.schedules.proofs.MovesFit.{never-idle}
@@ -62,18 +61,21 @@ module _ (ed : Edition) (file : List ℕ) (s : Schedule) (g : Passed ed file s) 
   edge : (r : Residual) → Mem r l → (n : ℕ) → Mem n (acting r) → Edge tests l r (entryOf tests l r n)
   unfolding entryOf
   edge r m n i = record {
-      on-true = stands l (move r n true) (λ u e. leads-in ed file s g fits m (record { node = n; outcome = true; is-acting = i; can = inl refl; leads = e })) (never-idle r n true i);
-      on-false = λ t. subst (Stands l (move r n false)) (sym (on-test (tests n) _ NONE t)) (stands l (move r n false) (λ u e. leads-in ed file s g fits m (record { node = n; outcome = false; is-acting = i; can = inr t; leads = e })) (never-idle r n false i));
-      no-other = λ t. not-test (tests n) (targetCode l (move r n false)) NONE t }
+    on-true = stands l (move r n true) (λ u e. leads-in ed file s g fits m (record { node = n; outcome = true; is-acting = i; can = inl refl; leads = e })) (never-idle r n true i);
+    on-false = λ t. subst (Stands l (move r n false)) (sym (on-test (tests n) _ NONE t)) (stands l (move r n false) (λ u e. leads-in ed file s g fits m (record { node = n; outcome = false; is-acting = i; can = inr t; leads = e })) (never-idle r n false i));
+    no-other = λ t. not-test (tests n) (targetCode l (move r n false)) NONE t;
+  }
 
   row : (r : Residual) → Mem r l → Row tests l r (entriesOf tests l r)
   unfolding entriesOf
   row r m = record {
-      nodes = nodes-of tests l r (acting r);
-      rising = acting-rise-from-0 (of-root ed file s g fits r m) (spans ed file s g fits);
-      edges = λ e n. let q = mapped (entryOf tests l r) (acting r) n in subst (Edge tests l r) (sym (q .2)) (edge r m (q .0) (q .1)) }
+    nodes = nodes-of tests l r (acting r);
+    rising = acting-rise-from-0 (of-root ed file s g fits r m) (spans ed file s g fits);
+    edges = λ e n. let q = mapped (entryOf tests l r) (acting r) n in subst (Edge tests l r) (sym (q .2)) (edge r m (q .0) (q .1));
+  }
 
   pub rows-hold : Rows tests l (map (entriesOf tests l) l)
   rows-hold = record {
-      as-many = as-many ed file s g fits;
-      row = λ k r es i j. subst (Row tests l r) (sym (at-mapped (entriesOf tests l) l k i j)) (row r (at-mem l k i)) }
+    as-many = as-many ed file s g fits;
+    row = λ k r es i j. subst (Row tests l r) (sym (at-mapped (entriesOf tests l) l k i j)) (row r (at-mem l k i));
+  }

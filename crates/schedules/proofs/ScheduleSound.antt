@@ -1,7 +1,7 @@
 -- A schedule whose nodes name what exists is sound: an acting node has its move, and what is assigned is declared.
 use mathlib.Core.Path.{_≡_, refl, sym, _∙_}
 use mathlib.Core.Bool.{Bool, true, false}
-use mathlib.Core.List.{List, _∷_, List·Memᴰ as Mem}
+use mathlib.Core.List.{List, _∷_}
 use mathlib.Core.Option.{Option, none, some}
 use Prim.Native.Nat.{ℕ, suc, _<_}
 use native.Mathlib.Omega.{arith}
@@ -11,14 +11,13 @@ use lib.ListN.{length}
 use Rattle.semantics.specs.Bytes.{every}
 use Rattle.semantics.specs.Sections.{Selector}
 use Rattle.semantics.specs.Plant.{selectors}
-use Rattle.semantics.specs.Run.{Action, assign, idle}
+use Rattle.semantics.specs.Run.{Action, assign}
 use Rattle.semantics.specs.Rules.{Sound}
 use Rattle.semantics.specs.TableFile.{NodeAction}
 use Rattle.semantics.specs.Tables.{actionAt, actionOrStop}
 use Rattle.semantics.proofs.Facts.{All, all-nil, all-cons, every-all}
 use Rattle.schedules.proofs.MovesFit.{never-idle}
 use Rattle.schedules.specs.Nodes.{Node, sequence, parallel, while-do, if-else, continue-until, reset, reinitial, switch-to, stop-all, nodeNamed, actionOf, listed, actionsFrom, actionsOf}
-use Rattle.schedules.specs.Residuals.{Residual, acting, move}
 use Rattle.schedules.specs.Files.{Schedule, ruleControl}
 
 module _ (a : NodeAction) (l : List NodeAction) (n : ℕ) where

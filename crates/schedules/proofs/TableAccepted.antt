@@ -1,10 +1,10 @@
 -- The table of an accepted schedule with no more locations than a table may hold is accepted, and reads as the table that is meant.
-use mathlib.Core.Path.{_≡_, refl, sym, ap, subst, _∙_}
-use mathlib.Core.Bool.{Bool, true, false, _&&_, cond}
+use mathlib.Core.Path.{_≡_, refl, sym, ap, _∙_}
+use mathlib.Core.Bool.{Bool, true, false, cond}
 use mathlib.Core.List.{List, [], _∷_, map, List·Memᴰ as Mem, List·Memᴰ·head as first, List·Memᴰ·tail as later}
-use mathlib.Core.Logic.{_⊎_, inl, inr}
-use mathlib.Core.Option.{Option, none, some, Option·getD}
-use Prim.Native.Nat.{ℕ, zero, suc, _+_, _≤_, _<_}
+use mathlib.Core.Logic.{inl, inr}
+use mathlib.Core.Option.{some}
+use Prim.Native.Nat.{ℕ, _≤_}
 use native.Mathlib.Nat.{le-trans}
 use native.Mathlib.Omega.{arith}
 use borrow.Author.Tests.{lt-ltb}
@@ -12,24 +12,23 @@ use lib.Dec.{ltb, eqb}
 use lib.ListN.{length, length-map}
 use Rattle.semantics.specs.Bytes.{every}
 use Rattle.semantics.specs.Editions.{Edition}
-use Rattle.semantics.specs.Refusals.{Judged, accepted}
-use Rattle.semantics.specs.Plant.{Plant, selectors, switchesRead}
-use Rattle.semantics.specs.Run.{Action, test, wait, assign, switch, stop, isTest, Next, to, finished, halted, idle}
-use Rattle.semantics.specs.TableFile.{NodeAction, Entry, FINISHED, HALTED, NONE, locationLimit, actionBytes}
-use Rattle.semantics.specs.Tables.{Table, judgeTable, risingFrom, actionFits, actionsFit, actionAt, actionOrStop, goesOn, targetsFit, entryFits, entryNodes, locationFits, locationsFit}
-use Rattle.semantics.proofs.Facts.{none-not-some, and-left, and-right, and-both, All, all-nil, all-cons, all-map, every-all, all-every, at-below}
+use Rattle.semantics.specs.Refusals.{accepted}
+use Rattle.semantics.specs.Plant.{selectors, switchesRead}
+use Rattle.semantics.specs.Run.{Action, test, wait, assign, switch, stop, isTest, Next, to}
+use Rattle.semantics.specs.TableFile.{NodeAction, FINISHED, HALTED, NONE, locationLimit}
+use Rattle.semantics.specs.Tables.{judgeTable, risingFrom, actionFits, actionsFit, actionAt, actionOrStop, goesOn, targetsFit, entryFits, locationFits, locationsFit}
+use Rattle.semantics.proofs.Facts.{none-not-some, and-left, and-right, and-both, All, all-nil, all-cons, every-all, all-every, at-below}
 use Rattle.semantics.proofs.TableBack.{Short, table-back}
-use Rattle.schedules.specs.Nodes.{Node, actionsOf, nodeNamed, nodeReads}
-use Rattle.schedules.specs.Trees.{Tree}
-use Rattle.schedules.specs.Residuals.{Residual, fresh, acting, move, same?}
-use Rattle.schedules.specs.Numbering.{numberOf, locations}
+use Rattle.schedules.specs.Nodes.{actionsOf, nodeNamed, nodeReads}
+use Rattle.schedules.specs.Residuals.{Residual, acting, same?}
+use Rattle.schedules.specs.Numbering.{locations}
 use Rattle.schedules.specs.Files.{Schedule}
 use Rattle.schedules.specs.Compiling.{testsOf, scheduleLocations, targetCode, entryOf, entriesOf, tableOf}
 use Rattle.schedules.proofs.FirstNumber.{Passed}
 use Rattle.schedules.proofs.TreeShapes.{Spans, Kinds, isStop}
 use Rattle.schedules.proofs.ActingDetermines.{Of, NonEmpty, non-empty, some-acts}
 use Rattle.schedules.proofs.ResidualsKept.{of-fresh, kept-to, acting-rise-from-0}
-use Rattle.schedules.proofs.MovesFit.{FitNext, fit-to, fit-finished, fit-halted, Fit, move-fits}
+use Rattle.schedules.proofs.MovesFit.{FitNext, fit-to, fit-finished, fit-halted, move-fits}
 use Rattle.schedules.proofs.Numbered.{number-found, number-exists}
 use Rattle.schedules.proofs.Reached.{Moves, reached, closed-under, locations-all}
 use Rattle.schedules.proofs.ReadShapes.{root-shapes}

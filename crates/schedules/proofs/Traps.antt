@@ -1,15 +1,12 @@
 -- Negative papers: for each trap that document 01 names, a small run that tells the right rule from the wrong one.
 use mathlib.Core.Path.{_≡_, refl}
-use mathlib.Core.List.{List, [], _∷_, _++_}
-use Prim.Native.Nat.{ℕ}
+use mathlib.Core.List.{[], _∷_}
 use lib.ListN.{replicate}
-use lib.IntN.{ℤ}
 use Rattle.semantics.specs.Editions.{edition1}
-use Rattle.semantics.specs.Calls.{Ran}
-use Rattle.semantics.proofs.K1.{start-at, one-record}
-use Rattle.schedules.specs.Calls.{Compiled, compile, ruleRun}
+use Rattle.semantics.specs.K1.{start-at, one-record}
+use Rattle.schedules.specs.Calls.{compile, ruleRun}
 use Rattle.schedules.proofs.Computes.{schedules}
-use Rattle.schedules.proofs.Examples.{one-wait-file, stop-wait-file, two-rates-file, two-rates-file-2, while-file, stop-reset-file, stop-reset-table, faulty-check-file}
+use Rattle.schedules.specs.Examples.{one-wait-file, stop-wait-file, two-rates-file, two-rates-file-2, while-file, stop-reset-file, stop-reset-table, faulty-check-file}
 
 -- "or" that skips its right side would answer 201: the pick of CONTINUE UNTIL (true or a fault) faults
 pub or-evaluates-both : ruleRun edition1 one-wait-file (start-at 0) (1 ∷ 0 ∷ 0 ∷ []) (replicate 13 9)

@@ -1,24 +1,24 @@
 -- Where the inputs are bytes, so is every element of a table that is compiled and of a record that is written.
-use mathlib.Core.Path.{_≡_, refl, sym, ap, subst, _∙_}
+use mathlib.Core.Path.{_≡_, refl, sym, subst}
 use mathlib.Core.Bool.{Bool, true, false, cond}
-use mathlib.Core.List.{List, [], _∷_, _++_, map, List·Memᴰ as Mem}
-use mathlib.Core.Option.{Option, none, some}
-use Prim.Native.Nat.{ℕ, zero, suc, _≤_, _<_}
+use mathlib.Core.List.{List, [], _∷_, map}
+use mathlib.Core.Option.{none, some}
+use Prim.Native.Nat.{ℕ, _≤_, _<_}
 use native.Mathlib.Nat.{le-trans}
 use native.Mathlib.Omega.{arith}
 use lib.Dec.{leb, lit<}
 use lib.ListN.{length, drop, length-map}
-use Rattle.semantics.specs.Bytes.{overwrite, Reader, section2, number, bytes, byteAndRest, twoBytes, noBytes}
+use Rattle.semantics.specs.Bytes.{overwrite, section2, byteAndRest, twoBytes, noBytes}
 use Rattle.semantics.specs.Editions.{Edition}
 use Rattle.semantics.specs.Refusals.{Judged, refused, accepted}
 use Rattle.semantics.specs.Run.{Action}
-use Rattle.semantics.specs.TableFile.{NodeAction, locationLimit, actionBytes}
-use Rattle.semantics.specs.Calls.{Program, Ran}
+use Rattle.semantics.specs.TableFile.{locationLimit, actionBytes}
+use Rattle.semantics.specs.Calls.{Program}
 use Rattle.semantics.proofs.Facts.{none-not-some, some-is, All, all-nil, all-cons, all-append}
-use Rattle.semantics.proofs.Judging.{accepted-is, passed-then, passed-ensure}
+use Rattle.semantics.proofs.Judging.{accepted-is, passed-then}
 use Rattle.semantics.proofs.Readers.{bytes-read}
 use Rattle.semantics.proofs.WrittenRecords.{Byte}
-use Rattle.semantics.proofs.WrittenSources.{Made, Makes, makes-then, makes-give, makes-guard, makes-from, makes-byte, makes-nat2, makes-number, makes-bytes, makes-times, Several, whole-makes, all-drop, plant-bytes, ActionWritten, actions-bytes, ProgramBytes, buffer-bytes}
+use Rattle.semantics.proofs.WrittenSources.{Makes, makes-then, makes-give, makes-guard, makes-from, makes-byte, makes-nat2, makes-number, makes-bytes, makes-times, whole-makes, all-drop, plant-bytes, ActionWritten, actions-bytes, ProgramBytes, buffer-bytes}
 use Rattle.semantics.proofs.WrittenTables.{table-bytes, writable}
 use Rattle.schedules.specs.FileSections.{FileSections, readFileSections, fileSectionsIn}
 use Rattle.schedules.specs.Nodes.{Node, sequence, parallel, while-do, if-else, continue-until, reset, reinitial, switch-to, stop-all, Kind, a-sequence, a-parallel, a-while, an-if, a-continue, a-reset, a-reinitial, a-switch, a-stop, no-kind, kindOf, childCount, nodeOf, readNode, readNodes, nodesIn, actionOf, actionsOf}
@@ -29,9 +29,8 @@ use Rattle.schedules.specs.Calls.{compile, compiledInto, ruleProgram, ru
 use Rattle.schedules.proofs.FirstNumber.{Passed, passed}
 use Rattle.schedules.proofs.ResidualsKept.{acting-fit-a-byte}
 use Rattle.schedules.proofs.ActionsListed.{actions-few, actions-all}
-use Rattle.schedules.proofs.NodesRead.{Counted}
 use Rattle.schedules.proofs.TableAccepted.{counted, acts-fit, acts-short, of-root, spans, locs-fit, as-many, all-of, all-mapped}
-use Rattle.schedules.proofs.Agreement.{Taken, compile-taken}
+use Rattle.schedules.proofs.Agreement.{compile-taken}
 
 -- ---- sections
 pub record SectionBytes (b : List ℕ) : Type 0 where
@@ -40,10 +39,12 @@ pub record SectionBytes (b : List ℕ) : Type 0 where
 
 makes-section : Makes section2 SectionBytes
 unfolding section2
-makes-section = makes-then _ _ makes-nat2 (λ n h. record { makes = λ s k b t e.
-    let m = (makes-bytes n) .makes s k b t e in
-    let l = (bytes-read n s e) .0 in
-    record { made = record { each = m .made; fits = subst (λ n. n < 65536) (sym l) h }; left = m .left } })
+makes-section = makes-then _ _ makes-nat2 (λ n h. record {
+  makes = λ s k b t e.
+      let m = (makes-bytes n) .makes s k b t e in
+      let l = (bytes-read n s e) .0 in
+      record { made = record { each = m .made; fits = subst (λ n. n < 65536) (sym l) h }; left = m .left };
+})
 
 pub record PartsBytes (p : FileSections) : Type 0 where
   pub variables : SectionBytes (p .variables)
@@ -115,8 +116,10 @@ makes-node ed = makes-then _ _ (makes-number (ed .width)) (λ l h. makes-guard _
 
 makes-nodes : (ed : Edition) → Makes (readNodes ed) (All NodeBytes)
 unfolding readNodes
-makes-nodes ed = makes-then _ _ (makes-number (ed .width)) (λ n h. makes-guard _ _ (λ g. record { makes = λ s k l t e.
-    let m = (makes-times n (readNode ed) (makes-node ed)) .makes s k l t e in record { made = m .made .each; left = m .left } }))
+makes-nodes ed = makes-then _ _ (makes-number (ed .width)) (λ n h. makes-guard _ _ (λ g. record {
+  makes = λ s k l t e.
+      let m = (makes-times n (readNode ed) (makes-node ed)) .makes s k l t e in record { made = m .made .each; left = m .left };
+}))
 
 few-entries : (tests : ℕ → Bool) (l : List Residual) (r : Residual) → length (acting r) ≤ 255 → length (entriesOf tests l r) ≤ 255
 unfolding entriesOf
@@ -139,8 +142,9 @@ module _ (ed : Edition) (file : List ℕ) (s : Schedule) (g : Passed ed file s) 
   program-bytes : ProgramBytes (record { plant = s .plant; control = ruleControl s })
   unfolding ruleControl
   program-bytes = record {
-      plant = plant-bytes ed (s .sections .variables) (s .sections .equations) (g .plant) (parts-bytes .variables .each) (parts-bytes .equations .each);
-      control = record { actions = actions-bytes acts-bytes } }
+    plant = plant-bytes ed (s .sections .variables) (s .sections .equations) (g .plant) (parts-bytes .variables .each) (parts-bytes .equations .each);
+    control = record { actions = actions-bytes acts-bytes };
+  }
 
   written-table : length (scheduleLocations s) ≤ locationLimit → All Byte (tableOf ed s)
   unfolding tableOf
@@ -150,11 +154,11 @@ module _ (ed : Edition) (file : List ℕ) (s : Schedule) (g : Passed ed file s) 
       let few = (counted ed file s g fits) .few-nodes in
       let many = as-many ed file s g fits in
       table-bytes ed (s .sections .variables) (s .sections .equations) (actionsOf (s .nodes)) (map (entriesOf tests l) l)
-        (writable ed (s .plant) (s .sections .variables) (s .sections .equations) (actionsOf (s .nodes)) (map (entriesOf tests l) l)
-          (parts-bytes .variables .each) (parts-bytes .variables .fits) (parts-bytes .equations .each) (parts-bytes .equations .fits)
-          (le-trans (actions-few (s .nodes)) few) (acts-short ed file s g fits) acts-bytes (acts-fit ed file s g fits)
-          (omega arith) (all-mapped _ (entriesOf tests l) (all-of l (λ r m. few-entries tests l r (acting-fit-a-byte (of-root ed file s g fits r m) (spans ed file s g fits) (le-trans few (ed .entries-fit))))))
-          (locs-fit ed file s g fits))
+      (writable ed (s .plant) (s .sections .variables) (s .sections .equations) (actionsOf (s .nodes)) (map (entriesOf tests l) l)
+      (parts-bytes .variables .each) (parts-bytes .variables .fits) (parts-bytes .equations .each) (parts-bytes .equations .fits)
+      (le-trans (actions-few (s .nodes)) few) (acts-short ed file s g fits) acts-bytes (acts-fit ed file s g fits)
+      (omega arith) (all-mapped _ (entriesOf tests l) (all-of l (λ r m. few-entries tests l r (acting-fit-a-byte (of-root ed file s g fits r m) (spans ed file s g fits) (le-trans few (ed .entries-fit))))))
+      (locs-fit ed file s g fits))
 
 -- ---- the calls
 program : (ed : Edition) (file : List ℕ) → All Byte file → (g : Program Residual) → ruleProgram ed file ≡ accepted g → ProgramBytes g

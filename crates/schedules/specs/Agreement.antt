@@ -12,12 +12,14 @@ use Rattle.semantics.specs.Events.{eventsIn}
 use Rattle.semantics.specs.Starts.{Start, startIn}
 use Rattle.semantics.specs.Run.{Answered, at, recordOf, howMany, isTaken, isTurnedAway, isFaulted}
 use Rattle.semantics.specs.Rules.{Derives}
-use Rattle.semantics.specs.TableFile.{locationLimit}
+use Rattle.semantics.specs.TableFile.{locationLimit, tableBytes}
 use Rattle.semantics.specs.Tables.{Table, judgeTable}
 use Rattle.semantics.specs.Calls.{Ran, tableRun, readTable, eventCount, recordSize}
 use Rattle.semantics.specs.Conditions.{is20, is21, is22}
 use Rattle.schedules.specs.Residuals.{Residual, fresh}
 use Rattle.schedules.specs.Nodes.{actionsOf}
+use Rattle.schedules.specs.Preorder.{Written}
+use Rattle.schedules.specs.Conditions.{fileSchedule}
 use Rattle.schedules.specs.Reached.{Distinct, Leads, Reached, Rows}
 use Rattle.schedules.specs.Compiling.{testsOf}
 use Rattle.schedules.specs.Files.{Schedule, judgeFile, ruleControl}
@@ -27,6 +29,9 @@ use Rattle.schedules.specs.Calls.{ruleRun}
 pub record TableHolds (ed : Edition) (file table : List ℕ) : Type 0 where
   pub schedule : Schedule
   pub schedule-read : judgeFile ed file ≡ accepted schedule
+  -- it is what stands in the file: its parts, read one by one, and the tree that its nodes are
+  pub of-file : fileSchedule ed file ≡ some schedule
+  pub tree : Written (schedule .root) 0 (schedule .nodes)
   pub locations : List Residual
   pub reached : Reached (testsOf (schedule .nodes)) (schedule .root) locations
   -- the table's bytes, read back
@@ -35,6 +40,8 @@ pub record TableHolds (ed : Edition) (file table : List ℕ) : Type 0 where
   pub same-plant : back .plant ≡ schedule .plant
   pub actions : back .actions ≡ actionsOf (schedule .nodes)
   pub rows : Rows (testsOf (schedule .nodes)) locations (back .locations)
+  -- and the bytes are just those that the layout gives for this
+  pub bytes : table ≡ tableBytes ed (schedule .sections .variables) (schedule .sections .equations) (actionsOf (schedule .nodes)) (back .locations)
 
 -- more residuals can be reached than a table may hold
 pub record TooMany (s : Schedule) : Type 0 where
@@ -62,10 +69,14 @@ pub record RunsAgree (ed : Edition) (s : Schedule) (st : Start) (events : List �
 
 -- ---- the table of this file
 pub record Agrees (ed : Edition) (file table : List ℕ) : Type 0 where
-  -- the table runner accepts the table
+  -- none of 15 to 19 applies to the table
   pub table-read : (readTable ed table) .refusal ≡ 0
   pub schedule : Schedule
   pub schedule-read : judgeFile ed file ≡ accepted schedule
+  pub of-file : fileSchedule ed file ≡ some schedule
+  pub tree : Written (schedule .root) 0 (schedule .nodes)
+  -- for every start, event list and record buffer both calls return the same and leave the same, also where they refuse
+  pub same : (start events buffer : List ℕ) → ruleRun ed file start events buffer ≡ tableRun ed table start events buffer
   -- for every start that 20 lets pass, every list of whole events and all buffers that are long enough
   pub runs : (start events by-rules by-table : List ℕ) →
       is20 ed (some (schedule .plant)) start events by-rules ≡ false → is21 ed (some (schedule .plant)) start events by-rules ≡ false →

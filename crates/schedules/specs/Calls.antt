@@ -1,5 +1,5 @@
 -- The calls over a schedule file: all that each returns, and what a lent buffer holds afterwards, for all inputs.
-use mathlib.Core.List.{List, [], _∷_}
+use mathlib.Core.List.{List}
 use Prim.Native.Nat.{ℕ}
 use lib.ListN.{length}
 use Rattle.semantics.specs.Bytes.{overwrite}

@@ -1,7 +1,7 @@
 -- Document 01, "When a file, table or event is turned away": 1 to 14 in their order, each with its sentence as a test of the file alone.
-use mathlib.Core.Bool.{Bool, true, false, not, _&&_}
+use mathlib.Core.Bool.{Bool, not, _&&_}
 use mathlib.Core.List.{List, [], _∷_, _++_}
-use mathlib.Core.Option.{Option, none, some, bind}
+use mathlib.Core.Option.{Option, some, bind}
 use Prim.Native.Nat.{ℕ}
 use lib.ListN.{length, drop}
 use lib.Dec.{leb}

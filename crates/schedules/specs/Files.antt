@@ -1,7 +1,6 @@
 -- Document 01, "Schedule file": conditions 1 to 12, and the control of a schedule.
-use mathlib.Core.Bool.{Bool, true, false, _&&_}
-use mathlib.Core.List.{List, [], _∷_}
-use mathlib.Core.Option.{Option}
+use mathlib.Core.Bool.{Bool, _&&_}
+use mathlib.Core.List.{List}
 use Prim.Native.Nat.{ℕ}
 use lib.ListN.{length, getD, drop}
 use lib.Dec.{leb, eqb}

@@ -11,3 +11,4 @@ pub mod Compiling
 pub mod Calls
 pub mod Conditions
 pub mod Agreement
+pub mod Examples

@@ -1,8 +1,8 @@
 -- Document 01, "Schedule file": the schedule section. Conditions 9 and 11, and 12 of the nodes.
-use mathlib.Core.Bool.{Bool, true, false, cond}
+use mathlib.Core.Bool.{Bool, true, cond}
 use mathlib.Core.List.{List, [], _∷_}
 use mathlib.Core.Option.{Option, none, some}
-use Prim.Native.Nat.{ℕ, zero, suc, _-_}
+use Prim.Native.Nat.{ℕ, suc, _-_}
 use lib.Dec.{leb, ltb, eqb}
 use Rattle.semantics.specs.Bytes.{isSome, within, Reader, _>>=_, guard, from, byte, number, bytes, times, whole, noBytes, twoBytes, byteAndRest}
 use Rattle.semantics.specs.Editions.{Edition}

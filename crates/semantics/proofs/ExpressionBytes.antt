@@ -79,7 +79,7 @@ module _ (ed : Edition) (v : ℕ) where
   unfolding readTruth toTruth
   reads-as-truth r h = reads-sort r toTruth refl h
 
-  pub reads-number : (e : Number) (d : ℕ) → numberDepth e ≤ d → numberKnown v e ≡ true → Reads (readExpression ed v d) (numberBytes e) (a-number e)
+  pub reads-number : (e : Number) (d : ℕ) → numberDepth e ≤ d → numberKnown v e ≡ true → Reads (readExpression ed v d) (numberBytes ed e) (a-number e)
   unfolding numberDepth numberKnown numberBytes readForm readVariable formOf
   reads-number (constant z) zero h k = absurd (omega arith)
   reads-number (constant z) (suc d) h k = reads-form d 0x01 a-constant refl (reads-last int4 (λ z. a-number (constant z)) (reads-int4 z k))
@@ -94,7 +94,7 @@ module _ (ed : Edition) (v : ℕ) where
   reads-number (negation a) (suc d) h k =
       reads-form d 0x14 a-negation refl (reads-last _ (λ a. a-number (negation a)) (reads-as-number _ (reads-number a d (omega arith) k)))
 
-  pub reads-truth : (e : Truth) (d : ℕ) → truthDepth e ≤ d → truthKnown v e ≡ true → Reads (readExpression ed v d) (truthBytes e) (a-truth e)
+  pub reads-truth : (e : Truth) (d : ℕ) → truthDepth e ≤ d → truthKnown v e ≡ true → Reads (readExpression ed v d) (truthBytes ed e) (a-truth e)
   unfolding truthDepth truthKnown truthBytes readForm formOf
   reads-truth (compare c a b) zero h k = absurd (omega arith)
   reads-truth (compare c a b) (suc d) h k =
@@ -113,18 +113,18 @@ module _ (ed : Edition) (v : ℕ) where
   reads-truth always (suc d) h k = reads-form d 0x2f a-true refl (reads-give (a-truth always))
 
   -- ---- the encoding is accepted
-  pub number-encoded : (e : Number) → numberDepth e ≤ 16 → numberKnown v e ≡ true → numberIn ed v (numberBytes e) ≡ some e
+  pub number-encoded : (e : Number) → numberDepth e ≤ 16 → numberKnown v e ≡ true → numberIn ed v (numberBytes ed e) ≡ some e
   unfolding numberIn
   number-encoded e h k = whole-reads _ (reads-as-number _ (reads-number e 16 h k))
 
-  pub truth-encoded : (e : Truth) → truthDepth e ≤ 16 → truthKnown v e ≡ true → truthIn ed v (truthBytes e) ≡ some e
+  pub truth-encoded : (e : Truth) → truthDepth e ≤ 16 → truthKnown v e ≡ true → truthIn ed v (truthBytes ed e) ≡ some e
   unfolding truthIn
   truth-encoded e h k = whole-reads _ (reads-as-truth _ (reads-truth e 16 h k))
 
 -- ---- what is read is an expression's encoding
-abbrev pub bytesOf : Expression → List ℕ
-bytesOf (a-number e) = numberBytes e
-bytesOf (a-truth e) = truthBytes e
+abbrev pub bytesOf : Edition → Expression → List ℕ
+bytesOf ed (a-number e) = numberBytes ed e
+bytesOf ed (a-truth e) = truthBytes ed e
 
 abbrev pub depthOf : Expression → ℕ
 depthOf (a-number e) = numberDepth e
@@ -135,22 +135,22 @@ knownOf v (a-number e) = numberKnown v e
 knownOf v (a-truth e) = truthKnown v e
 
 -- s is the encoding of x, of at most this depth, and t after it
-pub record Decoded (v depth : ℕ) (s : List ℕ) (x : Expression) (t : List ℕ) : Type 0 where
-  pub taken : s ≡ bytesOf x ++ t
+pub record Decoded (ed : Edition) (v depth : ℕ) (s : List ℕ) (x : Expression) (t : List ℕ) : Type 0 where
+  pub taken : s ≡ bytesOf ed x ++ t
   pub deep : depthOf x ≤ depth
   pub known : knownOf v x ≡ true
   pub left : Bytes t
 
 -- a reader that takes encodings of at most this depth
-pub record Decodes (v depth : ℕ) (r : Reader Expression) : Type 0 where
-  pub decodes : (s : List ℕ) {x : Expression} {t : List ℕ} → Bytes s → r s ≡ read x t → Decoded v depth s x t
+pub record Decodes (ed : Edition) (v depth : ℕ) (r : Reader Expression) : Type 0 where
+  pub decodes : (s : List ℕ) {x : Expression} {t : List ℕ} → Bytes s → r s ≡ read x t → Decoded ed v depth s x t
 
-gives : {v d : ℕ} {s : List ℕ} (y : Expression) (u : List ℕ) {x : Expression} {t : List ℕ} → Decoded v d s y u → give y u ≡ read x t → Decoded v d s x t
-gives {v} {d} {s} y u {x} {t} h e = subst (λ x. Decoded v d s x t) (given y u e) (subst (λ t. Decoded v d s y t) (given-rest y u e) h)
+gives : {ed : Edition} {v d : ℕ} {s : List ℕ} (y : Expression) (u : List ℕ) {x : Expression} {t : List ℕ} → Decoded ed v d s y u → give y u ≡ read x t → Decoded ed v d s x t
+gives {ed} {v} {d} {s} y u {x} {t} h e = subst (λ x. Decoded ed v d s x t) (given y u e) (subst (λ t. Decoded ed v d s y t) (given-rest y u e) h)
 
 -- a code and one operand, or two
-one-operand : {v d c k : ℕ} (a x : Expression) {s t : List ℕ} → c ≡ k → bytesOf x ≡ k ∷ bytesOf a → depthOf x ≡ suc (depthOf a) → knownOf v x ≡ knownOf v a →
-    Decoded v d s a t → Decoded v (suc d) (c ∷ s) x t
+one-operand : {ed : Edition} {v d c k : ℕ} (a x : Expression) {s t : List ℕ} → c ≡ k → bytesOf ed x ≡ k ∷ bytesOf ed a → depthOf x ≡ suc (depthOf a) → knownOf v x ≡ knownOf v a →
+    Decoded ed v d s a t → Decoded ed v (suc d) (c ∷ s) x t
 one-operand {k = k} a x h e f g i = record {
   taken = rw (h, e) (ap (λ u. k ∷ u) (i .taken));
   deep = let l = i .deep in omega arith;
@@ -158,10 +158,10 @@ one-operand {k = k} a x h e f g i = record {
   left = i .left;
 }
 
-two-operands : {v d c k : ℕ} (a b x : Expression) {s u t : List ℕ} → c ≡ k → bytesOf x ≡ k ∷ (bytesOf a ++ bytesOf b) → depthOf x ≡ suc (max (depthOf a) (depthOf b)) →
-    knownOf v x ≡ (knownOf v a && knownOf v b) → Decoded v d s a u → Decoded v d u b t → Decoded v (suc d) (c ∷ s) x t
-two-operands {k = k} a b x {t = t} h e f g i j = record {
-  taken = rw (h, e, append-assoc (bytesOf a) (bytesOf b) t, ← j .taken) (ap (λ u. k ∷ u) (i .taken));
+two-operands : {ed : Edition} {v d c k : ℕ} (a b x : Expression) {s u t : List ℕ} → c ≡ k → bytesOf ed x ≡ k ∷ (bytesOf ed a ++ bytesOf ed b) → depthOf x ≡ suc (max (depthOf a) (depthOf b)) →
+    knownOf v x ≡ (knownOf v a && knownOf v b) → Decoded ed v d s a u → Decoded ed v d u b t → Decoded ed v (suc d) (c ∷ s) x t
+two-operands {ed = ed} {k = k} a b x {t = t} h e f g i j = record {
+  taken = rw (h, e, append-assoc (bytesOf ed a) (bytesOf ed b) t, ← j .taken) (ap (λ u. k ∷ u) (i .taken));
   deep = let l = i .deep in let m = j .deep in omega arith;
   known = g ∙ and-both (i .known) (j .known);
   left = j .left;
@@ -183,29 +183,29 @@ unfolding toTruth
 to-truth (a-number a) e h = none-not-some h
 to-truth (a-truth a) e h = ap a-truth (some-is h)
 
-decoded-sort : {A : Type 0} {v d : ℕ} (r : Reader Expression) (to : Expression → Option A) (back : A → Expression) → ((x : Expression) (e : A) → to x ≡ some e → x ≡ back e) →
-    Decodes v d r → (s : List ℕ) {e : A} {t : List ℕ} → Bytes s → (r >>= λ x. from (to x)) s ≡ read e t → Decoded v d s (back e) t
-decoded-sort {v = v} {d = d} r to back inverse h s {e} {t} p k =
+decoded-sort : {A : Type 0} {ed : Edition} {v d : ℕ} (r : Reader Expression) (to : Expression → Option A) (back : A → Expression) → ((x : Expression) (e : A) → to x ≡ some e → x ≡ back e) →
+    Decodes ed v d r → (s : List ℕ) {e : A} {t : List ℕ} → Bytes s → (r >>= λ x. from (to x)) s ≡ read e t → Decoded ed v d s (back e) t
+decoded-sort {ed = ed} {v = v} {d = d} r to back inverse h s {e} {t} p k =
     let q = split r _ k in
     let f = from-some (to (q .value)) (q .then) in
     let i = h .decodes s p (q .first) in
-    subst (λ x. Decoded v d s x t) (inverse (q .value) e (f .0)) (subst (λ t. Decoded v d s (q .value) t) (f .1) i)
+    subst (λ x. Decoded ed v d s x t) (inverse (q .value) e (f .0)) (subst (λ t. Decoded ed v d s (q .value) t) (f .1) i)
 
 module _ (ed : Edition) (v : ℕ) where
-  decoded-number : {d : ℕ} (r : Reader Expression) → Decodes v d r → (s : List ℕ) {e : Number} {t : List ℕ} → Bytes s → readNumber ed v r s ≡ read e t → Decoded v d s (a-number e) t
+  decoded-number : {d : ℕ} (r : Reader Expression) → Decodes ed v d r → (s : List ℕ) {e : Number} {t : List ℕ} → Bytes s → readNumber ed v r s ≡ read e t → Decoded ed v d s (a-number e) t
   unfolding readNumber
   decoded-number r h s p k = decoded-sort r toNumber a-number to-number h s p k
 
-  decoded-truth : {d : ℕ} (r : Reader Expression) → Decodes v d r → (s : List ℕ) {e : Truth} {t : List ℕ} → Bytes s → readTruth ed v r s ≡ read e t → Decoded v d s (a-truth e) t
+  decoded-truth : {d : ℕ} (r : Reader Expression) → Decodes ed v d r → (s : List ℕ) {e : Truth} {t : List ℕ} → Bytes s → readTruth ed v r s ≡ read e t → Decoded ed v d s (a-truth e) t
   unfolding readTruth
   decoded-truth r h s p k = decoded-sort r toTruth a-truth to-truth h s p k
 
-  variable-decoded : {c d n : ℕ} {s t : List ℕ} → c ≡ 0x02 → s ≡ n ∷ t → Bytes s → ltb n v ≡ true → Decoded v (suc d) (c ∷ s) (a-number (variable n)) t
+  variable-decoded : {c d n : ℕ} {s t : List ℕ} → c ≡ 0x02 → s ≡ n ∷ t → Bytes s → ltb n v ≡ true → Decoded ed v (suc d) (c ∷ s) (a-number (variable n)) t
   unfolding numberBytes numberDepth numberKnown
   variable-decoded e f p g = record { taken = rw (e, f) refl; deep = omega arith; known = g; left = bytes-tail f p }
 
-  decoded-form : {d : ℕ} (r : Reader Expression) → Decodes v d r → (c : ℕ) (f : Form) → Stands c f →
-      (s : List ℕ) {x : Expression} {t : List ℕ} → Bytes s → readForm ed v r f s ≡ read x t → Decoded v (suc d) (c ∷ s) x t
+  decoded-form : {d : ℕ} (r : Reader Expression) → Decodes ed v d r → (c : ℕ) (f : Form) → Stands c f →
+      (s : List ℕ) {x : Expression} {t : List ℕ} → Bytes s → readForm ed v r f s ≡ read x t → Decoded ed v (suc d) (c ∷ s) x t
   unfolding readForm readVariable fail numberBytes truthBytes numberDepth truthDepth numberKnown truthKnown
   decoded-form r h c a-constant e s p k =
       let q = split int4 _ k in
@@ -244,55 +244,55 @@ module _ (ed : Edition) (v : ℕ) where
   decoded-form r h c a-true e s p k = gives (a-truth always) s (record { taken = ap (λ c. c ∷ s) e; deep = omega arith; known = refl; left = p }) k
   decoded-form r h c unknown e s p k = broken-not-read k
 
-  decoded-byte : {d : ℕ} → Decodes v d (readExpression ed v d) → (s : List ℕ) {x : Expression} {t : List ℕ} → Bytes s → readExpression ed v (suc d) s ≡ read x t → Decoded v (suc d) s x t
+  decoded-byte : {d : ℕ} → Decodes ed v d (readExpression ed v d) → (s : List ℕ) {x : Expression} {t : List ℕ} → Bytes s → readExpression ed v (suc d) s ≡ read x t → Decoded ed v (suc d) s x t
   unfolding readExpression
   decoded-byte {d} h s {x} {t} p k =
       let q = split byte _ k in
       let e = byte-read s (q .first) in
-      subst (λ s. Decoded v (suc d) s x t) (sym e) (decoded-form (readExpression ed v d) h (q .value) (formOf (q .value)) (form-stands (q .value)) (q .rest) (bytes-tail e p) (q .then))
+      subst (λ s. Decoded ed v (suc d) s x t) (sym e) (decoded-form (readExpression ed v d) h (q .value) (formOf (q .value)) (form-stands (q .value)) (q .rest) (bytes-tail e p) (q .then))
 
-  pub decoded : (d : ℕ) → Decodes v d (readExpression ed v d)
+  pub decoded : (d : ℕ) → Decodes ed v d (readExpression ed v d)
   unfolding readExpression fail
   decoded zero = record { decodes = λ s p k. broken-not-read k }
   decoded (suc d) = record { decodes = decoded-byte (decoded d) }
 
   -- ---- what is accepted is an encoding
-  pub number-decoded : (s : List ℕ) (e : Number) → All (λ b. b < 256) s → numberIn ed v s ≡ some e → (numberBytes e ≡ s) × (numberDepth e ≤ 16) × (numberKnown v e ≡ true)
+  pub number-decoded : (s : List ℕ) (e : Number) → All (λ b. b < 256) s → numberIn ed v s ≡ some e → (numberBytes ed e ≡ s) × (numberDepth e ≤ 16) × (numberKnown v e ≡ true)
   unfolding numberIn
   number-decoded s e p k =
       let i = decoded-number (readExpression ed v 16) (decoded 16) s p (whole-read _ s k) in
-      (sym (i .taken ∙ append-nil (numberBytes e)), i .deep, i .known)
+      (sym (i .taken ∙ append-nil (numberBytes ed e)), i .deep, i .known)
 
-  pub truth-decoded : (s : List ℕ) (e : Truth) → All (λ b. b < 256) s → truthIn ed v s ≡ some e → (truthBytes e ≡ s) × (truthDepth e ≤ 16) × (truthKnown v e ≡ true)
+  pub truth-decoded : (s : List ℕ) (e : Truth) → All (λ b. b < 256) s → truthIn ed v s ≡ some e → (truthBytes ed e ≡ s) × (truthDepth e ≤ 16) × (truthKnown v e ≡ true)
   unfolding truthIn
   truth-decoded s e p k =
       let i = decoded-truth (readExpression ed v 16) (decoded 16) s p (whole-read _ s k) in
-      (sym (i .taken ∙ append-nil (truthBytes e)), i .deep, i .known)
+      (sym (i .taken ∙ append-nil (truthBytes ed e)), i .deep, i .known)
 
   -- ---- 12: accepted just where they are an encoding
   pub number-is : (s : List ℕ) (e : Number) → All (λ b. b < 256) s →
-      (numberIn ed v s ≡ some e) ↔ ((numberBytes e ≡ s) × (numberDepth e ≤ 16) × (numberKnown v e ≡ true))
+      (numberIn ed v s ≡ some e) ↔ ((numberBytes ed e ≡ s) × (numberDepth e ≤ 16) × (numberKnown v e ≡ true))
   number-is s e p = (number-decoded s e p, λ h. subst (λ s. numberIn ed v s ≡ some e) (h .0) (number-encoded ed v e (h .1) (h .2)))
 
   pub truth-is : (s : List ℕ) (e : Truth) → All (λ b. b < 256) s →
-      (truthIn ed v s ≡ some e) ↔ ((truthBytes e ≡ s) × (truthDepth e ≤ 16) × (truthKnown v e ≡ true))
+      (truthIn ed v s ≡ some e) ↔ ((truthBytes ed e ≡ s) × (truthDepth e ≤ 16) × (truthKnown v e ≡ true))
   truth-is s e p = (truth-decoded s e p, λ h. subst (λ s. truthIn ed v s ≡ some e) (h .0) (truth-encoded ed v e (h .1) (h .2)))
 
   pub expression-bytes : (s : List ℕ) → All (λ b. b < 256) s →
-      (isSome (numberIn ed v s) ≡ true) ↔ ((e : Number) × (numberBytes e ≡ s) × (numberDepth e ≤ 16) × (numberKnown v e ≡ true))
+      (isSome (numberIn ed v s) ≡ true) ↔ ((e : Number) × (numberBytes ed e ≡ s) × (numberDepth e ≤ 16) × (numberKnown v e ≡ true))
   expression-bytes s p = (there, λ h. is-some (number-is s (h .0) p .1 (h .1, h .2, h .3)))
     where
-      there : isSome (numberIn ed v s) ≡ true → (e : Number) × (numberBytes e ≡ s) × (numberDepth e ≤ 16) × (numberKnown v e ≡ true)
+      there : isSome (numberIn ed v s) ≡ true → (e : Number) × (numberBytes ed e ≡ s) × (numberDepth e ≤ 16) × (numberKnown v e ≡ true)
       there h =
           let o = some-of (numberIn ed v s) h in
           let i = number-decoded s (o .0) p (o .1) in
           (o .0, i .0, i .1, i .2)
 
   pub truth-bytes : (s : List ℕ) → All (λ b. b < 256) s →
-      (isSome (truthIn ed v s) ≡ true) ↔ ((e : Truth) × (truthBytes e ≡ s) × (truthDepth e ≤ 16) × (truthKnown v e ≡ true))
+      (isSome (truthIn ed v s) ≡ true) ↔ ((e : Truth) × (truthBytes ed e ≡ s) × (truthDepth e ≤ 16) × (truthKnown v e ≡ true))
   truth-bytes s p = (there, λ h. is-some (truth-is s (h .0) p .1 (h .1, h .2, h .3)))
     where
-      there : isSome (truthIn ed v s) ≡ true → (e : Truth) × (truthBytes e ≡ s) × (truthDepth e ≤ 16) × (truthKnown v e ≡ true)
+      there : isSome (truthIn ed v s) ≡ true → (e : Truth) × (truthBytes ed e ≡ s) × (truthDepth e ≤ 16) × (truthKnown v e ≡ true)
       there h =
           let o = some-of (truthIn ed v s) h in
           let i = truth-decoded s (o .0) p (o .1) in

@@ -1,14 +1,15 @@
 -- Laws of truths, options and lists that more than one proof cites.
-use mathlib.Core.Path.{_≡_, refl, sym, ap, subst, _∙_}
-use mathlib.Core.Bool.{Bool, true, false, not, _&&_, cond}
-use mathlib.Core.List.{List, [], _∷_, _++_, map, flatMap, append-assoc, List·Memᴰ as Mem, List·Memᴰ·head as first, List·Memᴰ·tail as later, List·Memᴰ·not-nil, List·Memᴰ·cases-cons}
+use mathlib.Core.Path.{_≡_, refl, sym, subst}
+use mathlib.Core.Bool.{Bool, true, false, _&&_}
+use mathlib.Core.List.{List, [], _∷_, _++_, flatMap, List·Memᴰ as Mem, List·Memᴰ·head as first, List·Memᴰ·tail as later, List·Memᴰ·not-nil, List·Memᴰ·cases-cons}
 use mathlib.Core.Logic.{_⊎_, inl, inr}
 use mathlib.Core.Option.{Option, none, some}
-use Prim.Native.Nat.{ℕ, zero, suc, _+_, _≤_, _<_}
+use Prim.Native.Nat.{ℕ, zero, suc, _≤_, _<_}
 use native.Mathlib.Omega.{arith}
-use borrow.Author.Tests.{eqb-true, eq-eqb, eqb-false, leb-true, le-leb}
+use borrow.Author.Tests.{eqb-true, eq-eqb, leb-true, le-leb}
 use lib.Dec.{eqb, leb}
 use lib.ListN.{length, getElem?}
+pub use Rattle.semantics.specs.Bytes.{All, all-nil, all-cons}
 use Rattle.semantics.specs.Bytes.{every, isSome, within}
 use Rattle.semantics.specs.Plant.{among}
 
@@ -62,10 +63,6 @@ some-of none h = true-not-false (sym h)
 some-of (some x) h = (x, refl)
 
 -- ---- a property of each element
-pub data All {A : Type 0} (P : A → Type 0) : List A → Type 0 where
-  all-nil : All P []
-  all-cons : {x : A} {l : List A} → P x → All P l → All P (x ∷ l)
-
 pub all-append : {A : Type 0} {P : A → Type 0} {l k : List A} → All P l → All P k → All P (l ++ k)
 all-append all-nil q = q
 all-append (all-cons h p) q = all-cons h (all-append p q)

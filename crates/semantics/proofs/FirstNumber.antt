@@ -1,6 +1,6 @@
 -- A call refuses with the first number of its list that applies, and accepts where none does.
-use mathlib.Core.Path.{_≡_, refl, sym, ap, subst, _∙_}
-use mathlib.Core.Bool.{Bool, true, false, not, _&&_, _||_}
+use mathlib.Core.Path.{_≡_, refl, sym, ap, _∙_}
+use mathlib.Core.Bool.{Bool, true, false, not, _||_}
 use mathlib.Core.List.{List, [], _∷_, _++_}
 use mathlib.Core.Logic.{_⊎_, inl, inr}
 use mathlib.Core.Option.{Option, none, some, bind}
@@ -10,16 +10,16 @@ use Rattle.semantics.specs.Bytes.{every, isSome}
 use Rattle.semantics.specs.Editions.{Edition}
 use Rattle.semantics.specs.Refusals.{Judged, refused, accepted, _>>=_, _>>_, ensure, need, only, refusalOf}
 use Rattle.semantics.specs.Sections.{variablesIn, equationsIn}
-use Rattle.semantics.specs.Plant.{Plant, judgePlant, switchesRead, ordered, equationNamed, drivenOnce, equationReads}
+use Rattle.semantics.specs.Plant.{Plant, judgePlant, switchesRead, ordered, equationNamed, drivenOnce}
 use Rattle.semantics.specs.TableFile.{tableSectionsIn, actionsIn, locationsIn}
 use Rattle.semantics.specs.Tables.{Table, judgeTable, tableHeader, actionsFit, locationsFit}
 use Rattle.semantics.specs.Starts.{startIn, startFits}
-use Rattle.semantics.specs.Calls.{Program, Outcome, report, tableCounts, readTable, tableRun, judgeRun, outcomeOf, runFrom, tableProgram, wholeEvents, roomForRecords}
+use Rattle.semantics.specs.Calls.{Program, Outcome, report, tableCounts, readTable, tableRun, judgeRun, tableProgram, wholeEvents, roomForRecords}
 use Rattle.semantics.specs.Conditions.{Condition, _if_, firstThat, anyApplies, given, is4, is5, is6, is7, is8, is12, plantConditions, plantIn, tableParts, tablePlant, is15, is16, is17, is18, is19, tableConditions, is20, is21, is22, runConditions, tableRunConditions}
 pub use Rattle.semantics.specs.Conditions.{First, here, further, Clear, none-left, one-clear, Firsts, refuses, accepts}
-use Rattle.semantics.proofs.Facts.{true-not-false}
 use Rattle.semantics.proofs.Judging
-use Rattle.semantics.proofs.Judging.{refused-not-accepted, accepted-is}
+use Rattle.semantics.proofs.TablePassed.{table-passed}
+use Rattle.semantics.proofs.Judging.{accepted-is}
 
 -- ---- the same as one number
 first-that : {n : ℕ} {l : List Condition} → First n l → firstThat l ≡ n
@@ -176,17 +176,8 @@ module _ (ed : Edition) (table : List ℕ) where
 
   -- the plant of an accepted table
   pub table-plant : {t : Table} → judgeTable ed table ≡ accepted t → tablePlant ed table ≡ some (t .plant)
-  unfolding judgeTable tablePlant tableParts
-  table-plant h =
-      let a = Judging.passed-ensure 15 _ _ h in
-      let b = Judging.passed-need 16 (tableSectionsIn (drop 5 table)) _ (a .1) in
-      let c = Judging.passed-then (only 17 (judgePlant ed (b .0 .variables) (b .0 .equations))) _ (b .2) in
-      let d = Judging.passed-ensure 17 _ _ (c .2) in
-      let g = Judging.passed-need 18 (actionsIn ed (b .0 .actions)) _ (d .1) in
-      let i = Judging.passed-ensure 18 _ _ (g .2) in
-      let k = Judging.passed-need 19 (locationsIn ed (b .0 .locations)) _ (i .1) in
-      let l = Judging.passed-ensure 19 _ _ (k .2) in
-      bind-some _ (b .1) ∙ plant-in ed (b .0 .variables) (b .0 .equations) (Judging.passed-only 17 _ (c .1)) ∙ ap (λ (t : Table). some (t .plant)) (accepted-is (l .1))
+  unfolding tablePlant tableParts
+  table-plant h = let p = table-passed ed table h in bind-some _ (p .is-parts) ∙ plant-in ed (p .parts .variables) (p .parts .equations) (p .plant)
 
 -- ---- 20 to 22, of a program whose plant is the one that its call speaks of
 module _ {S : Type 0} (ed : Edition) (start events buffer : List ℕ) where
@@ -226,12 +217,12 @@ table-refusal (refused n) = refl
 table-refusal (accepted t) = refl
 
 pub read-table-first : (ed : Edition) (table : List ℕ) →
-  First ((readTable ed table) .refusal) (tableConditions ed table) ⊎ (((readTable ed table) .refusal ≡ 0) × Clear (tableConditions ed table))
+    First ((readTable ed table) .refusal) (tableConditions ed table) ⊎ (((readTable ed table) .refusal ≡ 0) × Clear (tableConditions ed table))
 unfolding readTable
 read-table-first ed table = rw (table-refusal (judgeTable ed table)) (first-or-none (table-first ed table))
 
 pub run-table-first : (ed : Edition) (table start events buffer : List ℕ) →
-  First ((tableRun ed table start events buffer) .refusal) (tableRunConditions ed table start events buffer) ⊎
-  (((tableRun ed table start events buffer) .refusal ≡ 0) × Clear (tableRunConditions ed table start events buffer))
+    First ((tableRun ed table start events buffer) .refusal) (tableRunConditions ed table start events buffer) ⊎
+    (((tableRun ed table start events buffer) .refusal ≡ 0) × Clear (tableRunConditions ed table start events buffer))
 unfolding tableRun
 run-table-first ed table start events buffer = rw (ran-refusal buffer (judgeRun ed (tableProgram ed table) start events buffer)) (first-or-none (table-run-first ed table start events buffer))

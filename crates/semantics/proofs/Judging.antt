@@ -1,10 +1,10 @@
 -- Refusals taken apart: what an accepted call has passed, and how a call goes on where a condition holds.
-use mathlib.Core.Path.{_≡_, refl, sym, ap}
+use mathlib.Core.Path.{_≡_, refl}
 use mathlib.Core.Bool.{Bool, true, false}
 use mathlib.Core.Option.{Option, none, some}
 use Prim.Native.Nat.{ℕ}
 use native.Mathlib.Omega.{arith}
-use Rattle.semantics.specs.Refusals.{Judged, refused, accepted, _>>=_, _>>_, ensure, need, only, refusalOf}
+use Rattle.semantics.specs.Refusals.{Judged, refused, accepted, _>>=_, _>>_, ensure, need, only}
 
 pub refused-not-accepted : {A C : Type 0} {n : ℕ} {a : A} → refused n ≡ accepted a → C
 refused-not-accepted h = let z : _≡_ {A = ℕ} 0 1 = cc in absurd (omega arith)

@@ -4,8 +4,8 @@ pub mod Facts
 pub mod Judging
 pub mod Readers
 pub mod SignedBytes
+pub mod TablePassed
 -- papers
-pub mod K1
 pub mod Papers
 pub mod DepthPapers
 -- the step and the rules
@@ -24,3 +24,4 @@ pub mod TableBack
 pub mod WrittenRecords
 pub mod WrittenSources
 pub mod WrittenTables
+pub mod CallsHold

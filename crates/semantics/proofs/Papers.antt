@@ -1,15 +1,13 @@
 -- Papers of document 01 that a table or an expression settles.
 use mathlib.Core.Path.{_≡_, refl}
-use mathlib.Core.Bool.{true}
 use mathlib.Core.List.{List, [], _∷_, _++_}
-use Prim.Native.Nat.{ℕ, _+_}
 use lib.ListN.{replicate}
 use lib.IntN.{ℤ, negsuc}
 use Rattle.semantics.specs.Editions.{edition1}
 use Rattle.semantics.specs.Expressions.{Operation, Number, constant, operate, thenValue, negation, Truth, connect, either, always, Side, fault, above, operands, valueOf, holds, numberValue, truthValue}
 use Rattle.semantics.specs.Calls.{tableRun}
 use Rattle.semantics.proofs.Computes.{semantics}
-use Rattle.semantics.proofs.K1.{k1-table, start-at, k2-events, k2-records, k3-events, k3-records, k4-events, k4-records}
+use Rattle.semantics.specs.K1.{k1-table, start-at, k2-events, k2-records, k3-events, k3-records, k4-events, k4-records}
 
 -- K2 by the table: a buffer of just 8 records and 2 bytes more, which stay
 pub K2-table : tableRun edition1 k1-table (start-at 0) k2-events (replicate 104 0 ++ (7 ∷ 8 ∷ []))

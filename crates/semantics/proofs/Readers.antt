@@ -1,16 +1,16 @@
 -- Readers taken apart, and what is written read back.
-use mathlib.Core.Path.{_≡_, refl, sym, ap, subst, _∙_}
+use mathlib.Core.Path.{_≡_, refl, sym, ap, subst}
 use mathlib.Core.Bool.{Bool, true, false, cond}
-use mathlib.Core.List.{List, [], _∷_, _++_, map, flatMap, append-assoc, append-nil}
+use mathlib.Core.List.{List, [], _∷_, _++_, flatMap, append-assoc, append-nil}
 use mathlib.Core.Option.{Option, none, some}
-use Prim.Native.Nat.{ℕ, zero, suc, _+_, _-_, _*_, _/_, _%_, _≤_, _<_}
+use Prim.Native.Nat.{ℕ, zero, suc, _+_, _*_, _/_, _%_}
 use native.Mathlib.Nat.{div-add-mod'}
 use native.Mathlib.Omega.{arith}
 use borrow.Author.Tests.{leb-true, le-leb}
 use lib.Dec.{leb}
 use lib.ListN.{length, take, drop, length-append}
 use lib.Seq.{length-take-le, take-append-seam, drop-append-seam}
-use Rattle.semantics.specs.Bytes.{be2, be4, out2, out4, out, Width, one-byte, two-bytes, Read, broken, read, Reader, after, _>>=_, give, fail, guard, from, byte, nat2, nat4, number, bytes, times, section2, section4, just, whole}
+use Rattle.semantics.specs.Bytes.{be2, be4, out2, out4, out, Width, one-byte, two-bytes, Read, broken, read, Reader, after, _>>=_, give, fail, guard, from, byte, nat2, nat4, number, bytes, times, just, whole}
 use Rattle.semantics.proofs.Facts.{none-not-some, some-is, All, all-nil, all-cons}
 
 pub broken-not-read : {A C : Type 0} {a : A} {s : List ℕ} → broken ≡ read a s → C

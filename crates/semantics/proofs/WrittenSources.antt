@@ -22,7 +22,8 @@ use Rattle.semantics.specs.TableFile.{NodeAction, TableSections, ActionK
 use Rattle.semantics.specs.Tables.{Table, judgeTable, actionAt, actionOrStop, tableControl}
 use Rattle.semantics.specs.Calls.{Program, Outcome, runFrom, outcomeOf, judgeRun, report, tableProgram, tableRun}
 use Rattle.semantics.proofs.Facts.{all-mem, none-not-some, some-is, All, all-nil, all-cons, all-append}
-use Rattle.semantics.proofs.Judging.{accepted-is, passed-then, passed-need, passed-ensure, passed-only}
+use Rattle.semantics.proofs.TablePassed.{table-passed}
+use Rattle.semantics.proofs.Judging.{accepted-is, passed-then, passed-need, passed-ensure}
 use Rattle.semantics.proofs.Readers.{broken-not-read, split, given, given-rest, guarded, from-some, byte-read, bytes-read, whole-read}
 use Rattle.semantics.proofs.WrittenRecords.{records-bytes, Byte, Bits32, VariableBytes, TargetByte, ModeBytes, SelectorBytes, PlantBytes, ActionByte, ActionsBytes, StateBytes}
 
@@ -305,21 +306,14 @@ abbrev ofTable : Table → Program ℕ
 ofTable t = record { plant = t .plant; control = tableControl t }
 
 pub table-read-bytes : (ed : Edition) (t : List ℕ) {tab : Table} → judgeTable ed t ≡ accepted tab → All Byte t → ProgramBytes (record { plant = tab .plant; control = tableControl tab })
-unfolding judgeTable tableSectionsIn actionsIn tableControl
+unfolding tableSectionsIn actionsIn tableControl
 table-read-bytes ed t e h =
-    let a = passed-ensure 15 _ _ e in
-    let b = passed-need 16 _ _ (a .1) in
-    let parts = whole-makes makes-sections (drop 5 t) (all-drop 5 h) (b .1) in
-    let c = passed-then _ _ (b .2) in
-    let d = passed-ensure 17 _ _ (c .2) in
-    let f = passed-need 18 _ _ (d .1) in
-    let g = passed-ensure 18 _ _ (f .2) in
-    let i = passed-need 19 _ _ (g .1) in
-    let j = passed-ensure 19 _ _ (i .2) in
-    subst (λ t. ProgramBytes (ofTable t)) (accepted-is (j .1)) (record {
-      plant = plant-bytes ed (b .0 .variables) (b .0 .equations) (passed-only 17 _ (c .1)) (parts .variables) (parts .equations);
-      control = record { actions = actions-bytes (whole-makes (makes-actions ed) (b .0 .actions) (parts .actions) (f .1)) };
-    })
+    let p = table-passed ed t e in
+    let parts = whole-makes makes-sections (drop 5 t) (all-drop 5 h) (p .is-parts) in
+    record {
+      plant = plant-bytes ed (p .parts .variables) (p .parts .equations) (p .plant) (parts .variables) (parts .equations);
+      control = record { actions = actions-bytes (whole-makes (makes-actions ed) (p .parts .actions) (parts .actions) (p .acts)) };
+    }
 
 -- ---- the record buffer after a run
 module _ {S : Type 0} (ed : Edition) (j : Judged (Program S)) (b : (g : Program S) → j ≡ accepted g → ProgramBytes g) (start events buffer : List ℕ) (h : All Byte start) where

@@ -52,6 +52,11 @@ unfoldable pub every : {A : Type 0} → (A → Bool) → List A → Bool
 every f [] = true
 every f (x ∷ xs) = elim (f x) [ true ↦ every f xs | false ↦ false ]
 
+-- a property of each element
+pub data All {A : Type 0} (P : A → Type 0) : List A → Type 0 where
+  all-nil : All P []
+  all-cons : {x : A} {l : List A} → P x → All P l → All P (x ∷ l)
+
 unfoldable pub isSome : {A : Type 0} → Option A → Bool
 isSome none = false
 isSome (some a) = true

@@ -1,7 +1,7 @@
 -- The calls: all that each returns, and what a lent buffer holds afterwards, for all inputs.
 -- Document 01: "the rule run 1..12 and 20..22, the table run 15..22".
 use mathlib.Core.Bool.{Bool}
-use mathlib.Core.List.{List, [], _∷_, map, flatMap}
+use mathlib.Core.List.{List, map, flatMap}
 use Prim.Native.Nat.{ℕ, _+_, _*_, _/_, _%_}
 use lib.ListN.{length}
 use lib.Dec.{leb, eqb}

@@ -1,8 +1,8 @@
 -- Document 01, "When a file, table or event is turned away": the numbers of a call in their order, each with its sentence as a test of the input alone.
 -- A number is given only where its sentence holds: what a call refuses is shown to be the first of its list that applies.
 use mathlib.Core.Path.{_≡_}
-use mathlib.Core.Bool.{Bool, true, false, not, _&&_, _||_}
-use mathlib.Core.List.{List, [], _∷_, _++_, map}
+use mathlib.Core.Bool.{Bool, true, false, not, _||_}
+use mathlib.Core.List.{List, [], _∷_, _++_}
 use mathlib.Core.Option.{Option, none, some, bind}
 use Prim.Native.Nat.{ℕ}
 use lib.ListN.{length, drop}

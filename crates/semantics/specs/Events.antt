@@ -1,11 +1,11 @@
 -- Document 01, "Run by the rules": "An event is 3 bytes: 0,0,0 tick; 1,n,0 pick node n; 2,s,k take switch k (from 0) of selector s's current mode."
-use mathlib.Core.Bool.{Bool, cond}
+use mathlib.Core.Bool.{cond}
 use mathlib.Core.List.{List, [], _∷_}
-use mathlib.Core.Option.{Option, none, some}
+use mathlib.Core.Option.{none, some}
 use Prim.Native.Nat.{ℕ, zero, suc}
 use lib.ListN.{take, drop}
 use lib.Dec.{eqb}
-use Rattle.semantics.specs.Bytes.{every, Reader, Read, read, broken, _>>=_, fail, byte, number, whole}
+use Rattle.semantics.specs.Bytes.{every, Reader, read, broken, _>>=_, fail, byte, number, whole}
 use Rattle.semantics.specs.Editions.{Edition}
 
 pub data Event : Type 0 where

@@ -7,7 +7,7 @@ use lib.ListN.{length, getD}
 use lib.Dec.{ltb, eqb}
 use lib.IntN.{ℤ, pos, negsuc, negℤ, _+ℤ_, _-ℤ_, _*ℤ_}
 use lib.Signed.{ltZ, leZ}
-use Rattle.semantics.specs.Bytes.{Reader, _>>=_, give, fail, byte, int4, guard, from, whole, isSome, out4, unsigned}
+use Rattle.semantics.specs.Bytes.{Reader, _>>=_, give, fail, byte, int4, guard, from, whole, out4, unsigned}
 use Rattle.semantics.specs.Editions.{Edition}
 
 -- ---- the forms
@@ -142,17 +142,18 @@ unfoldable pub connectiveCode : Connective → ℕ
 connectiveCode both = 0x28
 connectiveCode either = 0x29
 
-unfoldable pub numberBytes : Number → List ℕ
-numberBytes (constant z) = 0x01 ∷ out4 (unsigned z)
-numberBytes (variable v) = 0x02 ∷ v ∷ []
-numberBytes (operate o a b) = operationCode o ∷ (numberBytes a ++ numberBytes b)
-numberBytes (negation a) = 0x14 ∷ numberBytes a
+module _ (ed : Edition) where
+  unfoldable pub numberBytes : Number → List ℕ
+  numberBytes (constant z) = 0x01 ∷ out4 (unsigned z)
+  numberBytes (variable v) = 0x02 ∷ v ∷ []
+  numberBytes (operate o a b) = operationCode o ∷ (numberBytes a ++ numberBytes b)
+  numberBytes (negation a) = 0x14 ∷ numberBytes a
 
-unfoldable pub truthBytes : Truth → List ℕ
-truthBytes (compare c a b) = comparisonCode c ∷ (numberBytes a ++ numberBytes b)
-truthBytes (connect c a b) = connectiveCode c ∷ (truthBytes a ++ truthBytes b)
-truthBytes (opposite a) = 0x2a ∷ truthBytes a
-truthBytes always = 0x2f ∷ []
+  unfoldable pub truthBytes : Truth → List ℕ
+  truthBytes (compare c a b) = comparisonCode c ∷ (numberBytes a ++ numberBytes b)
+  truthBytes (connect c a b) = connectiveCode c ∷ (truthBytes a ++ truthBytes b)
+  truthBytes (opposite a) = 0x2a ∷ truthBytes a
+  truthBytes always = 0x2f ∷ []
 
 -- a constant of 32 bits
 unfoldable pub fits32 : ℤ → Bool

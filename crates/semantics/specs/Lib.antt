@@ -13,3 +13,5 @@ pub mod Tables
 pub mod Starts
 pub mod Calls
 pub mod Conditions
+pub mod Statements
+pub mod K1

@@ -1,15 +1,14 @@
 -- Document 01, "Run by the rules": one event, the run, its records and counts, over any control.
-use mathlib.Core.Bool.{Bool, true, false, not, _&&_, cond}
+use mathlib.Core.Bool.{Bool, true, false, not}
 use mathlib.Core.List.{List, [], _∷_, _++_, map, flatMap}
 use mathlib.Core.Option.{Option, none, some}
-use Prim.Native.Nat.{ℕ, zero, suc, _+_, _*_, _/_, _^_}
-use lib.ListN.{length, getElem?, set, take, drop}
+use Prim.Native.Nat.{ℕ, suc, _+_, _^_}
+use lib.ListN.{getElem?, set}
 use lib.Dec.{eqb}
 use lib.IntN.{ℤ}
 use Rattle.semantics.specs.Bytes.{every, within, bigEndian, out4, unsigned}
 use Rattle.semantics.specs.Editions.{Edition}
 use Rattle.semantics.specs.Expressions.{Side, above, below, Value, ok, fault, numberValue, truthValue}
-use Rattle.semantics.specs.Sections.{Switch, Mode}
 use Rattle.semantics.specs.Plant.{Plant, among, currentModes, currentTruths, declaredAt, advance}
 use Rattle.semantics.specs.Events.{Event, tick, pick, take-switch, senseless, eventIn}
 

@@ -12,7 +12,7 @@ use Rattle.semantics.specs.Refusals.{Judged, accepted, _>>=_, _>>_, ensu
 use Rattle.semantics.specs.Sections.{Selector}
 use Rattle.semantics.specs.Plant.{Plant, judgePlant, switchesRead, selectors, modeExists}
 use Rattle.semantics.specs.Run.{Action, test, wait, assign, switch, stop, Next, to, finished, halted, idle, Control}
-use Rattle.semantics.specs.TableFile.{NodeAction, Entry, TableSections, FINISHED, HALTED, NONE, tableSectionsIn, actionsIn, locationsIn}
+use Rattle.semantics.specs.TableFile.{NodeAction, Entry, FINISHED, HALTED, NONE, tableSectionsIn, actionsIn, locationsIn}
 
 pub record Table : Type 0 where
   pub plant : Plant

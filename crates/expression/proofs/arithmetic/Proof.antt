@@ -1,0 +1,70 @@
+use mathlib.Core.Path.{_≡_, sym, ap, _∙_}
+use lib.IntN.{ℤ}
+use borrow.Author.Tests.{ne-eqb}
+use mir.Syntax.{w64}
+use mir.Val.{toZ, ofZ}
+use borrow.Author.Needs.{needs}
+use Rattle.semantics.specs.Expressions.{Operation, sum, difference, product, applied, result}
+use Rattle.expression.specs.Founds.{numberAt, operationOf}
+use Rattle.expression.proofs.Widths.{Wide, widens, wide-fits, wide-is}
+use Rattle.expression.proofs.arithmetic.Statement.{statement}
+use Rattle.expression.proofs.arithmetic.Tie as tie
+
+-- the operation that the code says
+done : (s : tie.Start) (o : Operation) → operationOf (s .args .code) ≡ o → numberAt (s .args .next) (result (toZ w64 (ofZ w64 (applied o (Wide (s .args .a)) (Wide (s .args .b)))))) ≡ numberAt (s .args .next) (result (applied (operationOf (s .args .code)) (s .args .a) (s .args .b)))
+done s o e = ap (λ (z : ℤ). numberAt (s .args .next) (result z)) (wide-is o (s .args .a) (s .args .b) (s .fits .a) (s .fits .b) ∙ sym (ap (λ (p : Operation). applied p (s .args .a) (s .args .b)) e))
+
+cast-x : tie.Need-cast-x
+cast-x c = widens (c .args .a) (c .fits .a)
+
+cast-y : tie.Need-cast-y
+cast-y c = widens (c .args .b) (c .fits .b)
+
+add-ranged : tie.Need-add-ranged
+unfolding applied
+add-ranged c = let s = c .before in wide-fits sum (s .args .a) (s .args .b) (s .fits .a) (s .fits .b)
+
+ranged-requires : tie.Need-ranged-requires
+ranged-requires c κs = search needs
+
+sub-ranged : tie.Need-sub-ranged
+unfolding applied
+sub-ranged c = let s = c .before in wide-fits difference (s .args .a) (s .args .b) (s .fits .a) (s .fits .b)
+
+ranged-requires-2 : tie.Need-ranged-requires-2
+ranged-requires-2 c κs = search needs
+
+mul-ranged : tie.Need-mul-ranged
+unfolding applied
+mul-ranged c = let s = c .before in wide-fits product (s .args .a) (s .args .b) (s .fits .a) (s .fits .b)
+
+ranged-requires-3 : tie.Need-ranged-requires-3
+ranged-requires-3 c κs = search needs
+
+returns : tie.Need-returns
+unfolding applied
+returns c = c .ranged .ensures ∙ done (c .before .before) sum (ap operationOf (c .before .match .keys1))
+
+returns-2 : tie.Need-returns-2
+unfolding applied
+returns-2 c = c .ranged2 .ensures ∙ done (c .before .before) difference (ap operationOf (c .before .match .keys2))
+
+returns-3 : tie.Need-returns-3
+unfolding applied
+returns-3 c = c .ranged3 .ensures ∙ done (c .before .before) product (rw (ne-eqb _ _ (c .before .match .rest .0 .1), ne-eqb _ _ (c .before .match .rest .1)))
+
+pub arithmetic-spec : {M : Type 1} → statement M
+arithmetic-spec =
+    tie.close
+    (tie.spec
+    cast-x
+    cast-y
+    add-ranged
+    ranged-requires
+    sub-ranged
+    ranged-requires-2
+    mul-ranged
+    ranged-requires-3
+    returns
+    returns-2
+    returns-3)

@@ -1,0 +1,80 @@
+use mathlib.Core.Path.{sym, ap, ap₂, _∙_}
+use mathlib.Core.Bool.{Bool}
+use borrow.Author.Needs.{needs}
+use Rattle.expression.specs.Founds.{joined}
+use Rattle.expression.specs.declared.Found.{Found}
+use Rattle.expression.specs.declared.Found.the-variants.{ATruth}
+use Rattle.expression.proofs.Cases.{not-truth, off-joined, off-joined-right, off-joined-right-fault}
+use Rattle.expression.proofs.join.Statement.{statement}
+use Rattle.expression.proofs.join.Tie as tie
+
+enum-known-l : tie.Need-enum-known-l
+enum-known-l c = search needs
+
+enum-known-r : tie.Need-enum-known-r
+enum-known-r c = search needs
+
+connective-requires : tie.Need-connective-requires
+connective-requires c κs = search needs
+
+enum-known-r-2 : tie.Need-enum-known-r-2
+enum-known-r-2 c = search needs
+
+enum-known-l-2 : tie.Need-enum-known-l-2
+enum-known-l-2 c = search needs
+
+enum-known-r-3 : tie.Need-enum-known-r-3
+enum-known-r-3 c = search needs
+
+enum-known-r-4 : tie.Need-enum-known-r-4
+enum-known-r-4 c = search needs
+
+returns : tie.Need-returns
+returns c =
+    let s = c .before .before .before .before .before .before .before in
+    let L = c .before .before .before .before .before .l .given in
+    let R = c .before .before .r .given in
+    ap (λ (t : Bool). ATruth t (R .0 .1 .0)) (c .connective .ensures) ∙ sym (ap₂ (joined (s .args .code)) (L .1) (R .1))
+
+returns-2 : tie.Need-returns-2
+returns-2 c = sym (ap₂ (joined (c .before .before .before .before .before .before .args .code)) (c .before .before .before .before .l .given .1) (c .before .r2 .given .1))
+
+returns-3 : tie.Need-returns-3
+returns-3 c =
+    let s = c .before .before .before .before in
+    let L = c .before .before .l .given in
+    off-joined-right (s .args .code) (L .0 .0) (L .0 .1 .0) (s .args .r) (not-truth (s .args .r) (c .match2 .keys3)) ∙ sym (ap (λ (x : Found). joined (s .args .code) x (s .args .r)) (L .1))
+
+returns-4 : tie.Need-returns-4
+returns-4 c = sym (ap₂ (joined (c .before .before .before .before .before .before .args .code)) (c .before .before .before .before .l2 .given .1) (c .before .r3 .given .1))
+
+returns-5 : tie.Need-returns-5
+returns-5 c = sym (ap₂ (joined (c .before .before .before .before .before .before .args .code)) (c .before .before .before .before .l2 .given .1) (c .before .r4 .given .1))
+
+returns-6 : tie.Need-returns-6
+returns-6 c =
+    let s = c .before .before .before .before in
+    let L = c .before .before .l2 .given in
+    off-joined-right-fault (s .args .code) (L .0 .0) (L .0 .1 .0) (s .args .r) (not-truth (s .args .r) (c .match3 .keys3)) ∙ sym (ap (λ (x : Found). joined (s .args .code) x (s .args .r)) (L .1))
+
+returns-7 : tie.Need-returns-7
+returns-7 c = let s = c .before in off-joined (s .args .code) (s .args .l) (s .args .r) (not-truth (s .args .l) (c .match .keys3))
+
+pub join-spec : {M : Type 1} → statement M
+join-spec =
+    tie.close
+    (tie.spec
+    enum-known-l
+    enum-known-r
+    connective-requires
+    enum-known-r-2
+    enum-known-l-2
+    enum-known-r-3
+    enum-known-r-4
+    returns
+    returns-2
+    returns-3
+    returns-4
+    returns-5
+    returns-6
+    returns-7)

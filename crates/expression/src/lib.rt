@@ -1,0 +1,355 @@
+// Numbers and truths: judged from their bytes (condition 12) and evaluated.
+ghost use mathlib.Core.Path.{_≡_};
+ghost use Prim.Native.Nat.{_+_, _≤_};
+ghost use lib.ListN.{length};
+ghost use lib.IntN.{negℤ};
+ghost use Rattle.semantics.specs.Bytes.{be4, signed as signedOf, isSome};
+ghost use Rattle.semantics.specs.Editions.{edition1};
+ghost use Rattle.semantics.specs.Expressions.{ok, fault, applied, compared, connected, result, numberIn, truthIn};
+ghost use Rattle.expression.specs.Answers.{numberOf, truthOf, numberAnswer, truthAnswer};
+ghost use Rattle.expression.specs.Founds.{sideOf, found, wordAt, numberAt, nextOf, operationOf, comparisonOf, connectiveOf, constantAt, variableAt, operated, related, joined, negated, opposed};
+
+// "Depth is at most 16"
+const DEPTH: usize = 16;
+
+// A number's value, or the side on which a result lies outside its range; malformed where condition 12 turns the bytes away.
+pub enum Number {
+    Is(i32),
+    Above,
+    Below,
+    Malformed,
+}
+
+pub enum Truth {
+    Yes,
+    No,
+    Above,
+    Below,
+    Malformed,
+}
+
+// What stands at a position, and the position after it. A fault says whether the result lies above its range.
+enum Found {
+    ANumber(i32, usize),
+    NumberFault(bool, usize),
+    ATruth(bool, usize),
+    TruthFault(bool, usize),
+    Broken,
+}
+
+// The value of the bytes, which are one whole number.
+pub fn number_value(s: &[u8], vars: &[i32]) -> Number
+    ensures { λ r. ⌜ r ≡ numberAnswer (now (vars .entry)) (numberIn edition1 (length (now (vars .entry))) (now (s .entry))) ⌝ }
+{
+    match eval(s, vars, 0, DEPTH) {
+        Found::ANumber(z, n) => {
+            if n == s.len() {
+                Number::Is(z)
+            } else {
+                Number::Malformed
+            }
+        }
+        Found::NumberFault(above, n) => {
+            if n == s.len() {
+                number_side(above)
+            } else {
+                Number::Malformed
+            }
+        }
+        _ => Number::Malformed,
+    }
+}
+
+// The value of the bytes, which are one whole truth.
+pub fn truth_value(s: &[u8], vars: &[i32]) -> Truth
+    ensures { λ r. ⌜ r ≡ truthAnswer (now (vars .entry)) (truthIn edition1 (length (now (vars .entry))) (now (s .entry))) ⌝ }
+{
+    match eval(s, vars, 0, DEPTH) {
+        Found::ATruth(b, n) => {
+            if n == s.len() {
+                plain_truth(b)
+            } else {
+                Truth::Malformed
+            }
+        }
+        Found::TruthFault(above, n) => {
+            if n == s.len() {
+                truth_side(above)
+            } else {
+                Truth::Malformed
+            }
+        }
+        _ => Truth::Malformed,
+    }
+}
+
+// Condition 12 of a number, where so many variables are declared.
+pub fn number_reads(s: &[u8], variables: usize) -> bool
+    requires { ⌜ variables ≤ 32 ⌝ }
+    ensures { λ r. ⌜ r ≡ isSome (numberIn edition1 variables (now (s .entry))) ⌝ }
+{
+    let zeros = [0i32; 32];
+    match number_value(s, &zeros[..variables]) {
+        Number::Malformed => false,
+        _ => true,
+    }
+}
+
+// Condition 12 of a truth.
+pub fn truth_reads(s: &[u8], variables: usize) -> bool
+    requires { ⌜ variables ≤ 32 ⌝ }
+    ensures { λ r. ⌜ r ≡ isSome (truthIn edition1 variables (now (s .entry))) ⌝ }
+{
+    let zeros = [0i32; 32];
+    match truth_value(s, &zeros[..variables]) {
+        Truth::Malformed => false,
+        _ => true,
+    }
+}
+
+// What stands at a position, of at most this depth. Both operands are evaluated, whatever the first one gives.
+fn eval(s: &[u8], vars: &[i32], at: usize, depth: usize) -> Found
+    ensures { λ r. ⌜ r ≡ found (now (vars .entry)) (now (s .entry)) at depth ⌝ }
+{
+    if depth == 0 {
+        return Found::Broken;
+    }
+    if s.len() <= at {
+        return Found::Broken;
+    }
+    let code = s[at];
+    let next = at + 1;
+    let left = depth - 1;
+    match code {
+        0x01 => constant(s, next),
+        0x02 => variable(s, vars, next),
+        0x10..=0x12 => {
+            let l = eval(s, vars, next, left);
+            let r = eval(s, vars, next_of(l), left);
+            operate(code, l, r)
+        }
+        0x14 => negate(eval(s, vars, next, left)),
+        0x20..=0x23 => {
+            let l = eval(s, vars, next, left);
+            let r = eval(s, vars, next_of(l), left);
+            relate(code, l, r)
+        }
+        0x28..=0x29 => {
+            let l = eval(s, vars, next, left);
+            let r = eval(s, vars, next_of(l), left);
+            join(code, l, r)
+        }
+        0x2a => oppose(eval(s, vars, next, left)),
+        0x2f => Found::ATruth(true, next),
+        _ => Found::Broken,
+    }
+}
+
+// Where the bytes after the expression begin.
+fn next_of(f: Found) -> usize
+    ensures { λ r. ⌜ r ≡ nextOf f ⌝ }
+{
+    match f {
+        Found::ANumber(_, n) => n,
+        Found::NumberFault(_, n) => n,
+        Found::ATruth(_, n) => n,
+        Found::TruthFault(_, n) => n,
+        Found::Broken => 0xffff_ffff_ffff_ffff,
+    }
+}
+
+// The forms, from what their operands gave.
+fn operate(code: u8, l: Found, r: Found) -> Found
+    ensures { λ x. ⌜ x ≡ operated code l r ⌝ }
+{
+    match l {
+        Found::ANumber(a, _) => match r {
+            Found::ANumber(b, n) => arithmetic(code, a, b, n),
+            Found::NumberFault(above, n) => Found::NumberFault(above, n),
+            _ => Found::Broken,
+        },
+        Found::NumberFault(above, _) => match r {
+            Found::ANumber(_, n) => Found::NumberFault(above, n),
+            Found::NumberFault(_, n) => Found::NumberFault(above, n),
+            _ => Found::Broken,
+        },
+        _ => Found::Broken,
+    }
+}
+
+fn relate(code: u8, l: Found, r: Found) -> Found
+    ensures { λ x. ⌜ x ≡ related code l r ⌝ }
+{
+    match l {
+        Found::ANumber(a, _) => match r {
+            Found::ANumber(b, n) => Found::ATruth(comparison(code, a, b), n),
+            Found::NumberFault(above, n) => Found::TruthFault(above, n),
+            _ => Found::Broken,
+        },
+        Found::NumberFault(above, _) => match r {
+            Found::ANumber(_, n) => Found::TruthFault(above, n),
+            Found::NumberFault(_, n) => Found::TruthFault(above, n),
+            _ => Found::Broken,
+        },
+        _ => Found::Broken,
+    }
+}
+
+fn join(code: u8, l: Found, r: Found) -> Found
+    ensures { λ x. ⌜ x ≡ joined code l r ⌝ }
+{
+    match l {
+        Found::ATruth(a, _) => match r {
+            Found::ATruth(b, n) => Found::ATruth(connective(code, a, b), n),
+            Found::TruthFault(above, n) => Found::TruthFault(above, n),
+            _ => Found::Broken,
+        },
+        Found::TruthFault(above, _) => match r {
+            Found::ATruth(_, n) => Found::TruthFault(above, n),
+            Found::TruthFault(_, n) => Found::TruthFault(above, n),
+            _ => Found::Broken,
+        },
+        _ => Found::Broken,
+    }
+}
+
+fn negate(f: Found) -> Found
+    ensures { λ x. ⌜ x ≡ negated f ⌝ }
+{
+    match f {
+        Found::ANumber(a, n) => negative(a, n),
+        Found::NumberFault(above, n) => Found::NumberFault(above, n),
+        _ => Found::Broken,
+    }
+}
+
+fn oppose(f: Found) -> Found
+    ensures { λ x. ⌜ x ≡ opposed f ⌝ }
+{
+    match f {
+        Found::ATruth(b, n) => Found::ATruth(!b, n),
+        Found::TruthFault(above, n) => Found::TruthFault(above, n),
+        _ => Found::Broken,
+    }
+}
+
+// The operations on values. A result is worked out in 64 bits and must lie in 32.
+fn arithmetic(code: u8, a: i32, b: i32, next: usize) -> Found
+    ensures { λ r. ⌜ r ≡ numberAt next (result (applied (operationOf code) a b)) ⌝ }
+{
+    let x = a as i64;
+    let y = b as i64;
+    match code {
+        0x10 => ranged(x + y, next),
+        0x11 => ranged(x - y, next),
+        _ => ranged(x * y, next),
+    }
+}
+
+fn negative(a: i32, next: usize) -> Found
+    ensures { λ r. ⌜ r ≡ numberAt next (result (negℤ a)) ⌝ }
+{
+    ranged(-(a as i64), next)
+}
+
+fn ranged(x: i64, next: usize) -> Found
+    ensures { λ r. ⌜ r ≡ numberAt next (result x) ⌝ }
+{
+    if x < -2147483648 {
+        return Found::NumberFault(false, next);
+    }
+    if 2147483647 < x {
+        return Found::NumberFault(true, next);
+    }
+    Found::ANumber(x as i32, next)
+}
+
+fn comparison(code: u8, a: i32, b: i32) -> bool
+    ensures { λ r. ⌜ r ≡ compared (comparisonOf code) a b ⌝ }
+{
+    match code {
+        0x20 => a <= b,
+        0x21 => a < b,
+        0x22 => a == b,
+        _ => a != b,
+    }
+}
+
+fn connective(code: u8, a: bool, b: bool) -> bool
+    ensures { λ r. ⌜ r ≡ connected (connectiveOf code) a b ⌝ }
+{
+    match code {
+        0x28 => a & b,
+        _ => a | b,
+    }
+}
+
+// The forms without operands.
+fn constant(s: &[u8], at: usize) -> Found
+    ensures { λ r. ⌜ r ≡ constantAt (now (s .entry)) at ⌝ }
+{
+    if s.len() < at {
+        return Found::Broken;
+    }
+    if s.len() - at < 4 {
+        return Found::Broken;
+    }
+    Found::ANumber(signed(word_at(s, at)), at + 4)
+}
+
+fn variable(s: &[u8], vars: &[i32], at: usize) -> Found
+    ensures { λ r. ⌜ r ≡ variableAt (now (vars .entry)) (now (s .entry)) at ⌝ }
+{
+    if s.len() <= at {
+        return Found::Broken;
+    }
+    let i = s[at] as usize;
+    if vars.len() <= i {
+        return Found::Broken;
+    }
+    Found::ANumber(vars[i], at + 1)
+}
+
+// Four bytes, most significant first.
+fn word_at(s: &[u8], at: usize) -> u32
+    requires { ⌜ at + 4 ≤ length (now s) ⌝ }
+    ensures { λ r. ⌜ r ≡ wordAt (now (s .entry)) at ⌝ }
+{
+    word(s[at], s[at + 1], s[at + 2], s[at + 3])
+}
+
+fn word(a: u8, b: u8, c: u8, d: u8) -> u32
+    ensures { λ r. ⌜ r ≡ be4 a b c d ⌝ }
+{
+    (((a as u32) * 256 + (b as u32)) * 256 + (c as u32)) * 256 + (d as u32)
+}
+
+// 32-bit two's complement.
+fn signed(u: u32) -> i32
+    ensures { λ r. ⌜ r ≡ signedOf u ⌝ }
+{
+    if u < 2147483648 {
+        u as i32
+    } else {
+        -1 - ((4294967295 - u) as i32)
+    }
+}
+
+// The answers to a caller.
+fn plain_truth(b: bool) -> Truth
+    ensures { λ r. ⌜ r ≡ truthOf (ok b) ⌝ }
+{
+    if b { Truth::Yes } else { Truth::No }
+}
+
+fn number_side(above: bool) -> Number
+    ensures { λ r. ⌜ r ≡ numberOf (fault (sideOf above)) ⌝ }
+{
+    if above { Number::Above } else { Number::Below }
+}
+
+fn truth_side(above: bool) -> Truth
+    ensures { λ r. ⌜ r ≡ truthOf (fault (sideOf above)) ⌝ }
+{
+    if above { Truth::Above } else { Truth::Below }
+}

@@ -1,0 +1,110 @@
+-- What the calls over a schedule file return and leave: on a refusal nothing but the number; where they accept, what the definitions give and the rules derive.
+use mathlib.Core.Path.{_≡_, refl, sym, ap, _∙_}
+use mathlib.Core.Bool.{Bool}
+use mathlib.Core.List.{List}
+use mathlib.Core.Option.{some}
+use Prim.Native.Nat.{ℕ, suc, _≤_}
+use native.Mathlib.Omega.{arith}
+use borrow.Author.Tests.{leb-true}
+use lib.ListN.{length}
+use Rattle.semantics.specs.Bytes.{overwrite}
+use Rattle.semantics.specs.Editions.{Edition}
+use Rattle.semantics.specs.Refusals.{Judged, refused, accepted}
+use Rattle.semantics.specs.Plant.{selectors}
+use Rattle.semantics.specs.Rules.{Sound}
+use Rattle.semantics.specs.Calls.{judgeRun}
+use Rattle.semantics.specs.Conditions.{Condition, runConditions}
+use Rattle.semantics.specs.Statements.{RunHolds}
+use Rattle.semantics.proofs.Facts.{All, all-nil, all-cons}
+use Rattle.semantics.proofs.Judging as Judging
+use Rattle.semantics.proofs.FirstNumber.{ran-refusal}
+use Rattle.semantics.proofs.CallsHold.{accepted-of, run-passed, run-built, refused-run}
+use Rattle.schedules.specs.Trees.{Tree}
+use Rattle.schedules.specs.Residuals.{Residual, fresh}
+use Rattle.schedules.specs.Reached.{Leads, stays, goes, Of}
+use Rattle.schedules.specs.Files.{Schedule, judgeFile, ruleControl}
+use Rattle.schedules.specs.Compiling.{tableOf, judgeCompile}
+use Rattle.schedules.specs.Calls.{readSchedule, scheduleCounts, ruleProgram, ruleRun, compile, compiledInto}
+use Rattle.schedules.specs.Conditions.{fileSchedule, fileConditions, ruleRunConditions}
+use Rattle.schedules.proofs.FirstNumber.{passed, file-schedule, rule-run-first, compile-first, compiled-refusal}
+use Rattle.schedules.proofs.ResidualsKept.{of-fresh, kept-to}
+use Rattle.schedules.proofs.ScheduleSound.{schedule-sound}
+use Rattle.schedules.proofs.Agreement.{never-0}
+
+-- ---- refused
+compile-nothing : (buffer : List ℕ) (j : Judged (List ℕ)) → ((compiledInto buffer j) .refusal ≡ 0 → ⊥) → compiledInto buffer j ≡ record { refusal = (compiledInto buffer j) .refusal; written = 0; table = buffer }
+unfolding compiledInto
+compile-nothing buffer (refused n) h = refl
+compile-nothing buffer (accepted t) h = absurd (h refl)
+
+pub refused-compile : (ed : Edition) (file room : List ℕ) → ((compile ed file room) .refusal ≡ 0 → ⊥) →
+    compile ed file room ≡ record { refusal = (compile ed file room) .refusal; written = 0; table = room }
+unfolding compile
+refused-compile ed file room h = compile-nothing room (judgeCompile ed file room) h
+
+pub refused-rule-run : (ed : Edition) (file start events buffer : List ℕ) → ((ruleRun ed file start events buffer) .refusal ≡ 0 → ⊥) →
+    ruleRun ed file start events buffer ≡ record { refusal = (ruleRun ed file start events buffer) .refusal; taken = 0; turned-away = 0; faulted = 0; records = buffer }
+unfolding ruleRun
+refused-rule-run ed file start events buffer h = refused-run buffer (judgeRun ed (ruleProgram ed file) start events buffer) h
+
+counts-nothing : (j : Judged Schedule) → ((scheduleCounts j) .refusal ≡ 0 → ⊥) → scheduleCounts j ≡ record { refusal = (scheduleCounts j) .refusal; variables = 0; selectors = 0; nodes = 0 }
+unfolding scheduleCounts
+counts-nothing (refused n) h = refl
+counts-nothing (accepted s) h = absurd (h refl)
+
+pub refused-read-schedule : (ed : Edition) (file : List ℕ) → ((readSchedule ed file) .refusal ≡ 0 → ⊥) →
+    readSchedule ed file ≡ record { refusal = (readSchedule ed file) .refusal; variables = 0; selectors = 0; nodes = 0 }
+unfolding readSchedule
+refused-read-schedule ed file h = counts-nothing (judgeFile ed file) h
+
+-- ---- accepted
+pub read-schedule-result : (ed : Edition) (file : List ℕ) {s : Schedule} → judgeFile ed file ≡ accepted s →
+    readSchedule ed file ≡ record { refusal = 0; variables = length (s .plant .variables); selectors = length (selectors (s .plant)); nodes = length (s .nodes) }
+unfolding readSchedule scheduleCounts
+read-schedule-result ed file h = rw h refl
+
+-- the table's bytes at the front of the room, which is long enough, and the rest of it as it was
+pub written-table : (ed : Edition) (file room : List ℕ) → (compile ed file room) .refusal ≡ 0 →
+    (s : Schedule) × (fileSchedule ed file ≡ some s) × (length (tableOf ed s) ≤ length room) ×
+    (compile ed file room ≡ record { refusal = 0; written = length (tableOf ed s); table = overwrite (tableOf ed s) room })
+unfolding compile compiledInto judgeCompile
+written-table ed file room z =
+    let a = accepted-of (compile-first ed file room) (never-0 ed file room) (sym (compiled-refusal room (judgeCompile ed file room)) ∙ z) in
+    let b = Judging.passed-then (judgeFile ed file) _ (a .1) in
+    let c = Judging.passed-ensure 13 _ _ (b .2) in
+    let d = Judging.passed-ensure 14 _ _ (c .1) in
+    (b .0, file-schedule ed file (b .1), leb-true (length (tableOf ed (b .0))) (length room) (d .0), ap (compiledInto room) (a .1 ∙ ap accepted (sym (Judging.accepted-is (d .1)))))
+
+pub sound-rules : (ed : Edition) (file : List ℕ) (s : Schedule) → judgeFile ed file ≡ accepted s → Sound (s .plant) (ruleControl s)
+sound-rules ed file s h = schedule-sound s ((passed ed file s h) .named)
+
+rule-numbers : (ed : Edition) (file start events buffer : List ℕ) → All (λ (c : Condition). c .refusal ≡ 0 → ⊥) (ruleRunConditions ed file start events buffer)
+unfolding ruleRunConditions fileConditions runConditions
+rule-numbers ed file start events buffer =
+    all-cons (no 0) (all-cons (no 1) (all-cons (no 2) (all-cons (no 3) (all-cons (no 4) (all-cons (no 5) (all-cons (no 6) (all-cons (no 7)
+    (all-cons (no 8) (all-cons (no 9) (all-cons (no 10) (all-cons (no 11) (all-cons (no 19) (all-cons (no 20) (all-cons (no 21) all-nil))))))))))))))
+  where
+    no : (n : ℕ) → suc n ≡ 0 → ⊥
+    no n e = omega arith
+
+-- also for schedules that compiling refuses with 13
+pub rule-run-holds : (ed : Edition) (file start events buffer : List ℕ) → (ruleRun ed file start events buffer) .refusal ≡ 0 →
+    (s : Schedule) × (judgeFile ed file ≡ accepted s) × RunHolds ed (s .plant) (ruleControl s) start events buffer (ruleRun ed file start events buffer)
+unfolding ruleRun ruleProgram
+rule-run-holds ed file start events buffer z =
+    let a = accepted-of (rule-run-first ed file start events buffer) (rule-numbers ed file start events buffer) (sym (ran-refusal buffer (judgeRun ed (ruleProgram ed file) start events buffer)) ∙ z) in
+    let b = run-passed ed (ruleProgram ed file) start events buffer (a .1) in
+    let c = Judging.passed-then (judgeFile ed file) _ (b .is-program) in (
+      c .0,
+      c .1,
+      run-built ed (ruleProgram ed file) (c .0 .plant) (ruleControl (c .0)) (sound-rules ed file (c .0) (c .1)) start events buffer (b .program) (Judging.accepted-is (c .2)) (b .st) (b .start-read)
+          (a .1 ∙ ap accepted (sym (b .outcome))),
+    )
+
+-- what moves lead to from the fresh root is a residual of the tree
+pub reached-of : (tests : ℕ → Bool) (t : Tree) (r : Residual) → Leads tests (fresh t) r → Of t r
+reached-of tests t r l = go l
+  where
+    go : {r : Residual} → Leads tests (fresh t) r → Of t r
+    go stays = of-fresh t
+    go (goes k m) = kept-to (go k) (m .node) (m .outcome) (m .leads)

@@ -1,0 +1,254 @@
+-- What the calls over a table return and leave: on a refusal nothing but the number; where they accept, what the rules derive.
+use mathlib.Core.Path.{_≡_, refl, sym, ap, subst, _∙_}
+use mathlib.Core.Bool.{Bool, true, false, cond}
+use mathlib.Core.List.{List, [], _∷_, map, List·Memᴰ as Mem, List·Memᴰ·not-nil, List·Memᴰ·cases-cons}
+use mathlib.Core.Logic.{_⊎_, inl, inr}
+use mathlib.Core.Option.{Option, none, some}
+use Prim.Native.Nat.{ℕ, zero, suc, _≤_, _<_}
+use native.Mathlib.Omega.{arith}
+use borrow.Author.Tests.{eqb-true, eqb-false, ne-eqb, ltb-true}
+use lib.Dec.{ltb, eqb}
+use lib.ListN.{length, getD}
+use Rattle.semantics.specs.Bytes.{every, nat2}
+use Rattle.semantics.specs.Editions.{Edition}
+use Rattle.semantics.specs.Events.{eventsIn}
+use Rattle.semantics.specs.Refusals.{Judged, refused, accepted, refusalOf}
+use Rattle.semantics.specs.Plant.{Plant, selectors}
+use Rattle.semantics.specs.Starts.{Start, startIn}
+use Rattle.semantics.specs.Run.{Action, test, wait, assign, switch, stop, possible, isTest, Next, to, finished, halted, idle, Control, at, answers}
+use Rattle.semantics.specs.Rules.{Sound}
+use Rattle.semantics.specs.TableFile.{NodeAction, Entry, FINISHED, HALTED, NONE, locationLimit, readLocation, readLocations, locationsIn}
+use Rattle.semantics.specs.Tables.{Table, judgeTable, operandFits, actionFits, actionsFit, actionAt, actionOrStop, goesOn, targetsFit, entryFits, entryNodes, locationFits, locationsFit, risingFrom, actionNodes, goingTo, entryNext, entriesAt, tableControl}
+use Rattle.semantics.specs.Calls.{Program, Outcome, outcomeOf, runFrom, judgeRun, report, eventCount, tableProgram, tableRun, tableCounts, readTable}
+use Rattle.semantics.specs.Conditions.{Condition, First, here, further, Firsts, refuses, accepts, tableConditions, runConditions, tableRunConditions}
+use Rattle.semantics.specs.Statements.{RunHolds}
+use Rattle.semantics.proofs.Facts.{true-not-false, and-left, and-right, within-high, All, all-nil, all-cons, all-mem, every-all}
+use Rattle.semantics.proofs.Judging as Judging
+use Rattle.semantics.proofs.Readers as Readers
+use Rattle.semantics.proofs.FirstNumber.{table-run-first, ran-refusal}
+use Rattle.semantics.proofs.StepRules.{answers-derived}
+use Rattle.semantics.proofs.TablePassed.{table-passed}
+use Rattle.semantics.proofs.WrittenSources.{found}
+
+-- ---- an accepted table
+few-locations : (ed : Edition) (s : List ℕ) {ls : List (List Entry)} → locationsIn ed s ≡ some ls → length ls ≤ locationLimit
+unfolding locationsIn readLocations
+few-locations ed s h =
+    let a = Readers.split nat2 _ (Readers.whole-read _ s h) in
+    let b = Readers.guarded _ _ (a .then) in
+    let c = Readers.times-read {P = λ es. Unit {0}} (readLocation ed) (λ es u v k. tt) (a .value) (a .rest) (b .1) in
+    let d = within-high 1 locationLimit (a .value) (b .0) in
+    let e = c .0 in
+    omega arith
+
+-- ---- a target that fits leads somewhere
+goes : (k t : ℕ) → k ≤ locationLimit → goesOn k t ≡ true → goingTo t ≡ idle → ⊥
+unfolding goesOn goingTo FINISHED HALTED NONE
+goes k t few h = go (ltb t k) refl h
+  where
+    go : (b : Bool) → ltb t k ≡ b → cond b true (eqb t 0xfffe) ≡ true → goingTo t ≡ idle → ⊥
+    go true e h i =
+        let l = ltb-true t k e in
+        let z : _≡_ {A = Next ℕ} (to t) idle = rw (ne-eqb t 0xfffe (λ q. omega arith), ne-eqb t 0xfffd (λ q. omega arith), ne-eqb t 0xffff (λ q. omega arith)) at i in
+        let y : _≡_ {A = ℕ} 0 1 = cc in
+        omega arith
+    go false e h i =
+        let z : _≡_ {A = Next ℕ} finished idle = rw h at i in
+        let y : _≡_ {A = ℕ} 0 1 = cc in
+        omega arith
+
+halts : (t : ℕ) → eqb t HALTED ≡ true → goingTo t ≡ idle → ⊥
+unfolding goingTo HALTED FINISHED NONE
+halts t h i =
+    let e = eqb-true t 0xfffd h in
+    let z : _≡_ {A = Next ℕ} halted idle = rw e at i in
+    let y : _≡_ {A = ℕ} 0 1 = cc in
+    omega arith
+
+-- the entry of a node that stands in a location is found, and fits
+record Leads (k : ℕ) (acts : List NodeAction) (es : List Entry) (n : ℕ) : Type 0 where
+  entry : Entry
+  fits : entryFits k acts entry ≡ true
+  here : entry .node ≡ n
+  next : (b : Bool) → entryNext es n b ≡ goingTo (cond b (entry .target) (entry .other))
+
+leads : (k : ℕ) (acts : List NodeAction) (es : List Entry) → All (λ e. entryFits k acts e ≡ true) es → (n : ℕ) → Mem n (entryNodes es) → Leads k acts es n
+unfolding entryNodes entryNext
+leads k acts [] h n m = absurd (List·Memᴰ·not-nil m)
+leads k acts (e ∷ es) h n m = go h (eqb (e .node) n) refl (List·Memᴰ·cases-cons m) (leads k acts es)
+  where
+    go : All (λ e. entryFits k acts e ≡ true) (e ∷ es) → (b : Bool) → eqb (e .node) n ≡ b → (n ≡ e .node) ⊎ Mem n (map (λ (e : Entry). e .node) es) →
+        (All (λ e. entryFits k acts e ≡ true) es → (n : ℕ) → Mem n (entryNodes es) → Leads k acts es n) → Leads k acts (e ∷ es) n
+    go (all-cons f g) true i c ih = record { entry = e; fits = f; here = eqb-true (e .node) n i; next = λ b. rw (i, entryNext) refl }
+    go (all-cons f g) false i (inl c) ih = absurd (eqb-false (e .node) n i (sym c))
+    go (all-cons f g) false i (inr c) ih =
+        let q = ih g n c in
+        record { entry = q .entry; fits = q .fits; here = q .here; next = λ b. rw (i, entryNext) (q .next b) }
+
+-- an entry that fits an action's kind has a move for each outcome that is possible
+fit-moves : (k : ℕ) (a : Action) (t u : ℕ) → k ≤ locationLimit → targetsFit k a t u ≡ true → (b : Bool) → possible a b ≡ true → goingTo (cond b t u) ≡ idle → ⊥
+unfolding targetsFit possible isTest
+fit-moves k (test c) t u few h true p i = goes k t few (and-left (goesOn k t) (goesOn k u) h) i
+fit-moves k (test c) t u few h false p i = goes k u few (and-right (goesOn k t) (goesOn k u) h) i
+fit-moves k (wait c) t u few h true p i = goes k t few (and-left (goesOn k t) _ h) i
+fit-moves k (wait c) t u few h false p i = true-not-false (sym p)
+fit-moves k (assign v e) t u few h true p i = goes k t few (and-left (goesOn k t) _ h) i
+fit-moves k (assign v e) t u few h false p i = true-not-false (sym p)
+fit-moves k (switch s m) t u few h true p i = goes k t few (and-left (goesOn k t) _ h) i
+fit-moves k (switch s m) t u few h false p i = true-not-false (sym p)
+fit-moves k stop t u few h true p i = halts t (and-left (eqb t HALTED) _ h) i
+fit-moves k stop t u few h false p i = true-not-false (sym p)
+
+-- the entries of a location of the table fit; beyond it there are none
+entries-fit : (k : ℕ) (acts : List NodeAction) (ls : List (List Entry)) (x : ℕ) → All (λ es. locationFits k acts es ≡ true) ls → All (λ e. entryFits k acts e ≡ true) (getD ls x [])
+unfolding locationFits
+entries-fit k acts [] x h = all-nil
+entries-fit k acts (es ∷ ls) zero (all-cons h g) = every-all (entryFits k acts) es (and-right (risingFrom 0 (entryNodes es)) (every (entryFits k acts) es) h)
+entries-fit k acts (es ∷ ls) (suc x) (all-cons h g) = entries-fit k acts ls x g
+
+found-or-stop : (l : List NodeAction) (n : ℕ) {a : Action} → actionAt l n ≡ some a → actionOrStop l n ≡ a
+unfolding actionOrStop
+found-or-stop l n e = rw (e, actionOrStop) refl
+
+-- an action that is not a stop is one of the list
+in-list : (l : List NodeAction) (n v : ℕ) (e : List ℕ) → actionOrStop l n ≡ assign v e → actionAt l n ≡ some (assign v e)
+unfolding actionOrStop
+in-list l n v e h = go (actionAt l n) refl h
+  where
+    go : (o : Option Action) → actionAt l n ≡ o → elim o [ none ↦ stop | some a ↦ a ] ≡ assign v e → actionAt l n ≡ some (assign v e)
+    go none i h = let z : _≡_ {A = ℕ} 0 1 = cc in absurd (omega arith)
+    go (some a) i h = i ∙ ap some h
+
+-- an entry of a known node, with its action
+known-fits : (k : ℕ) (acts : List NodeAction) (e : Entry) → entryFits k acts e ≡ true → (a : Action) × (actionAt acts (e .node) ≡ some a) × (targetsFit k a (e .target) (e .other) ≡ true)
+unfolding entryFits
+known-fits k acts e h = go (actionAt acts (e .node)) refl h
+  where
+    go : (o : Option Action) → actionAt acts (e .node) ≡ o → elim o [ none ↦ false | some a ↦ targetsFit k a (e .target) (e .other) ] ≡ true →
+        (a : Action) × (actionAt acts (e .node) ≡ some a) × (targetsFit k a (e .target) (e .other) ≡ true)
+    go none i h = true-not-false (sym h)
+    go (some a) i h = (a, i, h)
+
+-- the run of every accepted table is sound
+module _ (ed : Edition) (table : List ℕ) (t : Table) (h : judgeTable ed table ≡ accepted t) where
+  abbrev acts : List NodeAction
+  acts = t .actions
+
+  row-fits : (x : ℕ) → All (λ e. entryFits (length (t .locations)) acts e ≡ true) (getD (t .locations) x [])
+  unfolding locationsFit
+  row-fits x = entries-fit (length (t .locations)) acts (t .locations) x (every-all (locationFits (length (t .locations)) acts) (t .locations) ((table-passed ed table h) .locs-fit))
+
+  row-moves : (x n : ℕ) (b : Bool) → Mem n (entryNodes (getD (t .locations) x [])) → possible (actionOrStop acts n) b ≡ true → entryNext (getD (t .locations) x []) n b ≡ idle → ⊥
+  row-moves x n b m p i =
+      let q = leads (length (t .locations)) acts (getD (t .locations) x []) (row-fits x) n m in
+      let k = known-fits (length (t .locations)) acts (q .entry) (q .fits) in
+      let a = found-or-stop acts (q .entry .node) (k .1) in
+      fit-moves (length (t .locations)) (k .0) (q .entry .target) (q .entry .other) (let q = table-passed ed table h in few-locations ed (q .parts .locations) (q .locs)) (k .2) b
+      (ap (λ y. possible y b) (sym a ∙ ap (actionOrStop acts) (q .here)) ∙ p) (sym (q .next b) ∙ i)
+
+  named : (n v : ℕ) (e : List ℕ) → actionOrStop acts n ≡ assign v e → v < length (t .plant .variables)
+  unfolding actionsFit actionFits operandFits
+  named n v e i =
+      let f = found acts n (in-list acts n v e i) in
+      let g = all-mem (every-all (actionFits ed (t .plant)) acts (and-right (risingFrom 0 (actionNodes acts)) _ ((table-passed ed table h) .acts-fit))) (f .listed) in
+      let o = and-right (ltb (f .entry .node) (ed .nodes)) (operandFits ed (length (t .plant .variables)) (selectors (t .plant)) (f .entry .action)) g in
+      let d : operandFits ed (length (t .plant .variables)) (selectors (t .plant)) (assign v e) ≡ true = ap (operandFits ed (length (t .plant .variables)) (selectors (t .plant))) (sym (f .action-is)) ∙ o in
+      ltb-true v (length (t .plant .variables)) (and-left (ltb v (length (t .plant .variables))) _ d)
+
+  pub sound-table : Sound (t .plant) (tableControl t)
+  unfolding tableControl entriesAt
+  sound-table = record { moves = λ x n b m p i. row-moves x n b m p i; declares = λ x n v e m i. named n v e i }
+
+-- ---- the calls
+-- no condition has the number 0, so a call that returns 0 has accepted
+pub accepted-of : {A : Type 0} {j : Judged A} {l : List Condition} → Firsts j l → All (λ (c : Condition). c .refusal ≡ 0 → ⊥) l → refusalOf j ≡ 0 → (a : A) × (j ≡ accepted a)
+unfolding refusalOf
+accepted-of (refuses f) h z = absurd (go f h z)
+  where
+    go : {n : ℕ} {l : List Condition} → First n l → All (λ (c : Condition). c .refusal ≡ 0 → ⊥) l → n ≡ 0 → ⊥
+    go (here e f) (all-cons h k) z = h (f ∙ z)
+    go (further e f) (all-cons h k) z = go f k z
+accepted-of (accepts {a = a} c) h z = (a, refl)
+
+-- what an accepted run has passed
+pub record Passed {S : Type 0} (ed : Edition) (j : Judged (Program S)) (start events : List ℕ) (o : Outcome) : Type 0 where
+  pub program : Program S
+  pub is-program : j ≡ accepted program
+  pub st : Start
+  pub start-read : startIn (program .plant) start ≡ some st
+  pub outcome : outcomeOf ed (program .control) (runFrom ed program st events) ≡ o
+
+pub run-passed : {S : Type 0} (ed : Edition) (j : Judged (Program S)) (start events buffer : List ℕ) {o : Outcome} → judgeRun ed j start events buffer ≡ accepted o → Passed ed j start events o
+unfolding judgeRun
+run-passed ed j start events buffer h =
+    let a = Judging.passed-then j _ h in
+    let b = Judging.passed-need 20 (startIn (a .0 .plant) start) _ (a .2) in
+    let c = Judging.passed-ensure 20 _ _ (b .2) in
+    let d = Judging.passed-ensure 21 _ _ (c .1) in
+    let e = Judging.passed-ensure 22 _ _ (d .1) in
+    record { program = a .0; is-program = a .1; st = b .0; start-read = b .1; outcome = Judging.accepted-is (e .1) }
+
+-- a run that is taken on says what the rules derive
+pub run-holds : {S : Type 0} (ed : Edition) (p : Plant) (c : Control S) → Sound p c → (start events buffer : List ℕ) (st : Start) → startIn p start ≡ some st →
+    RunHolds ed p c start events buffer (report buffer (accepted (outcomeOf ed c (runFrom ed (record { plant = p; control = c }) st events))))
+unfolding report outcomeOf runFrom
+run-holds ed p c sound start events buffer st h = record {
+  st = st;
+  start-read = h;
+  said = answers ed p c (at (c .start) (st .values) (st .modes)) (eventsIn (ed .event-bytes) (eventCount ed events) events);
+  derived = answers-derived ed p c sound (at (c .start) (st .values) (st .modes)) (eventsIn (ed .event-bytes) (eventCount ed events) events);
+  result = refl;
+}
+
+-- the same of the call's own result
+pub run-built : {S : Type 0} (ed : Edition) (j : Judged (Program S)) (p : Plant) (c : Control S) → Sound p c → (start events buffer : List ℕ) (g : Program S) → record { plant = p; control = c } ≡ g →
+    (st : Start) → startIn (g .plant) start ≡ some st → judgeRun ed j start events buffer ≡ accepted (outcomeOf ed (g .control) (runFrom ed g st events)) →
+    RunHolds ed p c start events buffer (report buffer (judgeRun ed j start events buffer))
+run-built {S} ed j p c sound start events buffer g e st i k = rw k
+    (subst (λ (g : Program S). startIn (g .plant) start ≡ some st → RunHolds ed p c start events buffer (report buffer (accepted (outcomeOf ed (g .control) (runFrom ed g st events))))) e
+    (λ i. run-holds ed p c sound start events buffer st i) i)
+
+table-numbers : (ed : Edition) (table start events buffer : List ℕ) → All (λ (c : Condition). c .refusal ≡ 0 → ⊥) (tableRunConditions ed table start events buffer)
+unfolding tableRunConditions tableConditions runConditions
+table-numbers ed table start events buffer =
+    all-cons (no 14) (all-cons (no 15) (all-cons (no 16) (all-cons (no 17) (all-cons (no 18) (all-cons (no 19) (all-cons (no 20) (all-cons (no 21) all-nil)))))))
+  where
+    no : (n : ℕ) → suc n ≡ 0 → ⊥
+    no n e = omega arith
+
+pub table-run-holds : (ed : Edition) (table start events buffer : List ℕ) → (tableRun ed table start events buffer) .refusal ≡ 0 →
+    (t : Table) × (judgeTable ed table ≡ accepted t) × RunHolds ed (t .plant) (tableControl t) start events buffer (tableRun ed table start events buffer)
+unfolding tableRun tableProgram
+table-run-holds ed table start events buffer z =
+    let j = judgeRun ed (tableProgram ed table) start events buffer in
+    let a = accepted-of (table-run-first ed table start events buffer) (table-numbers ed table start events buffer) (sym (ran-refusal buffer j) ∙ z) in
+    let b = run-passed ed (tableProgram ed table) start events buffer (a .1) in
+    let c = Judging.passed-then (judgeTable ed table) _ (b .is-program) in
+    (c .0, c .1, run-built ed (tableProgram ed table) (c .0 .plant) (tableControl (c .0)) (sound-table ed table (c .0) (c .1)) start events buffer (b .program) (Judging.accepted-is (c .2)) (b .st) (b .start-read) (a .1 ∙ ap accepted (sym (b .outcome))))
+
+-- on a refusal: the number, and nothing written
+pub refused-run : (buffer : List ℕ) (j : Judged Outcome) → ((report buffer j) .refusal ≡ 0 → ⊥) →
+    report buffer j ≡ record { refusal = (report buffer j) .refusal; taken = 0; turned-away = 0; faulted = 0; records = buffer }
+unfolding report
+refused-run buffer (refused n) h = refl
+refused-run buffer (accepted o) h = absurd (h refl)
+
+pub refused-table-run : (ed : Edition) (table start events buffer : List ℕ) → ((tableRun ed table start events buffer) .refusal ≡ 0 → ⊥) →
+    tableRun ed table start events buffer ≡ record { refusal = (tableRun ed table start events buffer) .refusal; taken = 0; turned-away = 0; faulted = 0; records = buffer }
+unfolding tableRun
+refused-table-run ed table start events buffer h = refused-run buffer (judgeRun ed (tableProgram ed table) start events buffer) h
+
+counts-zero : (j : Judged Table) → ((tableCounts j) .refusal ≡ 0 → ⊥) → tableCounts j ≡ record { refusal = (tableCounts j) .refusal; variables = 0; selectors = 0; actions = 0; locations = 0 }
+unfolding tableCounts
+counts-zero (refused n) h = refl
+counts-zero (accepted t) h = absurd (h refl)
+
+pub refused-read-table : (ed : Edition) (table : List ℕ) → ((readTable ed table) .refusal ≡ 0 → ⊥) →
+    readTable ed table ≡ record { refusal = (readTable ed table) .refusal; variables = 0; selectors = 0; actions = 0; locations = 0 }
+unfolding readTable
+refused-read-table ed table h = counts-zero (judgeTable ed table) h
+
+pub read-table-result : (ed : Edition) (table : List ℕ) {t : Table} → judgeTable ed table ≡ accepted t →
+    readTable ed table ≡ record { refusal = 0; variables = length (t .plant .variables); selectors = length (selectors (t .plant)); actions = length (t .actions); locations = length (t .locations) }
+unfolding readTable tableCounts
+read-table-result ed table h = rw h refl
