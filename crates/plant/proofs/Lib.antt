@@ -6,3 +6,10 @@ pub mod Padding
 pub mod EquationCases
 pub mod EquationAnswer
 pub mod EquationLookups
+pub mod Costs
+pub mod VariableSection
+pub mod VariableLaws
+pub mod Marks
+pub mod Walks
+pub mod DrivenOnce
+pub mod EquationsOnce

@@ -1,2 +1,4 @@
--- What the contracts of the code that reads a plant's sections cite.
+-- What the contracts of the code that reads a plant's two sections cite.
+pub mod Variables
 pub mod Equations
+pub mod Driven

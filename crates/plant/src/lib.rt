@@ -1,2 +1,4 @@
-// The plant of a schedule: its sections, read by position.
+// The plant's two sections, read by position: conditions 4 to 8.
+pub mod driven;
 pub mod equations;
+pub mod variables;

@@ -1,0 +1,201 @@
+-- Condition 8 of one equation and of all: what is known before each turn, and why a turn keeps it.
+use mathlib.Core.Path.{_≡_, refl, sym, ap, subst, _∙_}
+use mathlib.Core.Bool.{Bool, true, false, _&&_}
+use mathlib.Core.List.{List, [], _∷_, _++_, flatMap}
+use mathlib.Core.Option.{some}
+use Prim.Native.Nat.{ℕ, _+_, _-_, _≤_, _<_}
+use native.Mathlib.Omega.{arith}
+use borrow.Author.Tests.{eqb-true, ltb-true}
+use lib.Dec.{eqb, ltb}
+use lib.ListN.{length, getD, take, drop, replicate}
+use Rattle.semantics.specs.Bytes.{every, read, times}
+use Rattle.semantics.specs.Sections.{Rate, Mode, Equation, steady, choice, readRate, readMode, readEquation, equationIn, equationsIn}
+use Rattle.semantics.specs.Plant.{rateNamed, switchNamed, modeNamed, equationNamed, among, onceAfter, modeDrives, drives, modesOnce, drivenOnce}
+use Rattle.semantics.proofs.Facts.{true-not-false, some-is, and-left, and-right, by-cases, All, all-nil, all-cons, every-all}
+use Rattle.codec.proofs.Reading.{nat2At}
+use Rattle.codec.proofs.Known.{Cons}
+use Rattle.plant.specs.Driven.{Named, drivers, allDrivers, eachOnce, Small, There, Few, unmarked, Marked, Tried}
+use Rattle.plant.proofs.Marks.{among-append, among-there, small-left, small-right, marked-more, unmarked-apart}
+use Rattle.plant.proofs.Walks.{next-of, all-left, none-left, Shape, is-steady, is-choice, shape-of, EquationAt, equation-at, section-at}
+use Rattle.plant.proofs.DrivenOnce.{ratesTest, modesTest, marked-none, tried-as}
+
+-- ---- one equation
+not-both : {C : Type 0} (k : ℕ) → k ≡ 1 → k ≡ 2 → C
+not-both k a b = absurd (omega arith)
+
+module _ (s : List ℕ) (f : Few (equationIn s) drives) where
+  pub equation-inside : 1 ≤ length s
+  equation-inside = shape-of s (f .is) .0
+
+  pub steady-there : getD s 0 0 ≡ 1 → There (times 1 readRate) drivers s 1
+  unfolding drives drivers
+  steady-there k = go (shape-of s (f .is) .1)
+    where
+      go : Shape s (f .value) → There (times 1 readRate) drivers s 1
+      go (is-steady r e q t) = record { value = r ∷ []; end = []; got = t; inside = equation-inside; small = subst (λ x. Small (drives x)) q (f .small) }
+      go (is-choice c e q i t) = not-both (getD s 0 0) k e
+
+  pub choice-inside : (getD s 0 0 ≡ 1 → ⊥) → 1 + 1 + 1 ≤ length s
+  choice-inside k = go (shape-of s (f .is) .1)
+    where
+      go : Shape s (f .value) → 1 + 1 + 1 ≤ length s
+      go (is-steady r e q t) = absurd (k e)
+      go (is-choice c e q i t) = i
+
+  pub choice-there : (getD s 0 0 ≡ 1 → ⊥) → There (times (getD s 2 0) readMode) allDrivers s (1 + 1 + 1)
+  unfolding drives allDrivers
+  choice-there k = go (shape-of s (f .is) .1)
+    where
+      go : Shape s (f .value) → There (times (getD s 2 0) readMode) allDrivers s (1 + 1 + 1)
+      go (is-steady r e q t) = absurd (k e)
+      go (is-choice c e q i t) = record { value = c .modes; end = []; got = t; inside = i; small = subst (λ x. Small (drives x)) q (f .small) }
+
+-- 8 of one equation, against the variables that are marked
+abbrev pub equationTest : List Bool → Equation → Bool
+equationTest a q = modesOnce q && unmarked a (drives q)
+
+module _ (s : List ℕ) (a : List Bool) {r : Bool} {b : List Bool} where
+  pub steady-tried : getD s 0 0 ≡ 1 → ((rs : List Rate) (e : List ℕ) → times 1 readRate (drop 1 s) ≡ read rs e → Tried (ratesTest a rs) a (drivers rs) r b) → (q : Equation) → equationIn s ≡ some q → Tried (equationTest a q) a (drives q) r b
+  unfolding drives drivers modesOnce onceAfter among
+  steady-tried k t q h = go (shape-of s h .1)
+    where
+      go : Shape s q → Tried (equationTest a q) a (drives q) r b
+      go (is-steady x e j g) = tried-as (equationTest a) drives (sym j) (t (x ∷ []) [] g)
+      go (is-choice c e j i g) = not-both (getD s 0 0) k e
+
+  pub choice-tried : (getD s 0 0 ≡ 1 → ⊥) → ((ms : List Mode) (e : List ℕ) → times (getD s 2 0) readMode (drop (1 + 1 + 1) s) ≡ read ms e → Tried (modesTest a ms) a (allDrivers ms) r b) → (q : Equation) → equationIn s ≡ some q → Tried (equationTest a q) a (drives q) r b
+  unfolding drives allDrivers modesOnce eachOnce
+  choice-tried k t q h = go (shape-of s h .1)
+    where
+      go : Shape s q → Tried (equationTest a q) a (drives q) r b
+      go (is-steady x e j g) = absurd (k e)
+      go (is-choice c e j i g) = tried-as (equationTest a) drives (sym j) (t (c .modes) [] g)
+
+-- ---- 7 keeps the variables small
+small-nil : Small []
+unfolding among
+small-nil = record { below = λ v h. true-not-false (sym h) }
+
+small-cons : (v : ℕ) (l : List ℕ) → v < 32 → Small l → Small (v ∷ l)
+small-cons v l h s = record { below = λ u k. by-cases (eqb v u) (λ e. rw (eqb-true v u e) at h) (λ e. s .below u (sym (among-there u v l e) ∙ k)) }
+
+small-append : (l k : List ℕ) → Small l → Small k → Small (l ++ k)
+small-append l k s t = record { below = λ v h. by-cases (among v l) (λ e. s .below v e) (λ e. t .below v (rw e at (sym (among-append v l k) ∙ h))) }
+
+small-flat : {A : Type 0} {P : A → Type 0} (f : A → List ℕ) → ((x : A) → P x → Small (f x)) → {l : List A} → All P l → Small (flatMap f l)
+unfolding flatMap
+small-flat f h all-nil = small-nil
+small-flat f h (all-cons {x = x} {l = l} p a) = small-append (f x) (flatMap f l) (h x p) (small-flat f h a)
+
+module _ (n : ℕ) (few : n ≤ 32) where
+  small-rates : (rs : List Rate) → every (rateNamed n) rs ≡ true → Small (drivers rs)
+  unfolding drivers rateNamed
+  small-rates rs h = go (every-all (rateNamed n) rs h)
+    where
+      go : {l : List Rate} → All (λ x. rateNamed n x ≡ true) l → Small (drivers l)
+      go all-nil = small-nil
+      go (all-cons {x = x} {l = l} p a) = let b = ltb-true (x .driven) n p in small-cons (x .driven) (drivers l) (omega arith) (go a)
+
+  small-mode : (k : ℕ) (m : Mode) → modeNamed n k m ≡ true → Small (modeDrives m)
+  unfolding modeNamed modeDrives drivers
+  small-mode k m h = small-rates (m .rates) (and-left (every (rateNamed n) (m .rates)) (every (switchNamed k) (m .switches)) h)
+
+  small-equation : (q : Equation) → equationNamed n q ≡ true → Small (drives q)
+  unfolding equationNamed drives rateNamed
+  small-equation (steady r) h = let b = ltb-true (r .driven) n h in small-cons (r .driven) [] (omega arith) small-nil
+  small-equation (choice c) h = small-flat modeDrives (small-mode (length (c .modes))) (every-all (modeNamed n (length (c .modes))) (c .modes) (and-right (ltb (c .initial) (length (c .modes))) (every (modeNamed n (length (c .modes))) (c .modes)) h))
+
+  pub small-equations : (es : List Equation) → every (equationNamed n) es ≡ true → Small (flatMap drives es)
+  small-equations es h = small-flat drives small-equation (every-all (equationNamed n) es h)
+
+-- ---- all equations
+once-split : (noted : List ℕ) (a : List Bool) (q : Equation) (es : List Equation) → Marked [] noted a → Small (drives q) → drivenOnce noted (q ∷ es) ≡ (equationTest a q && drivenOnce (drives q ++ noted) es)
+unfolding drivenOnce
+once-split noted a q es m s = ap (λ t. modesOnce q && t && drivenOnce (drives q ++ noted) es) (sym (unmarked-apart noted a (drives q) m s))
+
+pub record OnceGoing (s : List ℕ) (seen : List Bool) (p i : ℕ) : Type 0 where
+  pub all : List Equation
+  pub is : equationsIn s ≡ some all
+  pub rest : List Equation
+  pub got : times (getD s 0 0 - i) readEquation (drop p s) ≡ read rest []
+  pub inside : p ≤ length s
+  pub small : Small (flatMap drives rest)
+  pub noted : List ℕ
+  pub stands : Marked [] noted seen
+  pub same : drivenOnce [] all ≡ drivenOnce noted rest
+
+pub section-inside : (s : List ℕ) → Named s → 1 ≤ length s
+section-inside s n = section-at s (n .is) .inside
+
+pub once-start : (s : List ℕ) → Named s → OnceGoing s (replicate 32 false) 1 0
+once-start s n =
+    let k = section-at s (n .is) in
+    record {
+      all = n .equations;
+      is = n .is;
+      rest = n .equations;
+      got = all-left readEquation (getD s 0 0) (drop 1 s) (k .got);
+      inside = k .inside;
+      small = small-equations (n .variables) (n .few) (n .equations) (n .named);
+      noted = [];
+      stands = marked-none;
+      same = refl;
+    }
+
+module _ {s : List ℕ} {seen : List Bool} {p i : ℕ} (g : OnceGoing s seen p i) where
+  pub once-end : i ≡ getD s 0 0 → (es : List Equation) → equationsIn s ≡ some es → true ≡ drivenOnce [] es
+  unfolding drivenOnce
+  once-end k es h =
+      let z = none-left readEquation (getD s 0 0) i (drop p s) k (g .got) .0 in
+      sym (ap (drivenOnce []) (some-is (sym h ∙ g .is)) ∙ g .same ∙ ap (drivenOnce (g .noted)) z)
+
+  module _ (h : i < getD s 0 0) where
+    next : Cons readEquation (getD s 0 0 - (i + 1)) (drop p s) (g .rest) []
+    next = next-of readEquation (getD s 0 0) i (drop p s) h (g .got)
+
+    equation : EquationAt s p (next .head) (next .mid)
+    equation = equation-at s p (g .inside) (next .first)
+
+    next-all : Small (drives (next .head) ++ flatMap drives (next .tail))
+    unfolding flatMap
+    next-all = subst (λ l. Small (flatMap drives l)) (sym (next .is)) (g .small)
+
+    next-small : Small (drives (next .head))
+    next-small = small-left (drives (next .head)) (flatMap drives (next .tail)) next-all
+
+    pub next-inside : p + 2 + nat2At s p ≤ length s
+    next-inside = equation .inside
+
+    -- m is its length: the slice that is lent
+    module _ {m : ℕ} (x : m ≡ nat2At s p) where
+      slice-is : equationIn (take (p + 2 + m - (p + 2)) (drop (p + 2) s)) ≡ some (next .head)
+      slice-is = let e : p + 2 + m - (p + 2) ≡ nat2At s p = omega arith in ap (λ k. equationIn (take k (drop (p + 2) s))) e ∙ equation .is
+
+      pub slice-inside : p + 2 + m ≤ length s
+      slice-inside = omega (arith, equation .inside)
+
+      pub next-few : Few (equationIn (take (p + 2 + m - (p + 2)) (drop (p + 2) s))) drives
+      next-few = record { value = next .head; is = slice-is; small = next-small }
+
+      module _ {r : Bool} {c : List Bool} (t : (q : Equation) → equationIn (take (p + 2 + m - (p + 2)) (drop (p + 2) s)) ≡ some q → Tried (equationTest seen q) seen (drives q) r c) where
+        tried : Tried (equationTest seen (next .head)) seen (drives (next .head)) r c
+        tried = t (next .head) slice-is
+
+        next-test : drivenOnce [] (g .all) ≡ (r && drivenOnce (drives (next .head) ++ g .noted) (next .tail))
+        next-test = g .same ∙ ap (drivenOnce (g .noted)) (sym (next .is)) ∙ once-split (g .noted) seen (next .head) (next .tail) (g .stands) next-small ∙ ap (λ y. y && drivenOnce (drives (next .head) ++ g .noted) (next .tail)) (sym (tried .is))
+
+        pub once-false : r ≡ false → (es : List Equation) → equationsIn s ≡ some es → false ≡ drivenOnce [] es
+        once-false f es k = sym (ap (drivenOnce []) (some-is (sym k ∙ g .is)) ∙ next-test ∙ ap (λ y. y && drivenOnce (drives (next .head) ++ g .noted) (next .tail)) f)
+
+        pub once-next : r ≡ true → OnceGoing s c (p + 2 + m) (i + 1)
+        once-next f = record {
+          all = g .all;
+          is = g .is;
+          rest = next .tail;
+          got = ap (times (getD s 0 0 - (i + 1)) readEquation) (ap (λ k. drop (p + 2 + k) s) x ∙ sym (equation .end)) ∙ next .rest;
+          inside = slice-inside;
+          small = small-right (drives (next .head)) (flatMap drives (next .tail)) next-all;
+          noted = drives (next .head) ++ g .noted;
+          stands = marked-more (g .noted) seen (drives (next .head)) c (g .stands) (tried .marks f);
+          same = next-test ∙ ap (λ y. y && drivenOnce (drives (next .head) ++ g .noted) (next .tail)) f;
+        }

@@ -1,0 +1,46 @@
+use native.Mathlib.Omega.{arith}
+use Rattle.plant.proofs.EquationsOnce.{equation-inside, steady-there, steady-tried, choice-inside, choice-there, choice-tried}
+use borrow.Author.Needs.{needs}
+use Rattle.plant.proofs.driven.equation.Statement.{statement}
+use Rattle.plant.proofs.driven.equation.Tie as tie
+
+shared-slice-read-if1 : tie.Need-shared-slice-read-if1
+shared-slice-read-if1 c = equation-inside _ (c .before .before .before .pre .0)
+
+rates-requires : tie.Need-rates-requires
+rates-requires c κs = (steady-there _ (c .before .before .before .before .before .before .pre .0) (c .before .before .if1 .taken), c .before .before .before .before .before .before .pre .1)
+
+returns : tie.Need-returns
+returns c = steady-tried _ _ (c .before .before .before .if1 .taken) (c .rates .ensures)
+
+add-modes : tie.Need-add-modes
+add-modes c = search needs
+
+add-modes-2 : tie.Need-add-modes-2
+add-modes-2 c = search needs
+
+shared-slice-read-modes : tie.Need-shared-slice-read-modes
+shared-slice-read-modes c = choice-inside _ (c .before .before .before .before .before .pre .0) (c .before .if1 .left)
+
+cast-modes : tie.Need-cast-modes
+cast-modes c = omega (arith, c .shared-slice-known3 .given 2)
+
+modes-requires : tie.Need-modes-requires
+modes-requires c κs = (choice-there _ (c .before .before .before .before .before .before .before .pre .0) (c .before .before .before .if1 .left), c .before .before .before .before .before .before .before .pre .1)
+
+returns-2 : tie.Need-returns-2
+returns-2 c = choice-tried _ _ (c .before .before .before .before .if1 .left) (c .modes .ensures)
+
+pub equation-spec : {M : Type 1} → statement M
+equation-spec =
+    tie.close
+    (tie.spec
+    shared-slice-read-if1
+    rates-requires
+    returns
+    add-modes
+    add-modes-2
+    shared-slice-read-modes
+    cast-modes
+    modes-requires
+    returns-2)

@@ -1,0 +1,59 @@
+-- Condition 8 of an equation section that 6 and 7 let pass.
+use mathlib.Core.Path.{_≡_}
+use mathlib.Core.Bool.{Bool, true, false, not, _||_}
+use mathlib.Core.List.{List, [], map, flatMap}
+use mathlib.Core.Option.{Option, some}
+use Prim.Native.Nat.{ℕ, _≤_, _<_}
+use lib.ListN.{length, getD, drop}
+use Rattle.semantics.specs.Bytes.{every, Reader, read}
+use Rattle.semantics.specs.Sections.{Rate, Mode, Equation, equationsIn}
+use Rattle.semantics.specs.Plant.{equationNamed, among, onceAfter, modeDrives}
+
+-- what 6 and 7 have shown, where there are at most 32 variables
+pub record Named (s : List ℕ) : Type 0 where
+  pub equations : List Equation
+  pub is : equationsIn s ≡ some equations
+  pub variables : ℕ
+  pub few : variables ≤ 32
+  pub named : every (equationNamed variables) equations ≡ true
+
+-- ---- for the parts of the code
+unfoldable pub drivers : List Rate → List ℕ
+drivers rs = map (λ (r : Rate). r .driven) rs
+
+unfoldable pub allDrivers : List Mode → List ℕ
+allDrivers ms = flatMap modeDrives ms
+
+unfoldable pub eachOnce : List Mode → Bool
+eachOnce ms = every (λ m. onceAfter [] (modeDrives m)) ms
+
+-- variables that the array has an entry for
+pub record Small (l : List ℕ) : Type 0 where
+  pub below : (v : ℕ) → among v l ≡ true → v < 32
+
+-- r reads something at place p of s, and f says which variables it names
+pub record There {A : Type 0} (r : Reader A) (f : A → List ℕ) (s : List ℕ) (p : ℕ) : Type 0 where
+  pub value : A
+  pub end : List ℕ
+  pub got : r (drop p s) ≡ read value end
+  pub inside : p ≤ length s
+  pub small : Small (f value)
+
+pub record Few {A : Type 0} (o : Option A) (f : A → List ℕ) : Type 0 where
+  pub value : A
+  pub is : o ≡ some value
+  pub small : Small (f value)
+
+-- none of them is marked
+unfoldable pub unmarked : List Bool → List ℕ → Bool
+unmarked a l = every (λ v. not (getD a v false)) l
+
+-- b, of 32 entries, is a with these marked
+pub record Marked (a : List Bool) (l : List ℕ) (b : List Bool) : Type 0 where
+  pub sized : length b ≡ 32
+  pub at : (v : ℕ) → v < 32 → getD b v false ≡ (getD a v false || among v l)
+
+-- the answer is the test; where it is true, the variables are marked
+pub record Tried (test : Bool) (a : List Bool) (l : List ℕ) (r : Bool) (b : List Bool) : Type 0 where
+  pub is : r ≡ test
+  pub marks : r ≡ true → Marked a l b

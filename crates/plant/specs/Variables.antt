@@ -1,0 +1,54 @@
+-- Conditions 4 and 5: the variable section as the code answers it.
+use mathlib.Core.Path.{_≡_}
+use mathlib.Core.Bool.{cond}
+use mathlib.Core.List.{List, [], _++_, map}
+use mathlib.Core.Option.{none, some}
+use Prim.Native.Nat.{ℕ, _+_, _-_, _*_, _≤_}
+use lib.ListN.{length, getD, replicate}
+use lib.IntN.{ℤ, pos}
+use Rattle.semantics.specs.Bytes.{every}
+use Rattle.semantics.specs.Editions.{edition1}
+use Rattle.semantics.specs.Sections.{Variable, variablesIn}
+use Rattle.semantics.specs.Plant.{ordered}
+use Rattle.plant.specs.declared.variables.Variables.{Variables}
+
+-- an array of n entries that begins with the list
+unfoldable pub pad : {A : Type 0} → ℕ → A → List A → List A
+pad n d l = l ++ replicate (n - length l) d
+
+-- one number of each variable, in an array of 32
+unfoldable pub column : (Variable → ℤ) → List Variable → List ℤ
+column f vs = pad 32 (pos 0) (map f vs)
+
+-- the variables, with this refusal
+unfoldable pub answer : ℕ → List Variable → Variables
+answer n vs = record {
+  refusal = n;
+  count = length vs;
+  lows = column (λ (v : Variable). v .minimum) vs;
+  highs = column (λ (v : Variable). v .maximum) vs;
+  initials = column (λ (v : Variable). v .initial) vs;
+}
+
+unfoldable pub refusedBy : ℕ → Variables
+refusedBy n = answer n []
+
+-- 5: "Minimum ≤ initial ≤ maximum fails."
+unfoldable pub orderedOr : List Variable → Variables
+orderedOr vs = cond (every ordered vs) (answer 0 vs) (refusedBy 5)
+
+-- 4: "The variable count or section length is wrong.", then 5
+unfoldable pub variablesOf : List ℕ → Variables
+variablesOf s = elim (variablesIn edition1 s) [ none ↦ refusedBy 4 | some vs ↦ orderedOr vs ]
+
+-- ---- for the parts of the code
+-- the section has the bytes of n variables
+pub record Sized (s : List ℕ) (n : ℕ) : Type 0 where
+  pub first : getD s 0 0 ≡ n
+  pub low : 1 ≤ n
+  pub high : n ≤ 32
+  pub size : length s ≡ 1 + 12 * n
+
+pub record Counted (s : List ℕ) (n : ℕ) : Type 0 where
+  pub wrong : n ≡ 0 → variablesIn edition1 s ≡ none
+  pub right : 1 ≤ n → Sized s n

@@ -1,0 +1,101 @@
+// The equation section once more, after 6 and 7: no variable in two equations or twice in one mode (8).
+ghost use mathlib.Core.Path.{_≡_};
+ghost use mathlib.Core.Bool.{_&&_};
+ghost use mathlib.Core.List.{List, []};
+ghost use mathlib.Core.Option.{some};
+ghost use Prim.Native.Nat.{ℕ, _≤_};
+ghost use lib.ListN.{length, drop};
+ghost use Rattle.semantics.specs.Bytes.{read, times};
+ghost use Rattle.semantics.specs.Sections.{Rate, Switch, Mode, Equation, readRate, readSwitch, readMode, equationIn, equationsIn};
+ghost use Rattle.semantics.specs.Plant.{onceAfter, drives, modesOnce, drivenOnce};
+ghost use Rattle.plant.specs.Driven.{Named, There, Few, drivers, allDrivers, eachOnce, unmarked, Tried};
+
+// n rates from a place on: none of a variable marked before, no variable twice; their variables are marked
+fn rates(s: &[u8], at: usize, n: usize, before: &[bool; 32], seen: &mut [bool; 32]) -> bool
+    requires { ⌜ There (times n readRate) drivers (now s) at × (length (now seen) ≡ 32) ⌝ }
+    ensures { λ r. ⌜ ((rs : List Rate) (e : List ℕ) → times n readRate (drop at (now (s .entry))) ≡ read rs e → Tried (onceAfter [] (drivers rs) && unmarked (now (before .entry)) (drivers rs)) (now (seen .entry)) (drivers rs) r (now (seen .exit))) ⌝ }
+{
+    let mut mine = [false; 32];
+    let mut p = at;
+    let mut i = 0;
+    while i < n {
+        let v = s[p] as usize;
+        if before[v] {
+            return false;
+        }
+        if mine[v] {
+            return false;
+        }
+        mine[v] = true;
+        seen[v] = true;
+        p = p + 1 + 4;
+        i += 1;
+    }
+    true
+}
+
+// the place after k switches
+fn past(s: &[u8], at: usize, k: usize) -> usize
+    requires { ⌜ There (times k readSwitch) (λ ss. []) (now s) at ⌝ }
+    ensures { λ r. ⌜ ((ss : List Switch) (e : List ℕ) → times k readSwitch (drop at (now (s .entry))) ≡ read ss e → (e ≡ drop r (now (s .entry))) × (r ≤ length (now (s .entry)))) ⌝ }
+{
+    let mut p = at;
+    let mut i = 0;
+    while i < k {
+        p = p + 1 + s[p] as usize;
+        i += 1;
+    }
+    p
+}
+
+// n modes of a CASE: each as above
+fn modes(s: &[u8], at: usize, n: usize, before: &[bool; 32], seen: &mut [bool; 32]) -> bool
+    requires { ⌜ There (times n readMode) allDrivers (now s) at × (length (now seen) ≡ 32) ⌝ }
+    ensures { λ r. ⌜ ((ms : List Mode) (e : List ℕ) → times n readMode (drop at (now (s .entry))) ≡ read ms e → Tried (eachOnce ms && unmarked (now (before .entry)) (allDrivers ms)) (now (seen .entry)) (allDrivers ms) r (now (seen .exit))) ⌝ }
+{
+    let mut p = at;
+    let mut i = 0;
+    while i < n {
+        let k = s[p] as usize;
+        if !rates(s, p + 1, k, before, seen) {
+            return false;
+        }
+        let q = p + 1 + 5 * k;
+        p = past(s, q + 1, s[q] as usize);
+        i += 1;
+    }
+    true
+}
+
+// an equation's bytes: the variables marked so far are those of the equations before it
+fn equation(s: &[u8], seen: &mut [bool; 32]) -> bool
+    requires { ⌜ Few (equationIn (now s)) drives × (length (now seen) ≡ 32) ⌝ }
+    ensures { λ r. ⌜ ((q : Equation) → equationIn (now (s .entry)) ≡ some q → Tried (modesOnce q && unmarked (now (seen .entry)) (drives q)) (now (seen .entry)) (drives q) r (now (seen .exit))) ⌝ }
+{
+    let before = *seen;
+    if s[0] == 1 {
+        return rates(s, 1, 1, &before, seen);
+    }
+    modes(s, 1 + 1 + 1, s[2] as usize, &before, seen)
+}
+
+// 8, of a section that 6 and 7 let pass
+pub fn once(s: &[u8]) -> bool
+    requires { ⌜ Named (now s) ⌝ }
+    ensures { λ r. ⌜ ((es : List Equation) → equationsIn (now (s .entry)) ≡ some es → r ≡ drivenOnce [] es) ⌝ }
+{
+    let n = s[0] as usize;
+    let mut seen = [false; 32];
+    let mut p = 1;
+    let mut i = 0;
+    while i < n {
+        let b = p + 2;
+        let e = b + codec::nat2(s, p);
+        if !equation(&s[b..e], &mut seen) {
+            return false;
+        }
+        p = e;
+        i += 1;
+    }
+    true
+}
