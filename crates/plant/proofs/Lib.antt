@@ -1,7 +1,9 @@
 pub mod Costs
+pub mod Walks
+pub mod Turns
 pub mod VariableSection
 pub mod VariableLaws
 pub mod Marks
-pub mod Walks
 pub mod DrivenOnce
 pub mod EquationsOnce
+pub mod TruthTurns
