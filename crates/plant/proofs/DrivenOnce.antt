@@ -9,11 +9,12 @@ use Rattle.semantics.specs.Bytes.{every, read, times}
 use Rattle.semantics.specs.Sections.{Rate, Switch, Mode, readRate, readSwitch, readMode}
 use Rattle.semantics.specs.Plant.{among, onceAfter, modeDrives}
 use Rattle.semantics.proofs.Facts.{true-not-false}
-use Rattle.semantics.proofs.Readers.{read-value, read-rest}
+use Rattle.semantics.proofs.Readers.{read-value}
 use Rattle.codec.proofs.Known.{Cons}
-use Rattle.plant.specs.Driven.{drivers, allDrivers, eachOnce, Small, There, unmarked, Marked, Tried}
+use Rattle.plant.specs.Sound.{Sound}
+use Rattle.plant.specs.Driven.{drivers, allDrivers, eachOnce, Small, Held, unmarked, Marked, Tried}
 use Rattle.plant.proofs.Marks.{small-first, small-rest, small-left, small-right, marked-set, Owed, owed-start, owed-set, owed-next, owed-end}
-use Rattle.plant.proofs.Walks.{next-of, all-left, none-left, NextRate, next-rate, SwitchAt, switch-at, ModeAt, mode-at}
+use Rattle.plant.proofs.Walks.{next-of, all-left, none-left, NextRate, next-rate, ModeAt, mode-at}
 
 -- ---- tests
 pub marked-none : Marked [] [] (replicate 32 false)
@@ -64,19 +65,19 @@ pub record RatesGoing (s : List ℕ) (at n : ℕ) (before a seen mine : List Boo
   pub owed : Owed a (drivers all) seen (drivers rest)
   pub seen-length : length seen ≡ 32
 
-pub rates-start : (s : List ℕ) (at n : ℕ) (before a : List Bool) → length a ≡ 32 → There (times n readRate) drivers s at → RatesGoing s at n before a a (replicate 32 false) at 0
+pub rates-start : (s : List ℕ) (at n : ℕ) (before a : List Bool) → length a ≡ 32 → Held (times n readRate) drivers s at → RatesGoing s at n before a a (replicate 32 false) at 0
 rates-start s at n before a h t = record {
-  all = t .value;
-  end = t .end;
-  is = t .got;
-  rest = t .value;
-  got = all-left readRate n (drop at s) (t .got);
-  inside = t .inside;
+  all = t .sound .value;
+  end = t .sound .end;
+  is = t .sound .got;
+  rest = t .sound .value;
+  got = all-left readRate n (drop at s) (t .sound .got);
+  inside = t .sound .inside;
   small = t .small;
   noted = [];
   stands = marked-none;
   same = refl;
-  owed = owed-start a (drivers (t .value));
+  owed = owed-start a (drivers (t .sound .value));
   seen-length = h;
 }
 
@@ -136,34 +137,6 @@ module _ {s : List ℕ} {at n : ℕ} {before a seen mine : List Bool} {p i : ℕ
         seen-length = length-set seen (getD s p 0) true ∙ sl;
       }
 
--- ---- the switches of a mode
-pub record SwitchesGoing (s : List ℕ) (at k p i : ℕ) : Type 0 where
-  pub all : List Switch
-  pub end : List ℕ
-  pub is : times k readSwitch (drop at s) ≡ read all end
-  pub rest : List Switch
-  pub got : times (k - i) readSwitch (drop p s) ≡ read rest end
-  pub inside : p ≤ length s
-
-pub switches-start : (s : List ℕ) (at k : ℕ) → There (times k readSwitch) (λ ss. []) s at → SwitchesGoing s at k at 0
-switches-start s at k t = record { all = t .value; end = t .end; is = t .got; rest = t .value; got = all-left readSwitch k (drop at s) (t .got); inside = t .inside }
-
-module _ {s : List ℕ} {at k p i : ℕ} (g : SwitchesGoing s at k p i) where
-  pub switches-end : i ≡ k → (ss : List Switch) (e : List ℕ) → times k readSwitch (drop at s) ≡ read ss e → (e ≡ drop p s) × (p ≤ length s)
-  switches-end h ss e j = (read-rest (sym j ∙ g .is) ∙ sym (none-left readSwitch k i (drop p s) h (g .got) .1), g .inside)
-
-  module _ (h : i < k) where
-    switch : SwitchAt s p (next-of readSwitch k i (drop p s) h (g .got) .mid)
-    switch = switch-at s p (next-of readSwitch k i (drop p s) h (g .got) .first)
-
-    pub switch-inside : p + 1 + getD s p 0 ≤ length s
-    switch-inside = switch .inside
-
-    pub switches-next : SwitchesGoing s at k (p + 1 + getD s p 0) (i + 1)
-    switches-next =
-        let c = next-of readSwitch k i (drop p s) h (g .got) in
-        record { all = g .all; end = g .end; is = g .is; rest = c .tail; got = ap (times (k - (i + 1)) readSwitch) (sym (switch .end)) ∙ c .rest; inside = switch .inside }
-
 -- ---- the modes of a CASE
 abbrev pub modesTest : List Bool → List Mode → Bool
 modesTest before ms = eachOnce ms && unmarked before (allDrivers ms)
@@ -215,17 +188,17 @@ pub record ModesGoing (s : List ℕ) (at n : ℕ) (before a seen : List Bool) (p
   pub owed : Owed a (allDrivers all) seen (allDrivers rest)
   pub seen-length : length seen ≡ 32
 
-pub modes-start : (s : List ℕ) (at n : ℕ) (before a : List Bool) → length a ≡ 32 → There (times n readMode) allDrivers s at → ModesGoing s at n before a a at 0
+pub modes-start : (s : List ℕ) (at n : ℕ) (before a : List Bool) → length a ≡ 32 → Held (times n readMode) allDrivers s at → ModesGoing s at n before a a at 0
 modes-start s at n before a h t = record {
-  all = t .value;
-  end = t .end;
-  is = t .got;
-  rest = t .value;
-  got = all-left readMode n (drop at s) (t .got);
-  inside = t .inside;
+  all = t .sound .value;
+  end = t .sound .end;
+  is = t .sound .got;
+  rest = t .sound .value;
+  got = all-left readMode n (drop at s) (t .sound .got);
+  inside = t .sound .inside;
   small = t .small;
   same = refl;
-  owed = owed-start a (allDrivers (t .value));
+  owed = owed-start a (allDrivers (t .sound .value));
   seen-length = h;
 }
 
@@ -260,24 +233,14 @@ module _ {s : List ℕ} {at n : ℕ} {before a seen : List Bool} {p i : ℕ} (g 
     next-test : modesTest before (g .all) ≡ (ratesTest before (mode .head .rates) && modesTest before (mode .tail))
     next-test = g .same ∙ ap (modesTest before) (sym (mode .is)) ∙ modes-split before (mode .head) (mode .tail)
 
-    pub rates-there : There (times (getD s p 0) readRate) drivers s (p + 1)
+    pub rates-there : Held (times (getD s p 0) readRate) drivers s (p + 1)
     rates-there = let b = mode-is .before in record {
-      value = mode .head .rates;
-      end = drop (p + 1 + 5 * getD s p 0) s;
-      got = mode-is .rates-got;
-      inside = omega arith;
+      sound = record { value = mode .head .rates; end = drop (p + 1 + 5 * getD s p 0) s; got = mode-is .rates-got; inside = omega arith };
       small = small-left (drivers (mode .head .rates)) (allDrivers (mode .tail)) next-few;
     }
 
-    pub switches-there : There (times (getD s (p + 1 + 5 * getD s p 0) 0) readSwitch) (λ ss. []) s (p + 1 + 5 * getD s p 0 + 1)
-    unfolding among
-    switches-there = let b = mode-is .between in record {
-      value = mode .head .switches;
-      end = mode .mid;
-      got = mode-is .switches-got;
-      inside = omega arith;
-      small = record { below = λ v t. true-not-false (sym t) };
-    }
+    pub switches-there : Sound (times (getD s (p + 1 + 5 * getD s p 0) 0) readSwitch) s (p + 1 + 5 * getD s p 0 + 1)
+    switches-there = let b = mode-is .between in record { value = mode .head .switches; end = mode .mid; got = mode-is .switches-got; inside = omega arith }
 
     -- the answer for the mode's rates
     module _ {r : Bool} {b : List Bool} (t : (rs : List Rate) (e : List ℕ) → times (getD s p 0) readRate (drop (p + 1) s) ≡ read rs e → Tried (ratesTest before rs) seen (drivers rs) r b) where

@@ -14,41 +14,28 @@ use Rattle.semantics.specs.Plant.{rateNamed, switchNamed, modeNamed, equationNa
 use Rattle.semantics.proofs.Facts.{true-not-false, some-is, and-left, and-right, by-cases, All, all-nil, all-cons, every-all}
 use Rattle.codec.proofs.Reading.{nat2At}
 use Rattle.codec.proofs.Known.{Cons}
-use Rattle.plant.specs.Driven.{Named, drivers, allDrivers, eachOnce, Small, There, Few, unmarked, Marked, Tried}
+use Rattle.plant.specs.Driven.{Named, drivers, allDrivers, eachOnce, Small, Held, Few, unmarked, Marked, Tried}
 use Rattle.plant.proofs.Marks.{among-append, among-there, small-left, small-right, marked-more, unmarked-apart}
-use Rattle.plant.proofs.Walks.{next-of, all-left, none-left, Shape, is-steady, is-choice, shape-of, EquationAt, equation-at, section-at}
+use Rattle.plant.proofs.Walks.{next-of, all-left, none-left, Shape, is-steady, is-choice, shape-of, not-both, equation-inside, EquationAt, equation-at, lent-is, lent-inside, lent-end, section-at}
 use Rattle.plant.proofs.DrivenOnce.{ratesTest, modesTest, marked-none, tried-as}
 
 -- ---- one equation
-not-both : {C : Type 0} (k : ℕ) → k ≡ 1 → k ≡ 2 → C
-not-both k a b = absurd (omega arith)
-
 module _ (s : List ℕ) (f : Few (equationIn s) drives) where
-  pub equation-inside : 1 ≤ length s
-  equation-inside = shape-of s (f .is) .0
-
-  pub steady-there : getD s 0 0 ≡ 1 → There (times 1 readRate) drivers s 1
+  pub steady-there : getD s 0 0 ≡ 1 → Held (times 1 readRate) drivers s 1
   unfolding drives drivers
-  steady-there k = go (shape-of s (f .is) .1)
+  steady-there k = go (shape-of s (f .there .is) .1)
     where
-      go : Shape s (f .value) → There (times 1 readRate) drivers s 1
-      go (is-steady r e q t) = record { value = r ∷ []; end = []; got = t; inside = equation-inside; small = subst (λ x. Small (drives x)) q (f .small) }
+      go : Shape s (f .there .value) → Held (times 1 readRate) drivers s 1
+      go (is-steady r e q t) = record { sound = record { value = r ∷ []; end = []; got = t; inside = equation-inside s (f .there) }; small = subst (λ x. Small (drives x)) q (f .small) }
       go (is-choice c e q i t) = not-both (getD s 0 0) k e
 
-  pub choice-inside : (getD s 0 0 ≡ 1 → ⊥) → 1 + 1 + 1 ≤ length s
-  choice-inside k = go (shape-of s (f .is) .1)
-    where
-      go : Shape s (f .value) → 1 + 1 + 1 ≤ length s
-      go (is-steady r e q t) = absurd (k e)
-      go (is-choice c e q i t) = i
-
-  pub choice-there : (getD s 0 0 ≡ 1 → ⊥) → There (times (getD s 2 0) readMode) allDrivers s (1 + 1 + 1)
+  pub choice-there : (getD s 0 0 ≡ 1 → ⊥) → Held (times (getD s 2 0) readMode) allDrivers s (1 + 1 + 1)
   unfolding drives allDrivers
-  choice-there k = go (shape-of s (f .is) .1)
+  choice-there k = go (shape-of s (f .there .is) .1)
     where
-      go : Shape s (f .value) → There (times (getD s 2 0) readMode) allDrivers s (1 + 1 + 1)
+      go : Shape s (f .there .value) → Held (times (getD s 2 0) readMode) allDrivers s (1 + 1 + 1)
       go (is-steady r e q t) = absurd (k e)
-      go (is-choice c e q i t) = record { value = c .modes; end = []; got = t; inside = i; small = subst (λ x. Small (drives x)) q (f .small) }
+      go (is-choice c e q i t) = record { sound = record { value = c .modes; end = []; got = t; inside = i }; small = subst (λ x. Small (drives x)) q (f .small) }
 
 -- 8 of one equation, against the variables that are marked
 abbrev pub equationTest : List Bool → Equation → Bool
@@ -166,20 +153,17 @@ module _ {s : List ℕ} {seen : List Bool} {p i : ℕ} (g : OnceGoing s seen p i
     pub next-inside : p + 2 + nat2At s p ≤ length s
     next-inside = equation .inside
 
-    -- m is its length: the slice that is lent
+    -- m is its length
     module _ {m : ℕ} (x : m ≡ nat2At s p) where
-      slice-is : equationIn (take (p + 2 + m - (p + 2)) (drop (p + 2) s)) ≡ some (next .head)
-      slice-is = let e : p + 2 + m - (p + 2) ≡ nat2At s p = omega arith in ap (λ k. equationIn (take k (drop (p + 2) s))) e ∙ equation .is
-
       pub slice-inside : p + 2 + m ≤ length s
-      slice-inside = omega (arith, equation .inside)
+      slice-inside = lent-inside equation x
 
       pub next-few : Few (equationIn (take (p + 2 + m - (p + 2)) (drop (p + 2) s))) drives
-      next-few = record { value = next .head; is = slice-is; small = next-small }
+      next-few = record { there = record { value = next .head; is = lent-is equation x }; small = next-small }
 
       module _ {r : Bool} {c : List Bool} (t : (q : Equation) → equationIn (take (p + 2 + m - (p + 2)) (drop (p + 2) s)) ≡ some q → Tried (equationTest seen q) seen (drives q) r c) where
         tried : Tried (equationTest seen (next .head)) seen (drives (next .head)) r c
-        tried = t (next .head) slice-is
+        tried = t (next .head) (lent-is equation x)
 
         next-test : drivenOnce [] (g .all) ≡ (r && drivenOnce (drives (next .head) ++ g .noted) (next .tail))
         next-test = g .same ∙ ap (drivenOnce (g .noted)) (sym (next .is)) ∙ once-split (g .noted) seen (next .head) (next .tail) (g .stands) next-small ∙ ap (λ y. y && drivenOnce (drives (next .head) ++ g .noted) (next .tail)) (sym (tried .is))
@@ -192,7 +176,7 @@ module _ {s : List ℕ} {seen : List Bool} {p i : ℕ} (g : OnceGoing s seen p i
           all = g .all;
           is = g .is;
           rest = next .tail;
-          got = ap (times (getD s 0 0 - (i + 1)) readEquation) (ap (λ k. drop (p + 2 + k) s) x ∙ sym (equation .end)) ∙ next .rest;
+          got = ap (times (getD s 0 0 - (i + 1)) readEquation) (sym (lent-end equation x)) ∙ next .rest;
           inside = slice-inside;
           small = small-right (drives (next .head)) (flatMap drives (next .tail)) next-all;
           noted = drives (next .head) ++ g .noted;

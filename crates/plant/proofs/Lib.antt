@@ -7,9 +7,11 @@ pub mod EquationCases
 pub mod EquationAnswer
 pub mod EquationLookups
 pub mod Costs
+pub mod Walks
+pub mod Turns
 pub mod VariableSection
 pub mod VariableLaws
 pub mod Marks
-pub mod Walks
 pub mod DrivenOnce
 pub mod EquationsOnce
+pub mod TruthTurns

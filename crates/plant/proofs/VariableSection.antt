@@ -24,6 +24,7 @@ use Rattle.codec.proofs.Reading.{nat4At, int4-at, drop-past, drop-some}
 use Rattle.codec.proofs.Known.{cons}
 use Rattle.plant.specs.declared.variables.Variables.{Variables}
 use Rattle.plant.specs.Variables.{pad, column, answer, refusedBy, orderedOr, variablesOf, Sized, Counted}
+use Rattle.plant.proofs.Turns.{every-next, every-not}
 use Rattle.plant.proofs.Costs.{Costs, costs-give, costs-then, costs-int4, costs-times}
 
 -- ---- size
@@ -168,14 +169,6 @@ accepted-as s h o = rw (variablesOf, h, o) refl
 answer-is : (vs : List Variable) (n : ℕ) (lows highs initials : List ℤ) → n ≡ length vs → lows ≡ column (λ (v : Variable). v .minimum) vs → highs ≡ column (λ (v : Variable). v .maximum) vs → initials ≡ column (λ (v : Variable). v .initial) vs → _≡_ {A = Variables} (record { refusal = 0; count = n; lows = lows; highs = highs; initials = initials }) (answer 0 vs)
 unfolding answer
 answer-is vs n lows highs initials a b c d = λ i. record { refusal = 0; count = a i; lows = b i; highs = c i; initials = d i }
-
-every-next : {A : Type 0} (f : A → Bool) (x : A) (l : List A) → f x ≡ true → every f (x ∷ l) ≡ every f l
-unfolding every
-every-next f x l h = rw (every, h) refl
-
-every-not : {A : Type 0} (f : A → Bool) (x : A) (l : List A) → f x ≡ false → every f (x ∷ l) ≡ false
-unfolding every
-every-not f x l h = rw (every, h) refl
 
 -- ---- the loop: i variables are noted, and the others stand from p on
 pub record Going (s : List ℕ) (n i p : ℕ) (lows highs initials : List ℤ) : Type 0 where

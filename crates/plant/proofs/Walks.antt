@@ -17,6 +17,7 @@ use Rattle.semantics.proofs.Readers.{broken-not-read, split, given, given-rest,
 use Rattle.codec.proofs.Reading.{nat2At, section2-short, either}
 use Rattle.codec.proofs.Known.{after-byte, not-past, after-bytes, not-short, after-section2, not-section2, not-lost, Cons, cons, last}
 use Rattle.codec.proofs.Places.{Takes, takes-give, takes-then, takes-byte, takes-int4, takes-times}
+use Rattle.plant.specs.Sound.{There, Sound}
 use Rattle.plant.proofs.Costs.{Costs, costs-give, costs-byte, costs-then, costs-int4, costs-times}
 
 -- ---- a reader of a fixed size ends there
@@ -88,29 +89,38 @@ next-rate s n i p h k g =
     }
 
 -- ---- switches
-pub record SwitchAt (s : List ℕ) (p : ℕ) (e : List ℕ) : Type 0 where
+pub record SwitchAt (s : List ℕ) (p : ℕ) (w : Switch) (e : List ℕ) : Type 0 where
+  pub low : 1 ≤ getD s p 0
   pub inside : p + 1 + getD s p 0 ≤ length s
+  pub truth-is : w .truth ≡ take (p + 1 + getD s p 0 - (p + 1 + 1)) (drop (p + 1 + 1) s)
   pub end : e ≡ drop (p + 1 + getD s p 0) s
 
-pub switch-at : (s : List ℕ) (p : ℕ) {w : Switch} {e : List ℕ} → readSwitch (drop p s) ≡ read w e → SwitchAt s p e
+pub switch-at : (s : List ℕ) (p : ℕ) {w : Switch} {e : List ℕ} → readSwitch (drop p s) ≡ read w e → SwitchAt s p w e
 unfolding readSwitch
 switch-at s p {w} {e} h = either p (length s) (λ i. first i) (λ i. not-past _ s p i h)
   where
     l : ℕ
     l = getD s p 0
 
-    third : leb 1 l ≡ true → p + 1 + 1 + (l - 1) ≤ length s → (bytes (l - 1) >>= (λ t. give (record { target = getD s (p + 1) 0; truth = t }))) (drop (p + 1 + 1) s) ≡ read w e → SwitchAt s p e
+    third : leb 1 l ≡ true → p + 1 + 1 + (l - 1) ≤ length s → (bytes (l - 1) >>= (λ t. give (record { target = getD s (p + 1) 0; truth = t }))) (drop (p + 1 + 1) s) ≡ read w e → SwitchAt s p w e
     third g i k =
         let m = leb-true 1 l g in
         let q : p + 1 + 1 + (l - 1) ≡ p + 1 + l = omega arith in
-        record { inside = omega arith; end = sym (given-rest _ _ (after-bytes _ s (p + 1 + 1) (l - 1) i k)) ∙ ap (λ q. drop q s) q }
+        let j = after-bytes _ s (p + 1 + 1) (l - 1) i k in
+        let o : l - 1 ≡ p + 1 + l - (p + 1 + 1) = omega arith in
+        record {
+          low = m;
+          inside = omega arith;
+          truth-is = sym (ap (λ (x : Switch). x .truth) (given (record { target = getD s (p + 1) 0; truth = take (l - 1) (drop (p + 1 + 1) s) }) _ j)) ∙ ap (λ n. take n (drop (p + 1 + 1) s)) o;
+          end = sym (given-rest _ _ j) ∙ ap (λ q. drop q s) q;
+        }
 
-    second : leb 1 l ≡ true → p + 1 < length s → (byte >>= (λ m. bytes (l - 1) >>= (λ t. give (record { target = m; truth = t })))) (drop (p + 1) s) ≡ read w e → SwitchAt s p e
+    second : leb 1 l ≡ true → p + 1 < length s → (byte >>= (λ m. bytes (l - 1) >>= (λ t. give (record { target = m; truth = t })))) (drop (p + 1) s) ≡ read w e → SwitchAt s p w e
     second g i k =
         let j = after-byte _ s (p + 1) i k in
         either (length s) (p + 1 + 1 + (l - 1)) (λ m. not-short _ s (p + 1 + 1) (l - 1) (omega arith) m j) (λ m. third g m j)
 
-    first : p < length s → SwitchAt s p e
+    first : p < length s → SwitchAt s p w e
     first i =
         let g = guarded (leb 1 l) _ (after-byte _ s p i h) in
         either (p + 1) (length s) (λ j. second (g .0) j (g .1)) (λ j. not-past _ s (p + 1) j (g .1))
@@ -192,6 +202,28 @@ module _ (s : List ℕ) {q : Equation} where
           (λ a. steady-shape (e ∙ eqb-true k 1 a) (rw a at g))
           (λ a. by-cases (eqb k 2) (λ b. choice-shape (e ∙ eqb-true k 2 b) (rw b at (rw a at g))) (λ b. broken-not-read (rw b at (rw a at g))))
 
+-- the kind says which
+pub not-both : {C : Type 0} (k : ℕ) → k ≡ 1 → k ≡ 2 → C
+not-both k a b = absurd (omega arith)
+
+pub equation-inside : (s : List ℕ) → There (equationIn s) → 1 ≤ length s
+equation-inside s f = shape-of s (f .is) .0
+
+module _ (s : List ℕ) (f : There (equationIn s)) (k : getD s 0 0 ≡ 1 → ⊥) where
+  pub choice-inside : 1 + 1 + 1 ≤ length s
+  choice-inside = go (shape-of s (f .is) .1)
+    where
+      go : Shape s (f .value) → 1 + 1 + 1 ≤ length s
+      go (is-steady r e q t) = absurd (k e)
+      go (is-choice c e q i t) = i
+
+  pub choice-sound : Sound (times (getD s 2 0) readMode) s (1 + 1 + 1)
+  choice-sound = go (shape-of s (f .is) .1)
+    where
+      go : Shape s (f .value) → Sound (times (getD s 2 0) readMode) s (1 + 1 + 1)
+      go (is-steady r e q t) = absurd (k e)
+      go (is-choice c e q i t) = record { value = c .modes; end = []; got = t; inside = i }
+
 -- ---- the record of an equation: its length, then its bytes
 pub record EquationAt (s : List ℕ) (p : ℕ) (q : Equation) (e : List ℕ) : Type 0 where
   pub inside : p + 2 + nat2At s p ≤ length s
@@ -206,6 +238,17 @@ equation-at s p {q} {e} i h = either (length s) (p + 2) (λ j. not-lost _ sectio
     inner k =
         let g = from-some (equationIn (take (nat2At s p) (drop (p + 2) s))) (after-section2 _ s p (nat2At s p) refl k h) in
         record { inside = k; is = g .0; end = sym (g .1) }
+
+-- m is its length: the slice that code lends
+module _ {s : List ℕ} {p : ℕ} {q : Equation} {e : List ℕ} (a : EquationAt s p q e) {m : ℕ} (x : m ≡ nat2At s p) where
+  pub lent-is : equationIn (take (p + 2 + m - (p + 2)) (drop (p + 2) s)) ≡ some q
+  lent-is = let k : p + 2 + m - (p + 2) ≡ nat2At s p = omega arith in ap (λ n. equationIn (take n (drop (p + 2) s))) k ∙ a .is
+
+  pub lent-inside : p + 2 + m ≤ length s
+  lent-inside = omega (arith, a .inside)
+
+  pub lent-end : e ≡ drop (p + 2 + m) s
+  lent-end = a .end ∙ ap (λ n. drop (p + 2 + n) s) (sym x)
 
 -- ---- the section: its count, then its equations
 pub record SectionAt (s : List ℕ) (es : List Equation) : Type 0 where

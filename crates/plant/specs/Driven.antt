@@ -4,9 +4,10 @@ use mathlib.Core.Bool.{Bool, true, false, not, _||_}
 use mathlib.Core.List.{List, [], map, flatMap}
 use mathlib.Core.Option.{Option, some}
 use Prim.Native.Nat.{ℕ, _≤_, _<_}
-use lib.ListN.{length, getD, drop}
-use Rattle.semantics.specs.Bytes.{every, Reader, read}
+use lib.ListN.{length, getD}
+use Rattle.semantics.specs.Bytes.{every, Reader}
 use Rattle.semantics.specs.Sections.{Rate, Mode, Equation, equationsIn}
+use Rattle.plant.specs.Sound.{There, Sound}
 use Rattle.semantics.specs.Plant.{equationNamed, among, onceAfter, modeDrives}
 
 -- what 6 and 7 have shown, where there are at most 32 variables
@@ -31,18 +32,14 @@ eachOnce ms = every (λ m. onceAfter [] (modeDrives m)) ms
 pub record Small (l : List ℕ) : Type 0 where
   pub below : (v : ℕ) → among v l ≡ true → v < 32
 
--- r reads something at place p of s, and f says which variables it names
-pub record There {A : Type 0} (r : Reader A) (f : A → List ℕ) (s : List ℕ) (p : ℕ) : Type 0 where
-  pub value : A
-  pub end : List ℕ
-  pub got : r (drop p s) ≡ read value end
-  pub inside : p ≤ length s
-  pub small : Small (f value)
+-- r reads something at place p of s, and f says which variables it names: each has an entry
+pub record Held {A : Type 0} (r : Reader A) (f : A → List ℕ) (s : List ℕ) (p : ℕ) : Type 0 where
+  pub sound : Sound r s p
+  pub small : Small (f (sound .value))
 
 pub record Few {A : Type 0} (o : Option A) (f : A → List ℕ) : Type 0 where
-  pub value : A
-  pub is : o ≡ some value
-  pub small : Small (f value)
+  pub there : There o
+  pub small : Small (f (there .value))
 
 -- none of them is marked
 unfoldable pub unmarked : List Bool → List ℕ → Bool

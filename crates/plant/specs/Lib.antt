@@ -1,4 +1,5 @@
 -- What the contracts of the code that reads a plant's two sections cite.
 pub mod Variables
 pub mod Equations
+pub mod Sound
 pub mod Driven

@@ -1,18 +1,19 @@
 // The equation section once more, after 6 and 7: no variable in two equations or twice in one mode (8).
+use crate::places::past;
 ghost use mathlib.Core.Path.{_≡_};
 ghost use mathlib.Core.Bool.{_&&_};
 ghost use mathlib.Core.List.{List, []};
 ghost use mathlib.Core.Option.{some};
-ghost use Prim.Native.Nat.{ℕ, _≤_};
+ghost use Prim.Native.Nat.{ℕ};
 ghost use lib.ListN.{length, drop};
 ghost use Rattle.semantics.specs.Bytes.{read, times};
-ghost use Rattle.semantics.specs.Sections.{Rate, Switch, Mode, Equation, readRate, readSwitch, readMode, equationIn, equationsIn};
+ghost use Rattle.semantics.specs.Sections.{Rate, Mode, Equation, readRate, readMode, equationIn, equationsIn};
 ghost use Rattle.semantics.specs.Plant.{onceAfter, drives, modesOnce, drivenOnce};
-ghost use Rattle.plant.specs.Driven.{Named, There, Few, drivers, allDrivers, eachOnce, unmarked, Tried};
+ghost use Rattle.plant.specs.Driven.{Named, Held, Few, drivers, allDrivers, eachOnce, unmarked, Tried};
 
 // n rates from a place on: none of a variable marked before, no variable twice; their variables are marked
 fn rates(s: &[u8], at: usize, n: usize, before: &[bool; 32], seen: &mut [bool; 32]) -> bool
-    requires { ⌜ There (times n readRate) drivers (now s) at × (length (now seen) ≡ 32) ⌝ }
+    requires { ⌜ Held (times n readRate) drivers (now s) at × (length (now seen) ≡ 32) ⌝ }
     ensures { λ r. ⌜ ((rs : List Rate) (e : List ℕ) → times n readRate (drop at (now (s .entry))) ≡ read rs e → Tried (onceAfter [] (drivers rs) && unmarked (now (before .entry)) (drivers rs)) (now (seen .entry)) (drivers rs) r (now (seen .exit))) ⌝ }
 {
     let mut mine = [false; 32];
@@ -34,23 +35,9 @@ fn rates(s: &[u8], at: usize, n: usize, before: &[bool; 32], seen: &mut [bool; 3
     true
 }
 
-// the place after k switches
-fn past(s: &[u8], at: usize, k: usize) -> usize
-    requires { ⌜ There (times k readSwitch) (λ ss. []) (now s) at ⌝ }
-    ensures { λ r. ⌜ ((ss : List Switch) (e : List ℕ) → times k readSwitch (drop at (now (s .entry))) ≡ read ss e → (e ≡ drop r (now (s .entry))) × (r ≤ length (now (s .entry)))) ⌝ }
-{
-    let mut p = at;
-    let mut i = 0;
-    while i < k {
-        p = p + 1 + s[p] as usize;
-        i += 1;
-    }
-    p
-}
-
 // n modes of a CASE: each as above
 fn modes(s: &[u8], at: usize, n: usize, before: &[bool; 32], seen: &mut [bool; 32]) -> bool
-    requires { ⌜ There (times n readMode) allDrivers (now s) at × (length (now seen) ≡ 32) ⌝ }
+    requires { ⌜ Held (times n readMode) allDrivers (now s) at × (length (now seen) ≡ 32) ⌝ }
     ensures { λ r. ⌜ ((ms : List Mode) (e : List ℕ) → times n readMode (drop at (now (s .entry))) ≡ read ms e → Tried (eachOnce ms && unmarked (now (before .entry)) (allDrivers ms)) (now (seen .entry)) (allDrivers ms) r (now (seen .exit))) ⌝ }
 {
     let mut p = at;

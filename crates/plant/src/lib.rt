@@ -1,4 +1,6 @@
-// The plant's two sections, read by position: conditions 4 to 8.
-pub mod driven;
-pub mod equations;
-pub mod variables;
+// The plant's two sections, read by position: conditions 4 to 8, and 12 of the switches.
+pub mod driven; // driven.rt: 8
+pub mod equations; // equations.rt: 6 and 7
+mod places; // places.rt: where the parts of a sound equation section end
+pub mod truths; // truths.rt: 12, of the switches
+pub mod variables; // variables.rt: 4 and 5

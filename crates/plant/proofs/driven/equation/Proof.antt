@@ -1,11 +1,12 @@
 use native.Mathlib.Omega.{arith}
-use Rattle.plant.proofs.EquationsOnce.{equation-inside, steady-there, steady-tried, choice-inside, choice-there, choice-tried}
+use Rattle.plant.proofs.Walks.{equation-inside, choice-inside}
+use Rattle.plant.proofs.EquationsOnce.{steady-there, steady-tried, choice-there, choice-tried}
 use borrow.Author.Needs.{needs}
 use Rattle.plant.proofs.driven.equation.Statement.{statement}
 use Rattle.plant.proofs.driven.equation.Tie as tie
 
 shared-slice-read-if1 : tie.Need-shared-slice-read-if1
-shared-slice-read-if1 c = equation-inside _ (c .before .before .before .pre .0)
+shared-slice-read-if1 c = equation-inside _ (c .before .before .before .pre .0 .there)
 
 rates-requires : tie.Need-rates-requires
 rates-requires c κs = (steady-there _ (c .before .before .before .before .before .before .pre .0) (c .before .before .if1 .taken), c .before .before .before .before .before .before .pre .1)
@@ -20,7 +21,7 @@ add-modes-2 : tie.Need-add-modes-2
 add-modes-2 c = search needs
 
 shared-slice-read-modes : tie.Need-shared-slice-read-modes
-shared-slice-read-modes c = choice-inside _ (c .before .before .before .before .before .pre .0) (c .before .if1 .left)
+shared-slice-read-modes c = choice-inside _ (c .before .before .before .before .before .pre .0 .there) (c .before .if1 .left)
 
 cast-modes : tie.Need-cast-modes
 cast-modes c = omega (arith, c .shared-slice-known3 .given 2)

@@ -1,17 +1,20 @@
 use Prim.Native.Nat.{_-_, _≤_}
 use native.Mathlib.Omega.{arith}
-use Rattle.plant.proofs.DrivenOnce.{SwitchesGoing, switches-start, switch-inside, switches-next, switches-end}
-use Rattle.plant.proofs.driven.past.Statement.{statement}
-use Rattle.plant.proofs.driven.past.Tie as tie
+use mathlib.Core.Path.{refl}
+use Rattle.semantics.specs.Sections.{readSwitch}
+use Rattle.plant.proofs.Turns.{Turns, turns-start, turns-place}
+use Rattle.plant.proofs.TruthTurns.{anySwitch, switch-inside, switches-next}
+use Rattle.plant.proofs.places.past.Statement.{statement}
+use Rattle.plant.proofs.places.past.Tie as tie
 
 abbrev Inv-loop : tie.InvT-loop
-Inv-loop s at k p₀ i₀ p i = (i ≤ k) × SwitchesGoing s at k p i
+Inv-loop s at k p₀ i₀ p i = (i ≤ k) × Turns readSwitch anySwitch s at k p i
 
 abbrev μ-loop : tie.MeasureT-loop
 μ-loop s at k p₀ i₀ p i = k - i
 
 loop-holds : tie.Need-loop-holds Inv-loop μ-loop
-loop-holds c = (omega arith, switches-start _ _ _ (c .pre))
+loop-holds c = (omega arith, turns-start anySwitch _ (c .pre))
 
 add-p : tie.Need-add-p Inv-loop μ-loop
 add-p c = omega (arith, switch-inside (c .before .loop .inv .1) (omega arith))
@@ -32,10 +35,10 @@ loop-less : tie.Need-loop-less Inv-loop μ-loop
 loop-less c = omega arith
 
 loop-again : tie.Need-loop-again Inv-loop μ-loop
-loop-again c = (omega arith, switches-next (c .before .before .loop .inv .1) (omega arith))
+loop-again c = (omega arith, switches-next (c .before .before .loop .inv .1) (omega arith) refl)
 
 returns : tie.Need-returns Inv-loop μ-loop
-returns c = switches-end (c .before .loop .inv .1) (omega arith)
+returns c = turns-place (c .before .loop .inv .1) (omega arith)
 
 pub past-spec : {M : Type 1} → statement M
 past-spec =
