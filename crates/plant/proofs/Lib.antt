@@ -13,3 +13,5 @@ pub mod Marks
 pub mod Walks
 pub mod DrivenOnce
 pub mod EquationsOnce
+pub mod PlantJudged
+pub mod PlantLaws

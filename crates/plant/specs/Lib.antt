@@ -2,3 +2,4 @@
 pub mod Variables
 pub mod Equations
 pub mod Driven
+pub mod PlantRead
