@@ -6,3 +6,4 @@ pub mod Padding
 pub mod EquationCases
 pub mod EquationAnswer
 pub mod EquationLookups
+pub mod EquationLaws
