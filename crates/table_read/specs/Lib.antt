@@ -1,0 +1,3 @@
+-- What the contracts of the readers of a table cite.
+pub mod Ends
+pub mod TableParts

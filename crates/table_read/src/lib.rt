@@ -1,0 +1,2 @@
+// Reading a table.
+pub mod parts;
