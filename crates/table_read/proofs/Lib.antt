@@ -1,2 +1,9 @@
 pub mod Ended
+pub mod Early
+pub mod Rising
 pub mod PartsStand
+pub mod ActionForms
+pub mod ByNode
+pub mod ActionLoop
+pub mod ActionsFound
+pub mod ActionsFit

@@ -1,3 +1,4 @@
 -- What the contracts of the readers of a table cite.
 pub mod Ends
 pub mod TableParts
+pub mod ActionIndex

@@ -1,2 +1,3 @@
 // Reading a table.
+pub mod actions;
 pub mod parts;
