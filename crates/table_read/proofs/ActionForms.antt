@@ -8,13 +8,13 @@ use native.Mathlib.Omega.{arith}
 use borrow.Author.Tests.{le-leb, eqb-true, ne-eqb}
 use lib.Dec.{leb, eqb}
 use lib.ListN.{length, getD, take, drop, length-drop}
-use Rattle.semantics.specs.Bytes.{widthOf, isSome, Reader, read, from, give, _>>=_, noBytes, twoBytes, byteAndRest}
+use Rattle.semantics.specs.Bytes.{widthOf, isSome, Reader, read, from, _>>=_, noBytes, twoBytes, byteAndRest}
 use Rattle.semantics.specs.Editions.{edition1}
-use Rattle.semantics.specs.Run.{Action, test, wait, assign, switch, stop}
+use Rattle.semantics.specs.Run.{Action, assign, switch, stop}
 use Rattle.semantics.specs.TableFile.{NodeAction, ActionKind, a-test, a-wait, an-assignment, a-switch, a-stop, no-kind, actionKind, actionOf, readAction}
 use Rattle.semantics.proofs.Facts.{within-both, within-low, true-not-false, none-not-some}
-use Rattle.semantics.proofs.Readers.{guarded, from-some, split, given, given-rest, read-rest}
-use Rattle.codec.specs.Reading.{Took, Reads, reads-at, reads-none}
+use Rattle.semantics.proofs.Readers.{guarded, from-some, split, given, given-rest}
+use Rattle.codec.specs.Reading.{Took, Reads}
 use Rattle.codec.proofs.Reading.{taken, lost, then, broke, gives, lifts, no-lift, then-guard, no-guard, then-byte, no-byte, then-number, no-number, then-bytes, no-bytes, either, within-below, within-above}
 use Rattle.codec.proofs.Known.{after-number, not-number, after-byte, not-past, after-bytes, not-short}
 use Rattle.table_read.specs.Ends.{anything, Ends, ends-at, ends-none}

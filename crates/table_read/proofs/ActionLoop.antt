@@ -3,7 +3,7 @@ use mathlib.Core.Path.{_≡_, refl, sym, ap, subst, _∙_}
 use mathlib.Core.Bool.{Bool, true, false, cond, and-false}
 use mathlib.Core.List.{List, [], _∷_, _++_}
 use mathlib.Core.Option.{Option, none, some}
-use Prim.Native.Nat.{ℕ, _+_, _-_, _≤_, _<_}
+use Prim.Native.Nat.{ℕ, _+_, _≤_, _<_}
 use native.Mathlib.Numerals.{add-one}
 use native.Mathlib.Omega.{arith}
 use borrow.Author.Tests.{leb-true, ltb-true, lt-ltb, le-ltb, le-leb, lt-leb}
@@ -11,23 +11,22 @@ use lib.Dec.{leb, ltb}
 use lib.ListN.{length, getD, set, drop, replicate, length-drop}
 use Rattle.semantics.specs.Bytes.{number, broken, read, after, _>>=_, byte, give, guard, times, just, whole}
 use Rattle.semantics.specs.Editions.{edition1}
-use Rattle.semantics.specs.Run.{Action}
 use Rattle.semantics.specs.TableFile.{NodeAction, readAction, readActions, actionsIn}
 use Rattle.semantics.specs.Tables.{actionNodes, actionAt}
-use Rattle.semantics.proofs.Facts.{and-left, and-right, and-both, within-both, true-not-false, none-not-some}
-use Rattle.semantics.proofs.Readers.{broken-not-read, read-value, read-rest, guarded, whole-read}
+use Rattle.semantics.proofs.Facts.{and-left, and-right, and-both, within-both, none-not-some}
+use Rattle.semantics.proofs.Readers.{broken-not-read, read-rest, guarded, whole-read}
 use Rattle.codec.specs.Reading.{Took}
 use Rattle.codec.specs.Places.{placesFrom}
 use Rattle.codec.proofs.Reading.{none-kept, no-number, then-number, no-guard, within-below, within-above, drop-past, either}
 use Rattle.codec.proofs.Known.{after-number, snoc}
 use Rattle.codec.proofs.Loops.{counted as as-many}
-use Rattle.codec.proofs.Places.{places-start, places-more, places-count}
+use Rattle.codec.proofs.Places.{places-more, places-count}
 use Rattle.table_read.specs.declared.actions.Actions.{Actions}
 use Rattle.table_read.specs.Ends.{anything, follows, EndsWith, good-at, good-none}
-use Rattle.table_read.specs.ActionIndex.{kindCode, kindAt, nodeOf, placeAt, operandStart, operandEnd, listed, byNode, nodeExists, actionsLaid, noActions, actionIndex, indexRead, actionsOf, Counted, counted, miscounted}
+use Rattle.table_read.specs.ActionIndex.{kindCode, kindAt, nodeOf, placeAt, operandStart, operandEnd, byNode, nodeExists, actionsLaid, noActions, actionIndex, indexRead, actionsOf, Counted, counted, miscounted}
 use Rattle.table_read.proofs.Early.{early}
-use Rattle.table_read.proofs.Rising.{nextFrom, laid, Laid, laid-none, laid-more, laid-true, not-laid, laid-fronts}
-use Rattle.table_read.proofs.ActionForms.{Was, was, ends, kind-is}
+use Rattle.table_read.proofs.Rising.{laid, Laid, laid-none, laid-more, laid-true, not-laid, laid-fronts}
+use Rattle.table_read.proofs.ActionForms.{was, ends, kind-is}
 use Rattle.table_read.proofs.ByNode.{listed-set, listed-zero, action-other, action-new, place-other, place-new, place-none, not-yet}
 
 abbrev placesTo : List ℕ → ℕ → List ℕ

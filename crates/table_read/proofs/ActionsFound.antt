@@ -1,29 +1,28 @@
 -- What the index of the actions says of each node.
 use mathlib.Core.Path.{_≡_, refl, sym, ap, subst, _∙_}
-use mathlib.Core.Bool.{Bool, true, false, _&&_, cond}
-use mathlib.Core.List.{List, [], _∷_, map}
+use mathlib.Core.Bool.{Bool, true, false, cond}
+use mathlib.Core.List.{List, [], _∷_}
 use mathlib.Core.Option.{Option, none, some}
 use Prim.Native.Nat.{ℕ, zero, suc, _+_, _-_, _≤_, _<_}
 use native.Mathlib.Omega.{arith}
-use borrow.Author.Tests.{eqb-true, eq-eqb, ne-eqb, leb-true, ltb-true}
-use lib.Dec.{eqb, leb, ltb}
+use borrow.Author.Tests.{eqb-true, ne-eqb, ltb-true}
+use lib.Dec.{eqb}
 use lib.ListN.{length, getD, take, drop, length-drop, List·getD-eq-default}
 use lib.Seq.{drop-drop}
-use Rattle.semantics.specs.Bytes.{widthOf, isSome, every, read, give, times, whole}
+use Rattle.semantics.specs.Bytes.{every, read, give, times}
 use Rattle.semantics.specs.Editions.{edition1}
 use Rattle.semantics.specs.Run.{Action, test, wait, assign, switch, stop}
-use Rattle.semantics.specs.Plant.{Plant, selectors}
 use Rattle.semantics.specs.TableFile.{NodeAction, actionKind, actionOf, readAction, readActions, actionsIn}
-use Rattle.semantics.specs.Tables.{risingFrom, operandFits, actionFits, actionNodes, actionsFit, actionAt}
-use Rattle.semantics.proofs.Facts.{All, all-nil, all-cons, all-map, every-all, all-every, true-not-false, none-not-some, some-is, and-left, and-right}
-use Rattle.semantics.proofs.Readers.{read-value, split, guarded, whole-read}
+use Rattle.semantics.specs.Tables.{risingFrom, actionNodes, actionAt}
+use Rattle.semantics.proofs.Facts.{All, all-nil, all-cons, every-all, none-not-some, some-is, and-right}
+use Rattle.semantics.proofs.Readers.{read-value, guarded, whole-read}
 use Rattle.codec.specs.Places.{placesFrom}
-use Rattle.codec.proofs.Known.{Cons, cons, times-length, after-number, not-number}
+use Rattle.codec.proofs.Known.{cons, times-length, after-number, not-number}
 use Rattle.codec.proofs.Reading.{either}
-use Rattle.codec.proofs.Places.{Takes, Tail, takes-then, takes-guard, takes-byte, takes-number, takes-bytes, takes-from, takes-give, places-start, places-next}
+use Rattle.codec.proofs.Places.{Takes, takes-then, takes-guard, takes-byte, takes-number, takes-bytes, takes-from, takes-give, places-next}
 use Rattle.table_read.specs.declared.actions.Actions.{Actions}
-use Rattle.table_read.specs.ActionIndex.{kindCode, kindAt, KindsSay, placeAt, operandStart, operandEnd, byNode, nodeOf, nodeExists, actionsLaid, noActions, actionIndex, indexRead, actionsOf}
-use Rattle.table_read.proofs.ActionForms.{Was, was, kind-is}
+use Rattle.table_read.specs.ActionIndex.{kindCode, kindAt, KindsSay, placeAt, operandStart, operandEnd, byNode, nodeExists, actionsLaid, noActions, actionIndex, indexRead, actionsOf}
+use Rattle.table_read.proofs.ActionForms.{was, kind-is}
 use Rattle.table_read.proofs.ByNode.{listed-length, listed-at}
 use Rattle.table_read.proofs.ActionLoop.{accept}
 
@@ -40,6 +39,19 @@ accepted-actions s h = go (actionsIn edition1 s) refl h
     go none e h = absurd (omega arith)
     go (some l) e h = pick l (actionsLaid l) e refl h
 
+-- where something is
+pub refused-actions : (s : List ℕ) → (actionsOf s .refusal ≡ 0 → ⊥) → (actionsOf s .refusal ≡ 18) × ((l : List NodeAction) → actionsIn edition1 s ≡ some l → actionsLaid l ≡ false)
+unfolding actionsOf indexRead actionIndex
+refused-actions s h = go (actionsIn edition1 s) h
+  where
+    pick : (l : List NodeAction) (b : Bool) → actionsLaid l ≡ b → (cond b (actionIndex s l) noActions .refusal ≡ 0 → ⊥) → (cond b (actionIndex s l) noActions .refusal ≡ 18) × ((k : List NodeAction) → some l ≡ some k → actionsLaid k ≡ false)
+    pick l true e h = absurd (h refl)
+    pick l false e h = (refl, λ k i. ap actionsLaid (sym (some-is i)) ∙ e)
+
+    go : (o : Option (List NodeAction)) → (indexRead s o .refusal ≡ 0 → ⊥) → (indexRead s o .refusal ≡ 18) × ((l : List NodeAction) → o ≡ some l → actionsLaid l ≡ false)
+    go none h = (refl, λ l e. none-not-some e)
+    go (some l) h = pick l (actionsLaid l) refl h
+
 pub laid-actions : (s : List ℕ) {l : List NodeAction} → actionsIn edition1 s ≡ some l → actionsOf s .refusal ≡ 0 → actionsLaid l ≡ true
 laid-actions s {l} e h =
     let k = accepted-actions s h in
@@ -48,6 +60,10 @@ laid-actions s {l} e h =
 -- the index is that of the actions
 pub index-is : (s : List ℕ) {l : List NodeAction} → actionsIn edition1 s ≡ some l → actionsOf s .refusal ≡ 0 → actionsOf s ≡ actionIndex s l
 index-is s e h = accept s e (laid-actions s e h)
+
+pub count-is : (s : List ℕ) {l : List NodeAction} → actionsIn edition1 s ≡ some l → actionsOf s .refusal ≡ 0 → actionsOf s .count ≡ length l
+unfolding actionIndex
+count-is s e h = ap (λ x. x .count) (index-is s e h)
 
 -- ---- a node's action and its place
 data Looked (s : List ℕ) (l : List NodeAction) (ps : List ℕ) (n : ℕ) : Type 0 where

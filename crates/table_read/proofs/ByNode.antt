@@ -1,15 +1,15 @@
 -- Numbers by node: one more action, and what stands at a node.
-use mathlib.Core.Path.{_≡_, refl, sym, ap, ap₂, _∙_}
+use mathlib.Core.Path.{_≡_, refl, sym, ap, ap₂}
 use mathlib.Core.Bool.{Bool, true, false}
 use mathlib.Core.List.{List, [], _∷_, _++_, map}
 use mathlib.Core.Option.{Option, none, some}
-use Prim.Native.Nat.{ℕ, zero, suc, _+_, _≤_, _<_}
+use Prim.Native.Nat.{ℕ, zero, suc, _≤_, _<_}
 use native.Mathlib.Omega.{arith}
 use borrow.Author.Tests.{eq-eqb, ne-eqb, leb-true}
 use lib.Dec.{leb, eqb}
 use lib.ListN.{length, getD, set, replicate}
 use Rattle.semantics.specs.TableFile.{NodeAction}
-use Rattle.semantics.specs.Tables.{risingFrom, actionNodes, actionAt}
+use Rattle.semantics.specs.Tables.{risingFrom, actionAt}
 use Rattle.semantics.proofs.Facts.{true-not-false, none-not-some}
 use Rattle.table_read.specs.ActionIndex.{listed, placeAt}
 use Rattle.table_read.proofs.Rising.{nextFrom}

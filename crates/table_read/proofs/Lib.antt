@@ -7,3 +7,7 @@ pub mod ByNode
 pub mod ActionLoop
 pub mod ActionsFound
 pub mod ActionsFit
+pub mod LikeKinds
+pub mod EntryLoop
+pub mod LocationLoop
+pub mod LocationsFound

@@ -1,7 +1,7 @@
 -- The four sections of a table, and where they stand.
 use mathlib.Core.Path.{_≡_, refl, sym, ap, subst, _∙_}
 use mathlib.Core.Bool.{Bool, true, false, cond}
-use mathlib.Core.List.{List, [], _∷_, _++_}
+use mathlib.Core.List.{List, []}
 use mathlib.Core.Option.{Option, none, some}
 use Prim.Native.Nat.{ℕ, _+_, _-_, _≤_, _<_}
 use native.Mathlib.Omega.{arith}
@@ -9,12 +9,12 @@ use borrow.Author.Tests.{leb-true, le-leb, lt-leb, eq-eqb, ne-eqb}
 use lib.Dec.{leb, eqb}
 use lib.ListN.{length, getD, take, drop, length-drop, length-append}
 use lib.Seq.{take-append-seam, drop-append-seam, drop-drop}
-use Rattle.semantics.specs.Bytes.{Read, broken, read, Reader, after, _>>=_, give, nat2, nat4, bytes, section2, section4, just, whole}
+use Rattle.semantics.specs.Bytes.{broken, read, after, _>>=_, give, nat2, nat4, bytes, section2, section4, just, whole}
 use Rattle.semantics.specs.Editions.{edition1}
 use Rattle.semantics.specs.TableFile.{TableSections, readTableSections, tableSectionsIn}
 use Rattle.semantics.specs.Tables.{tableHeader}
-use Rattle.semantics.proofs.Facts.{true-not-false, and-left}
-use Rattle.semantics.proofs.Readers.{broken-not-read, read-rest, split, given, given-rest, bytes-read, whole-read}
+use Rattle.semantics.proofs.Facts.{and-left}
+use Rattle.semantics.proofs.Readers.{broken-not-read, read-rest, split, given, bytes-read, whole-read}
 use Rattle.codec.specs.Reading.{Took}
 use Rattle.codec.proofs.Reading.{either, drop-past, drop-some, nat2-some, nat2-none, nat4-some, nat4-none, nat2At, nat4At, section2-short, section2-cut, section2-at, section4-short, section4-cut, section4-at}
 use Rattle.table_read.specs.Ends.{anything, Ends, ends-at, ends-none}

@@ -42,7 +42,7 @@ rising-one low n = go (leb low n)
     go true = refl
     go false = refl
 
-every-append : {A : Type 0} (P : A → Bool) (l m : List A) → every P (l ++ m) ≡ true → every P l ≡ true
+pub every-append : {A : Type 0} (P : A → Bool) (l m : List A) → every P (l ++ m) ≡ true → every P l ≡ true
 unfolding every
 every-append P [] m h = refl
 every-append P (x ∷ l) m h = go (P x) (every P (l ++ m)) (every P l) (every-append P l m) h

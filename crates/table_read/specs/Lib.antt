@@ -2,3 +2,4 @@
 pub mod Ends
 pub mod TableParts
 pub mod ActionIndex
+pub mod LocationIndex

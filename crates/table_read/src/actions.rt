@@ -1,6 +1,6 @@
 // The action section of a table (18, but for the operands), and where each node's operand stands.
 ghost use mathlib.Core.Path.{_≡_};
-ghost use Prim.Native.Nat.{_+_, _≤_};
+ghost use Prim.Native.Nat.{_≤_};
 ghost use lib.ListN.{length};
 ghost use Rattle.semantics.specs.Bytes.{isSome};
 ghost use Rattle.semantics.specs.Editions.{edition1};

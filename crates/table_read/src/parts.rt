@@ -1,6 +1,6 @@
 // The header of a table, and where its four sections stand (15, 16).
 ghost use mathlib.Core.Path.{_≡_};
-ghost use Prim.Native.Nat.{_+_, _≤_};
+ghost use Prim.Native.Nat.{_≤_};
 ghost use lib.ListN.{length};
 ghost use Rattle.semantics.specs.Bytes as bytes;
 ghost use Rattle.semantics.specs.Editions.{edition1};
