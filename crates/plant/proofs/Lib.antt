@@ -15,3 +15,5 @@ pub mod Marks
 pub mod DrivenOnce
 pub mod EquationsOnce
 pub mod TruthTurns
+pub mod PlantJudged
+pub mod PlantLaws

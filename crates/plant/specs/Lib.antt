@@ -3,3 +3,4 @@ pub mod Variables
 pub mod Equations
 pub mod Sound
 pub mod Driven
+pub mod PlantRead

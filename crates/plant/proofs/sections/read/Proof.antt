@@ -1,0 +1,51 @@
+use mathlib.Core.Path.{_∙_}
+use borrow.Author.Needs.{needs}
+use borrow.Author.Tests.{not-true, not-false}
+use Rattle.plant.proofs.PlantJudged.{by-variables, by-equations, named, by-8, passed}
+use Rattle.plant.proofs.sections.read.Statement.{statement}
+use Rattle.plant.proofs.sections.read.Tie as tie
+
+read-requires : tie.Need-read-requires
+read-requires c κs = search needs
+
+refused-requires : tie.Need-refused-requires
+refused-requires c κs = search needs
+
+returns : tie.Need-returns
+returns c = c .refused .ensures ∙ by-variables (c .before .before .before .before .before .args .vs .now) (c .before .before .before .before .before .args .es .now) (c .before .before .read .ensures) (c .before .if1 .taken)
+
+read-requires-2 : tie.Need-read-requires-2
+read-requires-2 c κs = search needs
+
+refused-requires-2 : tie.Need-refused-requires-2
+refused-requires-2 c κs = search needs
+
+returns-2 : tie.Need-returns-2
+returns-2 c = c .refused2 .ensures ∙ by-equations (c .before .before .before .before .before .before .before .args .vs .now) (c .before .before .before .before .before .before .before .args .es .now) (c .before .before .before .before .read .ensures) (c .before .before .before .if1 .left) (c .before .before .read2 .ensures) (c .before .if2 .taken)
+
+once-requires : tie.Need-once-requires
+once-requires c κs = named (c .before .before .before .before .before .before .args .vs .now) (c .before .before .before .before .before .before .args .es .now) (c .before .before .before .read .ensures) (c .before .before .if1 .left) (c .before .read2 .ensures) (c .if2 .left)
+
+refused-requires-3 : tie.Need-refused-requires-3
+refused-requires-3 c κs = search needs
+
+returns-3 : tie.Need-returns-3
+returns-3 c = c .refused3 .ensures ∙ by-8 (c .before .before .before .before .before .before .before .before .before .args .vs .now) (c .before .before .before .before .before .before .before .before .before .args .es .now) (c .before .before .before .before .before .before .read .ensures) (c .before .before .before .before .before .if1 .left) (c .before .before .before .before .read2 .ensures) (c .before .before .before .if2 .left) (c .before .before .once .ensures) (not-true _ (c .before .if3 .taken))
+
+returns-4 : tie.Need-returns-4
+returns-4 c = passed (c .before .before .before .before .before .before .before .before .before .before .before .before .before .args .vs .now) (c .before .before .before .before .before .before .before .before .before .before .before .before .before .args .es .now) (c .before .before .before .before .before .before .before .before .before .before .read .ensures) (c .before .before .before .before .before .before .before .before .before .if1 .left) (c .before .before .before .before .before .before .before .before .read2 .ensures) (c .before .before .before .before .before .before .before .if2 .left) (c .before .before .before .before .before .before .once .ensures) (not-false _ (c .before .before .before .before .before .if3 .left))
+
+pub read-spec : {M : Type 1} → statement M
+read-spec =
+    tie.close
+    (tie.spec
+    read-requires
+    refused-requires
+    returns
+    read-requires-2
+    refused-requires-2
+    returns-2
+    once-requires
+    refused-requires-3
+    returns-3
+    returns-4)

@@ -1,0 +1,44 @@
+-- Conditions 4 to 8: the two sections as the code answers them.
+use mathlib.Core.List.{List}
+use Prim.Native.Nat.{ℕ}
+use lib.IntN.{pos}
+use lib.ListN.{length, replicate}
+use Rattle.semantics.specs.Editions.{edition1}
+use Rattle.semantics.specs.Refusals.{Judged, refused, accepted}
+use Rattle.semantics.specs.Sections.{Variable}
+use Rattle.semantics.specs.Plant.{Plant, selectors, judgePlant}
+use Rattle.plant.specs.Variables.{column}
+use Rattle.plant.specs.Equations.{acceptedEquations}
+use Rattle.plant.specs.declared.sections.PlantRead.{PlantRead}
+
+unfoldable pub refusedPlant : ℕ → PlantRead
+refusedPlant n = record {
+  refusal = n;
+  variables = 0;
+  lows = replicate 32 (pos 0);
+  highs = replicate 32 (pos 0);
+  selectors = 0;
+  modes = replicate 16 0;
+  places = replicate 128 0;
+  steady = replicate 32 (pos 0);
+}
+
+-- the variables' ranges, and of the equations what Equations has
+unfoldable pub acceptedPlant : Plant → PlantRead
+acceptedPlant p = record {
+  refusal = 0;
+  variables = length (p .variables);
+  lows = column (λ (v : Variable). v .minimum) (p .variables);
+  highs = column (λ (v : Variable). v .maximum) (p .variables);
+  selectors = length (selectors p);
+  modes = acceptedEquations (p .equations) .modes;
+  places = acceptedEquations (p .equations) .places;
+  steady = acceptedEquations (p .equations) .steady;
+}
+
+unfoldable pub plantAnswer : Judged Plant → PlantRead
+plantAnswer (refused n) = refusedPlant n
+plantAnswer (accepted p) = acceptedPlant p
+
+unfoldable pub plantOf : List ℕ → List ℕ → PlantRead
+plantOf vs es = plantAnswer (judgePlant edition1 vs es)

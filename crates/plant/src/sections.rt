@@ -1,0 +1,68 @@
+// Both sections of a plant, judged in order: 4 to 8.
+use crate::driven;
+use crate::equations;
+use crate::variables;
+ghost use mathlib.Core.Path.{_≡_};
+ghost use Rattle.plant.specs.PlantRead.{refusedPlant, plantOf};
+
+pub struct PlantRead {
+    pub refusal: u8,
+    pub variables: usize,
+    pub lows: [i32; 32],
+    pub highs: [i32; 32],
+    pub selectors: usize,
+    pub modes: [usize; 16],
+    pub places: [usize; 128],
+    pub steady: [i32; 32],
+}
+
+fn refused(n: u8) -> PlantRead
+    ensures { λ r. ⌜ r ≡ refusedPlant n ⌝ }
+{
+    PlantRead {
+        refusal: n,
+        variables: 0,
+        lows: [0; 32],
+        highs: [0; 32],
+        selectors: 0,
+        modes: [0; 16],
+        places: [0; 128],
+        steady: [0; 32],
+    }
+}
+
+// the first refusal of the two sections; where there is none, what a run looks up in them
+pub fn read(vs: &[u8], es: &[u8]) -> PlantRead
+    ensures { λ r. ⌜ r ≡ plantOf (now (vs .entry)) (now (es .entry)) ⌝ }
+{
+    let v = variables::read(vs);
+    let first = v.refusal;
+    if first != 0 {
+        return refused(first);
+    }
+    let variables = v.count;
+    let e = equations::read(es, variables);
+    let second = e.refusal;
+    if second != 0 {
+        return refused(second);
+    }
+    if !driven::once(es) {
+        return refused(8);
+    }
+    let lows = v.lows;
+    let highs = v.highs;
+    let selectors = e.selectors;
+    let modes = e.modes;
+    let places = e.places;
+    let steady = e.steady;
+    PlantRead {
+        refusal: 0,
+        variables,
+        lows,
+        highs,
+        selectors,
+        modes,
+        places,
+        steady,
+    }
+}
