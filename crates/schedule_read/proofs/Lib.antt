@@ -7,9 +7,12 @@ pub mod Pads
 mod NodeForms
 pub mod NodeIndex
 pub mod NodeKinds
+pub mod FoundNodes
 -- the tree
 pub mod ChildCounts
 pub mod TreeEnds
 mod WalkSteps
 pub mod WholeTree
 pub mod LaidTree
+-- the whole file
+pub mod Stages

@@ -16,7 +16,7 @@ use Rattle.codec.proofs.Reading.{drop-past, drop-some, within-below, within-abo
 use Rattle.codec.proofs.Known.{snoc-none, times-length}
 use Rattle.codec.proofs.Loops.{loop-start, loop-next, counted}
 use Rattle.codec.proofs.Places.{places-start, places-length, places-more, places-count, placed}
-use Rattle.schedule_read.specs.Index.{pad, kindAt, startAt, endAt, nodePlaces, notNodes, index, nodesOf, isRead, Entry, Indexed}
+use Rattle.schedule_read.specs.Index.{pad, kindAt, startAt, endAt, nodePlaces, notNodes, index, nodesOf, isRead, Entry, IndexOf}
 use Rattle.schedule_read.specs.declared.nodes.Nodes.{Nodes}
 use Rattle.schedule_read.proofs.Pads.{pad-none, pad-map-snoc, pad-map, length-pad, map-length}
 use Rattle.schedule_read.proofs.NodeForms.{was, takes-node}
@@ -186,9 +186,9 @@ section s {ns} h =
       got = rw n (ap (λ l. times (o .value) (readNode edition1) (drop 1 l)) e ∙ g .1);
     }
 
-pub indexed : (s : List ℕ) {ns : List Node} → nodesIn edition1 s ≡ some ns → Indexed s (nodesOf s) ns
+pub indexed : (s : List ℕ) {ns : List Node} → nodesIn edition1 s ≡ some ns → IndexOf s (nodesOf s) ns
 unfolding nodePlaces index
-indexed s {ns} h = subst (λ r. Indexed s r ns) (sym (nodes-some s h)) (go (section s h))
+indexed s {ns} h = subst (λ r. IndexOf s r ns) (sym (nodes-some s h)) (go (section s h))
   where
     filled : (f : ℕ → ℕ) → Section s ns → length (pad 64 0 (map f (nodePlaces s (length ns)))) ≡ 64
     filled f k =
@@ -196,13 +196,15 @@ indexed s {ns} h = subst (λ r. Indexed s r ns) (sym (nodes-some s h)) (go (sect
         let high = k .high in
         length-pad 64 0 _ (omega (arith, map-length f (nodePlaces s (length ns))))
 
-    go : Section s ns → Indexed s (index s (length ns)) ns
+    go : Section s ns → IndexOf s (index s (length ns)) ns
     go k = record {
       accepted = refl;
       counted = refl;
       some-nodes = k .low;
       few-nodes = k .high;
       kinds-full = filled (kindAt s) k;
+      starts-full = filled startAt k;
+      ends-full = filled (endAt s) k;
       entries = λ i b. entry s (length ns) (k .long) (k .got) i b;
     }
 

@@ -56,12 +56,14 @@ pub record Entry (s : List ℕ) (r : Nodes) (ns : List Node) (i : ℕ) : Type 0 
   pub ordered : getD (r .starts) i 0 ≤ getD (r .ends) i 0
   pub inside : getD (r .ends) i 0 ≤ length s
 
-pub record Indexed (s : List ℕ) (r : Nodes) (ns : List Node) : Type 0 where
+pub record IndexOf (s : List ℕ) (r : Nodes) (ns : List Node) : Type 0 where
   pub accepted : r .refusal ≡ 0
   pub counted : length ns ≡ r .count
   pub some-nodes : 1 ≤ r .count
   pub few-nodes : r .count ≤ 64
   pub kinds-full : length (r .kinds) ≡ 64
+  pub starts-full : length (r .starts) ≡ 64
+  pub ends-full : length (r .ends) ≡ 64
   pub entries : (i : ℕ) → i < r .count → Entry s r ns i
 
 -- ---- for the code's own contracts

@@ -1,0 +1,271 @@
+-- A schedule file judged in order: what the answers about its parts make of the whole.
+use mathlib.Core.Path.{_≡_, refl, sym, ap, subst, _∙_}
+use mathlib.Core.Bool.{Bool, true, false, _&&_}
+use mathlib.Core.List.{List, [], _∷_, map}
+use mathlib.Core.Option.{Option, none, some}
+use Prim.Native.Nat.{ℕ, _-_, _≤_}
+use native.Mathlib.Omega.{arith}
+use lib.ListN.{length, take, drop}
+use Rattle.semantics.specs.Bytes.{every}
+use Rattle.semantics.specs.Editions.{edition1}
+use Rattle.semantics.specs.Refusals.{Judged, refused, accepted, refusalOf, need, ensure, _>>=_, _>>_}
+use Rattle.semantics.specs.Sections.{Selector, Equation, steady, choice, readEquation, equationsIn}
+use Rattle.semantics.specs.Plant.{Plant, judgePlant, switchesRead, equationReads, selectorsOf, selectors}
+use Rattle.semantics.proofs.Facts.{true-not-false}
+use Rattle.semantics.proofs.Judging.{refused-not-accepted, refused-is, go-then, go-need, go-ensure}
+use Rattle.schedules.specs.FileSections.{FileSections, fileSectionsIn}
+use Rattle.schedules.specs.Nodes.{Node, nodesIn, nodeNamed, nodeReads}
+use Rattle.schedules.specs.Trees.{Tree, treeOf}
+use Rattle.schedules.specs.Files.{Schedule, fileHeader, fileLength, judgeFile}
+use Rattle.schedules.specs.Calls.{scheduleCounts, readSchedule}
+use Rattle.codec.proofs.Known.{times-length}
+use Rattle.plant.specs.Equations.{pad, modeCount}
+use Rattle.plant.specs.Sound.{There}
+use Rattle.plant.specs.PlantRead.{refusedPlant, acceptedPlant, plantAnswer, plantOf}
+use Rattle.plant.specs.declared.sections.PlantRead.{PlantRead}
+use Rattle.plant.proofs.EquationCases.{section-at}
+use Rattle.plant.proofs.PlantLaws.{Passed, passed-all, passes, variables-of, variables-high, selectors-of, modes-of}
+use Rattle.schedule_read.specs.FileParts.{noParts, partsIn, partsRead, partsOf, sectionsAt}
+use Rattle.schedule_read.specs.Indexed.{NodesAt, Indexed, ModesAt, Selected, Passes}
+use Rattle.schedule_read.specs.Index.{nodesOf}
+use Rattle.schedule_read.specs.Ends.{noTree, subtreesOf, treeIn}
+use Rattle.schedule_read.specs.ScheduleFile.{numbers, noSchedule, judgeSections, sectionsRead, judgeNodes, PlantAt, Planted}
+use Rattle.schedule_read.specs.declared.call.FileRead.{FileRead}
+use Rattle.schedule_read.specs.declared.parts.Parts.{Parts}
+use Rattle.schedule_read.specs.declared.nodes.Nodes.{Nodes}
+use Rattle.schedule_read.specs.declared.tree.Subtrees.{Subtrees}
+use Rattle.schedule_read.proofs.PartsStand.{Opened, Accepted, refused-1, refused-2, refused-3, accepted-parts}
+use Rattle.schedule_read.proofs.ModeCounts.{padded}
+use Rattle.schedule_read.proofs.NodeIndex.{nodes-accepted, nodes-refused}
+use Rattle.schedule_read.proofs.FoundNodes.{found-nodes}
+use Rattle.schedule_read.proofs.WholeTree.{of-nodes}
+
+abbrev answer : Judged Schedule → FileRead
+answer j = numbers (scheduleCounts j)
+
+answer-refused : {j : Judged Schedule} {n : ℕ} → j ≡ refused n → noSchedule n ≡ answer j
+unfolding numbers scheduleCounts
+answer-refused e = rw e refl
+
+-- ---- 1 to 3
+after-3 : (f : List ℕ) {parts : FileSections} → Opened f → fileSectionsIn (drop 3 f) ≡ some parts → judgeFile edition1 f ≡ judgeSections parts
+unfolding judgeFile judgeSections
+after-3 f o e = go-ensure 1 _ (o .header) ∙ go-ensure 2 _ (o .length-field) ∙ go-need 3 _ e
+
+module _ (f : List ℕ) {p : Parts} (h : p ≡ partsOf f) where
+  said : {n : ℕ} → noParts n ≡ partsOf f → judgeFile edition1 f ≡ refused n → noSchedule (p .refusal) ≡ numbers (readSchedule edition1 f)
+  unfolding readSchedule
+  said e k = ap (λ (p : Parts). noSchedule (p .refusal)) (h ∙ sym e) ∙ answer-refused k
+
+  pub by-parts : (p .refusal ≡ 0 → ⊥) → noSchedule (p .refusal) ≡ numbers (readSchedule edition1 f)
+  unfolding judgeFile partsOf partsRead partsIn ensure need _>>_ _>>=_
+  by-parts z = first (fileHeader edition1 f) refl
+    where
+      third : fileHeader edition1 f ≡ true → fileLength f ≡ true → (o : Option FileSections) → fileSectionsIn (drop 3 f) ≡ o → noSchedule (p .refusal) ≡ numbers (readSchedule edition1 f)
+      third a b none e = said (refused-3 f (record { header = a; length-field = b }) e) (rw (a, b, e) refl)
+      third a b (some s) e = absurd (z (ap (λ (p : Parts). p .refusal) h ∙ rw (a, b, e) refl))
+
+      second : fileHeader edition1 f ≡ true → (b : Bool) → fileLength f ≡ b → noSchedule (p .refusal) ≡ numbers (readSchedule edition1 f)
+      second a true e = third a e (fileSectionsIn (drop 3 f)) refl
+      second a false e = said (refused-2 f a e) (rw (a, e) refl)
+
+      first : (b : Bool) → fileHeader edition1 f ≡ b → noSchedule (p .refusal) ≡ numbers (readSchedule edition1 f)
+      first true e = second e (fileLength f) refl
+      first false e = said (refused-1 f e) (rw e refl)
+
+  pub parts-stand : p .refusal ≡ 0 → Accepted f p
+  parts-stand z = subst (Accepted f) (sym h) (accepted-parts f (sym (ap (λ (p : Parts). p .refusal) h) ∙ z))
+
+  pub by-sections : p .refusal ≡ 0 →
+      sectionsRead (take (p .«variables_to» - p .«variables_from») (drop (p .«variables_from») f)) (take (p .«equations_to» - p .«equations_from») (drop (p .«equations_from») f)) (take (p .«schedule_to» - p .«schedule_from») (drop (p .«schedule_from») f)) ≡ numbers (readSchedule edition1 f)
+  unfolding readSchedule sectionsRead sectionsAt
+  by-sections z = let a = parts-stand z in ap answer (sym (after-3 f (a .opened) (a .are)))
+
+-- ---- 11 and 12
+both : (p : Plant) (ns : List Node) (x : Schedule) →
+    (ensure 11 (every (nodeNamed (length (p .variables)) (selectors p)) ns) >> (ensure 12 (every (nodeReads edition1 (length (p .variables))) ns && switchesRead edition1 p) >> accepted x)) ≡ (judgeNodes p ns >> accepted x)
+unfolding judgeNodes ensure _>>_
+both p ns x = go (every (nodeNamed (length (p .variables)) (selectors p)) ns) (every (nodeReads edition1 (length (p .variables))) ns && switchesRead edition1 p)
+  where
+    go : (a b : Bool) → (ensure 11 a >> (ensure 12 b >> accepted x)) ≡ ((ensure 11 a >> ensure 12 b) >> accepted x)
+    go true b = refl
+    go false b = refl
+
+then-refused : {j : Judged (Unit {0})} {n : ℕ} (k : Judged Schedule) → j ≡ refused n → (j >> k) ≡ refused n
+unfolding _>>_
+then-refused k e = rw e refl
+
+then-accepted : {j : Judged (Unit {0})} {u : Unit {0}} (k : Judged Schedule) → j ≡ accepted u → (j >> k) ≡ k
+unfolding _>>_
+then-accepted k e = rw e refl
+
+-- neither refuses with 0
+some-number : (p : Plant) (ns : List Node) {m : ℕ} → judgeNodes p ns ≡ refused m → 1 ≤ m
+unfolding judgeNodes ensure _>>_
+some-number p ns h = go (every (nodeNamed (length (p .variables)) (selectors p)) ns) (every (nodeReads edition1 (length (p .variables))) ns && switchesRead edition1 p) h
+  where
+    go : (a b : Bool) {m : ℕ} → (ensure 11 a >> ensure 12 b) ≡ refused m → 1 ≤ m
+    go true true h = refused-not-accepted (sym h)
+    go true false h = let i = refused-is h in omega arith
+    go false b h = let i = refused-is h in omega arith
+
+-- by the answers about the nodes' names, their truths and numbers, and the switches' truths
+module _ {es modes : List ℕ} {v c : ℕ} where
+  pub selected : Planted es v c modes → Selected modes c
+  selected d = record { all = selectors (d .plant); at = d .at .modes-at }
+
+  pub equations-there : Planted es v c modes → There (equationsIn es)
+  equations-there d = record { value = d .plant .equations; is = d .at .equations }
+
+module _ {es s kinds starts ends modes : List ℕ} {count v c : ℕ} where
+  module _ {a : Bool} (h : (cs : List Selector) → ModesAt modes c cs → Passes (nodeNamed v cs) s kinds starts ends count a) where
+    names-are : (ns : List Node) → NodesAt s kinds starts ends count ns → (p : Plant) → PlantAt es v c modes p → a ≡ every (nodeNamed (length (p .variables)) (selectors p)) ns
+    names-are ns d p e = h (selectors p) (e .modes-at) .of ns d ∙ ap (λ n. every (nodeNamed n (selectors p)) ns) (sym (e .counted))
+
+    pub by-11 : a ≡ false → (ns : List Node) → NodesAt s kinds starts ends count ns → (p : Plant) → PlantAt es v c modes p → 11 ≡ refusalOf (judgeNodes p ns)
+    unfolding judgeNodes ensure _>>_ refusalOf
+    by-11 x ns d p e = rw (sym (names-are ns d p e) ∙ x) refl
+
+    module _ (x : a ≡ true) {b : Bool} (k : Passes (nodeReads edition1 v) s kinds starts ends count b) where
+      nodes-read : (ns : List Node) → NodesAt s kinds starts ends count ns → (p : Plant) → PlantAt es v c modes p → b ≡ every (nodeReads edition1 (length (p .variables))) ns
+      nodes-read ns d p e = k .of ns d ∙ ap (λ n. every (nodeReads edition1 n) ns) (sym (e .counted))
+
+      pub by-12 : b ≡ false → (ns : List Node) → NodesAt s kinds starts ends count ns → (p : Plant) → PlantAt es v c modes p → 12 ≡ refusalOf (judgeNodes p ns)
+      unfolding judgeNodes ensure _>>_ refusalOf
+      by-12 y ns d p e = rw (sym (names-are ns d p e) ∙ x, sym (nodes-read ns d p e) ∙ y) refl
+
+      module _ (y : b ≡ true) {t : Bool} (l : (qs : List Equation) → equationsIn es ≡ some qs → t ≡ every (equationReads edition1 v) qs) where
+        switches-read : (p : Plant) → PlantAt es v c modes p → t ≡ switchesRead edition1 p
+        unfolding switchesRead
+        switches-read p e = l (p .equations) (e .equations) ∙ ap (λ n. every (equationReads edition1 n) (p .equations)) (sym (e .counted))
+
+        pub by-switches : t ≡ false → (ns : List Node) → NodesAt s kinds starts ends count ns → (p : Plant) → PlantAt es v c modes p → 12 ≡ refusalOf (judgeNodes p ns)
+        unfolding judgeNodes ensure _>>_ refusalOf
+        by-switches z ns d p e = rw (sym (names-are ns d p e) ∙ x, sym (nodes-read ns d p e) ∙ y, sym (switches-read p e) ∙ z) refl
+
+        pub nodes-passed : t ≡ true → (ns : List Node) → NodesAt s kinds starts ends count ns → (p : Plant) → PlantAt es v c modes p → 0 ≡ refusalOf (judgeNodes p ns)
+        unfolding judgeNodes ensure _>>_ refusalOf
+        nodes-passed z ns d p e = rw (sym (names-are ns d p e) ∙ x, sym (nodes-read ns d p e) ∙ y, sym (switches-read p e) ∙ z) refl
+
+-- ---- 4 to 8
+few-selectors : (es : List ℕ) {qs : List Equation} → equationsIn es ≡ some qs → length (selectorsOf qs) ≤ 16
+unfolding selectorsOf
+few-selectors es {qs} e =
+    let a = section-at es e in
+    let n = times-length readEquation _ _ (a .got) in
+    let b = a .few in
+    omega (arith, fewer qs)
+  where
+    fewer : (qs : List Equation) → length (selectorsOf qs) ≤ length qs
+    fewer [] = omega arith
+    fewer (steady r ∷ qs) = let i = fewer qs in omega arith
+    fewer (choice c ∷ qs) = let i = fewer qs in omega arith
+
+counts-at : {modes ms : List ℕ} {c d : ℕ} {cs : List Selector} → modes ≡ ms → c ≡ d → ModesAt ms d cs → ModesAt modes c cs
+counts-at e f a = rw (e, f) a
+
+counts : {a b c x y z : ℕ} → a ≡ x → b ≡ y → c ≡ z → _≡_ {A = FileRead} (record { refusal = 0; variables = a; selectors = b; nodes = c }) (record { refusal = 0; variables = x; selectors = y; nodes = z })
+counts e f g = cc
+
+module _ (vs es s : List ℕ) {p : PlantRead} (h : p ≡ plantOf vs es) where
+  sections : FileSections
+  sections = record { variables = vs; equations = es; schedule = s }
+
+  pub by-plant : (p .refusal ≡ 0 → ⊥) → noSchedule (p .refusal) ≡ sectionsRead vs es s
+  unfolding sectionsRead judgeSections plantOf plantAnswer refusedPlant acceptedPlant _>>=_
+  by-plant z = go (judgePlant edition1 vs es) refl
+    where
+      go : (j : Judged Plant) → judgePlant edition1 vs es ≡ j → noSchedule (p .refusal) ≡ sectionsRead vs es s
+      go (refused n) e = ap (λ (p : PlantRead). noSchedule (p .refusal)) (h ∙ ap plantAnswer e) ∙ answer-refused (rw e refl)
+      go (accepted q) e = absurd (z (ap (λ (p : PlantRead). p .refusal) (h ∙ ap plantAnswer e)))
+
+  module _ (z : p .refusal ≡ 0) where
+    plant : Plant
+    plant = passes vs es (sym (ap (λ (p : PlantRead). p .refusal) h) ∙ z) .plant
+
+    plant-is : judgePlant edition1 vs es ≡ accepted plant
+    unfolding plant
+    plant-is = passes vs es (sym (ap (λ (p : PlantRead). p .refusal) h) ∙ z) .is
+
+    variables-are : p .variables ≡ length (plant .variables)
+    variables-are = ap (λ (p : PlantRead). p .variables) h ∙ variables-of vs es plant-is
+
+    selectors-are : p .selectors ≡ length (selectors plant)
+    selectors-are = ap (λ (p : PlantRead). p .selectors) h ∙ selectors-of vs es plant-is
+
+    modes-are : p .modes ≡ pad 16 0 (map modeCount (selectors plant))
+    modes-are = ap (λ (p : PlantRead). p .modes) h ∙ modes-of vs es plant-is
+
+    plant-at : PlantAt es (p .variables) (p .selectors) (p .modes) plant
+    unfolding pad modeCount selectors
+    plant-at = record {
+      equations = passed-all vs es plant-is .equations;
+      counted = sym variables-are;
+      few = omega (arith, variables-are, variables-high vs es plant-is);
+      modes-at = counts-at modes-are selectors-are (padded modeCount (λ c. refl) (selectors plant) (few-selectors es (passed-all vs es plant-is .equations)));
+    }
+
+    pub planted : Planted es (p .variables) (p .selectors) (p .modes)
+    planted = record { plant = plant; at = plant-at }
+
+    -- ---- 9
+    module _ {n : Nodes} (k : n ≡ nodesOf s) where
+      pub by-nodes : (n .refusal ≡ 0 → ⊥) → noSchedule 9 ≡ sectionsRead vs es s
+      unfolding sectionsRead judgeSections need _>>=_
+      by-nodes y = answer-refused (go-then _ plant-is ∙ rw (nodes-refused s (λ i. y (ap (λ (n : Nodes). n .refusal) k ∙ i))) refl)
+
+      module _ (y : n .refusal ≡ 0) where
+        ns : List Node
+        ns = nodes-accepted s (sym (ap (λ (n : Nodes). n .refusal) k) ∙ y) .0
+
+        nodes-are : nodesIn edition1 s ≡ some ns
+        unfolding ns
+        nodes-are = nodes-accepted s (sym (ap (λ (n : Nodes). n .refusal) k) ∙ y) .1
+
+        at : NodesAt s (n .kinds) (n .starts) (n .ends) (n .count) ns
+        at = found-nodes s k nodes-are
+
+        pub index-of : Indexed s (n .kinds) (n .starts) (n .ends) (n .count)
+        index-of = record { nodes = ns; at = at }
+
+        -- ---- 10
+        module _ {t : Subtrees} (w : t ≡ treeIn s) where
+          tree-answer : t ≡ subtreesOf (treeOf ns)
+          tree-answer = w ∙ of-nodes s nodes-are
+
+          pub by-tree : t .ok ≡ false → noSchedule 10 ≡ sectionsRead vs es s
+          unfolding sectionsRead judgeSections subtreesOf need _>>=_
+          by-tree x = go (treeOf ns) refl
+            where
+              go : (o : Option Tree) → treeOf ns ≡ o → noSchedule 10 ≡ sectionsRead vs es s
+              go none e = answer-refused (go-then _ plant-is ∙ go-need 9 _ nodes-are ∙ rw e refl)
+              go (some u) e = true-not-false (sym (ap (λ (t : Subtrees). t .ok) (tree-answer ∙ ap subtreesOf e)) ∙ x)
+
+          -- ---- 11 and 12
+          module _ (x : t .ok ≡ true) {r : ℕ} (q : (ns : List Node) → NodesAt s (n .kinds) (n .starts) (n .ends) (n .count) ns → (p′ : Plant) → PlantAt es (p .variables) (p .selectors) (p .modes) p′ → r ≡ refusalOf (judgeNodes p′ ns)) where
+            last : r ≡ refusalOf (judgeNodes plant ns)
+            last = q ns at plant plant-at
+
+            after-10 : (u : Tree) × (judgeSections sections ≡ (judgeNodes plant ns >> accepted (record { sections = sections; plant = plant; nodes = ns; root = u })))
+            unfolding judgeSections subtreesOf sections
+            after-10 = go (treeOf ns) refl
+              where
+                go : (o : Option Tree) → treeOf ns ≡ o → (u : Tree) × (judgeSections sections ≡ (judgeNodes plant ns >> accepted (record { sections = sections; plant = plant; nodes = ns; root = u })))
+                go none e = true-not-false (sym x ∙ ap (λ (t : Subtrees). t .ok) (tree-answer ∙ ap subtreesOf e))
+                go (some u) e = (u, go-then _ plant-is ∙ go-need 9 _ nodes-are ∙ go-need 10 _ e ∙ both plant ns _)
+
+            pub by-last : (r ≡ 0 → ⊥) → noSchedule r ≡ sectionsRead vs es s
+            unfolding sectionsRead sections refusalOf
+            by-last v = go (judgeNodes plant ns) refl
+              where
+                go : (j : Judged (Unit {0})) → judgeNodes plant ns ≡ j → noSchedule r ≡ sectionsRead vs es s
+                go (refused m) e = ap noSchedule (last ∙ ap refusalOf e) ∙ answer-refused (after-10 .1 ∙ then-refused _ e)
+                go (accepted m) e = absurd (v (last ∙ ap refusalOf e))
+
+            pub all-passed : r ≡ 0 → record { refusal = 0; variables = p .variables; selectors = p .selectors; nodes = n .count } ≡ sectionsRead vs es s
+            unfolding sectionsRead sections refusalOf numbers scheduleCounts
+            all-passed v = go (judgeNodes plant ns) refl
+              where
+                go : (j : Judged (Unit {0})) → judgeNodes plant ns ≡ j → record { refusal = 0; variables = p .variables; selectors = p .selectors; nodes = n .count } ≡ sectionsRead vs es s
+                go (refused m) e = let i : r ≡ m = last ∙ ap refusalOf e in absurd (omega (arith, some-number plant ns e))
+                go (accepted m) e = counts variables-are selectors-are (sym (at .counted)) ∙ sym (ap answer (after-10 .1 ∙ then-accepted _ e))

@@ -1,0 +1,59 @@
+-- The call "reading a schedule" (1 to 12), as the code answers it and in the parts that the code has.
+use mathlib.Core.Path.{_≡_}
+use mathlib.Core.Bool.{_&&_}
+use mathlib.Core.List.{List}
+use mathlib.Core.Option.{some}
+use Prim.Native.Nat.{ℕ, _≤_}
+use lib.ListN.{length}
+use Rattle.semantics.specs.Bytes.{every}
+use Rattle.semantics.specs.Editions.{edition1}
+use Rattle.semantics.specs.Refusals.{Judged, accepted, _>>=_, _>>_, ensure, need}
+use Rattle.semantics.specs.Sections.{equationsIn}
+use Rattle.semantics.specs.Plant.{Plant, judgePlant, switchesRead, selectors}
+use Rattle.schedules.specs.FileSections.{FileSections}
+use Rattle.schedules.specs.Nodes.{Node, nodesIn, nodeNamed, nodeReads}
+use Rattle.schedules.specs.Trees.{treeOf}
+use Rattle.schedules.specs.Files.{Schedule}
+use Rattle.schedules.specs.Calls.{ScheduleRead, scheduleCounts}
+use Rattle.schedule_read.specs.Indexed.{ModesAt}
+use Rattle.schedule_read.specs.declared.call.FileRead.{FileRead}
+
+-- the four numbers in the code's type
+unfoldable pub numbers : ScheduleRead → FileRead
+numbers r = record { refusal = r .refusal; variables = r .variables; selectors = r .selectors; nodes = r .nodes }
+
+-- a refusal
+abbrev pub noSchedule : ℕ → FileRead
+noSchedule n = record { refusal = n; variables = 0; selectors = 0; nodes = 0 }
+
+-- ---- for the code's own contracts
+-- 4 to 12, as judgeFile has them after 3
+unfoldable pub judgeSections : FileSections → Judged Schedule
+judgeSections parts = do
+  p ← judgePlant edition1 (parts .variables) (parts .equations)
+  ns ← need 9 (nodesIn edition1 (parts .schedule))
+  t ← need 10 (treeOf ns)
+  ensure 11 (every (nodeNamed (length (p .variables)) (selectors p)) ns)
+  ensure 12 (every (nodeReads edition1 (length (p .variables))) ns && switchesRead edition1 p)
+  accepted (record { sections = parts; plant = p; nodes = ns; root = t })
+
+unfoldable pub sectionsRead : List ℕ → List ℕ → List ℕ → FileRead
+sectionsRead vs es s = numbers (scheduleCounts (judgeSections (record { variables = vs; equations = es; schedule = s })))
+
+-- 11 and 12
+unfoldable pub judgeNodes : Plant → List Node → Judged (Unit {0})
+judgeNodes p ns = do
+  ensure 11 (every (nodeNamed (length (p .variables)) (selectors p)) ns)
+  ensure 12 (every (nodeReads edition1 (length (p .variables))) ns && switchesRead edition1 p)
+
+-- p is a plant of v variables and c selectors with these equations and mode counts
+pub record PlantAt (es : List ℕ) (v c : ℕ) (modes : List ℕ) (p : Plant) : Type 0 where
+  pub equations : equationsIn es ≡ some (p .equations)
+  pub counted : length (p .variables) ≡ v
+  pub few : v ≤ 32
+  pub modes-at : ModesAt modes c (selectors p)
+
+-- there is one
+pub record Planted (es : List ℕ) (v c : ℕ) (modes : List ℕ) : Type 0 where
+  pub plant : Plant
+  pub at : PlantAt es v c modes plant

@@ -1,0 +1,124 @@
+// The call "reading a schedule": conditions 1 to 12, in order.
+ghost use mathlib.Core.Path.{_≡_};
+ghost use mathlib.Core.List.{List};
+ghost use Rattle.semantics.specs.Editions.{edition1};
+ghost use Rattle.semantics.specs.Refusals.{refusalOf};
+ghost use Rattle.semantics.specs.Plant.{Plant};
+ghost use Rattle.schedules.specs.Nodes.{Node};
+ghost use Rattle.schedules.specs.Calls.{readSchedule};
+ghost use Rattle.schedule_read.specs.Indexed.{NodesAt, Indexed};
+ghost use Rattle.schedule_read.specs.ScheduleFile.{numbers, noSchedule, sectionsRead, judgeNodes, PlantAt, Planted};
+use super::names;
+use super::nodes;
+use super::operands;
+use super::parts;
+use super::tree;
+
+// 0, or the number of the first condition that is broken; all counts are 0 then
+pub struct FileRead {
+    pub refusal: u8,
+    pub variables: usize,
+    pub selectors: usize,
+    pub nodes: usize,
+}
+
+fn refused(n: u8) -> FileRead
+    ensures { λ r. ⌜ r ≡ noSchedule n ⌝ }
+{
+    FileRead {
+        refusal: n,
+        variables: 0,
+        selectors: 0,
+        nodes: 0,
+    }
+}
+
+// 11 and 12, or 0: kinds, starts and ends are the nodes' index in s, modes has the mode counts of the equations es
+fn checked(
+    es: &[u8],
+    s: &[u8],
+    kinds: &[u8],
+    starts: &[usize],
+    ends: &[usize],
+    count: usize,
+    variables: usize,
+    selectors: usize,
+    modes: &[usize],
+) -> u8
+    requires { ⌜ Indexed (now s) (now kinds) (now starts) (now ends) count × Planted (now es) variables selectors (now modes) ⌝ }
+    ensures { λ r. ⌜ ((ns : List Node) → NodesAt (now (s .entry)) (now (kinds .entry)) (now (starts .entry)) (now (ends .entry)) count ns → (p : Plant) → PlantAt (now (es .entry)) variables selectors (now (modes .entry)) p → r ≡ refusalOf (judgeNodes p ns)) ⌝ }
+{
+    if !names::named(s, kinds, starts, ends, count, variables, selectors, modes) {
+        return 11;
+    }
+    if !operands::read(s, kinds, starts, ends, count, variables) {
+        return 12;
+    }
+    if !plant::truths::read(es, variables) {
+        return 12;
+    }
+    0
+}
+
+// 4 to 12, of the three sections
+fn sections(vs: &[u8], es: &[u8], s: &[u8]) -> FileRead
+    ensures { λ r. ⌜ r ≡ sectionsRead (now (vs .entry)) (now (es .entry)) (now (s .entry)) ⌝ }
+{
+    let p = plant::sections::read(vs, es);
+    let first = p.refusal;
+    if first != 0 {
+        return refused(first);
+    }
+    let n = nodes::read(s);
+    if n.refusal != 0 {
+        return refused(9);
+    }
+    let variables = p.variables;
+    let selectors = p.selectors;
+    let modes = p.modes;
+    let count = n.count;
+    let kinds = n.kinds;
+    let starts = n.starts;
+    let ends = n.ends;
+    let t = tree::read(s, n);
+    if !t.ok {
+        return refused(10);
+    }
+    let last = checked(
+        es,
+        s,
+        &kinds,
+        &starts,
+        &ends,
+        count,
+        variables,
+        selectors,
+        &modes,
+    );
+    if last != 0 {
+        return refused(last);
+    }
+    FileRead {
+        refusal: 0,
+        variables: variables,
+        selectors: selectors,
+        nodes: count,
+    }
+}
+
+pub fn read(file: &[u8]) -> FileRead
+    ensures { λ r. ⌜ r ≡ numbers (readSchedule edition1 (now (file .entry))) ⌝ }
+{
+    let p = parts::read(file);
+    let first = p.refusal;
+    if first != 0 {
+        return refused(first);
+    }
+    let a = p.variables_from;
+    let b = p.variables_to;
+    let c = p.equations_from;
+    let d = p.equations_to;
+    let e = p.schedule_from;
+    let f = p.schedule_to;
+    sections(&file[a..b], &file[c..d], &file[e..f])
+}
