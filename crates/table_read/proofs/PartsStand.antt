@@ -1,55 +1,26 @@
 -- The four sections of a table, and where they stand.
 use mathlib.Core.Path.{_≡_, refl, sym, ap, subst, _∙_}
 use mathlib.Core.Bool.{Bool, true, false, cond}
-use mathlib.Core.List.{List, []}
+use mathlib.Core.List.{List}
 use mathlib.Core.Option.{Option, none, some}
 use Prim.Native.Nat.{ℕ, _+_, _-_, _≤_, _<_}
 use native.Mathlib.Omega.{arith}
 use borrow.Author.Tests.{leb-true, le-leb, lt-leb, eq-eqb, ne-eqb}
 use lib.Dec.{leb, eqb}
-use lib.ListN.{length, getD, take, drop, length-drop, length-append}
-use lib.Seq.{take-append-seam, drop-append-seam, drop-drop}
-use Rattle.semantics.specs.Bytes.{broken, read, after, _>>=_, give, nat2, nat4, bytes, section2, section4, just, whole}
+use lib.ListN.{length, getD, take, drop, length-drop}
+use lib.Seq.{drop-drop}
+use Rattle.semantics.specs.Bytes.{broken, read, after, _>>=_, give, section2, section4, just, whole}
 use Rattle.semantics.specs.Editions.{edition1}
 use Rattle.semantics.specs.TableFile.{TableSections, readTableSections, tableSectionsIn}
 use Rattle.semantics.specs.Tables.{tableHeader}
 use Rattle.semantics.proofs.Facts.{and-left}
-use Rattle.semantics.proofs.Readers.{broken-not-read, read-rest, split, given, bytes-read, whole-read}
+use Rattle.semantics.proofs.Readers.{split, given, whole-read}
 use Rattle.codec.specs.Reading.{Took}
-use Rattle.codec.proofs.Reading.{either, drop-past, drop-some, nat2-some, nat2-none, nat4-some, nat4-none, nat2At, nat4At, section2-short, section2-cut, section2-at, section4-short, section4-cut, section4-at}
-use Rattle.table_read.specs.Ends.{anything, Ends, ends-at, ends-none}
+use Rattle.codec.proofs.Reading.{drop-past, drop-some, nat4At}
+use Rattle.codec.proofs.Sections.{Cut, cuts2, cuts4}
+use Rattle.table_read.specs.Ends.{anything}
 use Rattle.table_read.specs.declared.parts.Parts.{Parts}
 use Rattle.table_read.specs.TableParts.{noParts, partsAt, sectionsAt, partsIn, partsRead, partsOf}
-
--- ---- a section that was read: w bytes of length, x, and then m
-pub record Cut (w : ℕ) (l x m : List ℕ) : Type 0 where
-  pub few : w + length x ≤ length l
-  pub value : take (length x) (drop w l) ≡ x
-  pub rest : m ≡ drop (w + length x) l
-
-cut-bytes : (w n : ℕ) (l : List ℕ) {x m : List ℕ} → w ≤ length l → bytes n (drop w l) ≡ read x m → Cut w l x m
-cut-bytes w n l {x} {m} h e =
-    let k = bytes-read n (drop w l) e in
-    let i : length (drop w l) ≡ length x + length m = ap length (k .1) ∙ length-append x m in
-    record {
-      few = omega (arith, length-drop w l);
-      value = ap (take (length x)) (k .1) ∙ take-append-seam x m;
-      rest = sym (drop-append-seam x m) ∙ ap (drop (length x)) (sym (k .1)) ∙ drop-drop (length x) w l;
-    }
-
-pub cut2 : (l : List ℕ) {x m : List ℕ} → section2 l ≡ read x m → Cut 2 l x m
-unfolding section2
-cut2 l {x} {m} e = either (length l) 2 (λ h. broken-not-read (sym (nat2-none l h) ∙ k .first)) (λ h. cut-bytes 2 (k .value) l h (ap (bytes (k .value)) (sym (read-rest (sym (k .first) ∙ nat2-some l h))) ∙ k .then))
-  where
-    k : Rattle.semantics.proofs.Readers.Split nat2 bytes l x m
-    k = split nat2 bytes e
-
-pub cut4 : (l : List ℕ) {x m : List ℕ} → section4 l ≡ read x m → Cut 4 l x m
-unfolding section4
-cut4 l {x} {m} e = either (length l) 4 (λ h. broken-not-read (sym (nat4-none l h) ∙ k .first)) (λ h. cut-bytes 4 (k .value) l h (ap (bytes (k .value)) (sym (read-rest (sym (k .first) ∙ nat4-some l h))) ∙ k .then))
-  where
-    k : Rattle.semantics.proofs.Readers.Split nat4 bytes l x m
-    k = split nat4 bytes e
 
 -- from place p to place q
 place-cut : (w p q : ℕ) (t : List ℕ) {x : List ℕ} → p ≤ length t → q ≤ length t → Cut w (drop p t) x (drop q t) → q ≡ p + w + length x
@@ -59,10 +30,10 @@ place-cut w p q t {x} h i k =
     omega (arith, length-drop p t, length-drop q t)
 
 pub end2-is : {t : List ℕ} {p q : ℕ} → p ≤ length t → (k : Took section2 anything t p q tt) → q ≡ p + 2 + length (k .value)
-end2-is {t} {p} {q} h k = place-cut 2 p q t h (k .inside) (cut2 (drop p t) (k .got))
+end2-is {t} {p} {q} h k = place-cut 2 p q t h (k .inside) (cuts2 .cut (drop p t) (k .got))
 
 pub end4-is : {t : List ℕ} {p q : ℕ} → p ≤ length t → (k : Took section4 anything t p q tt) → q ≡ p + 4 + length (k .value)
-end4-is {t} {p} {q} h k = place-cut 4 p q t h (k .inside) (cut4 (drop p t) (k .got))
+end4-is {t} {p} {q} h k = place-cut 4 p q t h (k .inside) (cuts4 .cut (drop p t) (k .got))
 
 pub ends-inside : {t : List ℕ} {v e a l : ℕ} → Took section2 anything t v e tt → Took section2 anything t e a tt → Took section4 anything t a l tt → v ≤ length t → (v + 2 ≤ length t) × (e + 2 ≤ length t) × (a + 4 ≤ length t)
 ends-inside es acts ls h =
@@ -73,25 +44,6 @@ ends-inside es acts ls h =
     let j = acts .inside in
     let k = ls .inside in
     (omega arith, omega arith, omega arith)
-
-module _ {t : List ℕ} {p : ℕ} where
-  pub short2 : length t < p + 2 → p ≤ length t → Ends section2 t p 0
-  short2 h i = ends-none refl (section2-short t p h i)
-
-  pub past2 : {n : ℕ} → n ≡ nat2At t p → p + 2 ≤ length t → length t < p + 2 + n → Ends section2 t p 0
-  past2 {n} e h i = ends-none refl (section2-cut t p n e h i)
-
-  pub at2 : {n : ℕ} → n ≡ nat2At t p → p + 2 + n ≤ length t → Ends section2 t p (p + 2 + n)
-  at2 {n} e h = ends-at {q = p + 2 + n} (omega arith) (record { value = take n (drop (p + 2) t); got = section2-at t p n e h; inside = h; means = tt })
-
-  pub short4 : length t < p + 4 → p ≤ length t → Ends section4 t p 0
-  short4 h i = ends-none refl (section4-short t p h i)
-
-  pub past4 : {n : ℕ} → n ≡ nat4At t p → p + 4 ≤ length t → length t < p + 4 + n → Ends section4 t p 0
-  past4 {n} e h i = ends-none refl (section4-cut t p n e h i)
-
-  pub at4 : {n : ℕ} → n ≡ nat4At t p → p + 4 + n ≤ length t → Ends section4 t p (p + 4 + n)
-  at4 {n} e h = ends-at {q = p + 4 + n} (omega arith) (record { value = take n (drop (p + 4) t); got = section4-at t p n e h; inside = h; means = tt })
 
 -- ---- the header
 module _ (t : List ℕ) where
@@ -202,15 +154,15 @@ pub record AllStand (t : List ℕ) (p : Parts) (s : TableSections) : Type 0 wher
 chain : (t x y z w : List ℕ) {m n o u : List ℕ} → 5 ≤ length t → section2 (drop 5 t) ≡ read x m → section2 m ≡ read y n → section2 n ≡ read z o → section4 o ≡ read w u → AllStand t (partsIn (record { variables = x; equations = y; actions = z; locations = w })) (record { variables = x; equations = y; actions = z; locations = w })
 unfolding partsIn
 chain t x y z w h a b c d =
-    let i = cut2 (drop 5 t) a in
+    let i = cuts2 .cut (drop 5 t) a in
     let vs = cut-stands 2 5 t h i in
     let v = 7 + length x in
-    let j = cut2 (drop v t) (ap section2 (sym (cut-next 2 5 t i)) ∙ b) in
+    let j = cuts2 .cut (drop v t) (ap section2 (sym (cut-next 2 5 t i)) ∙ b) in
     let es = cut-stands 2 v t (vs .inside) j in
     let e = v + 2 + length y in
-    let k = cut2 (drop e t) (ap section2 (sym (cut-next 2 v t j)) ∙ c) in
+    let k = cuts2 .cut (drop e t) (ap section2 (sym (cut-next 2 v t j)) ∙ c) in
     let acts = cut-stands 2 e t (es .inside) k in
-    let l = cut4 (drop (e + 2 + length z) t) (ap section4 (sym (cut-next 2 e t k)) ∙ d) in
+    let l = cuts4 .cut (drop (e + 2 + length z) t) (ap section4 (sym (cut-next 2 e t k)) ∙ d) in
     record { variables = vs; equations = es; actions = acts; locations = cut-stands 4 (e + 2 + length z) t (acts .inside) l }
 
 pub sections-stand : (t : List ℕ) {s : TableSections} → 5 ≤ length t → tableSectionsIn (drop 5 t) ≡ some s → AllStand t (partsIn s) s
