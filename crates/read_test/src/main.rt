@@ -16,64 +16,7 @@ fn show(file: &[u8]) {
 }
 
 fn k1() -> [u8; 56] {
-    [
-        1,
-        0,
-        56,
-        0,
-        13,
-        1,
-        0,
-        0,
-        0,
-        0,
-        0,
-        0,
-        0,
-        10,
-        0,
-        0,
-        0,
-        0,
-        0,
-        9,
-        1,
-        0,
-        6,
-        1,
-        0,
-        0,
-        0,
-        0,
-        1,
-        0,
-        25,
-        3,
-        2,
-        1,
-        2,
-        10,
-        6,
-        0,
-        16,
-        2,
-        0,
-        1,
-        0,
-        0,
-        0,
-        1,
-        9,
-        5,
-        32,
-        1,
-        0,
-        0,
-        0,
-        3,
-        2,
-        0,
-    ]
+    *b"\x01\x00\x38\x00\x0D\x01\x00\x00\x00\x00\x00\x00\x00\x0A\x00\x00\x00\x00\x00\x09\x01\x00\x06\x01\x00\x00\x00\x00\x01\x00\x19\x03\x02\x01\x02\x0A\x06\x00\x10\x02\x00\x01\x00\x00\x00\x01\x09\x05\x20\x01\x00\x00\x00\x03\x02\x00"
 }
 
 // K1 with another byte at this place
@@ -81,6 +24,20 @@ fn changed(at: usize, b: u8)
     requires { ⌜ at < 56 ⌝ }
 {
     let mut f = k1();
+    f[at] = b;
+    show(&f);
+}
+
+// two variables, a CASE of two modes with a switch, and the node SWITCH
+fn cases() -> [u8; 72] {
+    *b"\x01\x00\x48\x00\x19\x02\x00\x00\x00\x00\x00\x00\x00\x0A\x00\x00\x00\x00\x00\x00\x00\x00\x00\x00\x00\x0A\x00\x00\x00\x00\x00\x21\x02\x00\x06\x01\x00\x00\x00\x00\x01\x00\x16\x02\x00\x02\x01\x01\x00\x00\x00\x02\x01\x09\x01\x20\x01\x00\x00\x00\x03\x02\x00\x00\x00\x00\x05\x01\x03\x08\x00\x01"
+}
+
+// that file with another byte at this place
+fn changed_case(at: usize, b: u8)
+    requires { ⌜ at < 72 ⌝ }
+{
+    let mut f = cases();
     f[at] = b;
     show(&f);
 }
@@ -104,4 +61,11 @@ fn main() {
     changed(34, 3); // a SEQUENCE of three
     changed(37, 1); // a RESET of a missing variable
     changed(38, 119); // no form of a number
+    let other = cases();
+    show(&other);
+    changed_case(54, 2); // a switch to a missing mode
+    changed_case(47, 0); // two equations drive a variable
+    changed_case(70, 1); // a node names a missing selector
+    changed_case(71, 2); // and a missing mode
+    changed_case(55, 119); // no form of a truth, in a switch
 }
