@@ -13,7 +13,6 @@ use Rattle.semantics.specs.Sections.{Equation, readEquation, equationsIn}
 use Rattle.semantics.specs.Plant.{equationNamed}
 use Rattle.plant.specs.Equations.{judgeEquations, refusalIn, equationsOf, answerTo, refusedEquations, acceptedEquations, steadyRates, putRates, Stands, SectionStands, CasesOf}
 use Rattle.plant.specs.declared.equations.Cases.{Cases}
-use Rattle.plant.specs.declared.equations.Equations.{Equations}
 use Rattle.plant.proofs.EquationCases.{section-at, equations-stand}
 
 pub answer-refused : (s : List ℕ) (variables n : ℕ) → n ≡ refusalIn s variables → (n ≡ 0 → ⊥) → refusedEquations n ≡ equationsOf s variables
@@ -23,6 +22,14 @@ answer-refused s variables n e h = go (judgeEquations s variables) e
     go : (j : Judged (List Equation)) → n ≡ refusalOf j → refusedEquations n ≡ answerTo j
     go (refused m) i = ap refusedEquations i
     go (accepted es) i = absurd (h i)
+
+pub refusal-is : (s : List ℕ) (variables : ℕ) → equationsOf s variables .refusal ≡ refusalIn s variables
+unfolding equationsOf answerTo refusedEquations acceptedEquations refusalIn refusalOf
+refusal-is s variables = go (judgeEquations s variables)
+  where
+    go : (j : Judged (List Equation)) → answerTo j .refusal ≡ refusalOf j
+    go (refused m) = refl
+    go (accepted es) = refl
 
 -- a section with no refusal
 pub record Taken (s : List ℕ) (variables : ℕ) : Type 0 where
@@ -42,12 +49,20 @@ taken-0 s variables h = go (equationsIn s) refl h
     go none i k = absurd (omega arith)
     go (some es) i k = both es (every (equationNamed variables) es) i refl k
 
+-- for callers: no refusal
+pub taken-by : (s : List ℕ) (variables : ℕ) → equationsOf s variables .refusal ≡ 0 → Taken s variables
+taken-by s variables h = taken-0 s variables (sym h ∙ refusal-is s variables)
+
 module _ (s : List ℕ) (variables : ℕ) (t : Taken s variables) where
   pub some-byte : 0 < length s
   some-byte = section-at s (t .section .read) .some-byte
 
   pub all-stand : Stands (times (getD s 0 0) readEquation) s 1
   all-stand = equations-stand s (t .section)
+
+  pub answer-is : equationsOf s variables ≡ acceptedEquations (t .section .equations)
+  unfolding equationsOf answerTo
+  answer-is = rw (t .judged) refl
 
   pub answer-taken : {r : Cases} {rates : List ℤ} → ((t : SectionStands s) → CasesOf (t .equations) r) → ((t : Stands (times (getD s 0 0) readEquation) s 1) → rates ≡ putRates (steadyRates (t .value)) (replicate 32 (pos 0))) → record { refusal = 0; selectors = r .count; modes = r .modes; places = r .places; steady = rates } ≡ equationsOf s variables
   unfolding equationsOf answerTo acceptedEquations

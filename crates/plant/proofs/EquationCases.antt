@@ -1,22 +1,20 @@
 -- The CASEs of an equation section: what the loop over the equations has noted of them.
-use mathlib.Core.Path.{_≡_, refl, sym, ap, _∙_, subst}
+use mathlib.Core.Path.{_≡_, refl, sym, ap, _∙_}
 use mathlib.Core.List.{List, [], _∷_, _++_, map, append-assoc, append-nil}
 use mathlib.Core.Option.{some}
-use Prim.Native.Nat.{ℕ, zero, suc, _+_, _-_, _*_, _≤_, _<_}
+use Prim.Native.Nat.{ℕ, suc, _+_, _-_, _*_, _≤_, _<_}
 use native.Mathlib.Omega.{arith}
-use native.Mathlib.Numerals.{add-one}
 use lib.ListN.{length, getD, drop, set, replicate, length-append, length-map}
 use lib.Seq.{sets, append-snoc}
-use Rattle.semantics.specs.Bytes.{Reader, read, byte, times}
-use Rattle.semantics.specs.Sections.{Mode, Selector, Equation, steady, choice, readMode, readKind, readEquation, readEquations, equationsIn}
+use Rattle.semantics.specs.Bytes.{read, times}
+use Rattle.semantics.specs.Sections.{Selector, Equation, choice, readMode, readKind, readEquation, readEquations, equationsIn}
 use Rattle.semantics.specs.Plant.{selectorsOf}
 use Rattle.semantics.proofs.Facts.{within-high}
 use Rattle.semantics.proofs.Readers.{guarded, whole-read}
 use Rattle.codec.proofs.Reading.{nat2At, either}
 use Rattle.codec.proofs.Known.{after-byte, not-past, times-length}
 use Rattle.plant.specs.Equations.{modeSize, equationSize, startsFrom, pad, modePlaces, modeCount, Stands, SectionStands, CasesOf}
-use Rattle.plant.specs.declared.equations.Cases.{Cases}
-use Rattle.plant.proofs.EquationPlaces.{SteadyAt, steady-at, ChoiceAt, choice-at}
+use Rattle.plant.proofs.EquationPlaces.{steady-at, ChoiceAt, choice-at}
 use Rattle.plant.proofs.EquationIndex.{equation-fits, equation-kind, next-is, next-fits, equations-left, first-and-left, none-left}
 use Rattle.plant.proofs.Padding.{length-pad, set-pad, sets-pad, pad-part}
 

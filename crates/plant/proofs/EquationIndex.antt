@@ -1,21 +1,19 @@
 -- Loops over an equation section whose layout is right: what the index holds after some of its parts.
-use mathlib.Core.Path.{_≡_, refl, sym, ap, _∙_, subst}
-use mathlib.Core.Bool.{Bool, true, false}
-use mathlib.Core.List.{List, [], _∷_, _++_}
-use mathlib.Core.Option.{Option, none, some}
-use Prim.Native.Nat.{ℕ, zero, suc, _+_, _-_, _*_, _≤_, _<_}
+use mathlib.Core.Path.{_≡_, refl, sym, ap, _∙_}
+use mathlib.Core.List.{List, [], _∷_}
+use Prim.Native.Nat.{ℕ, _+_, _-_, _≤_, _<_}
 use native.Mathlib.Omega.{arith}
 use lib.ListN.{length, getD, drop, set, replicate, length-set, length-drop}
 use lib.Seq.{sets}
 use native.Mathlib.Numerals.{add-one}
 use Rattle.codec.proofs.Reading.{nat2At, nat4At}
 use lib.IntN.{ℤ, pos}
-use Rattle.semantics.specs.Bytes.{signed, Reader, read, give, times}
-use Rattle.semantics.specs.Sections.{Switch, Mode, Equation, steady, choice, readSwitch, readMode, readKind, readEquation}
+use Rattle.semantics.specs.Bytes.{signed, Reader, read, times}
+use Rattle.semantics.specs.Sections.{Equation, steady, choice, readSwitch, readMode, readKind, readEquation}
 use Rattle.semantics.proofs.Readers.{given}
 use Rattle.plant.specs.Equations.{sizes, switchSize, modeSize, equationSize, startsFrom, putRates, steadyRates, Stands}
-use Rattle.plant.proofs.EquationSizes.{Cuts, cuts-switch, cuts-mode, cuts-equation}
-use Rattle.plant.proofs.EquationPlaces.{same-value, Headed, headed, SwitchStands, switch-at, ModeAt, mode-at, switchesFrom, kind-before, steady-at, choice-at, equation-at}
+use Rattle.plant.proofs.EquationSizes.{Cuts, cuts-switch, cuts-equation}
+use Rattle.plant.proofs.EquationPlaces.{same-value, Headed, headed, switch-at, mode-at, switchesFrom, kind-before, steady-at, choice-at, equation-at}
 
 -- ---- n values from place at on, of which so many are left from place p on
 pub record Ahead {A : Type 0} (r : Reader A) (size : A → ℕ) (s : List ℕ) (at n p left : ℕ) : Type 0 where

@@ -1,22 +1,22 @@
 -- What a run looks up in a mode that stands at a place: its rates and its switches.
 use mathlib.Core.Path.{_≡_, refl, sym, ap, _∙_, subst}
 use mathlib.Core.Bool.{true, false}
-use mathlib.Core.List.{List, [], _∷_}
-use mathlib.Core.Option.{none, some}
+use mathlib.Core.List.{List, _∷_}
+use mathlib.Core.Option.{some}
 use Prim.Native.Nat.{ℕ, zero, suc, _+_, _-_, _*_, _≤_, _<_}
-use native.Mathlib.Nat.{add-zero, mul-zero}
 use native.Mathlib.Omega.{arith}
 use lib.IntN.{ℤ}
 use lib.ListN.{length, getD, take, drop, getElem?, set, drop-of-length-le}
 use lib.Seq.{drop-drop}
 use Rattle.semantics.specs.Bytes.{signed, Reader, read, after, _>>=_, give, times}
-use Rattle.semantics.specs.Sections.{Rate, Switch, Mode, readRate, readSwitch, readMode}
+use Rattle.semantics.specs.Sections.{Rate, Switch, readRate, readSwitch, readMode}
+use Rattle.semantics.proofs.Facts.{some-is, at-below}
 use Rattle.codec.proofs.Reading.{nat4At}
-use Rattle.codec.proofs.Known.{Cons, cons, Nth, nth, past-end, times-length}
+use Rattle.codec.proofs.Known.{cons, Nth, nth, past-end, times-length}
 use Rattle.plant.specs.Equations.{sizes, switchSize, putRates, Stands, modeAt, switchPlace, switchFrom, switchOf}
 use Rattle.plant.specs.declared.equations.SwitchAt.{SwitchAt}
 use Rattle.plant.proofs.EquationSizes.{cuts-times, cuts-rate, cuts-switch}
-use Rattle.plant.proofs.EquationPlaces.{Headed, headed, SwitchStands, switch-at, RateAt, rate-at, ModeAt, mode-at, switchesFrom}
+use Rattle.plant.proofs.EquationPlaces.{same-value, headed, SwitchStands, switch-at, RateAt, rate-at, ModeAt, mode-at, switchesFrom}
 
 -- ---- the mode
 module _ (s : List ℕ) (q : ℕ) (t : Stands readMode s q) where
@@ -48,6 +48,25 @@ front r (suc n) (suc m) l h i =
     record { rest = f .rest; got = rw (c .first, f .got) (ap (λ z. read (take (suc m) z) (f .rest)) (c .is)) }
 
 -- ---- switch k
+-- what the answer says of the switch
+pub record SwitchGiven (s : List ℕ) (a : SwitchAt) (w : Switch) : Type 0 where
+  pub there : a .there ≡ true
+  pub target : a .target ≡ w .target
+  pub order : a .from ≤ a .to
+  pub inside : a .to ≤ length s
+  pub truth : take (a .to - a .from) (drop (a .from) s) ≡ w .truth
+
+given-at : (s : List ℕ) (p : ℕ) {w : Switch} → SwitchStands s p w → SwitchGiven s (record { there = true; target = getD s (p + 1) 0; from = p + 2; to = p + 1 + getD s p 0 }) w
+given-at s p a =
+    let n : p + 1 + getD s p 0 - (p + 2) ≡ getD s p 0 - 1 = omega arith in
+    record {
+      there = refl;
+      target = sym (a .target);
+      order = omega (arith, a .some);
+      inside = a .fits;
+      truth = ap (λ k. take k (drop (p + 2) s)) n ∙ sym (a .truth);
+    }
+
 module _ (s : List ℕ) (q k : ℕ) (t : Stands readMode s q) where
   pub no-switch : getD s (switchesFrom s q) 0 ≤ k → record { there = false; target = 0; from = 0; to = 0 } ≡ switchOf s q k
   unfolding switchOf switchFrom
@@ -59,6 +78,10 @@ module _ (s : List ℕ) (q k : ℕ) (t : Stands readMode s q) where
 
     pub switches-before : Stands (times k readSwitch) s (switchesFrom s q + 1)
     switches-before = record { value = take k (modeAt s q .switches); rest = first-k .rest; got = first-k .got }
+
+    pub before-are : (u : Stands (times k readSwitch) s (switchesFrom s q + 1)) → take k (modeAt s q .switches) ≡ u .value
+    unfolding switches-before
+    before-are u = same-value switches-before u
 
     the-switch : Nth readSwitch (first-k .rest) (modeAt s q .switches) k
     the-switch = nth readSwitch (getD s (switchesFrom s q) 0) k (drop (switchesFrom s q + 1) s) (mode-there s q t .switches) i (first-k .got)
@@ -90,6 +113,14 @@ module _ (s : List ℕ) (q k : ℕ) (t : Stands readMode s q) where
           let a : switchPlace q (modeAt s q) k + 2 ≡ p + 2 = omega (arith, place) in
           let b : p + 2 + length (w .truth) ≡ p + 1 + getD s p 0 = omega (arith, stands .size) in
           rw (the-switch .is, a, b, stands .target) refl
+
+      found-given : {w : Switch} → getElem? (modeAt s q .switches) k ≡ some w → SwitchGiven s (switchOf s q k) w
+      found-given {w} h = subst (λ a. SwitchGiven s a w) switch-found (given-at s p (subst (SwitchStands s p) (some-is (sym (the-switch .is) ∙ h)) stands))
+
+pub switch-given : (s : List ℕ) (q k : ℕ) → Stands readMode s q → {w : Switch} → getElem? (modeAt s q .switches) k ≡ some w → SwitchGiven s (switchOf s q k) w
+switch-given s q k t h =
+    let i : k < getD s (switchesFrom s q) 0 = omega (arith, at-below (modeAt s q .switches) k h, switches-counted s q t) in
+    found-given s q k t i (λ u. ap (λ v. switchesFrom s q + 1 + sizes switchSize v) (before-are s q k t i u)) h
 
 -- ---- the rates, each in five bytes
 pub record RateNth (s : List ℕ) (p i : ℕ) (rs : List Rate) : Type 0 where

@@ -1,9 +1,9 @@
 -- The parts of the equation section, read by position: what each is, from what its parts are.
-use mathlib.Core.Path.{_≡_, refl, sym, ap, ap₂, _∙_, subst}
+use mathlib.Core.Path.{_≡_, refl, sym, ap, ap₂, _∙_}
 use mathlib.Core.Bool.{Bool, true, false, _&&_}
-use mathlib.Core.List.{List, [], _∷_, _++_}
+use mathlib.Core.List.{List}
 use mathlib.Core.Option.{Option, none, some}
-use Prim.Native.Nat.{ℕ, zero, suc, _+_, _-_, _≤_, _<_}
+use Prim.Native.Nat.{ℕ, _+_, _-_, _≤_, _<_}
 use native.Mathlib.Omega.{arith}
 use borrow.Author.Tests.{le-leb, lt-leb}
 use lib.Dec.{ltb}
@@ -11,11 +11,11 @@ use lib.ListN.{length, getD, take, drop}
 use Rattle.semantics.specs.Bytes.{every, Reader, give, times}
 use Rattle.semantics.specs.Bytes as Bytes
 use Rattle.semantics.specs.Refusals.{need, ensure, _>>=_, _>>_, refusalOf}
-use Rattle.semantics.specs.Sections.{Rate, Equation, readRate, readSwitch, readSteady, readEquation, readEquations, equationIn, equationsIn}
+use Rattle.semantics.specs.Sections.{Equation, readRate, readSwitch, readEquation, readEquations, equationIn, equationsIn}
 use Rattle.semantics.specs.Plant.{rateNamed, switchNamed, equationNamed}
 use Rattle.semantics.proofs.Facts.{within-both}
 use Rattle.codec.specs.Reading.{Took, Reads, reads-at, reads-none}
-use Rattle.codec.proofs.Reading.{taken, lost, told, then-took, then-byte, no-byte, then-bytes, no-bytes, then-int4, no-int4, then-guard, no-guard, then-section2, cut-section2, no-section2, gives, lifts, no-lift, either, nat2At, within-above, none-kept}
+use Rattle.codec.proofs.Reading.{taken, lost, then-took, then-byte, no-byte, then-bytes, no-bytes, then-int4, no-int4, then-guard, no-guard, then-section2, cut-section2, gives, lifts, no-lift, either, nat2At, within-above, none-kept}
 use Rattle.codec.proofs.Loops.{loop-start, loop-next, loop-broken, loop-end, every-snoc}
 use Rattle.plant.specs.Equations.{judgeEquations, refusalIn, Says, view, seen}
 use Rattle.plant.specs.declared.equations.Step.{Step}

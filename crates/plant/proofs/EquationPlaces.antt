@@ -1,9 +1,9 @@
 -- What stands at the places of an equation section whose layout is right.
 use mathlib.Core.Path.{_≡_, refl, sym, ap, _∙_, subst}
 use mathlib.Core.Bool.{Bool, true, false, cond}
-use mathlib.Core.List.{List, [], _∷_, _++_}
-use mathlib.Core.Option.{Option, none, some}
-use Prim.Native.Nat.{ℕ, zero, suc, _+_, _-_, _*_, _≤_, _<_}
+use mathlib.Core.List.{List, [], _∷_}
+use mathlib.Core.Option.{some}
+use Prim.Native.Nat.{ℕ, suc, _+_, _-_, _*_, _≤_, _<_}
 use native.Mathlib.Omega.{arith}
 use borrow.Author.Tests.{ne-eqb, leb-true}
 use lib.Dec.{eqb}
@@ -15,8 +15,8 @@ use Rattle.semantics.proofs.Readers.{broken-not-read, read-value, split, given,
 use Rattle.semantics.proofs.Facts.{within-high}
 use Rattle.codec.proofs.Reading.{nat2At, nat4At, drop-past, either}
 use Rattle.codec.proofs.Known.{after-byte, not-past, after-int4, after-bytes, not-short, after-section2, not-section2, Cons, cons, Last, last, times-length}
-use Rattle.plant.specs.Equations.{sizes, switchSize, modeSize, equationSize, Stands}
-use Rattle.plant.proofs.EquationSizes.{Cut, Cuts, cuts-times, fives, cuts-rate, cuts-switch, cuts-mode, cuts-kind, kind-size, cuts-equation}
+use Rattle.plant.specs.Equations.{switchSize, equationSize, Stands}
+use Rattle.plant.proofs.EquationSizes.{Cut, Cuts, cuts-times, fives, cuts-rate, cuts-kind, kind-size, cuts-equation}
 
 -- one value stands at a place
 pub same-value : {A : Type 0} {r : Reader A} {s : List ℕ} {p : ℕ} (t u : Stands r s p) → t .value ≡ u .value

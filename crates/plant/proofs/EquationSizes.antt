@@ -10,7 +10,7 @@ use lib.Dec.{leb, eqb}
 use lib.ListN.{length, take, drop, length-append, length-drop}
 use lib.Seq.{drop-drop, drop-append-le, take-append-le, length-take-le}
 use Rattle.semantics.specs.Bytes.{Read, broken, read, Reader, after, _>>=_, give, fail, guard, from, byte, nat2, nat4, int4, bytes, times, section2}
-use Rattle.semantics.specs.Sections.{Rate, Switch, Mode, Equation, steady, choice, readRate, readSwitch, readMode, readSteady, readChoice, readKind, readEquation, equationIn}
+use Rattle.semantics.specs.Sections.{Equation, readRate, readSwitch, readMode, readSteady, readChoice, readKind, readEquation, equationIn}
 use Rattle.semantics.proofs.Readers.{broken-not-read, read-value, read-rest, split, whole-read}
 use Rattle.plant.specs.Equations.{sizes, switchSize, modeSize, equationSize}
 

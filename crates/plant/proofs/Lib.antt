@@ -6,6 +6,7 @@ pub mod Padding
 pub mod EquationCases
 pub mod EquationAnswer
 pub mod EquationLookups
+pub mod EquationLaws
 pub mod Costs
 pub mod Walks
 pub mod Turns

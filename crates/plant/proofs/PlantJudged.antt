@@ -63,7 +63,7 @@ unfolding answer acceptedEquations acceptedPlant selectors
 fields xs qs h k = rw (h, k) refl
 
 module _ (vs es : List ℕ) {v : Variables} (h : v ≡ variablesOf vs) where
-  pub by-variables : (v .refusal ≡ 0 → ⊥) → refusedPlant (v .refusal) ≡ plantOf vs es
+  pub by-variables : 1 ≤ v .refusal → refusedPlant (v .refusal) ≡ plantOf vs es
   unfolding plantOf plantAnswer
   by-variables z =
       let n : v .refusal ≡ variablesOf vs .refusal = ap (λ (v : Variables). v .refusal) h in

@@ -49,6 +49,7 @@ unfoldable pub startsFrom : {A : Type 0} → (A → ℕ) → ℕ → List A → 
 startsFrom size p [] = []
 startsFrom size p (x ∷ l) = p ∷ startsFrom size (p + size x) l
 
+-- filled up to n entries
 unfoldable pub pad : {A : Type 0} → ℕ → A → List A → List A
 pad n d l = l ++ replicate (n - length l) d
 
@@ -58,10 +59,12 @@ modePlaces p [] = []
 modePlaces p (steady r ∷ es) = modePlaces (p + equationSize (steady r)) es
 modePlaces p (choice c ∷ es) = pad 8 0 (startsFrom modeSize (p + 5) (c .modes)) ++ modePlaces (p + equationSize (choice c)) es
 
+-- how many modes a CASE has
 unfoldable pub modeCount : Selector → ℕ
 modeCount c = length (c .modes)
 
 -- ---- rates
+-- the rates of kind 1
 unfoldable pub steadyRates : List Equation → List Rate
 steadyRates [] = []
 steadyRates (steady r ∷ es) = r ∷ steadyRates es
@@ -92,6 +95,7 @@ answerTo (accepted es) = acceptedEquations es
 unfoldable pub equationsOf : List ℕ → ℕ → Equations
 equationsOf s variables = answerTo (judgeEquations s variables)
 
+-- its number alone
 unfoldable pub refusalIn : List ℕ → ℕ → ℕ
 refusalIn s variables = refusalOf (judgeEquations s variables)
 
@@ -141,6 +145,7 @@ view Broken = none
 abbrev pub Says : {A : Type 0} → (A → Bool) → A → Bool → Type 0
 Says P a x = x ≡ P a
 
+-- the same of a whole slice
 unfoldable pub seen : {A : Type 0} → (A → Bool) → Option A → Seen
 seen P none = Lost
 seen P (some a) = Kept (P a)

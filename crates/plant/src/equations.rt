@@ -2,7 +2,7 @@
 ghost use mathlib.Core.Path.{_≡_};
 ghost use mathlib.Core.Bool.{true, _&&_};
 ghost use mathlib.Core.List.{_∷_, []};
-ghost use Prim.Native.Nat.{ℕ, _+_, _≤_, _<_};
+ghost use Prim.Native.Nat.{_+_, _≤_, _<_};
 ghost use lib.ListN.{length, set, replicate};
 ghost use lib.Seq.{sets};
 ghost use lib.IntN.{pos};
@@ -12,6 +12,7 @@ ghost use Rattle.semantics.specs.Plant as names;
 ghost use Rattle.codec.specs.Reading.{Reads};
 ghost use Rattle.plant.specs.Equations.{Says, view, seen, refusalIn, Stands, SectionStands, sizes, switchSize, modeSize, startsFrom, steadyRates, putRates, CasesOf, equationsOf, refusedEquations, modeAt, switchOf};
 
+// refusal 6, 7 or 0; of selector j its modes, and at entry 8 * j + m where mode m of it stands; of each variable its rate of kind 1
 pub struct Equations {
     pub refusal: u8,
     pub selectors: usize,
@@ -336,6 +337,7 @@ fn mode_places(s: &[u8], at: usize, n: u8, from: usize, places: &mut [usize; 128
     }
 }
 
+// what is noted of the CASEs of a section whose layout is right
 fn selectors(s: &[u8]) -> Cases
     requires { ⌜ SectionStands (now s) ⌝ }
     ensures { λ r. ⌜ ((t : SectionStands (now (s .entry))) → CasesOf (t .equations) r) ⌝ }
@@ -410,6 +412,7 @@ fn refused(number: u8) -> Equations
     }
 }
 
+// the section of a plant with so many variables
 pub fn read(s: &[u8], variables: usize) -> Equations
     ensures { λ r. ⌜ r ≡ equationsOf (now (s .entry)) variables ⌝ }
 {

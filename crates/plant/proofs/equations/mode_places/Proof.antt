@@ -1,6 +1,4 @@
-use Prim.Native.Nat.{_≤_}
 use native.Mathlib.Omega.{arith}
-use borrow.Author.Needs.{needs}
 use Rattle.semantics.specs.Sections.{readMode}
 use Rattle.plant.specs.Equations.{modeSize}
 use Rattle.plant.proofs.EquationSizes.{cuts-mode}

@@ -3,12 +3,6 @@ use Rattle.plant.proofs.EquationAnswer.{answer-refused, taken-0, some-b
 use borrow.Author.Needs.{needs}
 use Rattle.plant.proofs.equations.read.Statement.{statement}
 use Rattle.plant.proofs.equations.read.Tie as tie
-use Rattle.plant.proofs.equations.read.Reads as reads
-use Rattle.plant.proofs.equations.read.Lts as lts
-use Rattle.plant.proofs.equations.refusal.Reads as refusal-reads
-use Rattle.plant.proofs.equations.refused.Reads as refused-reads
-use Rattle.plant.proofs.equations.selectors.Reads as selectors-reads
-use Rattle.plant.proofs.equations.steady_rates.Reads as steady-rates-reads
 
 refusal-requires : tie.Need-refusal-requires
 refusal-requires c κs = search needs

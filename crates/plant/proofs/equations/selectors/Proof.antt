@@ -4,10 +4,6 @@ use Rattle.plant.specs.Equations.{SectionStands}
 use Rattle.plant.proofs.EquationCases.{section-at, Noted, noted-start, here-fits, past-fits, count-fits, case-fits, few-modes, places-fit, modes-stand, noted-steady, noted-case, noted-as, noted-end}
 use Rattle.plant.proofs.equations.selectors.Statement.{statement}
 use Rattle.plant.proofs.equations.selectors.Tie as tie
-use Rattle.plant.proofs.equations.selectors.Reads as reads
-use Rattle.plant.proofs.equations.selectors.Lts as lts
-use Rattle.codec.proofs.nat2.Reads as nat2-reads
-use Rattle.plant.proofs.equations.mode_places.Reads as mode-places-reads
 
 abbrev Inv-loop : tie.InvT-loop
 Inv-loop s count₀ modes₀ places₀ p₀ left₀ count modes places p left = (t : SectionStands s) → Noted s (t .equations) count modes places p left

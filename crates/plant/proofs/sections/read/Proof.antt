@@ -1,4 +1,5 @@
 use mathlib.Core.Path.{_∙_}
+use native.Mathlib.Omega.{arith}
 use borrow.Author.Needs.{needs}
 use borrow.Author.Tests.{not-true, not-false}
 use Rattle.plant.proofs.PlantJudged.{by-variables, by-equations, named, by-8, passed}
@@ -12,7 +13,7 @@ refused-requires : tie.Need-refused-requires
 refused-requires c κs = search needs
 
 returns : tie.Need-returns
-returns c = c .refused .ensures ∙ by-variables (c .before .before .before .before .before .args .vs .now) (c .before .before .before .before .before .args .es .now) (c .before .before .read .ensures) (c .before .if1 .taken)
+returns c = c .refused .ensures ∙ by-variables (c .before .before .before .before .before .args .vs .now) (c .before .before .before .before .before .args .es .now) (c .before .before .read .ensures) (omega (arith, c .before .if1 .taken))
 
 read-requires-2 : tie.Need-read-requires-2
 read-requires-2 c κs = search needs

@@ -1,0 +1,4 @@
+pub mod StartLoop
+pub mod StartBytes
+pub mod StartTurns
+pub mod StartLaws

@@ -1,0 +1,12 @@
+use mathlib.Core.Path.{refl}
+use Rattle.plant.specs.Variables.{pad}
+use Rattle.start_read.specs.StartRead.{noStart}
+use Rattle.start_read.proofs.refused.Statement.{statement}
+use Rattle.start_read.proofs.refused.Tie as tie
+
+returns : tie.Need-returns
+unfolding noStart pad
+returns c = refl
+
+pub refused-spec : {M : Type 1} → statement M
+refused-spec = tie.close (tie.spec returns)

@@ -1,0 +1,2 @@
+-- What the contract of the code that reads a start's bytes cites.
+pub mod StartRead

@@ -1,0 +1,119 @@
+// The values and modes that a run starts from: 20.
+ghost use mathlib.Core.Path.{_≡_};
+ghost use Rattle.semantics.specs.Expressions.{ranged};
+ghost use Rattle.semantics.specs.Plant.{Plant};
+ghost use Rattle.semantics.specs.Starts.{isOk};
+ghost use Rattle.start_read.specs.StartRead.{noStart, startRead, Arrays, Room, RoomForValues, RoomForModes, ValuesOf, ModesOf};
+
+pub struct StartRead {
+    pub ok: bool,
+    pub values: [i32; 32],
+    pub modes: [u8; 16],
+}
+
+struct Values {
+    ok: bool,
+    values: [i32; 32],
+}
+
+struct Modes {
+    ok: bool,
+    modes: [u8; 16],
+}
+
+fn refused() -> StartRead
+    ensures { λ r. ⌜ r ≡ noStart ⌝ }
+{
+    StartRead {
+        ok: false,
+        values: [0; 32],
+        modes: [0; 16],
+    }
+}
+
+fn inside(low: i32, high: i32, z: i32) -> bool
+    ensures { λ r. ⌜ r ≡ isOk (ranged low high z) ⌝ }
+{
+    if z < low {
+        return false;
+    }
+    if high < z {
+        return false;
+    }
+    true
+}
+
+fn wide(x: u8) -> usize
+    ensures { λ r. ⌜ r ≡ x ⌝ }
+{
+    x as usize
+}
+
+// the first n values, each in its range
+fn read_values(s: &[u8], n: usize, lows: &[i32], highs: &[i32]) -> Values
+    requires { ⌜ RoomForValues (now s) n (now lows) (now highs) ⌝ }
+    ensures { λ r. ⌜ ValuesOf (now (s .entry)) n (now (lows .entry)) (now (highs .entry)) r ⌝ }
+{
+    let mut values = [0i32; 32];
+    let mut i = 0;
+    while i < n {
+        let z = codec::int4(s, 4 * i);
+        if !inside(lows[i], highs[i], z) {
+            return Values { ok: false, values };
+        }
+        values[i] = z;
+        i += 1;
+    }
+    Values { ok: true, values }
+}
+
+// the first n bytes as modes, each below its selector's mode count
+fn read_modes(s: &[u8], n: usize, counts: &[usize]) -> Modes
+    requires { ⌜ RoomForModes (now s) n (now counts) ⌝ }
+    ensures { λ r. ⌜ ModesOf (now (s .entry)) n (now (counts .entry)) r ⌝ }
+{
+    let mut modes = [0u8; 16];
+    let mut i = 0;
+    while i < n {
+        let m = s[i];
+        if wide(m) >= counts[i] {
+            return Modes { ok: false, modes };
+        }
+        modes[i] = m;
+        i += 1;
+    }
+    Modes { ok: true, modes }
+}
+
+// the starting values and modes, where 20 does not refuse them
+pub fn read(
+    s: &[u8],
+    variables: usize,
+    lows: &[i32],
+    highs: &[i32],
+    selectors: usize,
+    counts: &[usize],
+) -> StartRead
+    requires { ⌜ Room variables (now lows) (now highs) selectors (now counts) ⌝ }
+    ensures { λ r. ⌜ ((p : Plant) → Arrays p variables (now (lows .entry)) (now (highs .entry)) selectors (now (counts .entry)) → r ≡ startRead p (now (s .entry))) ⌝ }
+{
+    let place = 4 * variables;
+    if s.len() != place + selectors {
+        return refused();
+    }
+    let v = read_values(s, variables, lows, highs);
+    if !v.ok {
+        return refused();
+    }
+    let m = read_modes(&s[place..], selectors, counts);
+    if !m.ok {
+        return refused();
+    }
+    let values = v.values;
+    let modes = m.modes;
+    StartRead {
+        ok: true,
+        values,
+        modes,
+    }
+}

@@ -1,0 +1,219 @@
+-- What the index of the actions says of each node.
+use mathlib.Core.Path.{_≡_, refl, sym, ap, subst, _∙_}
+use mathlib.Core.Bool.{Bool, true, false, cond}
+use mathlib.Core.List.{List, [], _∷_}
+use mathlib.Core.Option.{Option, none, some}
+use Prim.Native.Nat.{ℕ, zero, suc, _+_, _-_, _≤_, _<_}
+use native.Mathlib.Omega.{arith}
+use borrow.Author.Tests.{eqb-true, ne-eqb, ltb-true}
+use lib.Dec.{eqb}
+use lib.ListN.{length, getD, take, drop, length-drop, List·getD-eq-default}
+use lib.Seq.{drop-drop}
+use Rattle.semantics.specs.Bytes.{every, read, give, times}
+use Rattle.semantics.specs.Editions.{edition1}
+use Rattle.semantics.specs.Run.{Action, test, wait, assign, switch, stop}
+use Rattle.semantics.specs.TableFile.{NodeAction, actionKind, actionOf, readAction, readActions, actionsIn}
+use Rattle.semantics.specs.Tables.{risingFrom, actionNodes, actionAt}
+use Rattle.semantics.proofs.Facts.{All, all-nil, all-cons, every-all, none-not-some, some-is, and-right}
+use Rattle.semantics.proofs.Readers.{read-value, guarded, whole-read}
+use Rattle.codec.specs.Places.{placesFrom}
+use Rattle.codec.proofs.Known.{cons, times-length, after-number, not-number}
+use Rattle.codec.proofs.Reading.{either}
+use Rattle.codec.proofs.Places.{Takes, takes-then, takes-guard, takes-byte, takes-number, takes-bytes, takes-from, takes-give, places-next}
+use Rattle.table_read.specs.declared.actions.Actions.{Actions}
+use Rattle.table_read.specs.ActionIndex.{kindCode, kindAt, KindsSay, placeAt, operandStart, operandEnd, byNode, nodeExists, actionsLaid, noActions, actionIndex, indexRead, actionsOf}
+use Rattle.table_read.proofs.ActionForms.{was, kind-is}
+use Rattle.table_read.proofs.ByNode.{listed-length, listed-at}
+use Rattle.table_read.proofs.ActionLoop.{accept}
+
+-- ---- where nothing is refused
+pub accepted-actions : (s : List ℕ) → actionsOf s .refusal ≡ 0 → (l : List NodeAction) × (actionsIn edition1 s ≡ some l) × (actionsLaid l ≡ true)
+unfolding actionsOf indexRead
+accepted-actions s h = go (actionsIn edition1 s) refl h
+  where
+    pick : (l : List NodeAction) (b : Bool) → actionsIn edition1 s ≡ some l → actionsLaid l ≡ b → cond b (actionIndex s l) noActions .refusal ≡ 0 → (l : List NodeAction) × (actionsIn edition1 s ≡ some l) × (actionsLaid l ≡ true)
+    pick l true e k h = (l, e, k)
+    pick l false e k h = absurd (omega arith)
+
+    go : (o : Option (List NodeAction)) → actionsIn edition1 s ≡ o → indexRead s o .refusal ≡ 0 → (l : List NodeAction) × (actionsIn edition1 s ≡ some l) × (actionsLaid l ≡ true)
+    go none e h = absurd (omega arith)
+    go (some l) e h = pick l (actionsLaid l) e refl h
+
+-- where something is
+pub refused-actions : (s : List ℕ) → (actionsOf s .refusal ≡ 0 → ⊥) → (actionsOf s .refusal ≡ 18) × ((l : List NodeAction) → actionsIn edition1 s ≡ some l → actionsLaid l ≡ false)
+unfolding actionsOf indexRead actionIndex
+refused-actions s h = go (actionsIn edition1 s) h
+  where
+    pick : (l : List NodeAction) (b : Bool) → actionsLaid l ≡ b → (cond b (actionIndex s l) noActions .refusal ≡ 0 → ⊥) → (cond b (actionIndex s l) noActions .refusal ≡ 18) × ((k : List NodeAction) → some l ≡ some k → actionsLaid k ≡ false)
+    pick l true e h = absurd (h refl)
+    pick l false e h = (refl, λ k i. ap actionsLaid (sym (some-is i)) ∙ e)
+
+    go : (o : Option (List NodeAction)) → (indexRead s o .refusal ≡ 0 → ⊥) → (indexRead s o .refusal ≡ 18) × ((l : List NodeAction) → o ≡ some l → actionsLaid l ≡ false)
+    go none h = (refl, λ l e. none-not-some e)
+    go (some l) h = pick l (actionsLaid l) refl h
+
+pub laid-actions : (s : List ℕ) {l : List NodeAction} → actionsIn edition1 s ≡ some l → actionsOf s .refusal ≡ 0 → actionsLaid l ≡ true
+laid-actions s {l} e h =
+    let k = accepted-actions s h in
+    subst (λ l. actionsLaid l ≡ true) (some-is (sym (k .1) ∙ e)) (k .2)
+
+-- the index is that of the actions
+pub index-is : (s : List ℕ) {l : List NodeAction} → actionsIn edition1 s ≡ some l → actionsOf s .refusal ≡ 0 → actionsOf s ≡ actionIndex s l
+index-is s e h = accept s e (laid-actions s e h)
+
+pub count-is : (s : List ℕ) {l : List NodeAction} → actionsIn edition1 s ≡ some l → actionsOf s .refusal ≡ 0 → actionsOf s .count ≡ length l
+unfolding actionIndex
+count-is s e h = ap (λ x. x .count) (index-is s e h)
+
+-- ---- a node's action and its place
+data Looked (s : List ℕ) (l : List NodeAction) (ps : List ℕ) (n : ℕ) : Type 0 where
+  nowhere : actionAt l n ≡ none → placeAt l ps n ≡ none → Looked s l ps n
+  at-place : {a : Action} {p : ℕ} {e : List ℕ} → actionAt l n ≡ some a → placeAt l ps n ≡ some p → readAction edition1 (drop p s) ≡ read (record { node = n; action = a }) e → Looked s l ps n
+
+takes-action : Takes (readAction edition1)
+unfolding readAction
+takes-action = takes-then (takes-number _) (λ l. takes-guard _ (takes-then (takes-number _) (λ n. takes-then takes-byte (λ k. takes-then (takes-bytes _) (λ b. takes-then (takes-from _) (λ a. takes-give _))))))
+
+module _ (s : List ℕ) (n : ℕ) where
+  look-next : (a : NodeAction) (l : List NodeAction) (p : ℕ) (ps : List ℕ) {e : List ℕ} → readAction edition1 (drop p s) ≡ read a e → Looked s l ps n → Looked s (a ∷ l) (p ∷ ps) n
+  unfolding actionAt placeAt
+  look-next a l p ps {e} h x = go (eqb (a .node) n) refl x
+    where
+      same : a .node ≡ n → readAction edition1 (drop p s) ≡ read (record { node = n; action = a .action }) e
+      same k = h ∙ ap (λ m. read (record { node = m; action = a .action }) e) k
+
+      go : (t : Bool) → eqb (a .node) n ≡ t → Looked s l ps n → Looked s (a ∷ l) (p ∷ ps) n
+      go true k x = at-place {a = a .action} {p = p} (rw (actionAt, k) refl) (rw (placeAt, k) refl) (same (eqb-true (a .node) n k))
+      go false k (nowhere i j) = nowhere (rw (actionAt, k) i) (rw (placeAt, k) j)
+      go false k (at-place {a = b} {p = q} i j r) = at-place {a = b} {p = q} (rw (actionAt, k) i) (rw (placeAt, k) j) r
+
+  look : (k from : ℕ) (m : List ℕ) {l : List NodeAction} {e : List ℕ} → from ≤ length s → m ≡ drop from s → times k (readAction edition1) m ≡ read l e → Looked s l (placesFrom (length s) (readAction edition1) k m) n
+  unfolding times give actionAt placeAt
+  look zero from m b q h = subst (λ l. Looked s l (placesFrom (length s) (readAction edition1) zero m) n) (read-value h) (nowhere refl refl)
+  look (suc k) from m b q h =
+      let c = cons (readAction edition1) k h in
+      let t = takes-action .leaves m (c .first) in
+      let f = t .few in
+      let o : length m ≡ length s - from = ap length q ∙ length-drop from s in
+      let p : length s - length m ≡ from = omega arith in
+      let v : c .mid ≡ drop (from + t .count) s = t .is ∙ ap (drop (t .count)) q ∙ drop-drop (t .count) from s in
+      let i : from + t .count ≤ length s = omega arith in
+      let x = look k (from + t .count) (c .mid) i v (c .rest) in
+      let ps = places-next (length s) (readAction edition1) k m (c .first) ∙ ap (λ z. z ∷ placesFrom (length s) (readAction edition1) k (c .mid)) p in
+      let y = look-next (c .head) (c .tail) from (placesFrom (length s) (readAction edition1) k (c .mid)) (ap (readAction edition1) (sym q) ∙ c .first) x in
+      subst (λ l. Looked s l (placesFrom (length s) (readAction edition1) (suc k) m) n) (c .is) (subst (λ z. Looked s (c .head ∷ c .tail) z n) (sym ps) y)
+
+-- the operand of the action at a place: its kind, its start and its end
+operand-at : (s : List ℕ) (p : ℕ) {n : ℕ} {a : Action} {e : List ℕ} {k st en : ℕ} → readAction edition1 (drop p s) ≡ read (record { node = n; action = a }) e →
+    k ≡ kindCode (some a) → st ≡ p + 3 → en ≡ p + 1 + getD s p 0 → (st ≤ en) × (en ≤ length s) × (actionOf (actionKind k) (take (en - st) (drop st s)) ≡ some a)
+operand-at s p {a = a} {k = k} {st = st} {en = en} h i j l =
+    let w = was s p h in
+    let low = w .low in
+    let inside = w .inside in
+    let size : en - st ≡ getD s p 0 - 2 = omega arith in
+    let from : st ≡ p + 1 + 1 + 1 = omega arith in
+    let kind : k ≡ getD s (p + 1 + 1) 0 = i ∙ kind-is _ _ (w .is) in
+    (omega arith, omega arith, rw (size, from, kind) (w .is))
+
+-- ---- what stands at a node
+pub data Here (s : List ℕ) (x : Actions) (o : Option Action) (n : ℕ) : Type 0 where
+  no-action : o ≡ none → getD (x .kinds) n 0 ≡ 0 → getD (x .starts) n 0 ≡ 0 → getD (x .ends) n 0 ≡ 0 → Here s x o n
+  one-action : {a : Action} → o ≡ some a → getD (x .kinds) n 0 ≡ kindCode (some a) → getD (x .starts) n 0 ≤ getD (x .ends) n 0 → getD (x .ends) n 0 ≤ length s →
+      actionOf (actionKind (getD (x .kinds) n 0)) (take (getD (x .ends) n 0 - getD (x .starts) n 0) (drop (getD (x .starts) n 0) s)) ≡ some a → Here s x o n
+
+times-of : (s : List ℕ) {l : List NodeAction} → actionsIn edition1 s ≡ some l → (1 ≤ length s) × (times (length l) (readAction edition1) (drop 1 s) ≡ read l [])
+unfolding actionsIn readActions
+times-of s {l} e = either 0 (length s) (λ i.
+    let g = guarded _ _ (after-number _ s 0 i (whole-read (readActions edition1) s e)) .1 in
+    (i, subst (λ n. times n (readAction edition1) (drop 1 s) ≡ read l []) (sym (times-length (readAction edition1) (getD s 0 0) (drop 1 s) g)) g))
+    (λ i. not-number _ s 0 i (whole-read (readActions edition1) s e))
+
+module _ (s : List ℕ) {l : List NodeAction} (e : actionsIn edition1 s ≡ some l) (n : ℕ) where
+  abbrev places : List ℕ
+  places = placesFrom (length s) (readAction edition1) (length l) (drop 1 s)
+
+  here : n < 64 → Here s (actionIndex s l) (actionAt l n) n
+  unfolding actionIndex byNode kindAt kindCode operandStart operandEnd
+  here h =
+      let t = times-of s e in
+      go (look s n (length l) 1 (drop 1 s) (t .0) refl (t .1))
+    where
+      kind : getD (actionIndex s l .kinds) n 0 ≡ kindCode (actionAt l n)
+      kind = listed-at 64 (kindAt l) n h
+
+      start : getD (actionIndex s l .starts) n 0 ≡ operandStart (placeAt l places n)
+      start = listed-at 64 (λ n. operandStart (placeAt l places n)) n h
+
+      end : getD (actionIndex s l .ends) n 0 ≡ operandEnd s (placeAt l places n)
+      end = listed-at 64 (λ n. operandEnd s (placeAt l places n)) n h
+
+      go : Looked s l places n → Here s (actionIndex s l) (actionAt l n) n
+      go (nowhere i j) = no-action i (kind ∙ ap kindCode i) (start ∙ ap operandStart j) (end ∙ ap (operandEnd s) j)
+      go (at-place {a = a} {p = p} i j r) =
+          let x = operand-at s p r (kind ∙ ap kindCode i) (start ∙ ap operandStart j) (end ∙ ap (operandEnd s) j) in
+          one-action {a = a} i (kind ∙ ap kindCode i) (x .0) (x .1) (x .2)
+
+-- the law that a caller cites
+pub action-here : (s : List ℕ) {l : List NodeAction} → actionsIn edition1 s ≡ some l → actionsOf s .refusal ≡ 0 → (n : ℕ) → n < 64 → Here s (actionsOf s) (actionAt l n) n
+action-here s {l} e h n k = subst (λ x. Here s x (actionAt l n) n) (sym (index-is s e h)) (here s e n k)
+
+-- a kind is never 0
+code-some : (a : Action) → 1 ≤ kindCode (some a)
+unfolding kindCode
+code-some (test t) = omega arith
+code-some (wait t) = omega arith
+code-some (assign v b) = omega arith
+code-some (switch s m) = omega arith
+code-some stop = omega arith
+
+module _ (s : List ℕ) {l : List NodeAction} (e : actionsIn edition1 s ≡ some l) (h : actionsOf s .refusal ≡ 0) (n : ℕ) (k : n < 64) where
+  -- 0 exactly where there is no action
+  pub none-0 : actionAt l n ≡ none → getD (actionsOf s .kinds) n 0 ≡ 0
+  none-0 i = go (action-here s e h n k)
+    where
+      go : Here s (actionsOf s) (actionAt l n) n → getD (actionsOf s .kinds) n 0 ≡ 0
+      go (no-action j z st en) = z
+      go (one-action j z b c o) = none-not-some (sym i ∙ j)
+
+  pub some-not-0 : getD (actionsOf s .kinds) n 0 ≡ 0 → actionAt l n ≡ none
+  some-not-0 i = go (action-here s e h n k)
+    where
+      go : Here s (actionsOf s) (actionAt l n) n → actionAt l n ≡ none
+      go (no-action j z st en) = j
+      go (one-action {a = a} j z b c o) = absurd (omega (arith, code-some a))
+
+  -- and else the action of its kind and its operand
+  pub operand-is : (getD (actionsOf s .kinds) n 0 ≡ 0 → ⊥) → actionOf (actionKind (getD (actionsOf s .kinds) n 0)) (take (getD (actionsOf s .ends) n 0 - getD (actionsOf s .starts) n 0) (drop (getD (actionsOf s .starts) n 0) s)) ≡ actionAt l n
+  operand-is i = go (action-here s e h n k)
+    where
+      go : Here s (actionsOf s) (actionAt l n) n → actionOf (actionKind (getD (actionsOf s .kinds) n 0)) (take (getD (actionsOf s .ends) n 0 - getD (actionsOf s .starts) n 0) (drop (getD (actionsOf s .starts) n 0) s)) ≡ actionAt l n
+      go (no-action j z st en) = absurd (i z)
+      go (one-action j z b c o) = o ∙ sym j
+
+  pub operand-inside : (getD (actionsOf s .starts) n 0 ≤ getD (actionsOf s .ends) n 0) × (getD (actionsOf s .ends) n 0 ≤ length s)
+  operand-inside = go (action-here s e h n k)
+    where
+      go : Here s (actionsOf s) (actionAt l n) n → (getD (actionsOf s .starts) n 0 ≤ getD (actionsOf s .ends) n 0) × (getD (actionsOf s .ends) n 0 ≤ length s)
+      go (no-action j z st en) = (omega arith, omega arith)
+      go (one-action j z b c o) = (b, c)
+
+-- ---- the kinds by node say what the actions are
+nowhere-above : (l : List NodeAction) (n : ℕ) → every nodeExists l ≡ true → 64 ≤ n → actionAt l n ≡ none
+unfolding actionAt nodeExists
+nowhere-above l n h k = go (every-all nodeExists l h)
+  where
+    go : {l : List NodeAction} → All (λ a. nodeExists a ≡ true) l → actionAt l n ≡ none
+    go all-nil = refl
+    go (all-cons {x = a} h p) =
+        let i = ltb-true (a .node) 64 h in
+        rw (actionAt, ne-eqb (a .node) n (λ e. omega arith)) (go p)
+
+pub kinds-say : (s : List ℕ) {l : List NodeAction} → actionsIn edition1 s ≡ some l → actionsOf s .refusal ≡ 0 → KindsSay l (actionsOf s .kinds)
+unfolding actionsLaid actionIndex byNode kindAt kindCode
+kinds-say s {l} e h = record { says = λ n. ap (λ x. getD (x .kinds) n 0) (index-is s e h) ∙ either n 64 (λ k. listed-at 64 (kindAt l) n k) (λ k. List·getD-eq-default (byNode (kindAt l)) 0 (size k) ∙ sym (ap kindCode (nowhere-above l n exist k))) }
+  where
+    exist : every nodeExists l ≡ true
+    exist = and-right (risingFrom 0 (actionNodes l)) (every nodeExists l) (laid-actions s e h)
+
+    size : {n : ℕ} → 64 ≤ n → length (byNode (kindAt l)) ≤ n
+    size k = let z = listed-length 64 (kindAt l) in omega arith

@@ -1,0 +1,135 @@
+-- An entry at a place, and the loop over the entries of a location.
+use mathlib.Core.Path.{_≡_, refl, sym, ap, subst, _∙_}
+use mathlib.Core.Bool.{Bool, true, false, and-false}
+use mathlib.Core.List.{List, [], _∷_, _++_}
+use mathlib.Core.Option.{none}
+use Prim.Native.Nat.{ℕ, _+_, _≤_, _<_}
+use native.Mathlib.Numerals.{add-one}
+use native.Mathlib.Omega.{arith}
+use borrow.Author.Tests.{le-leb, lt-leb}
+use lib.Dec.{leb}
+use lib.ListN.{length, getD, drop, List·getD-eq-default}
+use Rattle.semantics.specs.Bytes.{broken, read, give, times}
+use Rattle.semantics.specs.Editions.{edition1}
+use Rattle.semantics.specs.TableFile.{Entry, actionKind, readEntry, readLocation}
+use Rattle.semantics.specs.Tables.{entryFits, entryNodes, locationFits}
+use Rattle.semantics.proofs.Facts.{true-not-false, by-cases, and-both}
+use Rattle.semantics.proofs.Readers.{broken-not-read, read-value, guarded}
+use Rattle.codec.specs.Reading.{Took, reads-at}
+use Rattle.codec.proofs.Reading.{taken, lost, gives, then-byte, then-guard, then-number, no-number, then-nat2, no-nat2, nat2At, either}
+use Rattle.codec.proofs.Known.{after-byte, not-past, snoc}
+use Rattle.table_read.specs.Ends.{anything, follows, EndsWith, good-at, good-none}
+use Rattle.table_read.specs.LocationIndex.{entryNode, entryAt, actionsLike, likeKind, kindFits}
+use Rattle.table_read.proofs.Early.{early}
+use Rattle.table_read.proofs.Rising.{laid, Laid, laid-none, laid-more, laid-true, not-laid, laid-fronts}
+use Rattle.table_read.proofs.LikeKinds.{entry-like}
+
+-- ---- the entry at place p
+pub entry-took : (s : List ℕ) (p : ℕ) → p + 5 ≤ length s → Took (readEntry edition1) (λ e (x : Unit {0}). e ≡ entryAt s p) s p (p + 1 + 2 + 2) tt
+unfolding readEntry
+entry-took s p h = taken (then-number _ (omega arith) (then-nat2 _ (omega arith) (then-nat2 _ (omega arith) (gives (entryAt s p) (omega arith) refl)))) refl
+
+entry-short : (s : List ℕ) (p : ℕ) → length s < p + 5 → readEntry edition1 (drop p s) ≡ broken
+unfolding readEntry
+entry-short s p h = lost {r = readEntry edition1} {K = anything} {s = s} {p = p} {w = none} (either p (length s)
+    (λ i. then-number _ i (either (length s) (p + 1 + 2) (λ j. no-nat2 _ j (omega arith)) (λ j. then-nat2 _ j (no-nat2 _ (omega arith) (omega arith)))))
+    (λ i. no-number _ i)) refl
+
+-- an entry that was read is the one there
+pub entry-is : (s : List ℕ) (p : ℕ) {a : Entry} {e : List ℕ} → readEntry edition1 (drop p s) ≡ read a e → (p + 5 ≤ length s) × (a ≡ entryAt s p)
+entry-is s p {a} h = either (length s) (p + 5) (λ i. broken-not-read (sym (entry-short s p i) ∙ h)) (λ i. let t = entry-took s p i in (i, read-value (sym h ∙ t .got) ∙ t .means))
+
+pub entry-inside : {K : Entry → Unit {0} → Type 0} {s : List ℕ} {p q : ℕ} → Took (readEntry edition1) K s p q tt → p + 5 ≤ length s
+entry-inside {s = s} {p = p} u = entry-is s p (u .got) .0
+
+entry-node : (s : List ℕ) (p : ℕ) {a : Entry} {e : List ℕ} → readEntry edition1 (drop p s) ≡ read a e → a .node ≡ getD s p 0
+entry-node s p h = ap (λ e. e .node) (entry-is s p h .1)
+
+-- ---- what the code says of it, for n locations and actions of the kinds ks
+module _ (n : ℕ) (ks : List ℕ) (low : ℕ) where
+  abbrev good : Entry → Bool
+  good = follows entryNode (entryFits n (actionsLike ks)) low
+
+  module _ (s : List ℕ) (p : ℕ) where
+    pub entry-none : length s < p + 5 → EndsWith (readEntry edition1) good s p 0
+    entry-none h = good-none refl (λ a e k. broken-not-read (sym (entry-short s p h) ∙ k))
+
+    pub entry-low : getD s p 0 < low → EndsWith (readEntry edition1) good s p 0
+    unfolding follows
+    entry-low h = good-none refl (λ a e k. rw (lt-leb low (a .node) (subst (λ m. m < low) (sym (entry-node s p k)) h)) refl)
+
+    unfit : ((a : Entry) → a ≡ entryAt s p → entryFits n (actionsLike ks) a ≡ false) → EndsWith (readEntry edition1) good s p 0
+    unfolding follows
+    unfit h = good-none refl (λ a e k. rw (h a (entry-is s p k .1), and-false (leb low (a .node))) refl)
+
+    pub entry-outside : length ks ≤ getD s p 0 → EndsWith (readEntry edition1) good s p 0
+    unfolding kindFits actionKind likeKind
+    entry-outside h = unfit (λ a e. entry-like n ks a ∙ ap (λ k. kindFits n k (a .target) (a .other)) (ap (λ m. getD ks m 0) (at-node a e) ∙ List·getD-eq-default ks 0 h))
+      where
+        at-node : (a : Entry) → a ≡ entryAt s p → a .node ≡ getD s p 0
+        at-node a e = ap (λ z. z .node) e
+
+    module _ {x : Bool} {t u : ℕ} (f : x ≡ kindFits n (getD ks (getD s p 0) 0) t u) (i : t ≡ nat2At s (p + 1)) (j : u ≡ nat2At s (p + 1 + 2)) where
+      here : x ≡ entryFits n (actionsLike ks) (entryAt s p)
+      here = f ∙ ap (λ z. kindFits n (getD ks (getD s p 0) 0) z u) i ∙ ap (kindFits n (getD ks (getD s p 0) 0) (nat2At s (p + 1))) j ∙ sym (entry-like n ks (entryAt s p))
+
+      pub entry-bad : x ≡ false → EndsWith (readEntry edition1) good s p 0
+      entry-bad e = unfit (λ a k. ap (entryFits n (actionsLike ks)) k ∙ sym here ∙ e)
+
+      pub entry-ok : x ≡ true → low ≤ getD s p 0 → p + 5 ≤ length s → EndsWith (readEntry edition1) good s p (p + 1 + 2 + 2)
+      unfolding follows
+      entry-ok e l h =
+          let k = entry-took s p h in
+          good-at {q = p + 1 + 2 + 2} (omega arith) (record {
+            value = k .value;
+            got = k .got;
+            inside = k .inside;
+            means = and-both (le-leb low (k .value .node) (subst (λ m. low ≤ m) (sym (entry-node s p (k .got))) l)) (ap (entryFits n (actionsLike ks)) (k .means) ∙ sym here ∙ e);
+          })
+
+-- ---- the first i entries of the location at p, the last of which ends at q; the next node is low or above
+pub record Entries (n : ℕ) (ks s : List ℕ) (p i q low : ℕ) : Type 0 where
+  pub took : Took (times i (readEntry edition1)) anything s (p + 1) q tt
+  pub sound : Laid entryNode (entryFits n (actionsLike ks)) (took .value) low
+
+module _ (n : ℕ) (ks s : List ℕ) (p : ℕ) where
+  pub entries-start : p < length s → Entries n ks s p 0 (p + 1) 0
+  unfolding times give
+  entries-start h = record { took = record { value = []; got = refl; inside = omega arith; means = tt }; sound = laid-none entryNode (entryFits n (actionsLike ks)) }
+
+  pub entries-next : {i q r low : ℕ} → Entries n ks s p i q low → Took (readEntry edition1) (λ a (x : Unit {0}). follows entryNode (entryFits n (actionsLike ks)) low a ≡ true) s q r tt → Entries n ks s p (i + 1) r (getD s q 0 + 1)
+  entries-next {i} {q} x u = record {
+    took = record { value = x .took .value ++ (u .value ∷ []); got = rw (add-one i) (snoc (readEntry edition1) i (drop (p + 1) s) (x .took .got) (u .got)); inside = u .inside; means = tt };
+    sound = subst (λ m. Laid entryNode (entryFits n (actionsLike ks)) (x .took .value ++ (u .value ∷ [])) (m + 1)) (entry-node s q (u .got)) (laid-more entryNode (entryFits n (actionsLike ks)) (u .value) (x .sound) (u .means));
+  }
+
+  pub location-none : length s ≤ p → EndsWith (readLocation edition1) (locationFits n (actionsLike ks)) s p 0
+  unfolding readLocation
+  location-none h = good-none refl (λ a e k. not-past _ s p h k)
+
+  module _ (h : p < length s) where
+    -- what is read after the count
+    counted-entries : {es : List Entry} {e : List ℕ} → readLocation edition1 (drop p s) ≡ read es e → (leb 1 (getD s p 0) ≡ true) × (times (getD s p 0) (readEntry edition1) (drop (p + 1) s) ≡ read es e)
+    unfolding readLocation
+    counted-entries k = guarded _ _ (after-byte _ s p h k)
+
+    pub location-empty : getD s p 0 < 1 → EndsWith (readLocation edition1) (locationFits n (actionsLike ks)) s p 0
+    location-empty i = good-none refl (λ a e k. true-not-false (sym (counted-entries k .0) ∙ lt-leb 1 (getD s p 0) i))
+
+    pub location-stop : {i q low : ℕ} → Entries n ks s p i q low → i < getD s p 0 → ((a : Entry) (e : List ℕ) → readEntry edition1 (drop q s) ≡ read a e → follows entryNode (entryFits n (actionsLike ks)) low a ≡ false) → EndsWith (readLocation edition1) (locationFits n (actionsLike ks)) s p 0
+    unfolding locationFits entryNodes laid
+    location-stop {i} x k bad = good-none refl (λ es e g. by-cases (locationFits n (actionsLike ks) es)
+        (λ fit. absurd (early (readEntry edition1) (laid entryNode (entryFits n (actionsLike ks))) (laid-fronts entryNode (entryFits n (actionsLike ks))) i (x .took) k
+        (λ a r j. not-laid entryNode (entryFits n (actionsLike ks)) a (x .sound) (bad a r j)) (counted-entries g .1) fit))
+        (λ unfit. unfit))
+
+    pub location-ok : {i q low c : ℕ} → Entries n ks s p i q low → 0 < q → i ≡ c → c ≡ getD s p 0 → 1 ≤ c → EndsWith (readLocation edition1) (locationFits n (actionsLike ks)) s p q
+    unfolding readLocation locationFits entryNodes laid
+    location-ok {i} {q} {low} {c} x z e f g =
+        let t : Took (times (getD s p 0) (readEntry edition1)) (λ es (x : Unit {0}). locationFits n (actionsLike ks) es ≡ true) s (p + 1) q tt = record {
+          value = x .took .value;
+          got = subst (λ m. times m (readEntry edition1) (drop (p + 1) s) ≡ read (x .took .value) (drop q s)) (e ∙ f) (x .took .got);
+          inside = x .took .inside;
+          means = laid-true entryNode (entryFits n (actionsLike ks)) (x .sound);
+        } in
+        good-at z (taken (then-byte _ h (then-guard _ _ (le-leb 1 (getD s p 0) (omega arith)) (reads-at t))) refl)

@@ -1,0 +1,13 @@
+pub mod Ended
+pub mod Early
+pub mod Rising
+pub mod PartsStand
+pub mod ActionForms
+pub mod ByNode
+pub mod ActionLoop
+pub mod ActionsFound
+pub mod ActionsFit
+pub mod LikeKinds
+pub mod EntryLoop
+pub mod LocationLoop
+pub mod LocationsFound

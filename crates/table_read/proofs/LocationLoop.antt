@@ -1,0 +1,153 @@
+-- The loop over the locations: what is read so far, and what the code answers.
+use mathlib.Core.Path.{_≡_, refl, sym, ap, subst, _∙_}
+use mathlib.Core.Bool.{Bool, true, false, cond, and-false}
+use mathlib.Core.List.{List, [], _∷_, _++_, append-assoc}
+use mathlib.Core.Option.{Option, none, some}
+use Prim.Native.Nat.{ℕ, suc, _+_, _-_, _≤_, _<_}
+use native.Mathlib.Numerals.{add-one}
+use native.Mathlib.Omega.{arith}
+use lib.ListN.{length, set, drop, replicate, length-append, length-drop}
+use lib.Seq.{set-at}
+use Rattle.semantics.specs.Bytes.{every, read, after, _>>=_, give, guard, times, just, whole}
+use Rattle.semantics.specs.Editions.{edition1}
+use Rattle.semantics.specs.TableFile.{NodeAction, Entry, readLocation, readLocations, locationsIn}
+use Rattle.semantics.specs.Tables.{locationFits, locationsFit}
+use Rattle.semantics.proofs.Facts.{and-both, within-both, none-not-some}
+use Rattle.semantics.proofs.Readers.{read-rest, guarded, whole-read}
+use Rattle.codec.specs.Reading.{Took}
+use Rattle.codec.specs.Places.{placesFrom}
+use Rattle.codec.proofs.Reading.{none-kept, then-nat2, no-nat2, no-guard, within-below, within-above, nat2At, nat2-at, drop-past, either}
+use Rattle.codec.proofs.Known.{after-nat2, snoc, times-length}
+use Rattle.codec.proofs.Loops.{every-snoc, counted}
+use Rattle.codec.proofs.Places.{places-start, places-more, places-count}
+use Rattle.table_read.specs.declared.locations.Locations.{Locations}
+use Rattle.table_read.specs.Ends.{anything}
+use Rattle.table_read.specs.LocationIndex.{pad, noLocations, locationIndex, locationsRead, locationsOf, LocationsCounted, locations-counted, locations-miscounted}
+use Rattle.table_read.proofs.Early.{early}
+use Rattle.table_read.proofs.Rising.{every-append}
+
+-- ---- one more in a list that is filled up with d
+pub pad-none : (n d : ℕ) → replicate n d ≡ pad n d []
+unfolding pad
+pad-none n d = let z : n - 0 ≡ n = omega arith in rw z refl
+
+pub pad-more : (n d : ℕ) (l : List ℕ) (i p : ℕ) → length l ≡ i → i < n → set (pad n d l) i p ≡ pad n d (l ++ (p ∷ []))
+unfolding pad
+pad-more n d l i p e h =
+    let k : n - length l ≡ suc (n - length (l ++ (p ∷ []))) = omega (arith, length-append l (p ∷ [])) in
+    rw k (set-at l d (replicate (n - length (l ++ (p ∷ []))) d) p i e ∙ sym (append-assoc l (p ∷ []) (replicate (n - length (l ++ (p ∷ []))) d)))
+
+-- ---- refusals
+pub refuse : (acts : List NodeAction) (s : List ℕ) → ((ls : List (List Entry)) → locationsIn edition1 s ≡ some ls → locationsFit acts ls ≡ true → ⊥) → noLocations ≡ locationsOf acts s
+unfolding locationsOf locationsRead
+refuse acts s h = go (locationsIn edition1 s) (λ l e. h l e)
+  where
+    pick : (b : Bool) (a : Locations) → (b ≡ true → ⊥) → noLocations ≡ cond b a noLocations
+    pick true a h = absurd (h refl)
+    pick false a h = refl
+
+    go : (o : Option (List (List Entry))) → ((ls : List (List Entry)) → o ≡ some ls → locationsFit acts ls ≡ true → ⊥) → noLocations ≡ locationsRead acts s o
+    go none h = refl
+    go (some ls) h = pick (locationsFit acts ls) (locationIndex s (length ls)) (h ls refl)
+
+pub accept : (acts : List NodeAction) (s : List ℕ) {ls : List (List Entry)} → locationsIn edition1 s ≡ some ls → locationsFit acts ls ≡ true → locationsOf acts s ≡ locationIndex s (length ls)
+unfolding locationsOf locationsRead
+accept acts s e h = rw (e, h) refl
+
+-- ---- the count
+pub no-count : (s : List ℕ) → length s < 2 → LocationsCounted s 0
+unfolding locationsIn readLocations
+no-count s h = locations-miscounted refl (none-kept {K = anything} (no-nat2 _ h (omega arith)) refl)
+
+pub many : (s : List ℕ) {n : ℕ} → n ≡ nat2At s 0 → 2 ≤ length s → 1024 < n → LocationsCounted s 0
+unfolding locationsIn readLocations
+many s {n} e i h = locations-miscounted refl (none-kept {K = anything} (then-nat2 _ i (no-guard _ _ (within-above 1 1024 _ (subst (λ n. 1024 < n) e h)))) refl)
+
+pub count-is : (s : List ℕ) {n : ℕ} → n ≡ nat2At s 0 → 2 ≤ length s → n ≤ 1024 → LocationsCounted s n
+unfolding locationsIn readLocations
+count-is s {n} e i h = either 0 n (λ k. locations-counted i e k h) (λ k. locations-miscounted (omega arith) (none-kept {K = anything} (then-nat2 _ i (no-guard _ _ (within-below 1 1024 _ (omega arith)))) refl))
+
+pub record Count (s : List ℕ) (n : ℕ) : Type 0 where
+  pub room : 2 ≤ length s
+  pub is : n ≡ nat2At s 0
+  pub low : 1 ≤ n
+  pub high : n ≤ 1024
+
+pub count-of : {s : List ℕ} {n : ℕ} → LocationsCounted s n → (n ≡ 0 → ⊥) → Count s n
+count-of (locations-counted i e l h) k = record { room = i; is = e; low = l; high = h }
+count-of (locations-miscounted e h) k = absurd (k e)
+
+pub refuse-count : (acts : List NodeAction) {s : List ℕ} {n : ℕ} → LocationsCounted s n → n ≡ 0 → noLocations ≡ locationsOf acts s
+refuse-count acts (locations-counted i e l h) k = absurd (omega arith)
+refuse-count acts {s} (locations-miscounted e h) k = refuse acts s (λ l i g. none-not-some (sym h ∙ i))
+
+-- ---- what the section's reader does after the count
+in-times : {s : List ℕ} {n : ℕ} {ls : List (List Entry)} → Count s n → locationsIn edition1 s ≡ some ls → times n (readLocation edition1) (drop 2 s) ≡ read ls []
+unfolding locationsIn readLocations
+in-times {s} c e = rw (c .is) (guarded _ _ (after-nat2 _ s 0 (c .room) (whole-read (readLocations edition1) s e)) .1)
+
+times-in : {s : List ℕ} {n : ℕ} {ls : List (List Entry)} → Count s n → times n (readLocation edition1) (drop 2 s) ≡ read ls [] → locationsIn edition1 s ≡ some ls
+unfolding locationsIn readLocations whole just _>>=_ after guard
+times-in {s} c e =
+    let l = c .low in
+    let h = c .high in
+    let is = c .is in
+    rw (nat2-at s 0 (c .room), ← is, within-both 1 1024 _ l h, e) refl
+
+-- ---- the first i of n locations, the last of which ends at p; all fit, and their places are in the list
+pub record Located (acts : List NodeAction) (n : ℕ) (s : List ℕ) (i p : ℕ) (places : List ℕ) : Type 0 where
+  pub took : Took (times i (readLocation edition1)) anything s 2 p tt
+  pub all-fit : every (locationFits n acts) (took .value) ≡ true
+  pub noted : places ≡ pad 1024 0 (placesFrom (length s) (readLocation edition1) i (drop 2 s))
+
+module _ (acts : List NodeAction) {n : ℕ} {s : List ℕ} where
+  pub located-start : Count s n → Located acts n s 0 2 (replicate 1024 0)
+  unfolding times give every
+  located-start c = record {
+    took = record { value = []; got = refl; inside = c .room; means = tt };
+    all-fit = refl;
+    noted = pad-none 1024 0 ∙ ap (pad 1024 0) (sym (places-start (length s) (readLocation edition1) (drop 2 s)));
+  }
+
+  module _ {i p : ℕ} {places : List ℕ} (x : Located acts n s i p places) where
+    pub located-next : {q : ℕ} → i < 1024 → Took (readLocation edition1) (λ a (y : Unit {0}). locationFits n acts a ≡ true) s p q tt → Located acts n s (i + 1) q (set places i p)
+    located-next h u = record {
+      took = record { value = x .took .value ++ (u .value ∷ []); got = rw (add-one i) (snoc (readLocation edition1) i (drop 2 s) (x .took .got) (u .got)); inside = u .inside; means = tt };
+      all-fit = every-snoc (locationFits n acts) (x .took .value) (u .value) ∙ and-both (x .all-fit) (u .means);
+      noted =
+          ap (λ z. set z i p) (x .noted) ∙ pad-more 1024 0 (placesFrom (length s) (readLocation edition1) i (drop 2 s)) i p (places-count (readLocation edition1) i (x .took)) h
+          ∙ ap (pad 1024 0) (sym (places-more (readLocation edition1) i (x .took) u));
+    }
+
+    module _ (c : Count s n) where
+      -- as many as were counted
+      in-count : {ls : List (List Entry)} → locationsIn edition1 s ≡ some ls → length ls ≡ n
+      in-count e = times-length (readLocation edition1) n (drop 2 s) (in-times c e)
+
+      fits-count : (ls : List (List Entry)) → length ls ≡ n → locationsFit acts ls ≡ every (locationFits n acts) ls
+      unfolding locationsFit
+      fits-count ls e = rw e refl
+
+      pub located-stop : i < n → ((a : List Entry) (e : List ℕ) → readLocation edition1 (drop p s) ≡ read a e → locationFits n acts a ≡ false) → noLocations ≡ locationsOf acts s
+      located-stop h bad = refuse acts s (λ ls e g. early (readLocation edition1) (every (locationFits n acts)) (every-append (locationFits n acts)) i (x .took) h
+          (λ a r k. rw (every-snoc (locationFits n acts) (x .took .value) a, bad a r k, and-false (every (locationFits n acts) (x .took .value))) refl)
+          (in-times c e) (sym (fits-count ls (in-count e)) ∙ g))
+
+      module _ (e : i ≡ n) where
+        all : times n (readLocation edition1) (drop 2 s) ≡ read (x .took .value) (drop p s)
+        all = subst (λ n. times n (readLocation edition1) (drop 2 s) ≡ read (x .took .value) (drop p s)) e (x .took .got)
+
+        pub located-over : p < length s → noLocations ≡ locationsOf acts s
+        located-over h = refuse acts s (λ l k g. let n : length (drop p s) ≡ 0 = ap length (read-rest (sym all ∙ in-times c k)) in omega (arith, length-drop p s))
+
+        pub located-end : length s ≤ p → _≡_ {A = Locations} (record { refusal = 0; count = n; places = places }) (locationsOf acts s)
+        unfolding locationIndex
+        located-end k =
+            let ls = x .took .value in
+            let found = times-in c (all ∙ ap (read ls) (drop-past p s k)) in
+            let m : length ls ≡ n = in-count found in
+            same (sym m) (x .noted ∙ ap (λ j. pad 1024 0 (placesFrom (length s) (readLocation edition1) j (drop 2 s))) (e ∙ sym m))
+            ∙ sym (accept acts s found (fits-count ls m ∙ x .all-fit))
+          where
+            same : {c d : ℕ} {ps qs : List ℕ} → c ≡ d → ps ≡ qs → _≡_ {A = Locations} (record { refusal = 0; count = c; places = ps }) (record { refusal = 0; count = d; places = qs })
+            same h i = cc

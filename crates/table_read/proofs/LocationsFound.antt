@@ -1,0 +1,150 @@
+-- What the index of the locations says of each, and where its entries stand.
+use mathlib.Core.Path.{_≡_, refl, sym, ap, subst, _∙_}
+use mathlib.Core.Bool.{Bool, true, false, cond}
+use mathlib.Core.List.{List, [], _∷_}
+use mathlib.Core.Option.{Option, none, some}
+use Prim.Native.Nat.{ℕ, zero, suc, _+_, _-_, _*_, _≤_, _<_}
+use native.Mathlib.Omega.{arith}
+use borrow.Author.Tests.{leb-true}
+use lib.ListN.{length, getD, drop, replicate, getElem?, List·getD-append}
+use Rattle.semantics.specs.Bytes.{read, broken, byte, after, _>>=_, give, times}
+use Rattle.semantics.specs.Editions.{edition1}
+use Rattle.semantics.specs.TableFile.{NodeAction, Entry, readEntry, readLocation, readLocations, locationsIn}
+use Rattle.semantics.specs.Tables.{locationsFit}
+use Rattle.semantics.proofs.Facts.{none-not-some, some-is, within-low, within-high}
+use Rattle.semantics.proofs.Readers.{read-value, read-rest, guarded, whole-read}
+use Rattle.codec.specs.Places.{placesFrom}
+use Rattle.codec.proofs.Reading.{either, nat2At}
+use Rattle.codec.proofs.Known.{cons, times-length, after-byte, not-past, after-nat2, not-nat2}
+use Rattle.codec.proofs.Places.{Takes, takes-then, takes-guard, takes-byte, takes-number, takes-nat2, takes-give, takes-times, places-length, placed, placed-before}
+use Rattle.table_read.specs.LocationIndex.{entryAt, pad, noLocations, locationIndex, locationsRead, locationsOf}
+use Rattle.table_read.proofs.EntryLoop.{entry-is, entry-took}
+use Rattle.table_read.proofs.LocationLoop.{accept}
+
+-- ---- where nothing is refused
+pub accepted-locations : (acts : List NodeAction) (s : List ℕ) → locationsOf acts s .refusal ≡ 0 → (ls : List (List Entry)) × (locationsIn edition1 s ≡ some ls) × (locationsFit acts ls ≡ true)
+unfolding locationsOf locationsRead
+accepted-locations acts s h = go (locationsIn edition1 s) refl h
+  where
+    pick : (ls : List (List Entry)) (b : Bool) → locationsIn edition1 s ≡ some ls → locationsFit acts ls ≡ b → cond b (locationIndex s (length ls)) noLocations .refusal ≡ 0 → (ls : List (List Entry)) × (locationsIn edition1 s ≡ some ls) × (locationsFit acts ls ≡ true)
+    pick ls true e k h = (ls, e, k)
+    pick ls false e k h = absurd (omega arith)
+
+    go : (o : Option (List (List Entry))) → locationsIn edition1 s ≡ o → locationsRead acts s o .refusal ≡ 0 → (ls : List (List Entry)) × (locationsIn edition1 s ≡ some ls) × (locationsFit acts ls ≡ true)
+    go none e h = absurd (omega arith)
+    go (some ls) e h = pick ls (locationsFit acts ls) e refl h
+
+-- where something is
+pub refused-locations : (acts : List NodeAction) (s : List ℕ) → (locationsOf acts s .refusal ≡ 0 → ⊥) → (locationsOf acts s .refusal ≡ 19) × ((ls : List (List Entry)) → locationsIn edition1 s ≡ some ls → locationsFit acts ls ≡ false)
+unfolding locationsOf locationsRead locationIndex
+refused-locations acts s h = go (locationsIn edition1 s) h
+  where
+    pick : (ls : List (List Entry)) (b : Bool) → locationsFit acts ls ≡ b → (cond b (locationIndex s (length ls)) noLocations .refusal ≡ 0 → ⊥) → (cond b (locationIndex s (length ls)) noLocations .refusal ≡ 19) × ((k : List (List Entry)) → some ls ≡ some k → locationsFit acts k ≡ false)
+    pick ls true e h = absurd (h refl)
+    pick ls false e h = (refl, λ k i. ap (locationsFit acts) (sym (some-is i)) ∙ e)
+
+    go : (o : Option (List (List Entry))) → (locationsRead acts s o .refusal ≡ 0 → ⊥) → (locationsRead acts s o .refusal ≡ 19) × ((ls : List (List Entry)) → o ≡ some ls → locationsFit acts ls ≡ false)
+    go none h = (refl, λ l e. none-not-some e)
+    go (some ls) h = pick ls (locationsFit acts ls) refl h
+
+pub fit-locations : (acts : List NodeAction) (s : List ℕ) {ls : List (List Entry)} → locationsIn edition1 s ≡ some ls → locationsOf acts s .refusal ≡ 0 → locationsFit acts ls ≡ true
+fit-locations acts s {ls} e h =
+    let k = accepted-locations acts s h in
+    subst (λ ls. locationsFit acts ls ≡ true) (some-is (sym (k .1) ∙ e)) (k .2)
+
+-- the index is that of the locations
+pub index-is : (acts : List NodeAction) (s : List ℕ) {ls : List (List Entry)} → locationsIn edition1 s ≡ some ls → locationsOf acts s .refusal ≡ 0 → locationsOf acts s ≡ locationIndex s (length ls)
+index-is acts s e h = accept acts s e (fit-locations acts s e h)
+
+times-of : (s : List ℕ) {ls : List (List Entry)} → locationsIn edition1 s ≡ some ls → (2 ≤ length s) × (1 ≤ length ls) × (length ls ≤ 1024) × (times (length ls) (readLocation edition1) (drop 2 s) ≡ read ls [])
+unfolding locationsIn readLocations
+times-of s {ls} e = either (length s) 2 (λ i. not-nat2 _ s 0 i (omega arith) (whole-read (readLocations edition1) s e)) (λ i.
+    let g = guarded _ _ (after-nat2 _ s 0 i (whole-read (readLocations edition1) s e)) in
+    let n = times-length (readLocation edition1) (nat2At s 0) (drop 2 s) (g .1) in
+    let low = within-low 1 1024 _ (g .0) in
+    let high = within-high 1 1024 _ (g .0) in
+    (i, omega arith, omega arith, subst (λ n. times n (readLocation edition1) (drop 2 s) ≡ read ls []) (sym n) (g .1)))
+
+takes-entry : Takes (readEntry edition1)
+unfolding readEntry
+takes-entry = takes-then (takes-number _) (λ n. takes-then takes-nat2 (λ t. takes-then takes-nat2 (λ u. takes-give _)))
+
+takes-location : Takes (readLocation edition1)
+unfolding readLocation
+takes-location = takes-then takes-byte (λ n. takes-guard _ (takes-times n takes-entry))
+
+nothing-there : readLocation edition1 [] ≡ broken
+unfolding readLocation _>>=_ after byte
+nothing-there = refl
+
+-- ---- location k
+pub record LocationAt (s : List ℕ) (ls : List (List Entry)) (k p : ℕ) : Type 0 where
+  pub before-end : p < length s
+  pub rest : List ℕ
+  pub reads : readLocation edition1 (drop p s) ≡ read (getD ls k []) rest
+
+getD-of : {A : Type 0} (l : List A) (k : ℕ) {x : A} (d : A) → getElem? l k ≡ some x → x ≡ getD l k d
+getD-of [] k d h = none-not-some h
+getD-of (y ∷ l) zero d h = sym (some-is h)
+getD-of (y ∷ l) (suc k) d h = getD-of l k d h
+
+module _ (acts : List NodeAction) (s : List ℕ) {ls : List (List Entry)} (e : locationsIn edition1 s ≡ some ls) (h : locationsOf acts s .refusal ≡ 0) where
+  pub count-is : locationsOf acts s .count ≡ length ls
+  unfolding locationIndex
+  count-is = ap (λ z. z .count) (index-is acts s e h)
+
+  -- at least location 0 is there
+  pub count-bounds : (1 ≤ locationsOf acts s .count) × (locationsOf acts s .count ≤ 1024)
+  count-bounds =
+      let n = count-is in
+      let t = times-of s e in
+      let low = t .1 in
+      let high = t .2 in
+      (omega arith, omega arith)
+
+  pub location-at : (k : ℕ) → k < locationsOf acts s .count → LocationAt s ls k (getD (locationsOf acts s .places) k 0)
+  unfolding locationIndex pad
+  location-at k i =
+      let n = count-is in
+      let t = times-of s e in
+      let ps = placesFrom (length s) (readLocation edition1) (length ls) (drop 2 s) in
+      let j : k < length ls = omega arith in
+      let m : length ps ≡ length ls = places-length (length s) (readLocation edition1) (length ls) (drop 2 s) (t .3) in
+      let x = placed takes-location s (length ls) k 2 (t .0) (t .3) j in
+      let at : getD (locationsOf acts s .places) k 0 ≡ getD ps k 0 = ap (λ z. getD (z .places) k 0) (index-is acts s e h) ∙ List·getD-append ps (replicate (1024 - length ps) 0) 0 k (omega arith) in
+      subst (LocationAt s ls k) (sym at) (record {
+        before-end = placed-before nothing-there x;
+        rest = x .nth .end;
+        reads = x .nth .got ∙ ap (λ z. read z (x .nth .end)) (getD-of ls k [] (x .nth .is));
+      })
+
+-- ---- the entries of a location stand one after the other, 5 bytes each, after their count
+pub record EntriesAt (s : List ℕ) (p : ℕ) (es : List Entry) : Type 0 where
+  pub inside : p + 5 * length es ≤ length s
+  pub entry : (j : ℕ) → j < length es → getElem? es j ≡ some (entryAt s (p + 5 * j))
+
+entries-from : (s : List ℕ) (n p : ℕ) (m : List ℕ) {es : List Entry} {e : List ℕ} → p ≤ length s → m ≡ drop p s → times n (readEntry edition1) m ≡ read es e → EntriesAt s p es
+unfolding times give
+entries-from s zero p m b q h = subst (EntriesAt s p) (read-value h) (record { inside = omega arith; entry = λ j i. absurd (omega arith) })
+entries-from s (suc n) p m b q h =
+    let c = cons (readEntry edition1) n h in
+    let f = ap (readEntry edition1) (sym q) ∙ c .first in
+    let i = entry-is s p f .0 in
+    let v : c .mid ≡ drop (p + 1 + 2 + 2) s = read-rest (sym f ∙ entry-took s p i .got) in
+    let x = entries-from s n (p + 1 + 2 + 2) (c .mid) (omega arith) v (c .rest) in
+    subst (EntriesAt s p) (c .is) (entries-more (c .head) (c .tail) (entry-is s p f .1) x)
+  where
+    entries-more : (a : Entry) (l : List Entry) → a ≡ entryAt s p → EntriesAt s (p + 1 + 2 + 2) l → EntriesAt s p (a ∷ l)
+    entries-more a l k x = record { inside = let y = x .inside in omega arith; entry = at }
+      where
+        at : (j : ℕ) → j < suc (length l) → getElem? (a ∷ l) j ≡ some (entryAt s (p + 5 * j))
+        at zero i = let z : p + 5 * 0 ≡ p = omega arith in ap some (k ∙ ap (entryAt s) (sym z))
+        at (suc j) i = let z : p + 1 + 2 + 2 + 5 * j ≡ p + 5 * suc j = omega arith in x .entry j (omega arith) ∙ ap (λ q. some (entryAt s q)) z
+
+pub location-entries : (s : List ℕ) (p : ℕ) {es : List Entry} {e : List ℕ} → readLocation edition1 (drop p s) ≡ read es e → (1 ≤ length es) × (length es ≡ getD s p 0) × EntriesAt s (p + 1) es
+unfolding readLocation
+location-entries s p h = either p (length s) (λ i.
+    let g = guarded _ _ (after-byte _ s p i h) in
+    let n = times-length (readEntry edition1) (getD s p 0) (drop (p + 1) s) (g .1) in
+    let l = leb-true 1 (getD s p 0) (g .0) in
+    (omega arith, n, entries-from s (getD s p 0) (p + 1) (drop (p + 1) s) (omega arith) refl (g .1))) (λ i. not-past _ s p i h)

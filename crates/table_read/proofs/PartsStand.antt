@@ -1,0 +1,246 @@
+-- The four sections of a table, and where they stand.
+use mathlib.Core.Path.{_≡_, refl, sym, ap, subst, _∙_}
+use mathlib.Core.Bool.{Bool, true, false, cond}
+use mathlib.Core.List.{List, []}
+use mathlib.Core.Option.{Option, none, some}
+use Prim.Native.Nat.{ℕ, _+_, _-_, _≤_, _<_}
+use native.Mathlib.Omega.{arith}
+use borrow.Author.Tests.{leb-true, le-leb, lt-leb, eq-eqb, ne-eqb}
+use lib.Dec.{leb, eqb}
+use lib.ListN.{length, getD, take, drop, length-drop, length-append}
+use lib.Seq.{take-append-seam, drop-append-seam, drop-drop}
+use Rattle.semantics.specs.Bytes.{broken, read, after, _>>=_, give, nat2, nat4, bytes, section2, section4, just, whole}
+use Rattle.semantics.specs.Editions.{edition1}
+use Rattle.semantics.specs.TableFile.{TableSections, readTableSections, tableSectionsIn}
+use Rattle.semantics.specs.Tables.{tableHeader}
+use Rattle.semantics.proofs.Facts.{and-left}
+use Rattle.semantics.proofs.Readers.{broken-not-read, read-rest, split, given, bytes-read, whole-read}
+use Rattle.codec.specs.Reading.{Took}
+use Rattle.codec.proofs.Reading.{either, drop-past, drop-some, nat2-some, nat2-none, nat4-some, nat4-none, nat2At, nat4At, section2-short, section2-cut, section2-at, section4-short, section4-cut, section4-at}
+use Rattle.table_read.specs.Ends.{anything, Ends, ends-at, ends-none}
+use Rattle.table_read.specs.declared.parts.Parts.{Parts}
+use Rattle.table_read.specs.TableParts.{noParts, partsAt, sectionsAt, partsIn, partsRead, partsOf}
+
+-- ---- a section that was read: w bytes of length, x, and then m
+pub record Cut (w : ℕ) (l x m : List ℕ) : Type 0 where
+  pub few : w + length x ≤ length l
+  pub value : take (length x) (drop w l) ≡ x
+  pub rest : m ≡ drop (w + length x) l
+
+cut-bytes : (w n : ℕ) (l : List ℕ) {x m : List ℕ} → w ≤ length l → bytes n (drop w l) ≡ read x m → Cut w l x m
+cut-bytes w n l {x} {m} h e =
+    let k = bytes-read n (drop w l) e in
+    let i : length (drop w l) ≡ length x + length m = ap length (k .1) ∙ length-append x m in
+    record {
+      few = omega (arith, length-drop w l);
+      value = ap (take (length x)) (k .1) ∙ take-append-seam x m;
+      rest = sym (drop-append-seam x m) ∙ ap (drop (length x)) (sym (k .1)) ∙ drop-drop (length x) w l;
+    }
+
+pub cut2 : (l : List ℕ) {x m : List ℕ} → section2 l ≡ read x m → Cut 2 l x m
+unfolding section2
+cut2 l {x} {m} e = either (length l) 2 (λ h. broken-not-read (sym (nat2-none l h) ∙ k .first)) (λ h. cut-bytes 2 (k .value) l h (ap (bytes (k .value)) (sym (read-rest (sym (k .first) ∙ nat2-some l h))) ∙ k .then))
+  where
+    k : Rattle.semantics.proofs.Readers.Split nat2 bytes l x m
+    k = split nat2 bytes e
+
+pub cut4 : (l : List ℕ) {x m : List ℕ} → section4 l ≡ read x m → Cut 4 l x m
+unfolding section4
+cut4 l {x} {m} e = either (length l) 4 (λ h. broken-not-read (sym (nat4-none l h) ∙ k .first)) (λ h. cut-bytes 4 (k .value) l h (ap (bytes (k .value)) (sym (read-rest (sym (k .first) ∙ nat4-some l h))) ∙ k .then))
+  where
+    k : Rattle.semantics.proofs.Readers.Split nat4 bytes l x m
+    k = split nat4 bytes e
+
+-- from place p to place q
+place-cut : (w p q : ℕ) (t : List ℕ) {x : List ℕ} → p ≤ length t → q ≤ length t → Cut w (drop p t) x (drop q t) → q ≡ p + w + length x
+place-cut w p q t {x} h i k =
+    let few = k .few in
+    let e : length (drop q t) ≡ length (drop p t) - (w + length x) = ap length (k .rest) ∙ length-drop (w + length x) (drop p t) in
+    omega (arith, length-drop p t, length-drop q t)
+
+pub end2-is : {t : List ℕ} {p q : ℕ} → p ≤ length t → (k : Took section2 anything t p q tt) → q ≡ p + 2 + length (k .value)
+end2-is {t} {p} {q} h k = place-cut 2 p q t h (k .inside) (cut2 (drop p t) (k .got))
+
+pub end4-is : {t : List ℕ} {p q : ℕ} → p ≤ length t → (k : Took section4 anything t p q tt) → q ≡ p + 4 + length (k .value)
+end4-is {t} {p} {q} h k = place-cut 4 p q t h (k .inside) (cut4 (drop p t) (k .got))
+
+pub ends-inside : {t : List ℕ} {v e a l : ℕ} → Took section2 anything t v e tt → Took section2 anything t e a tt → Took section4 anything t a l tt → v ≤ length t → (v + 2 ≤ length t) × (e + 2 ≤ length t) × (a + 4 ≤ length t)
+ends-inside es acts ls h =
+    let ee = end2-is h es in
+    let ae = end2-is (es .inside) acts in
+    let le = end4-is (acts .inside) ls in
+    let i = es .inside in
+    let j = acts .inside in
+    let k = ls .inside in
+    (omega arith, omega arith, omega arith)
+
+module _ {t : List ℕ} {p : ℕ} where
+  pub short2 : length t < p + 2 → p ≤ length t → Ends section2 t p 0
+  short2 h i = ends-none refl (section2-short t p h i)
+
+  pub past2 : {n : ℕ} → n ≡ nat2At t p → p + 2 ≤ length t → length t < p + 2 + n → Ends section2 t p 0
+  past2 {n} e h i = ends-none refl (section2-cut t p n e h i)
+
+  pub at2 : {n : ℕ} → n ≡ nat2At t p → p + 2 + n ≤ length t → Ends section2 t p (p + 2 + n)
+  at2 {n} e h = ends-at {q = p + 2 + n} (omega arith) (record { value = take n (drop (p + 2) t); got = section2-at t p n e h; inside = h; means = tt })
+
+  pub short4 : length t < p + 4 → p ≤ length t → Ends section4 t p 0
+  short4 h i = ends-none refl (section4-short t p h i)
+
+  pub past4 : {n : ℕ} → n ≡ nat4At t p → p + 4 ≤ length t → length t < p + 4 + n → Ends section4 t p 0
+  past4 {n} e h i = ends-none refl (section4-cut t p n e h i)
+
+  pub at4 : {n : ℕ} → n ≡ nat4At t p → p + 4 + n ≤ length t → Ends section4 t p (p + 4 + n)
+  at4 {n} e h = ends-at {q = p + 4 + n} (omega arith) (record { value = take n (drop (p + 4) t); got = section4-at t p n e h; inside = h; means = tt })
+
+-- ---- the header
+module _ (t : List ℕ) where
+  pub header-short : length t < 5 → false ≡ tableHeader edition1 t
+  unfolding tableHeader
+  header-short h = rw (lt-leb 5 (length t) h) refl
+
+  pub header-version : 5 ≤ length t → (getD t 0 0 ≡ 1 → ⊥) → false ≡ tableHeader edition1 t
+  unfolding tableHeader
+  header-version h n = rw (le-leb 5 (length t) h, ne-eqb (getD t 0 0) 1 n) refl
+
+  pub header-length : {n : ℕ} → 5 ≤ length t → getD t 0 0 ≡ 1 → n ≡ nat4At t 1 → eqb n (length t) ≡ tableHeader edition1 t
+  unfolding tableHeader
+  header-length h v e = rw (le-leb 5 (length t) h, eq-eqb (getD t 0 0) 1 v, e) refl
+
+  pub header-room : tableHeader edition1 t ≡ true → 5 ≤ length t
+  unfolding tableHeader
+  header-room e = leb-true 5 (length t) (and-left (leb 5 (length t)) _ e)
+
+  -- ---- what the code answers
+  pub refused-15 : tableHeader edition1 t ≡ false → partsOf t ≡ noParts 15
+  unfolding partsOf
+  refused-15 h = rw h refl
+
+  pub refused-16 : tableHeader edition1 t ≡ true → tableSectionsIn (drop 5 t) ≡ none → partsOf t ≡ noParts 16
+  unfolding partsOf partsRead
+  refused-16 h e = rw (h, e) refl
+
+  pub read-parts : {s : TableSections} → tableHeader edition1 t ≡ true → tableSectionsIn (drop 5 t) ≡ some s → partsOf t ≡ partsIn s
+  unfolding partsOf partsRead
+  read-parts h e = rw (h, e) refl
+
+broken-sections : (l : List ℕ) → readTableSections l ≡ broken → tableSectionsIn l ≡ none
+unfolding tableSectionsIn whole just
+broken-sections l e = rw e refl
+
+module _ (t : List ℕ) where
+  pub no-variables : section2 (drop 5 t) ≡ broken → tableSectionsIn (drop 5 t) ≡ none
+  unfolding readTableSections _>>=_ after
+  no-variables k = broken-sections _ (rw k refl)
+
+  module _ {v : ℕ} (vs : Took section2 anything t 5 v tt) where
+    pub no-equations : section2 (drop v t) ≡ broken → tableSectionsIn (drop 5 t) ≡ none
+    unfolding readTableSections _>>=_ after
+    no-equations k = broken-sections _ (rw (vs .got, k) refl)
+
+    module _ {e : ℕ} (es : Took section2 anything t v e tt) where
+      pub no-actions : section2 (drop e t) ≡ broken → tableSectionsIn (drop 5 t) ≡ none
+      unfolding readTableSections _>>=_ after
+      no-actions k = broken-sections _ (rw (vs .got, es .got, k) refl)
+
+      module _ {a : ℕ} (acts : Took section2 anything t e a tt) where
+        pub no-locations : section4 (drop a t) ≡ broken → tableSectionsIn (drop 5 t) ≡ none
+        unfolding readTableSections _>>=_ after
+        no-locations k = broken-sections _ (rw (vs .got, es .got, acts .got, k) refl)
+
+        module _ {l : ℕ} (ls : Took section4 anything t a l tt) where
+          sections : TableSections
+          sections = record { variables = vs .value; equations = es .value; actions = acts .value; locations = ls .value }
+
+          all-read : readTableSections (drop 5 t) ≡ read sections (drop l t)
+          unfolding readTableSections _>>=_ after give sections
+          all-read = rw (vs .got, es .got, acts .got, ls .got) refl
+
+          pub left-over : l < length t → tableSectionsIn (drop 5 t) ≡ none
+          unfolding tableSectionsIn whole just
+          left-over h = rw (all-read, drop-some l t h) refl
+
+          filled : length t ≤ l → tableSectionsIn (drop 5 t) ≡ some sections
+          unfolding tableSectionsIn whole just
+          filled h = rw (all-read, drop-past l t h) refl
+
+          pub parts-found : 5 ≤ length t → tableHeader edition1 t ≡ true → length t ≤ l → partsAt v e a l ≡ partsOf t
+          unfolding partsIn sections
+          parts-found h k i =
+              same _ _ _ _ (end2-is h vs) (end2-is (vs .inside) es) (end2-is (es .inside) acts) (end4-is (acts .inside) ls) ∙ sym (read-parts t k (filled i))
+            where
+              same : {v e a l : ℕ} (w x y z : ℕ) → v ≡ 7 + w → e ≡ v + 2 + x → a ≡ e + 2 + y → l ≡ a + 4 + z → partsAt v e a l ≡ partsAt (7 + w) (7 + w + 2 + x) (7 + w + 2 + x + 2 + y) (7 + w + 2 + x + 2 + y + 4 + z)
+              same w x y z h i j k = cc
+
+-- ---- where the sections stand
+pub record Stands (t : List ℕ) (start stop : ℕ) (x : List ℕ) : Type 0 where
+  pub ordered : start ≤ stop
+  pub inside : stop ≤ length t
+  pub is : take (stop - start) (drop start t) ≡ x
+
+cut-stands : (w p : ℕ) (t : List ℕ) {x m : List ℕ} → p ≤ length t → Cut w (drop p t) x m → Stands t (p + w) (p + w + length x) x
+cut-stands w p t {x} h k =
+    let few = k .few in
+    let n : p + w + length x - (p + w) ≡ length x = omega arith in
+    record {
+      ordered = omega arith;
+      inside = omega (arith, length-drop p t);
+      is = rw (n, ← drop-drop w p t) (k .value);
+    }
+
+cut-next : (w p : ℕ) (t : List ℕ) {x m : List ℕ} → Cut w (drop p t) x m → m ≡ drop (p + w + length x) t
+cut-next w p t {x} k =
+    let n : p + (w + length x) ≡ p + w + length x = omega arith in
+    k .rest ∙ drop-drop (w + length x) p t ∙ ap (λ q. drop q t) n
+
+pub record AllStand (t : List ℕ) (p : Parts) (s : TableSections) : Type 0 where
+  pub variables : Stands t (p .variables) (p .«variables_end») (s .variables)
+  pub equations : Stands t (p .equations) (p .«equations_end») (s .equations)
+  pub actions : Stands t (p .actions) (p .«actions_end») (s .actions)
+  pub locations : Stands t (p .locations) (p .«locations_end») (s .locations)
+
+chain : (t x y z w : List ℕ) {m n o u : List ℕ} → 5 ≤ length t → section2 (drop 5 t) ≡ read x m → section2 m ≡ read y n → section2 n ≡ read z o → section4 o ≡ read w u → AllStand t (partsIn (record { variables = x; equations = y; actions = z; locations = w })) (record { variables = x; equations = y; actions = z; locations = w })
+unfolding partsIn
+chain t x y z w h a b c d =
+    let i = cut2 (drop 5 t) a in
+    let vs = cut-stands 2 5 t h i in
+    let v = 7 + length x in
+    let j = cut2 (drop v t) (ap section2 (sym (cut-next 2 5 t i)) ∙ b) in
+    let es = cut-stands 2 v t (vs .inside) j in
+    let e = v + 2 + length y in
+    let k = cut2 (drop e t) (ap section2 (sym (cut-next 2 v t j)) ∙ c) in
+    let acts = cut-stands 2 e t (es .inside) k in
+    let l = cut4 (drop (e + 2 + length z) t) (ap section4 (sym (cut-next 2 e t k)) ∙ d) in
+    record { variables = vs; equations = es; actions = acts; locations = cut-stands 4 (e + 2 + length z) t (acts .inside) l }
+
+pub sections-stand : (t : List ℕ) {s : TableSections} → 5 ≤ length t → tableSectionsIn (drop 5 t) ≡ some s → AllStand t (partsIn s) s
+unfolding tableSectionsIn readTableSections
+sections-stand t {s} h e =
+    let a = split section2 _ (whole-read readTableSections (drop 5 t) e) in
+    let b = split section2 _ (a .then) in
+    let c = split section2 _ (b .then) in
+    let d = split section4 _ (c .then) in
+    subst (λ s. AllStand t (partsIn s) s) (given _ (d .rest) (d .then)) (chain t (a .value) (b .value) (c .value) (d .value) h (a .first) (b .first) (c .first) (d .first))
+
+-- where nothing is refused, the four parts are the sections
+pub accepted-parts : (t : List ℕ) → partsOf t .refusal ≡ 0 → (s : TableSections) × (tableHeader edition1 t ≡ true) × (tableSectionsIn (drop 5 t) ≡ some s) × AllStand t (partsOf t) s
+unfolding partsOf partsRead
+accepted-parts t h = header (tableHeader edition1 t) refl h
+  where
+    sections-of : (o : Option TableSections) → tableHeader edition1 t ≡ true → tableSectionsIn (drop 5 t) ≡ o → partsRead o .refusal ≡ 0 → (s : TableSections) × (tableHeader edition1 t ≡ true) × (tableSectionsIn (drop 5 t) ≡ some s) × AllStand t (partsOf t) s
+    sections-of none e k i = absurd (omega arith)
+    sections-of (some s) e k i = (s, e, k, rw (read-parts t e k) (sections-stand t (header-room t e) k))
+
+    header : (b : Bool) → tableHeader edition1 t ≡ b → cond b (partsRead (tableSectionsIn (drop 5 t))) (noParts 15) .refusal ≡ 0 → (s : TableSections) × (tableHeader edition1 t ≡ true) × (tableSectionsIn (drop 5 t) ≡ some s) × AllStand t (partsOf t) s
+    header true e k = sections-of (tableSectionsIn (drop 5 t)) e refl k
+    header false e k = absurd (omega arith)
+
+pub parts-are : (t : List ℕ) → partsOf t .refusal ≡ 0 → tableSectionsIn (drop 5 t) ≡ some (sectionsAt t (partsOf t))
+unfolding sectionsAt
+parts-are t h =
+    let k = accepted-parts t h in
+    let st = k .3 in
+    k .2 ∙ ap some (same (sym (st .variables .is)) (sym (st .equations .is)) (sym (st .actions .is)) (sym (st .locations .is)))
+  where
+    same : {x x′ y y′ z z′ w w′ : List ℕ} → x ≡ x′ → y ≡ y′ → z ≡ z′ → w ≡ w′ → _≡_ {A = TableSections} (record { variables = x; equations = y; actions = z; locations = w }) (record { variables = x′; equations = y′; actions = z′; locations = w′ })
+    same h i j k = cc

@@ -1,0 +1,82 @@
+use native.Mathlib.Omega.{arith}
+use Rattle.table_read.proofs.EntryLoop.{entry-none, entry-low, entry-outside, entry-ok, entry-bad}
+use borrow.Author.Needs.{needs}
+use Rattle.table_read.proofs.locations.entry.Statement.{statement}
+use Rattle.table_read.proofs.locations.entry.Tie as tie
+
+sub-if1 : tie.Need-sub-if1
+sub-if1 c = search needs
+
+returns : tie.Need-returns
+returns c = entry-none _ _ _ _ _ (omega arith)
+
+shared-slice-read-node : tie.Need-shared-slice-read-node
+shared-slice-read-node c = search needs
+
+cast-node : tie.Need-cast-node
+cast-node c = omega (arith, c .shared-slice-known3 .given (c .before .before .before .before .args .at))
+
+returns-2 : tie.Need-returns-2
+returns-2 c = entry-low _ _ _ _ _ (omega arith)
+
+returns-3 : tie.Need-returns-3
+returns-3 c = entry-outside _ _ _ _ _ (omega arith)
+
+add-nat2 : tie.Need-add-nat2
+add-nat2 c = search needs
+
+nat2-requires : tie.Need-nat2-requires
+nat2-requires c κs = search needs
+
+add-nat2-2 : tie.Need-add-nat2-2
+add-nat2-2 c = search needs
+
+add-nat2-3 : tie.Need-add-nat2-3
+add-nat2-3 c = search needs
+
+nat2-requires-2 : tie.Need-nat2-requires-2
+nat2-requires-2 c κs = search needs
+
+shared-slice-read-fits : tie.Need-shared-slice-read-fits
+shared-slice-read-fits c = search needs
+
+fits-requires : tie.Need-fits-requires
+fits-requires c κs = search needs
+
+add-result : tie.Need-add-result
+add-result c = search needs
+
+add-result-2 : tie.Need-add-result-2
+add-result-2 c = search needs
+
+add-result-3 : tie.Need-add-result-3
+add-result-3 c = search needs
+
+returns-4 : tie.Need-returns-4
+returns-4 c = entry-ok _ _ _ _ _ (c .before .fits2 .ensures) (c .before .before .before .before .nat2 .ensures) (c .before .before .before .nat22 .ensures) (c .if4 .taken) (omega arith) (omega arith)
+
+returns-5 : tie.Need-returns-5
+returns-5 c = entry-bad _ _ _ _ _ (c .before .fits2 .ensures) (c .before .before .before .before .nat2 .ensures) (c .before .before .before .nat22 .ensures) (c .if4 .left)
+
+pub entry-spec : {M : Type 1} → statement M
+entry-spec =
+    tie.close
+    (tie.spec
+    sub-if1
+    returns
+    shared-slice-read-node
+    cast-node
+    returns-2
+    returns-3
+    add-nat2
+    nat2-requires
+    add-nat2-2
+    add-nat2-3
+    nat2-requires-2
+    shared-slice-read-fits
+    fits-requires
+    add-result
+    add-result-2
+    add-result-3
+    returns-4
+    returns-5)

@@ -1,0 +1,97 @@
+use mathlib.Core.Path.{sym, _∙_}
+use native.Mathlib.Omega.{arith}
+use borrow.Author.Tests.{not-true, not-false}
+use Rattle.table_read.proofs.Ended.{ended, not-ended}
+use Rattle.table_read.proofs.PartsStand.{header-room, refused-15, refused-16, no-variables, no-equations, no-actions, no-locations, left-over, parts-found, ends-inside}
+use borrow.Author.Needs.{needs}
+use Rattle.table_read.proofs.parts.read.Statement.{statement}
+use Rattle.table_read.proofs.parts.read.Tie as tie
+
+header-requires : tie.Need-header-requires
+header-requires c κs = search needs
+
+refused-requires : tie.Need-refused-requires
+refused-requires c κs = search needs
+
+returns : tie.Need-returns
+returns c = c .refused .ensures ∙ sym (refused-15 _ (sym (c .before .before .header .ensures) ∙ not-true _ (c .before .if1 .taken)))
+
+end2-requires : tie.Need-end2-requires
+end2-requires c κs = header-room _ (sym (c .before .header .ensures) ∙ not-false _ (c .if1 .left))
+
+refused-requires-2 : tie.Need-refused-requires-2
+refused-requires-2 c κs = search needs
+
+returns-2 : tie.Need-returns-2
+returns-2 c = c .refused2 .ensures ∙ sym (refused-16 _ (sym (c .before .before .before .before .header .ensures) ∙ not-false _ (c .before .before .before .if1 .left)) (no-variables (c .before .before .before .before .before .before .args .t .now) (not-ended (c .before .before .end2 .ensures) (c .before .if2 .taken))))
+
+end2-requires-2 : tie.Need-end2-requires-2
+end2-requires-2 c κs = (ended (c .before .end2 .ensures) (c .if2 .left)) .inside
+
+refused-requires-3 : tie.Need-refused-requires-3
+refused-requires-3 c κs = search needs
+
+returns-3 : tie.Need-returns-3
+returns-3 c = c .refused3 .ensures ∙ sym (refused-16 _ (sym (c .before .before .before .before .before .before .header .ensures) ∙ not-false _ (c .before .before .before .before .before .if1 .left)) (no-equations _ (ended (c .before .before .before .before .end2 .ensures) (c .before .before .before .if2 .left)) (not-ended (c .before .before .end22 .ensures) (c .before .if3 .taken))))
+
+end2-requires-3 : tie.Need-end2-requires-3
+end2-requires-3 c κs = (ended (c .before .end22 .ensures) (c .if3 .left)) .inside
+
+refused-requires-4 : tie.Need-refused-requires-4
+refused-requires-4 c κs = search needs
+
+returns-4 : tie.Need-returns-4
+returns-4 c = c .refused4 .ensures ∙ sym (refused-16 _ (sym (c .before .before .before .before .before .before .before .before .header .ensures) ∙ not-false _ (c .before .before .before .before .before .before .before .if1 .left)) (no-actions _ (ended (c .before .before .before .before .before .before .end2 .ensures) (c .before .before .before .before .before .if2 .left)) (ended (c .before .before .before .before .end22 .ensures) (c .before .before .before .if3 .left)) (not-ended (c .before .before .end23 .ensures) (c .before .if4 .taken))))
+
+end4-requires : tie.Need-end4-requires
+end4-requires c κs = (ended (c .before .end23 .ensures) (c .if4 .left)) .inside
+
+refused-requires-5 : tie.Need-refused-requires-5
+refused-requires-5 c κs = search needs
+
+returns-5 : tie.Need-returns-5
+returns-5 c = c .refused5 .ensures ∙ sym (refused-16 _ (sym (c .before .before .before .before .before .before .before .before .before .before .header .ensures) ∙ not-false _ (c .before .before .before .before .before .before .before .before .before .if1 .left)) (no-locations _ (ended (c .before .before .before .before .before .before .before .before .end2 .ensures) (c .before .before .before .before .before .before .before .if2 .left)) (ended (c .before .before .before .before .before .before .end22 .ensures) (c .before .before .before .before .before .if3 .left)) (ended (c .before .before .before .before .end23 .ensures) (c .before .before .before .if4 .left)) (not-ended (c .before .before .end4 .ensures) (c .before .if5 .taken))))
+
+refused-requires-6 : tie.Need-refused-requires-6
+refused-requires-6 c κs = search needs
+
+returns-6 : tie.Need-returns-6
+returns-6 c = c .refused6 .ensures ∙ sym (refused-16 _ (sym (c .before .before .before .before .before .before .before .before .before .before .before .header .ensures) ∙ not-false _ (c .before .before .before .before .before .before .before .before .before .before .if1 .left)) (left-over _ (ended (c .before .before .before .before .before .before .before .before .before .end2 .ensures) (c .before .before .before .before .before .before .before .before .if2 .left)) (ended (c .before .before .before .before .before .before .before .end22 .ensures) (c .before .before .before .before .before .before .if3 .left)) (ended (c .before .before .before .before .before .end23 .ensures) (c .before .before .before .before .if4 .left)) (ended (c .before .before .before .end4 .ensures) (c .before .before .if5 .left)) (c .before .if6 .taken)))
+
+add-t8 : tie.Need-add-t8
+add-t8 c = omega (arith, ends-inside (ended (c .before .before .before .before .before .before .end22 .ensures) (c .before .before .before .before .before .if3 .left)) (ended (c .before .before .before .before .end23 .ensures) (c .before .before .before .if4 .left)) (ended (c .before .before .end4 .ensures) (c .before .if5 .left)) (ended (c .before .before .before .before .before .before .before .before .end2 .ensures) (c .before .before .before .before .before .before .before .if2 .left) .inside))
+
+add-t9 : tie.Need-add-t9
+add-t9 c = omega (arith, ends-inside (ended (c .before .before .before .before .before .before .end22 .ensures) (c .before .before .before .before .before .if3 .left)) (ended (c .before .before .before .before .end23 .ensures) (c .before .before .before .if4 .left)) (ended (c .before .before .end4 .ensures) (c .before .if5 .left)) (ended (c .before .before .before .before .before .before .before .before .end2 .ensures) (c .before .before .before .before .before .before .before .if2 .left) .inside))
+
+add-t10 : tie.Need-add-t10
+add-t10 c = omega (arith, ends-inside (ended (c .before .before .before .before .before .before .end22 .ensures) (c .before .before .before .before .before .if3 .left)) (ended (c .before .before .before .before .end23 .ensures) (c .before .before .before .if4 .left)) (ended (c .before .before .end4 .ensures) (c .before .if5 .left)) (ended (c .before .before .before .before .before .before .before .before .end2 .ensures) (c .before .before .before .before .before .before .before .if2 .left) .inside))
+
+returns-7 : tie.Need-returns-7
+returns-7 c = parts-found _ (ended (c .before .before .before .before .before .before .before .before .end2 .ensures) (c .before .before .before .before .before .before .before .if2 .left)) (ended (c .before .before .before .before .before .before .end22 .ensures) (c .before .before .before .before .before .if3 .left)) (ended (c .before .before .before .before .end23 .ensures) (c .before .before .before .if4 .left)) (ended (c .before .before .end4 .ensures) (c .before .if5 .left)) (header-room _ (sym (c .before .before .before .before .before .before .before .before .before .before .header .ensures) ∙ not-false _ (c .before .before .before .before .before .before .before .before .before .if1 .left))) (sym (c .before .before .before .before .before .before .before .before .before .before .header .ensures) ∙ not-false _ (c .before .before .before .before .before .before .before .before .before .if1 .left)) (c .if6 .left)
+
+pub read-spec : {M : Type 1} → statement M
+read-spec =
+    tie.close
+    (tie.spec
+    header-requires
+    refused-requires
+    returns
+    end2-requires
+    refused-requires-2
+    returns-2
+    end2-requires-2
+    refused-requires-3
+    returns-3
+    end2-requires-3
+    refused-requires-4
+    returns-4
+    end4-requires
+    refused-requires-5
+    returns-5
+    refused-requires-6
+    returns-6
+    add-t8
+    add-t9
+    add-t10
+    returns-7)

@@ -1,0 +1,96 @@
+-- The actions of a table by node: kind, and where the operand stands.
+use mathlib.Core.Path.{_≡_}
+use mathlib.Core.Bool.{Bool, true, false, _&&_, cond}
+use mathlib.Core.List.{List, [], _∷_}
+use mathlib.Core.Option.{Option, none, some}
+use Prim.Native.Nat.{ℕ, zero, suc, _+_, _≤_, _<_}
+use lib.Dec.{ltb, eqb}
+use lib.ListN.{length, getD, drop, replicate}
+use Rattle.semantics.specs.Bytes.{every}
+use Rattle.semantics.specs.Editions.{edition1}
+use Rattle.semantics.specs.Plant.{Plant, selectors}
+use Rattle.semantics.specs.Run.{Action, test, wait, assign, switch, stop}
+use Rattle.semantics.specs.TableFile.{NodeAction, readAction, actionsIn}
+use Rattle.semantics.specs.Tables.{risingFrom, operandFits, actionNodes, actionAt}
+use Rattle.codec.specs.Places.{placesFrom}
+use Rattle.table_read.specs.declared.actions.Actions.{Actions}
+
+-- "kind (1 test, 2 wait, 3 assign, 4 switch, 5 stop)"; 0 where there is no action
+unfoldable pub kindCode : Option Action → ℕ
+kindCode none = 0
+kindCode (some (test t)) = 1
+kindCode (some (wait t)) = 2
+kindCode (some (assign v e)) = 3
+kindCode (some (switch s m)) = 4
+kindCode (some stop) = 5
+
+unfoldable pub kindAt : List NodeAction → ℕ → ℕ
+kindAt l n = kindCode (actionAt l n)
+
+-- a list of kinds by node says what the actions are
+pub record KindsSay (l : List NodeAction) (ks : List ℕ) : Type 0 where
+  pub says : (n : ℕ) → getD ks n 0 ≡ kindAt l n
+
+-- the place of a node's action, where ps are the places of the actions
+unfoldable pub placeAt : List NodeAction → List ℕ → ℕ → Option ℕ
+placeAt [] ps n = none
+placeAt (a ∷ l) [] n = none
+placeAt (a ∷ l) (p ∷ ps) n = elim (eqb (a .node) n) [ true ↦ some p | false ↦ placeAt l ps n ]
+
+-- an action: its length, its node, its kind, the operand
+unfoldable pub operandStart : Option ℕ → ℕ
+operandStart none = 0
+operandStart (some p) = p + 3
+
+unfoldable pub operandEnd : List ℕ → Option ℕ → ℕ
+operandEnd s none = 0
+operandEnd s (some p) = p + 1 + getD s p 0
+
+-- what stands at the numbers from 0 on
+unfoldable pub listed : ℕ → (ℕ → ℕ) → List ℕ
+listed zero f = []
+listed (suc k) f = f zero ∷ listed k (λ n. f (suc n))
+
+unfoldable pub byNode : (ℕ → ℕ) → List ℕ
+byNode f = listed (edition1 .nodes) f
+
+abbrev pub nodeOf : NodeAction → ℕ
+nodeOf a = a .node
+
+-- 18: "a node number above 63 or not rising"
+unfoldable pub nodeExists : NodeAction → Bool
+nodeExists a = ltb (a .node) (edition1 .nodes)
+
+unfoldable pub actionsLaid : List NodeAction → Bool
+actionsLaid l = risingFrom 0 (actionNodes l) && every nodeExists l
+
+-- 18: "or operand wrong (.. 11 and 12 judge operands)"
+unfoldable pub operandsFit : Plant → List NodeAction → Bool
+operandsFit p l = every (λ a. operandFits edition1 (length (p .variables)) (selectors p) (a .action)) l
+
+abbrev pub noActions : Actions
+noActions = record { refusal = 18; count = 0; kinds = replicate 64 0; starts = replicate 64 0; ends = replicate 64 0 }
+
+unfoldable pub actionIndex : List ℕ → List NodeAction → Actions
+actionIndex s l =
+    let ps = placesFrom (length s) (readAction edition1) (length l) (drop 1 s) in
+    record {
+      refusal = 0;
+      count = length l;
+      kinds = byNode (kindAt l);
+      starts = byNode (λ n. operandStart (placeAt l ps n));
+      ends = byNode (λ n. operandEnd s (placeAt l ps n));
+    }
+
+unfoldable pub indexRead : List ℕ → Option (List NodeAction) → Actions
+indexRead s none = noActions
+indexRead s (some l) = cond (actionsLaid l) (actionIndex s l) noActions
+
+-- 18 for the layout of the section and its node numbers, or the index; 11 and 12 are not looked at
+unfoldable pub actionsOf : List ℕ → Actions
+actionsOf s = indexRead s (actionsIn edition1 s)
+
+-- the count at the front of the section, or 0 where that is outside its bounds
+pub data Counted (s : List ℕ) (n : ℕ) : Type 0 where
+  counted : 0 < length s → n ≡ getD s 0 0 → 1 ≤ n → n ≤ 64 → Counted s n
+  miscounted : n ≡ 0 → actionsIn edition1 s ≡ none → Counted s n

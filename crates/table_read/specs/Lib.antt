@@ -1,0 +1,5 @@
+-- What the contracts of the readers of a table cite.
+pub mod Ends
+pub mod TableParts
+pub mod ActionIndex
+pub mod LocationIndex

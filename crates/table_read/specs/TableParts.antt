@@ -1,0 +1,62 @@
+-- Where the four sections of a table stand.
+use mathlib.Core.Bool.{cond}
+use mathlib.Core.List.{List}
+use mathlib.Core.Option.{Option, none, some}
+use Prim.Native.Nat.{ℕ, _+_, _-_}
+use lib.ListN.{length, take, drop}
+use Rattle.semantics.specs.Editions.{edition1}
+use Rattle.semantics.specs.TableFile.{TableSections, tableSectionsIn}
+use Rattle.semantics.specs.Tables.{tableHeader}
+use Rattle.table_read.specs.declared.parts.Parts.{Parts}
+
+-- a refusal
+abbrev pub noParts : ℕ → Parts
+noParts n = record {
+  refusal = n;
+  variables = 0;
+  «variables_end» = 0;
+  equations = 0;
+  «equations_end» = 0;
+  actions = 0;
+  «actions_end» = 0;
+  locations = 0;
+  «locations_end» = 0;
+}
+
+-- the sections that end at v, e, a and l: after the header of 5 bytes each has its length before it, in 2, 2, 2 and 4 bytes
+abbrev pub partsAt : ℕ → ℕ → ℕ → ℕ → Parts
+partsAt v e a l = record {
+  refusal = 0;
+  variables = 7;
+  «variables_end» = v;
+  equations = v + 2;
+  «equations_end» = e;
+  actions = e + 2;
+  «actions_end» = a;
+  locations = a + 4;
+  «locations_end» = l;
+}
+
+unfoldable pub partsIn : TableSections → Parts
+partsIn s =
+    let v = 7 + length (s .variables) in
+    let e = v + 2 + length (s .equations) in
+    let a = e + 2 + length (s .actions) in
+    partsAt v e a (a + 4 + length (s .locations))
+
+unfoldable pub partsRead : Option TableSections → Parts
+partsRead none = noParts 16
+partsRead (some s) = partsIn s
+
+-- 15, 16, or where the sections stand
+unfoldable pub partsOf : List ℕ → Parts
+partsOf t = cond (tableHeader edition1 t) (partsRead (tableSectionsIn (drop 5 t))) (noParts 15)
+
+-- the sections that stand there
+unfoldable pub sectionsAt : List ℕ → Parts → TableSections
+sectionsAt t p = record {
+  variables = take (p .«variables_end» - p .variables) (drop (p .variables) t);
+  equations = take (p .«equations_end» - p .equations) (drop (p .equations) t);
+  actions = take (p .«actions_end» - p .actions) (drop (p .actions) t);
+  locations = take (p .«locations_end» - p .locations) (drop (p .locations) t);
+}

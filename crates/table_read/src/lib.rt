@@ -1,0 +1,4 @@
+// Reading a table.
+pub mod actions;
+pub mod locations;
+pub mod parts;

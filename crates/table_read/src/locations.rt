@@ -1,0 +1,156 @@
+// The location section of a table (19), and where each location stands.
+ghost use mathlib.Core.Path.{_≡_};
+ghost use mathlib.Core.Bool.{_&&_};
+ghost use Prim.Native.Nat.{_≤_};
+ghost use lib.ListN.{length};
+ghost use Rattle.semantics.specs.Editions.{edition1};
+ghost use Rattle.semantics.specs.TableFile.{readEntry, readLocation};
+ghost use Rattle.semantics.specs.Tables.{goesOn, entryFits, locationFits};
+ghost use Rattle.table_read.specs.Ends.{EndsWith, follows};
+ghost use Rattle.table_read.specs.LocationIndex.{entryNode, actionsLike, kindFits, LocationsCounted, noLocations, locationsOf};
+
+// 0 or 19; how many locations there are; the place of each, and then 0
+pub struct Locations {
+    pub refusal: u8,
+    pub count: usize,
+    pub places: [usize; 1024],
+}
+
+fn refused() -> Locations
+    ensures { λ r. ⌜ r ≡ noLocations ⌝ }
+{
+    let places = [0usize; 1024];
+    Locations {
+        refusal: 19,
+        count: 0,
+        places,
+    }
+}
+
+fn both(a: bool, b: bool) -> bool
+    ensures { λ r. ⌜ r ≡ (a && b) ⌝ }
+{
+    if a {
+        return b;
+    }
+    false
+}
+
+// a location of n, or finished
+fn goes_on(t: usize, n: usize) -> bool
+    ensures { λ r. ⌜ r ≡ goesOn n t ⌝ }
+{
+    if t < n {
+        return true;
+    }
+    t == 65534
+}
+
+// whether the targets fit the kind
+fn fits(k: u8, n: usize, t: usize, u: usize) -> bool
+    ensures { λ r. ⌜ r ≡ kindFits n k t u ⌝ }
+{
+    match k {
+        1 => both(goes_on(t, n), goes_on(u, n)),
+        2 => both(goes_on(t, n), u == 65535),
+        3 => both(goes_on(t, n), u == 65535),
+        4 => both(goes_on(t, n), u == 65535),
+        5 => both(t == 65533, u == 65535),
+        _ => false,
+    }
+}
+
+// where the entry at a place ends; 0 where there is none, its node is below low or the entry does not fit
+fn entry(s: &[u8], at: usize, low: usize, n: usize, kinds: &[u8]) -> usize
+    requires { ⌜ at ≤ length (now s) ⌝ }
+    ensures { λ r. ⌜ EndsWith (readEntry edition1) (follows entryNode (entryFits n (actionsLike (now (kinds .entry)))) low) (now (s .entry)) at r ⌝ }
+{
+    if s.len() - at < 5 {
+        return 0;
+    }
+    let node = s[at] as usize;
+    if node < low {
+        return 0;
+    }
+    if node >= kinds.len() {
+        return 0;
+    }
+    let t = codec::nat2(s, at + 1);
+    let u = codec::nat2(s, at + 1 + 2);
+    if fits(kinds[node], n, t, u) {
+        at + 1 + 2 + 2
+    } else {
+        0
+    }
+}
+
+// where the location at a place ends; 0 where there is none or it does not fit
+fn location(s: &[u8], at: usize, n: usize, kinds: &[u8]) -> usize
+    requires { ⌜ at ≤ length (now s) ⌝ }
+    ensures { λ r. ⌜ EndsWith (readLocation edition1) (locationFits n (actionsLike (now (kinds .entry)))) (now (s .entry)) at r ⌝ }
+{
+    if s.len() <= at {
+        return 0;
+    }
+    let c = s[at] as usize;
+    if c < 1 {
+        return 0;
+    }
+    let mut low = 0;
+    let mut p = at + 1;
+    let mut i = 0;
+    while i < c {
+        let q = entry(s, p, low, n, kinds);
+        if q == 0 {
+            return 0;
+        }
+        low = s[p] as usize + 1;
+        p = q;
+        i += 1;
+    }
+    p
+}
+
+// how many locations there are; 0 where that is outside 1..1024
+fn count(s: &[u8]) -> usize
+    ensures { λ r. ⌜ LocationsCounted (now (s .entry)) r ⌝ }
+{
+    if s.len() < 2 {
+        return 0;
+    }
+    let n = codec::nat2(s, 0);
+    if n > 1024 {
+        return 0;
+    }
+    n
+}
+
+// kinds: of each node's action, 0 where there is none
+pub fn read(s: &[u8], kinds: &[u8]) -> Locations
+    ensures { λ r. ⌜ r ≡ locationsOf (actionsLike (now (kinds .entry))) (now (s .entry)) ⌝ }
+{
+    let n = count(s);
+    if n == 0 {
+        return refused();
+    }
+    let mut places = [0usize; 1024];
+    let mut p = 2;
+    let mut i = 0;
+    while i < n {
+        let q = location(s, p, n, kinds);
+        if q == 0 {
+            return refused();
+        }
+        places[i] = p;
+        p = q;
+        i += 1;
+    }
+    if p < s.len() {
+        return refused();
+    }
+    Locations {
+        refusal: 0,
+        count: n,
+        places,
+    }
+}

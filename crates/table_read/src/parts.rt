@@ -1,0 +1,118 @@
+// The header of a table, and where its four sections stand (15, 16).
+ghost use mathlib.Core.Path.{_≡_};
+ghost use Prim.Native.Nat.{_≤_};
+ghost use lib.ListN.{length};
+ghost use Rattle.semantics.specs.Bytes as bytes;
+ghost use Rattle.semantics.specs.Editions.{edition1};
+ghost use Rattle.semantics.specs.Tables.{tableHeader};
+ghost use Rattle.table_read.specs.Ends.{Ends};
+ghost use Rattle.table_read.specs.TableParts.{partsOf, noParts};
+
+// 0, or the number of the first condition that is broken; each section from its start to its end
+pub struct Parts {
+    pub refusal: u8,
+    pub variables: usize,
+    pub variables_end: usize,
+    pub equations: usize,
+    pub equations_end: usize,
+    pub actions: usize,
+    pub actions_end: usize,
+    pub locations: usize,
+    pub locations_end: usize,
+}
+
+fn refused(n: u8) -> Parts
+    ensures { λ r. ⌜ r ≡ noParts n ⌝ }
+{
+    Parts {
+        refusal: n,
+        variables: 0,
+        variables_end: 0,
+        equations: 0,
+        equations_end: 0,
+        actions: 0,
+        actions_end: 0,
+        locations: 0,
+        locations_end: 0,
+    }
+}
+
+fn header(t: &[u8]) -> bool
+    ensures { λ r. ⌜ r ≡ tableHeader edition1 (now (t .entry)) ⌝ }
+{
+    if t.len() < 5 {
+        return false;
+    }
+    if t[0] != 1 {
+        return false;
+    }
+    codec::nat4(t, 1) == t.len()
+}
+
+// the end of the section whose length stands in two bytes; 0 where there is none
+fn end2(t: &[u8], at: usize) -> usize
+    requires { ⌜ at ≤ length (now t) ⌝ }
+    ensures { λ r. ⌜ Ends bytes.section2 (now (t .entry)) at r ⌝ }
+{
+    if t.len() - at < 2 {
+        return 0;
+    }
+    let n = codec::nat2(t, at);
+    if t.len() - at - 2 < n {
+        return 0;
+    }
+    at + 2 + n
+}
+
+// the same, four bytes
+fn end4(t: &[u8], at: usize) -> usize
+    requires { ⌜ at ≤ length (now t) ⌝ }
+    ensures { λ r. ⌜ Ends bytes.section4 (now (t .entry)) at r ⌝ }
+{
+    if t.len() - at < 4 {
+        return 0;
+    }
+    let n = codec::nat4(t, at);
+    if t.len() - at - 4 < n {
+        return 0;
+    }
+    at + 4 + n
+}
+
+pub fn read(t: &[u8]) -> Parts
+    ensures { λ r. ⌜ r ≡ partsOf (now (t .entry)) ⌝ }
+{
+    if !header(t) {
+        return refused(15);
+    }
+    let v = end2(t, 5);
+    if v == 0 {
+        return refused(16);
+    }
+    let e = end2(t, v);
+    if e == 0 {
+        return refused(16);
+    }
+    let a = end2(t, e);
+    if a == 0 {
+        return refused(16);
+    }
+    let l = end4(t, a);
+    if l == 0 {
+        return refused(16);
+    }
+    if l < t.len() {
+        return refused(16);
+    }
+    Parts {
+        refusal: 0,
+        variables: 7,
+        variables_end: v,
+        equations: v + 2,
+        equations_end: e,
+        actions: e + 2,
+        actions_end: a,
+        locations: a + 4,
+        locations_end: l,
+    }
+}
