@@ -1,0 +1,71 @@
+// Schedule files read: K1, K11 and K1 with one byte changed. A line for each: refusal, variables, selectors, nodes.
+ghost use Prim.Native.Nat.{_<_};
+
+fn number(n: usize) {
+    io::print_decimal(1, n as u64);
+    io::write_all(1, b" ");
+}
+
+fn show(file: &[u8]) {
+    let r = schedule_read::call::read(file);
+    number(r.refusal as usize);
+    number(r.variables);
+    number(r.selectors);
+    number(r.nodes);
+    io::write_all(1, b"\n");
+}
+
+fn k1() -> [u8; 56] {
+    *b"\x01\x00\x38\x00\x0D\x01\x00\x00\x00\x00\x00\x00\x00\x0A\x00\x00\x00\x00\x00\x09\x01\x00\x06\x01\x00\x00\x00\x00\x01\x00\x19\x03\x02\x01\x02\x0A\x06\x00\x10\x02\x00\x01\x00\x00\x00\x01\x09\x05\x20\x01\x00\x00\x00\x03\x02\x00"
+}
+
+// K1 with another byte at this place
+fn changed(at: usize, b: u8)
+    requires { ⌜ at < 56 ⌝ }
+{
+    let mut f = k1();
+    f[at] = b;
+    show(&f);
+}
+
+// two variables, a CASE of two modes with a switch, and the node SWITCH
+fn cases() -> [u8; 72] {
+    *b"\x01\x00\x48\x00\x19\x02\x00\x00\x00\x00\x00\x00\x00\x0A\x00\x00\x00\x00\x00\x00\x00\x00\x00\x00\x00\x0A\x00\x00\x00\x00\x00\x21\x02\x00\x06\x01\x00\x00\x00\x00\x01\x00\x16\x02\x00\x02\x01\x01\x00\x00\x00\x02\x01\x09\x01\x20\x01\x00\x00\x00\x03\x02\x00\x00\x00\x00\x05\x01\x03\x08\x00\x01"
+}
+
+// that file with another byte at this place
+fn changed_case(at: usize, b: u8)
+    requires { ⌜ at < 72 ⌝ }
+{
+    let mut f = cases();
+    f[at] = b;
+    show(&f);
+}
+
+fn main() {
+    let file = k1();
+    show(&file);
+    show(&file[..0]);
+    let short = [1u8, 0, 3];
+    show(&short);
+    let four = [1u8, 0, 4];
+    show(&four);
+    changed(0, 2); // the version
+    changed(2, 55); // the length field
+    changed(4, 14); // the length of the first section
+    changed(5, 0); // no variables
+    changed(17, 11); // the initial value above the maximum
+    changed(23, 3); // the kind of an equation
+    changed(24, 1); // an equation drives a missing variable
+    changed(31, 2); // a node left over
+    changed(34, 3); // a SEQUENCE of three
+    changed(37, 1); // a RESET of a missing variable
+    changed(38, 119); // no form of a number
+    let other = cases();
+    show(&other);
+    changed_case(54, 2); // a switch to a missing mode
+    changed_case(47, 0); // two equations drive a variable
+    changed_case(70, 1); // a node names a missing selector
+    changed_case(71, 2); // and a missing mode
+    changed_case(55, 119); // no form of a truth, in a switch
+}
