@@ -1,4 +1,4 @@
-// Schedule files read: K1, K11 and K1 with one byte changed. A line for each: refusal, variables, selectors, nodes.
+// Schedule files read: K1, K10, K11 and files with one byte changed. A line for each: refusal, variables, selectors, nodes.
 ghost use Prim.Native.Nat.{_<_};
 
 fn number(n: usize) {
@@ -42,6 +42,15 @@ fn changed_case(at: usize, b: u8)
     show(&f);
 }
 
+// K10: a RESET to a number of depth 16, and to one of depth 17
+fn deep() -> [u8; 52] {
+    *b"\x01\x00\x34\x00\x0D\x01\x00\x00\x00\x00\x00\x00\x00\x0A\x00\x00\x00\x00\x00\x09\x01\x00\x06\x01\x00\x00\x00\x00\x01\x00\x15\x01\x13\x06\x00\x14\x14\x14\x14\x14\x14\x14\x14\x14\x14\x14\x14\x14\x14\x14\x02\x00"
+}
+
+fn too_deep() -> [u8; 53] {
+    *b"\x01\x00\x35\x00\x0D\x01\x00\x00\x00\x00\x00\x00\x00\x0A\x00\x00\x00\x00\x00\x09\x01\x00\x06\x01\x00\x00\x00\x00\x01\x00\x16\x01\x14\x06\x00\x14\x14\x14\x14\x14\x14\x14\x14\x14\x14\x14\x14\x14\x14\x14\x14\x02\x00"
+}
+
 fn main() {
     let file = k1();
     show(&file);
@@ -68,4 +77,8 @@ fn main() {
     changed_case(70, 1); // a node names a missing selector
     changed_case(71, 2); // and a missing mode
     changed_case(55, 119); // no form of a truth, in a switch
+    let deepest = deep();
+    show(&deepest);
+    let past = too_deep();
+    show(&past);
 }
