@@ -1,0 +1,3 @@
+mod Steps
+mod Adds
+mod Acts
