@@ -1,3 +1,5 @@
 mod Steps
 mod Adds
 mod Acts
+mod Standing
+mod Walks

@@ -3,15 +3,20 @@ use expression::Number;
 use expression::Truth;
 ghost use mathlib.Core.Path.{_≡_};
 ghost use mathlib.Core.Bool.{true};
-ghost use Prim.Native.Nat.{_+_, _-_, _≤_, _<_};
+ghost use mathlib.Core.List.{flatMap};
+ghost use Prim.Native.Nat.{_+_, _*_, _≤_, _<_};
 ghost use lib.ListN.{length, getD, drop};
 ghost use lib.IntN.{_+ℤ_};
 ghost use Rattle.semantics.specs.Editions.{edition1};
-ghost use Rattle.semantics.specs.Expressions.{ranged as rangedOf, truthValue, ok};
-ghost use Rattle.semantics.specs.Run.{valued, act};
+ghost use Rattle.semantics.specs.Expressions.{ranged as rangedOf, truthValue};
+ghost use Rattle.semantics.specs.Bytes.{every};
+ghost use Rattle.semantics.specs.Sections.{Mode};
+ghost use Rattle.semantics.specs.Plant.{rateNamed, switchTruths};
+ghost use Rattle.semantics.specs.Run.{valued, walk, act};
 ghost use Rattle.execution.specs.Told.{doneTold, stepTold, goesOn, truthTold, orElse, Left};
 ghost use Rattle.execution.specs.Ranges.{Sized, sums, advanced, stored, assigned, rangesOnly};
 ghost use Rattle.execution.specs.Deeds.{kindOf, form, Fit};
+ghost use Rattle.execution.specs.Modes.{modeAt, Stands, placeAt, modesNow, Current, Driving, laid};
 
 // How an event is answered: turned away with a number, a fault on a side of its range, or taken, with nobody's move or with
 // the move of a node, on done or true, or on false.
@@ -175,5 +180,86 @@ fn effect(
             Verdict::Move(n, true)
         }
         _ => Verdict::Move(n, true),
+    }
+}
+
+// The place of a mode's switch count: past its rates, of 5 bytes each.
+fn switches_at(es: &[u8], at: usize) -> usize
+    requires { ⌜ Stands (now es) at (modeAt (now es) at) ⌝ }
+    ensures { λ r. ⌜ r ≡ at + 1 + 5 * getD (now (es .entry)) at 0 ⌝ }
+{
+    at + 1 + 5 * wide(es[at])
+}
+
+// The switches of the mode at a place, up to the first that is true or faults.
+fn mode_check(es: &[u8], at: usize, values: &[i32]) -> Verdict
+    requires { ⌜ Stands (now es) at (modeAt (now es) at) ⌝ }
+    ensures { λ r. ⌜ r ≡ stepTold (walk edition1 28 (now (values .entry)) (switchTruths (modeAt (now (es .entry)) at))) ⌝ }
+{
+    let count = switches_at(es, at);
+    let mut left = wide(es[count]);
+    let mut p = count + 1;
+    while 0 < left {
+        let b = p + 2;
+        let e = p + 1 + wide(es[p]);
+        let r = ask(&es[b..e], values, Verdict::Away(28), Verdict::Stay);
+        if !goes_on(r) {
+            return r;
+        }
+        p = e;
+        left -= 1;
+    }
+    Verdict::Stay
+}
+
+// The place of selector j's current mode.
+fn place(places: &[usize], modes: &[u8], j: usize) -> usize
+    requires { ⌜ (j < length (now modes)) × (8 * j + getD (now modes) j 0 < length (now places)) ⌝ }
+    ensures { λ r. ⌜ r ≡ placeAt (now (places .entry)) (now (modes .entry)) j ⌝ }
+{
+    let row = 8 * j + wide(modes[j]);
+    places[row]
+}
+
+// The switches of all current modes, selectors rising.
+fn switch_check(es: &[u8], places: &[usize], values: &[i32], modes: &[u8]) -> Verdict
+    requires { ⌜ Current (now es) (now places) (now modes) ⌝ }
+    ensures { λ r. ⌜ r ≡ stepTold (walk edition1 28 (now (values .entry)) (flatMap switchTruths (modesNow (now (es .entry)) (now (places .entry)) (now (modes .entry))))) ⌝ }
+{
+    let mut j = 0;
+    while j < modes.len() {
+        let r = mode_check(es, place(places, modes, j), values);
+        if !goes_on(r) {
+            return r;
+        }
+        j += 1;
+    }
+    Verdict::Stay
+}
+
+// The rates of the mode at a place, put over those of their variables.
+fn lay_rates(es: &[u8], at: usize, rates: &mut [i32])
+    requires { ⌜ Stands (now es) at (modeAt (now es) at) × (every (rateNamed (length (now rates))) (modeAt (now es) at .rates) ≡ true) ⌝ }
+    ensures { λ _. ⌜ now (rates .exit) ≡ laid (now (rates .entry)) (modeAt (now (es .entry)) at .rates) ⌝ }
+{
+    let mut left = wide(es[at]);
+    let mut p = at + 1;
+    while 0 < left {
+        let v = wide(es[p]);
+        rates[v] = codec::int4(es, p + 1);
+        p += 5;
+        left -= 1;
+    }
+}
+
+// The rates of all current modes.
+fn lay_all(es: &[u8], places: &[usize], modes: &[u8], rates: &mut [i32])
+    requires { ⌜ Current (now es) (now places) (now modes) × Driving (now es) (now places) (now modes) (length (now rates)) ⌝ }
+    ensures { λ _. ⌜ now (rates .exit) ≡ laid (now (rates .entry)) (flatMap (λ (m : Mode). m .rates) (modesNow (now (es .entry)) (now (places .entry)) (now (modes .entry)))) ⌝ }
+{
+    let mut j = 0;
+    while j < modes.len() {
+        lay_rates(es, place(places, modes, j), rates);
+        j += 1;
     }
 }
