@@ -3,3 +3,4 @@ mod Adds
 mod Acts
 mod Standing
 mod Walks
+mod Taking

@@ -190,8 +190,8 @@ pub record Seeking (es : List ℕ) (i p : ℕ) (ws : List Switch) (k : ℕ) : Ty
   pub enough : i < count
   pub same : getElem? ws k ≡ getElem? switches i
 
-pub seek-start : {es : List ℕ} {n p : ℕ} {ws : List Switch} (k : ℕ) → Ahead readSwitch es n p ws → k < n → Seeking es k p ws k
-seek-start {n = n} {ws = ws} k a h = record { count = n; switches = ws; ahead = a; enough = h; same = refl }
+pub seek-start : {es : List ℕ} {at : ℕ} {m : Mode} → Stands es at m → (c k : ℕ) → c ≡ at + 1 + 5 * getD es at 0 → k < getD es c 0 → Seeking es k (c + 1) (m .switches) k
+seek-start {es} {m = m} s c k e h = record { count = getD es c 0; switches = m .switches; ahead = rw e (parts s .switches); enough = h; same = refl }
 
 module _ {es : List ℕ} {i p : ℕ} {ws : List Switch} {k : ℕ} (l : Seeking es i p ws k) where
   seek-some : 0 < l .count
@@ -204,11 +204,11 @@ module _ {es : List ℕ} {i p : ℕ} {ws : List Switch} {k : ℕ} (l : Seeking e
   pub seek-here : Found
   seek-here = record { switch = _; stands = next-switch (l .ahead) seek-some .here }
 
-  pub seek-next : 0 < i → Seeking es (i - 1) (p + 1 + getD es p 0) ws k
-  seek-next h =
+  pub seek-next : 0 < i → (n : ℕ) → n ≡ getD es p 0 → Seeking es (i - 1) (p + 1 + n) ws k
+  seek-next h n q =
       let x = next-switch (l .ahead) seek-some in
       let e : i ≡ suc (i - 1) = omega arith in
-      record { count = l .count - 1; switches = x .tail; ahead = x .ahead; enough = omega (arith, l .enough); same = l .same ∙ ap₂ getElem? (x .is) e }
+      record { count = l .count - 1; switches = x .tail; ahead = rw q (x .ahead); enough = omega (arith, l .enough); same = l .same ∙ ap₂ getElem? (x .is) e }
 
   pub seek-end : i ≡ 0 → (w : Switch) → getElem? ws k ≡ some w → SwitchAt es p w
   seek-end h w e =
@@ -216,6 +216,13 @@ module _ {es : List ℕ} {i p : ℕ} {ws : List Switch} {k : ℕ} (l : Seeking e
       subst (SwitchAt es p) (some-is (sym (ap₂ getElem? (x .is) h) ∙ sym (l .same) ∙ e)) (x .here)
 
 -- ---- the current modes
+-- a place that was worked out
+pub stands-at : {es : List ℕ} {at i : ℕ} → i ≡ at → Stands es at (modeAt es at) → Stands es i (modeAt es i)
+stands-at {es} e s = subst (λ (k : ℕ). Stands es k (modeAt es k)) (sym e) s
+
+pub named-at : (es : List ℕ) {at i m n : ℕ} → i ≡ at → m ≡ n → every (rateNamed n) (modeAt es at .rates) ≡ true → every (rateNamed m) (modeAt es i .rates) ≡ true
+named-at es e f h = rw (e, f) h
+
 module _ (es places ms : List ℕ) (j : ℕ) where
   pub modes-more : j < length ms → modesFrom es places j (drop j ms) ≡ modeAt es (placeAt places ms j) ∷ modesFrom es places (j + 1) (drop (j + 1) ms)
   unfolding modesFrom

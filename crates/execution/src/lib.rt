@@ -4,19 +4,20 @@ use expression::Truth;
 ghost use mathlib.Core.Path.{_≡_};
 ghost use mathlib.Core.Bool.{true};
 ghost use mathlib.Core.List.{flatMap};
+ghost use mathlib.Core.Option.{some};
 ghost use Prim.Native.Nat.{_+_, _*_, _≤_, _<_};
-ghost use lib.ListN.{length, getD, drop};
+ghost use lib.ListN.{length, getD, drop, getElem?};
 ghost use lib.IntN.{_+ℤ_};
 ghost use Rattle.semantics.specs.Editions.{edition1};
 ghost use Rattle.semantics.specs.Expressions.{ranged as rangedOf, truthValue};
 ghost use Rattle.semantics.specs.Bytes.{every};
-ghost use Rattle.semantics.specs.Sections.{Mode};
+ghost use Rattle.semantics.specs.Sections.{Mode, Switch};
 ghost use Rattle.semantics.specs.Plant.{rateNamed, switchTruths};
 ghost use Rattle.semantics.specs.Run.{valued, walk, act};
 ghost use Rattle.execution.specs.Told.{doneTold, stepTold, goesOn, truthTold, orElse, Left};
 ghost use Rattle.execution.specs.Ranges.{Sized, sums, advanced, stored, assigned, rangesOnly};
 ghost use Rattle.execution.specs.Deeds.{kindOf, form, Fit};
-ghost use Rattle.execution.specs.Modes.{modeAt, Stands, placeAt, modesNow, Current, Driving, laid};
+ghost use Rattle.execution.specs.Modes.{modeAt, Stands, SwitchAt, placeAt, modesNow, Current, Driving, laid, switchTaken};
 
 // How an event is answered: turned away with a number, a fault on a side of its range, or taken, with nobody's move or with
 // the move of a node, on done or true, or on false.
@@ -262,4 +263,48 @@ fn lay_all(es: &[u8], places: &[usize], modes: &[u8], rates: &mut [i32])
         lay_rates(es, place(places, modes, j), rates);
         j += 1;
     }
+}
+
+// The place of switch k of a mode whose switch count stands at a place: past k switches.
+fn switch_at(es: &[u8], at: usize, count: usize, k: usize) -> usize
+    requires { ⌜ Stands (now es) at (modeAt (now es) at) × (count ≡ at + 1 + 5 * getD (now es) at 0) × (k < getD (now es) count 0) ⌝ }
+    ensures { λ r. ⌜ ((w : Switch) → getElem? (modeAt (now (es .entry)) at .switches) k ≡ some w → SwitchAt (now (es .entry)) r w) ⌝ }
+{
+    let mut p = count + 1;
+    let mut left = k;
+    while 0 < left {
+        p = p + 1 + wide(es[p]);
+        left -= 1;
+    }
+    p
+}
+
+// Switch k of selector s's current mode is taken.
+fn take_switch(
+    es: &[u8],
+    places: &[usize],
+    s: usize,
+    k: usize,
+    values: &[i32],
+    modes: &mut [u8],
+) -> Verdict
+    requires { ⌜ Current (now es) (now places) (now modes) ⌝ }
+    ensures { λ r. ⌜ Left (switchTaken (modesNow (now (es .entry)) (now (places .entry)) (now (modes .entry))) (now (values .entry)) (now (modes .entry)) s k) (now (values .entry)) (now (modes .entry)) r (now (values .entry)) (now (modes .exit)) ⌝ }
+{
+    if modes.len() <= s {
+        return Verdict::Away(26);
+    }
+    let at = place(places, modes, s);
+    let count = switches_at(es, at);
+    if wide(es[count]) <= k {
+        return Verdict::Away(26);
+    }
+    let q = switch_at(es, at, count, k);
+    let b = q + 2;
+    let e = q + 1 + wide(es[q]);
+    let r = ask(&es[b..e], values, Verdict::Stay, Verdict::Away(30));
+    if goes_on(r) {
+        modes[s] = es[q + 1];
+    }
+    r
 }

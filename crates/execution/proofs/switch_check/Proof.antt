@@ -1,52 +1,59 @@
+use mathlib.Core.Path.{_≡_, refl, sym, ap, _∙_}
+use mathlib.Core.List.{flatMap}
+use Prim.Native.Nat.{ℕ, _-_, _≤_}
+use native.Mathlib.Omega.{arith}
+use lib.ListN.{length}
+use borrow.Author.Tests.{not-true, not-false}
+use Rattle.semantics.specs.Editions.{edition1}
+use Rattle.semantics.specs.Plant.{switchTruths}
+use Rattle.semantics.specs.Run.{walk}
+use Rattle.execution.specs.Told.{stepTold}
+use Rattle.execution.specs.Modes.{modeAt, placeAt, modesNow}
+use Rattle.execution.proofs.Walks.{stands-at, checkFrom, check-stops, check-next, check-end}
+use borrow.Author.Needs.{needs}
 use Rattle.execution.proofs.switch_check.Statement.{statement}
 use Rattle.execution.proofs.switch_check.Tie as tie
-use Rattle.execution.proofs.switch_check.Reads as reads
-use Rattle.execution.proofs.switch_check.Lts as lts
-use Rattle.execution.proofs.goes_on.Reads as goes-on-reads
-use Rattle.execution.proofs.mode_check.Reads as mode-check-reads
-use Rattle.execution.proofs.place.Reads as place-reads
 
 abbrev Inv-loop : tie.InvT-loop
-Inv-loop es places values modes j₀ j = ?
+Inv-loop es places values modes j₀ j = (j ≤ length modes) × (walk edition1 28 values (flatMap switchTruths (modesNow es places modes)) ≡ checkFrom values es places modes j)
 
 abbrev μ-loop : tie.MeasureT-loop
-μ-loop es places values modes j₀ j = ?
+μ-loop es places values modes j₀ j = length modes - j
 
--- src/lib.rt:230:5
 loop-holds : tie.Need-loop-holds Inv-loop μ-loop
-loop-holds c = ?
+loop-holds c = (omega arith, refl)
 
--- src/lib.rt:231:32
 place-requires : tie.Need-place-requires Inv-loop μ-loop
-place-requires c κs = ?
+place-requires c κs = (c .loop-test .taken, c .before .before .before .before .before .pre .row (c .before .loop .j) (c .loop-test .taken))
 
--- src/lib.rt:231:13
 mode-check-requires : tie.Need-mode-check-requires Inv-loop μ-loop
-mode-check-requires c κs = ?
+mode-check-requires c κs = stands-at (c .place .ensures) (c .before .before .before .before .before .before .pre .stands (c .before .before .loop .j) (c .before .loop-test .taken))
 
--- src/lib.rt:232:13
 goes-on-requires : tie.Need-goes-on-requires Inv-loop μ-loop
-goes-on-requires c κs = ?
+goes-on-requires c κs = search needs
 
--- src/lib.rt:233:13
 returns : tie.Need-returns Inv-loop μ-loop
-returns c = ?
+returns c = let a = c .before .before .before .before .before .before .before .before .before .args in
+    let l = c .before .before .before .before .before .loop in
+    let e : c .before .before .mode-check .result ≡ stepTold (walk edition1 28 (a .values .now) (switchTruths (modeAt (a .es .now) (placeAt (a .places .now) (a .modes .now) (l .j))))) =
+    c .before .before .mode-check .ensures ∙ ap (λ (i : ℕ). stepTold (walk edition1 28 (a .values .now) (switchTruths (modeAt (a .es .now) i)))) (c .before .before .before .place .ensures) in
+    check-stops (a .values .now) (a .es .now) (a .places .now) (a .modes .now) (l .j) (c .before .before .before .before .loop-test .taken) _ e (sym (c .before .goes-on .ensures) ∙ not-true _ (c .if1 .taken)) ∙ sym (ap stepTold (l .inv .1))
 
--- src/lib.rt:235:9
 add-j : tie.Need-add-j Inv-loop μ-loop
-add-j c = ?
+add-j c = omega arith
 
--- src/lib.rt:230:5
 loop-less : tie.Need-loop-less Inv-loop μ-loop
-loop-less c = ?
+loop-less c = omega arith
 
--- src/lib.rt:230:5
 loop-again : tie.Need-loop-again Inv-loop μ-loop
-loop-again c = ?
+loop-again c = let a = c .before .before .before .before .before .before .before .before .before .args in
+    let l = c .before .before .before .before .before .loop in
+    let e : c .before .before .mode-check .result ≡ stepTold (walk edition1 28 (a .values .now) (switchTruths (modeAt (a .es .now) (placeAt (a .places .now) (a .modes .now) (l .j))))) =
+    c .before .before .mode-check .ensures ∙ ap (λ (i : ℕ). stepTold (walk edition1 28 (a .values .now) (switchTruths (modeAt (a .es .now) i)))) (c .before .before .before .place .ensures) in
+    (omega arith, l .inv .1 ∙ check-next (a .values .now) (a .es .now) (a .places .now) (a .modes .now) (l .j) (c .before .before .before .before .loop-test .taken) _ e (sym (c .before .goes-on .ensures) ∙ not-false _ (c .if1 .left)))
 
--- src/lib.rt:225:1
 returns-2 : tie.Need-returns-2 Inv-loop μ-loop
-returns-2 c = ?
+returns-2 c = let a = c .before .before .before .before .before .args in check-end (a .values .now) (a .es .now) (a .places .now) (a .modes .now) (c .before .loop .j) (c .loop-test .left) ∙ sym (ap stepTold (c .before .loop .inv .1))
 
 pub switch-check-spec : {M : Type 1} → statement M
 switch-check-spec =
