@@ -4,3 +4,4 @@ mod Acts
 mod Standing
 mod Walks
 mod Taking
+mod Rates

@@ -2,3 +2,4 @@ pub mod Told
 pub mod Ranges
 pub mod Deeds
 pub mod Modes
+pub mod Ready
