@@ -5,3 +5,4 @@ mod Standing
 mod Walks
 mod Taking
 mod Rates
+mod Scans

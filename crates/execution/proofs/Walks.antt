@@ -21,7 +21,7 @@ use Rattle.semantics.specs.Run.{away, faulty, pass, _>>=_, _>>_, allow, valued,
 use Rattle.semantics.proofs.Facts.{true-not-false, some-is}
 use Rattle.codec.proofs.Reading.{nat4At}
 use Rattle.execution.specs.Told.{doneTold, stepTold, goesOn, truthTold}
-use Rattle.execution.specs.Modes.{modeAt, Stands, SwitchAt, modesFrom, placeAt, laid}
+use Rattle.execution.specs.Modes.{modeAt, Stands, SwitchAt, modesFrom, placeAt, Driving, laid}
 use Rattle.execution.specs.declared.Verdict.{Verdict}
 use Rattle.execution.specs.declared.Verdict.the-variants.{Away, Above, Below, Stay, Move}
 use Rattle.execution.proofs.Standing.{Ahead, none-ahead, parts, NextRate, next-rate, NextSwitch, next-switch}
@@ -87,7 +87,7 @@ lay-end {zs = zs} l h = sym (l .same ∙ ap (laid zs) (none-ahead (l .ahead) h))
 
 -- ---- walks over truths
 module _ (n : ℕ) (vs : List ℤ) where
-  walk-out : (t : List ℕ) (ts : List (List ℕ)) (r : Verdict) → r ≡ truthTold (Away n) Stay (truthValue edition1 vs t) → goesOn r ≡ false → r ≡ stepTold (walk edition1 n vs (t ∷ ts))
+  pub walk-out : (t : List ℕ) (ts : List (List ℕ)) (r : Verdict) → r ≡ truthTold (Away n) Stay (truthValue edition1 vs t) → goesOn r ≡ false → r ≡ stepTold (walk edition1 n vs (t ∷ ts))
   unfolding walk truthTold doneTold goesOn valued allow _>>=_ _>>_
   walk-out t ts r e h = go (truthValue edition1 vs t) e
     where
@@ -97,7 +97,7 @@ module _ (n : ℕ) (vs : List ℤ) where
       go (fault above) e = e
       go (fault below) e = e
 
-  walk-on : (t : List ℕ) (ts : List (List ℕ)) (r : Verdict) → r ≡ truthTold (Away n) Stay (truthValue edition1 vs t) → goesOn r ≡ true → walk edition1 n vs (t ∷ ts) ≡ walk edition1 n vs ts
+  pub walk-on : (t : List ℕ) (ts : List (List ℕ)) (r : Verdict) → r ≡ truthTold (Away n) Stay (truthValue edition1 vs t) → goesOn r ≡ true → walk edition1 n vs (t ∷ ts) ≡ walk edition1 n vs ts
   unfolding walk truthTold goesOn valued allow _>>=_ _>>_
   walk-on t ts r e h = go (truthValue edition1 vs t) e
     where
@@ -108,7 +108,7 @@ module _ (n : ℕ) (vs : List ℤ) where
       go (fault below) e = true-not-false (sym h ∙ ap goesOn e)
 
   -- the truths of one list, then those of another
-  walk-then : (a b : List (List ℕ)) → walk edition1 n vs (a ++ b) ≡ (walk edition1 n vs a >> walk edition1 n vs b)
+  pub walk-then : (a b : List (List ℕ)) → walk edition1 n vs (a ++ b) ≡ (walk edition1 n vs a >> walk edition1 n vs b)
   unfolding walk _>>_ _>>=_ valued allow
   walk-then [] b = refl
   walk-then (t ∷ ts) b = go (truthValue edition1 vs t) (walk-then ts b)
@@ -222,6 +222,9 @@ stands-at {es} e s = subst (λ (k : ℕ). Stands es k (modeAt es k)) (sym e) s
 
 pub named-at : (es : List ℕ) {at i m n : ℕ} → i ≡ at → m ≡ n → every (rateNamed n) (modeAt es at .rates) ≡ true → every (rateNamed m) (modeAt es i .rates) ≡ true
 named-at es e f h = rw (e, f) h
+
+pub driving-as : {es places ms : List ℕ} {m n : ℕ} → m ≡ n → Driving es places ms m → Driving es places ms n
+driving-as {es} {places} {ms} e d = subst (Driving es places ms) e d
 
 module _ (es places ms : List ℕ) (j : ℕ) where
   pub modes-more : j < length ms → modesFrom es places j (drop j ms) ≡ modeAt es (placeAt places ms j) ∷ modesFrom es places (j + 1) (drop (j + 1) ms)

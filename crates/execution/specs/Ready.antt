@@ -3,10 +3,10 @@ use mathlib.Core.Path.{_≡_}
 use mathlib.Core.Bool.{Bool, true}
 use mathlib.Core.List.{List, [], _∷_, map}
 use mathlib.Core.Option.{some}
-use Prim.Native.Nat.{ℕ, _+_, _-_, _*_, _≤_, _<_}
+use Prim.Native.Nat.{ℕ, _+_, _*_, _≤_, _<_}
 use lib.Dec.{ltb}
 use lib.IntN.{ℤ, pos}
-use lib.ListN.{length, getD, getElem?, take, drop}
+use lib.ListN.{length, getD, getElem?}
 use Rattle.semantics.specs.Bytes.{every}
 use Rattle.semantics.specs.Sections.{Variable, Rate, Selector, Equation, steady, choice}
 use Rattle.semantics.specs.Plant.{Plant, equationNamed, drivenOnce, selectors, modeExists, noMode, rateAmong}
@@ -14,6 +14,7 @@ use Rattle.semantics.specs.Starts.{modesFit}
 use Rattle.semantics.specs.Run.{Action, test, wait, assign, switch, stop}
 use Rattle.semantics.specs.TableFile.{actionKind, actionOf}
 use Rattle.nodeset.specs.Sets.{mem}
+use Rattle.execution.specs.Deeds.{cutAt, Cut}
 use Rattle.execution.specs.Modes.{Stands}
 
 pub record Lent : Type 0 where
@@ -62,15 +63,12 @@ actionNamed variables cs (switch s m) = modeExists cs s m
 actionNamed variables cs stop = true
 
 abbrev pub operandAt : Lent → ℕ → List ℕ
-operandAt l n = take (getD (l .ends) n 0 - getD (l .starts) n 0) (drop (getD (l .starts) n 0) (l .operands))
+operandAt l n = cutAt (l .operands) (l .starts) (l .ends) n
 
 pub record NodeLent (p : Plant) (a : Action) (l : Lent) (n : ℕ) : Type 0 where
   pub below : n < 64
   pub kind : n < length (l .kinds)
-  pub start : n < length (l .starts)
-  pub end : n < length (l .ends)
-  pub low : getD (l .starts) n 0 ≤ getD (l .ends) n 0
-  pub high : getD (l .ends) n 0 ≤ length (l .operands)
+  pub cut : Cut (l .operands) (l .starts) (l .ends) n
   pub is : actionOf (actionKind (getD (l .kinds) n 0)) (operandAt l n) ≡ some a
   pub named : actionNamed (length (p .variables)) (selectors p) a ≡ true
 
@@ -86,3 +84,9 @@ pub record Ready (p : Plant) (action : ℕ → Action) (l : Lent) (acting : List
   pub plant : PlantLent p l
   pub nodes : (n : ℕ) → mem acting n ≡ true → NodeLent p (action n) l n
   pub fits : Fits p vs ms
+
+-- there are such a plant and such actions
+pub record Promised (l : Lent) (acting : List ℕ) (vs : List ℤ) (ms : List ℕ) : Type 0 where
+  pub plant : Plant
+  pub action : ℕ → Action
+  pub ready : Ready plant action l acting vs ms

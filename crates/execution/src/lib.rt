@@ -1,11 +1,12 @@
 // One event judged, its record and the counts of a run, for a run by the rules and for one by a table.
 use expression::Number;
 use expression::Truth;
+use nodeset::NodeSet;
 ghost use mathlib.Core.Path.{_≡_};
 ghost use mathlib.Core.Bool.{true};
-ghost use mathlib.Core.List.{flatMap};
+ghost use mathlib.Core.List.{flatMap, map};
 ghost use mathlib.Core.Option.{some};
-ghost use Prim.Native.Nat.{_+_, _*_, _≤_, _<_};
+ghost use Prim.Native.Nat.{ℕ, _+_, _*_, _≤_, _<_};
 ghost use lib.ListN.{length, getD, drop, getElem?};
 ghost use lib.IntN.{_+ℤ_};
 ghost use Rattle.semantics.specs.Editions.{edition1};
@@ -14,9 +15,10 @@ ghost use Rattle.semantics.specs.Bytes.{every};
 ghost use Rattle.semantics.specs.Sections.{Mode, Switch};
 ghost use Rattle.semantics.specs.Plant.{rateNamed, switchTruths};
 ghost use Rattle.semantics.specs.Run.{valued, walk, act};
+ghost use Rattle.nodeset.specs.Sets.{mem, members};
 ghost use Rattle.execution.specs.Told.{doneTold, stepTold, goesOn, truthTold, orElse, Left};
 ghost use Rattle.execution.specs.Ranges.{Sized, sums, advanced, stored, assigned, rangesOnly};
-ghost use Rattle.execution.specs.Deeds.{kindOf, form, Fit};
+ghost use Rattle.execution.specs.Deeds.{kindOf, form, Fit, cutAt, Cut, isWaitKind, waitsAt, stillAt};
 ghost use Rattle.execution.specs.Modes.{modeAt, Stands, SwitchAt, placeAt, modesNow, Current, Driving, laid, switchTaken};
 
 // How an event is answered: turned away with a number, a fault on a side of its range, or taken, with nobody's move or with
@@ -307,4 +309,82 @@ fn take_switch(
         modes[s] = es[q + 1];
     }
     r
+}
+
+// Does node n not act, or is it a wait?
+fn waits(kinds: &[u8], acting: NodeSet, n: usize) -> bool
+    requires { ⌜ (mem (acting .words) n ≡ true → n < length (now kinds)) ⌝ }
+    ensures { λ b. ⌜ b ≡ waitsAt (now (kinds .entry)) (acting .words) n ⌝ }
+{
+    if !nodeset::contains(acting, n) {
+        return true;
+    }
+    kinds[n] == 2
+}
+
+// Are all acting nodes waits?
+fn all_wait(kinds: &[u8], acting: NodeSet) -> bool
+    requires { ⌜ ((n : ℕ) → mem (acting .words) n ≡ true → (n < 64) × (n < length (now kinds))) ⌝ }
+    ensures { λ b. ⌜ b ≡ every (isWaitKind (now (kinds .entry))) (members (acting .words)) ⌝ }
+{
+    let mut n = 0;
+    while n < 64 {
+        if !waits(kinds, acting, n) {
+            return false;
+        }
+        n += 1;
+    }
+    true
+}
+
+// The truth of node n, where it acts.
+fn still(
+    ops: &[u8],
+    starts: &[usize],
+    ends: &[usize],
+    acting: NodeSet,
+    values: &[i32],
+    n: usize,
+) -> Verdict
+    requires { ⌜ (mem (acting .words) n ≡ true → Cut (now ops) (now starts) (now ends) n) ⌝ }
+    ensures { λ r. ⌜ r ≡ stillAt (now (values .entry)) (cutAt (now (ops .entry)) (now (starts .entry)) (now (ends .entry)) n) (acting .words) n ⌝ }
+{
+    if !nodeset::contains(acting, n) {
+        return Verdict::Stay;
+    }
+    let b = starts[n];
+    let e = ends[n];
+    ask(&ops[b..e], values, Verdict::Away(31), Verdict::Stay)
+}
+
+// The truths of the acting nodes, up to the first that is true or faults.
+fn all_still(
+    ops: &[u8],
+    starts: &[usize],
+    ends: &[usize],
+    acting: NodeSet,
+    values: &[i32],
+) -> Verdict
+    requires { ⌜ ((n : ℕ) → mem (acting .words) n ≡ true → (n < 64) × Cut (now ops) (now starts) (now ends) n) ⌝ }
+    ensures { λ r. ⌜ r ≡ stepTold (walk edition1 31 (now (values .entry)) (map (cutAt (now (ops .entry)) (now (starts .entry)) (now (ends .entry))) (members (acting .words)))) ⌝ }
+{
+    let mut n = 0;
+    while n < 64 {
+        let r = still(ops, starts, ends, acting, values, n);
+        if !goes_on(r) {
+            return r;
+        }
+        n += 1;
+    }
+    Verdict::Stay
+}
+
+// The rates in force: those of kind 1, and the current modes' over them.
+fn rates_now(es: &[u8], places: &[usize], steady: [i32; 32], modes: &[u8]) -> [i32; 32]
+    requires { ⌜ Current (now es) (now places) (now modes) × Driving (now es) (now places) (now modes) 32 ⌝ }
+    ensures { λ r. ⌜ r ≡ laid steady (flatMap (λ (m : Mode). m .rates) (modesNow (now (es .entry)) (now (places .entry)) (now (modes .entry)))) ⌝ }
+{
+    let mut rates = steady;
+    lay_all(es, places, modes, &mut rates);
+    rates
 }
