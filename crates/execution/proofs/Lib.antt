@@ -6,3 +6,6 @@ mod Walks
 mod Taking
 mod Rates
 mod Scans
+mod Lending
+mod Formed
+mod Events

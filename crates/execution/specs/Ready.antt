@@ -31,6 +31,19 @@ pub record Lent : Type 0 where
   pub starts : List ℕ
   pub ends : List ℕ
 
+abbrev pub lent : List ℕ → List ℕ → List ℤ → List ℤ → List ℤ → List ℕ → List ℕ → List ℕ → List ℕ → Lent
+lent es places rates lows highs ops kinds starts ends = record {
+  equations = es;
+  places = places;
+  steady = rates;
+  lows = lows;
+  highs = highs;
+  operands = ops;
+  kinds = kinds;
+  starts = starts;
+  ends = ends;
+}
+
 -- ---- the plant
 -- the rates of kind 1
 unfoldable pub steadyRates : List Equation → List Rate
@@ -46,7 +59,8 @@ pub record ModeLent (l : Lent) (j : ℕ) (c : Selector) (m : ℕ) : Type 0 where
 pub record PlantLent (p : Plant) (l : Lent) : Type 0 where
   pub lows : l .lows ≡ map (λ (x : Variable). x .minimum) (p .variables)
   pub highs : l .highs ≡ map (λ (x : Variable). x .maximum) (p .variables)
-  pub many : length (p .variables) ≤ length (l .steady)
+  pub few : length (p .variables) ≤ 32
+  pub long : length (l .steady) ≡ 32
   pub steady : (v : ℕ) → v < length (p .variables) → getD (l .steady) v (pos 0) ≡ rateAmong (steadyRates (p .equations)) v
   pub modes : (j : ℕ) (c : Selector) → getElem? (selectors p) j ≡ some c → (m : ℕ) → m < length (c .modes) → ModeLent l j c m
   -- conditions 7 and 8

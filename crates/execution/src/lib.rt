@@ -13,12 +13,13 @@ ghost use Rattle.semantics.specs.Editions.{edition1};
 ghost use Rattle.semantics.specs.Expressions.{ranged as rangedOf, truthValue};
 ghost use Rattle.semantics.specs.Bytes.{every};
 ghost use Rattle.semantics.specs.Sections.{Mode, Switch};
-ghost use Rattle.semantics.specs.Plant.{rateNamed, switchTruths};
-ghost use Rattle.semantics.specs.Run.{valued, walk, act};
+ghost use Rattle.semantics.specs.Plant.{Plant, rateNamed, switchTruths};
+ghost use Rattle.semantics.specs.Run.{Action, valued, walk, act, judgeTick, judgePick, judge as judgeOf};
 ghost use Rattle.nodeset.specs.Sets.{mem, members};
 ghost use Rattle.execution.specs.Told.{doneTold, stepTold, goesOn, truthTold, orElse, Left};
 ghost use Rattle.execution.specs.Ranges.{Sized, sums, advanced, stored, assigned, rangesOnly};
 ghost use Rattle.execution.specs.Deeds.{kindOf, form, Fit, cutAt, Cut, isWaitKind, waitsAt, stillAt};
+ghost use Rattle.execution.specs.Ready.{Lent, Ready, Promised, lent};
 ghost use Rattle.execution.specs.Modes.{modeAt, Stands, SwitchAt, placeAt, modesNow, Current, Driving, laid, switchTaken};
 
 // How an event is answered: turned away with a number, a fault on a side of its range, or taken, with nobody's move or with
@@ -387,4 +388,68 @@ fn rates_now(es: &[u8], places: &[usize], steady: [i32; 32], modes: &[u8]) -> [i
     let mut rates = steady;
     lay_all(es, places, modes, &mut rates);
     rates
+}
+
+// A tick: all acting nodes are waits, no switch and no wait is true, then each value adds its rate.
+fn tick(
+    es: &[u8],
+    places: &[usize],
+    steady: [i32; 32],
+    lows: &[i32],
+    highs: &[i32],
+    ops: &[u8],
+    kinds: &[u8],
+    starts: &[usize],
+    ends: &[usize],
+    acting: NodeSet,
+    values: &mut [i32],
+    modes: &[u8],
+) -> Verdict
+    requires { ⌜ Promised (lent (now es) (now places) steady (now lows) (now highs) (now ops) (now kinds) (now starts) (now ends)) (acting .words) (now values) (now modes) ⌝ }
+    ensures { λ r. ⌜ ((p : Plant) (f : ℕ → Action) → Ready p f (lent (now (es .entry)) (now (places .entry)) steady (now (lows .entry)) (now (highs .entry)) (now (ops .entry)) (now (kinds .entry)) (now (starts .entry)) (now (ends .entry))) (acting .words) (now (values .entry)) (now (modes .entry)) → Left (judgeTick edition1 p f (members (acting .words)) (now (values .entry)) (now (modes .entry))) (now (values .entry)) (now (modes .entry)) r (now (values .exit)) (now (modes .entry))) ⌝ }
+{
+    if !all_wait(kinds, acting) {
+        return Verdict::Away(27);
+    }
+    let check = switch_check(es, places, values, modes);
+    if !goes_on(check) {
+        return check;
+    }
+    let walk = all_still(ops, starts, ends, acting, values);
+    if !goes_on(walk) {
+        return walk;
+    }
+    let rates = rates_now(es, places, steady, modes);
+    advance(lows, highs, &rates, values)
+}
+
+// A pick of node n: it acts, no switch is true, then what it does.
+fn pick(
+    es: &[u8],
+    places: &[usize],
+    steady: [i32; 32],
+    lows: &[i32],
+    highs: &[i32],
+    ops: &[u8],
+    kinds: &[u8],
+    starts: &[usize],
+    ends: &[usize],
+    acting: NodeSet,
+    n: usize,
+    values: &mut [i32],
+    modes: &mut [u8],
+) -> Verdict
+    requires { ⌜ Promised (lent (now es) (now places) steady (now lows) (now highs) (now ops) (now kinds) (now starts) (now ends)) (acting .words) (now values) (now modes) × (n < 256) ⌝ }
+    ensures { λ r. ⌜ ((p : Plant) (f : ℕ → Action) → Ready p f (lent (now (es .entry)) (now (places .entry)) steady (now (lows .entry)) (now (highs .entry)) (now (ops .entry)) (now (kinds .entry)) (now (starts .entry)) (now (ends .entry))) (acting .words) (now (values .entry)) (now (modes .entry)) → Left (judgePick edition1 p f (members (acting .words)) (now (values .entry)) (now (modes .entry)) n) (now (values .entry)) (now (modes .entry)) r (now (values .exit)) (now (modes .exit))) ⌝ }
+{
+    if !nodeset::contains(acting, n) {
+        return Verdict::Away(25);
+    }
+    let check = switch_check(es, places, values, modes);
+    if !goes_on(check) {
+        return check;
+    }
+    let b = starts[n];
+    let e = ends[n];
+    effect(kinds[n], &ops[b..e], lows, highs, n, values, modes)
 }
