@@ -9,3 +9,4 @@ mod Scans
 mod Lending
 mod Formed
 mod Events
+mod Which

@@ -4,7 +4,7 @@ use expression::Truth;
 use nodeset::NodeSet;
 ghost use mathlib.Core.Path.{_≡_};
 ghost use mathlib.Core.Bool.{true};
-ghost use mathlib.Core.List.{flatMap, map};
+ghost use mathlib.Core.List.{[], _∷_, flatMap, map};
 ghost use mathlib.Core.Option.{some};
 ghost use Prim.Native.Nat.{ℕ, _+_, _*_, _≤_, _<_};
 ghost use lib.ListN.{length, getD, drop, getElem?};
@@ -14,6 +14,7 @@ ghost use Rattle.semantics.specs.Expressions.{ranged as rangedOf, truthValue};
 ghost use Rattle.semantics.specs.Bytes.{every};
 ghost use Rattle.semantics.specs.Sections.{Mode, Switch};
 ghost use Rattle.semantics.specs.Plant.{Plant, rateNamed, switchTruths};
+ghost use Rattle.semantics.specs.Events.{eventIn};
 ghost use Rattle.semantics.specs.Run.{Action, valued, walk, act, judgeTick, judgePick, judge as judgeOf};
 ghost use Rattle.nodeset.specs.Sets.{mem, members};
 ghost use Rattle.execution.specs.Told.{doneTold, stepTold, goesOn, truthTold, orElse, Left};
@@ -452,4 +453,73 @@ fn pick(
     let b = starts[n];
     let e = ends[n];
     effect(kinds[n], &ops[b..e], lows, highs, n, values, modes)
+}
+
+// One event, of the three bytes a, b, c. Values and modes are those that it leaves.
+pub fn judge(
+    es: &[u8],
+    places: &[usize],
+    steady: [i32; 32],
+    lows: &[i32],
+    highs: &[i32],
+    ops: &[u8],
+    kinds: &[u8],
+    starts: &[usize],
+    ends: &[usize],
+    acting: NodeSet,
+    a: u8,
+    b: u8,
+    c: u8,
+    values: &mut [i32],
+    modes: &mut [u8],
+) -> Verdict
+    requires { ⌜ Promised (lent (now es) (now places) steady (now lows) (now highs) (now ops) (now kinds) (now starts) (now ends)) (acting .words) (now values) (now modes) ⌝ }
+    ensures { λ r. ⌜ ((p : Plant) (f : ℕ → Action) → Ready p f (lent (now (es .entry)) (now (places .entry)) steady (now (lows .entry)) (now (highs .entry)) (now (ops .entry)) (now (kinds .entry)) (now (starts .entry)) (now (ends .entry))) (acting .words) (now (values .entry)) (now (modes .entry)) → Left (judgeOf edition1 p f (members (acting .words)) (now (values .entry)) (now (modes .entry)) (eventIn edition1 (a ∷ b ∷ c ∷ []))) (now (values .entry)) (now (modes .entry)) r (now (values .exit)) (now (modes .exit))) ⌝ }
+{
+    if a == 0 {
+        if b != 0 {
+            return Verdict::Away(24);
+        }
+        if c != 0 {
+            return Verdict::Away(24);
+        }
+        return tick(
+            es,
+            places,
+            steady,
+            lows,
+            highs,
+            ops,
+            kinds,
+            starts,
+            ends,
+            acting,
+            values,
+            modes,
+        );
+    }
+    if a == 1 {
+        if c != 0 {
+            return Verdict::Away(24);
+        }
+        return pick(
+            es,
+            places,
+            steady,
+            lows,
+            highs,
+            ops,
+            kinds,
+            starts,
+            ends,
+            acting,
+            wide(b),
+            values,
+            modes,
+        );
+    }
+    if a == 2 {
+        return take_switch(es, places, wide(b), wide(c), values, modes);
+    }
+    Verdict::Away(24)
 }
