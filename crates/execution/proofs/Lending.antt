@@ -31,7 +31,7 @@ stands-here {es} {at} s = subst (Stands es at) (sym (stands-mode s)) s
 
 -- ---- the mode of each selector exists
 module _ where
-  fit-head : (c : Selector) (cs : List Selector) (m : ℕ) (ms : List ℕ) → modesFit (c ∷ cs) (m ∷ ms) ≡ true → (m < length (c .modes)) × (modesFit cs ms ≡ true)
+  pub fit-head : (c : Selector) (cs : List Selector) (m : ℕ) (ms : List ℕ) → modesFit (c ∷ cs) (m ∷ ms) ≡ true → (m < length (c .modes)) × (modesFit cs ms ≡ true)
   unfolding modesFit
   fit-head c cs m ms h = (ltb-true m (length (c .modes)) (and-left (ltb m (length (c .modes))) (modesFit cs ms) h), and-right (ltb m (length (c .modes))) (modesFit cs ms) h)
 

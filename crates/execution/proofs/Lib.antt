@@ -10,3 +10,4 @@ mod Lending
 mod Formed
 mod Events
 mod Which
+pub mod Keeping

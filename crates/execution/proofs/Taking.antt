@@ -39,7 +39,7 @@ module _ {es : List ℕ} {at : ℕ} {m : Mode} (s : Stands es at m) (c k : ℕ) 
   pub no-switch : getD es c 0 ≤ k → getElem? (m .switches) k ≡ none
   no-switch h = let n = counted in past-end (m .switches) k (omega arith)
 
-modes-length : (es places : List ℕ) (j : ℕ) (ms : List ℕ) → length (modesFrom es places j ms) ≡ length ms
+pub modes-length : (es places : List ℕ) (j : ℕ) (ms : List ℕ) → length (modesFrom es places j ms) ≡ length ms
 unfolding modesFrom
 modes-length es places j [] = refl
 modes-length es places j (m ∷ ms) = ap suc (modes-length es places (suc j) ms)
