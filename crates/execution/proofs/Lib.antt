@@ -11,3 +11,4 @@ mod Formed
 mod Events
 mod Which
 pub mod Keeping
+pub mod Books

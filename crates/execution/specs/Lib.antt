@@ -3,3 +3,4 @@ pub mod Ranges
 pub mod Deeds
 pub mod Modes
 pub mod Ready
+pub mod Booking

@@ -6,12 +6,12 @@ ghost use mathlib.Core.Path.{_≡_};
 ghost use mathlib.Core.Bool.{true};
 ghost use mathlib.Core.List.{[], _∷_, flatMap, map};
 ghost use mathlib.Core.Option.{some};
-ghost use Prim.Native.Nat.{ℕ, _+_, _*_, _≤_, _<_};
+ghost use Prim.Native.Nat.{ℕ, _+_, _*_, _^_, _≤_, _<_};
 ghost use lib.ListN.{length, getD, drop, getElem?};
 ghost use lib.IntN.{_+ℤ_};
 ghost use Rattle.semantics.specs.Editions.{edition1};
 ghost use Rattle.semantics.specs.Expressions.{ranged as rangedOf, truthValue};
-ghost use Rattle.semantics.specs.Bytes.{every};
+ghost use Rattle.semantics.specs.Bytes.{every, within};
 ghost use Rattle.semantics.specs.Sections.{Mode, Switch};
 ghost use Rattle.semantics.specs.Plant.{Plant, rateNamed, switchTruths};
 ghost use Rattle.semantics.specs.Events.{eventIn};
@@ -22,6 +22,7 @@ ghost use Rattle.execution.specs.Ranges.{Sized, sums, advanced, stored, 
 ghost use Rattle.execution.specs.Deeds.{kindOf, form, Fit, cutAt, Cut, isWaitKind, waitsAt, stillAt};
 ghost use Rattle.execution.specs.Ready.{Lent, Ready, Promised, lent};
 ghost use Rattle.execution.specs.Modes.{modeAt, Stands, SwitchAt, placeAt, modesNow, Current, Driving, laid, switchTaken};
+ghost use Rattle.execution.specs.Booking.{bumped, bookedOf, Room};
 
 // How an event is answered: turned away with a number, a fault on a side of its range, or taken, with nobody's move or with
 // the move of a node, on done or true, or on false.
@@ -522,4 +523,39 @@ pub fn judge(
         return take_switch(es, places, wide(b), wide(c), values, modes);
     }
     Verdict::Away(24)
+}
+
+// Of the answers of a run: taken 200..202, turned away 23..31, faulted 203.
+pub struct Counts {
+    pub taken: usize,
+    pub turned_away: usize,
+    pub faulted: usize,
+}
+
+fn between(low: u8, high: u8, n: u8) -> bool
+    ensures { λ b. ⌜ b ≡ within low high n ⌝ }
+{
+    if n < low {
+        return false;
+    }
+    n <= high
+}
+
+fn bump(n: usize, on: bool) -> usize
+    requires { ⌜ n + 1 < 2 ^ 64 ⌝ }
+    ensures { λ r. ⌜ r ≡ bumped n on ⌝ }
+{
+    if on { n + 1 } else { n }
+}
+
+// The counts with one answer more.
+pub fn booked(c: Counts, answer: u8) -> Counts
+    requires { ⌜ Room c ⌝ }
+    ensures { λ r. ⌜ r ≡ bookedOf c answer ⌝ }
+{
+    Counts {
+        taken: bump(c.taken, between(200, 202, answer)),
+        turned_away: bump(c.turned_away, between(23, 31, answer)),
+        faulted: bump(c.faulted, answer == 203),
+    }
 }
