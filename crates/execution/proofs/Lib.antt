@@ -12,3 +12,4 @@ mod Events
 mod Which
 pub mod Keeping
 pub mod Books
+mod Records

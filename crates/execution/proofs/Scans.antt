@@ -40,7 +40,7 @@ module _ (ws : List ℕ) (n : ℕ) (h : n < 64) where
   unfolding membersFrom
   from-out e = ap (membersFrom ws n) less ∙ rw (e, membersFrom, ← add-one n) refl
 
-no-more : (ws : List ℕ) (n k : ℕ) → ((m : ℕ) → mem ws m ≡ true → m < n) → membersFrom ws n k ≡ []
+pub no-more : (ws : List ℕ) (n k : ℕ) → ((m : ℕ) → mem ws m ≡ true → m < n) → membersFrom ws n k ≡ []
 unfolding membersFrom
 no-more ws n zero f = refl
 no-more ws n (suc k) f = go (mem ws n) refl (no-more ws (suc n) k (λ m e. let h = f m e in omega arith))

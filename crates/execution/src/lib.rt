@@ -4,18 +4,19 @@ use expression::Truth;
 use nodeset::NodeSet;
 ghost use mathlib.Core.Path.{_≡_};
 ghost use mathlib.Core.Bool.{true};
-ghost use mathlib.Core.List.{[], _∷_, flatMap, map};
+ghost use mathlib.Core.List.{[], _∷_, _++_, flatMap, map};
 ghost use mathlib.Core.Option.{some};
 ghost use Prim.Native.Nat.{ℕ, _+_, _*_, _^_, _≤_, _<_};
 ghost use lib.ListN.{length, getD, drop, getElem?};
 ghost use lib.IntN.{_+ℤ_};
 ghost use Rattle.semantics.specs.Editions.{edition1};
 ghost use Rattle.semantics.specs.Expressions.{ranged as rangedOf, truthValue};
-ghost use Rattle.semantics.specs.Bytes.{every, within};
+ghost use Rattle.semantics.specs.Bytes.{every, within, bigEndian};
 ghost use Rattle.semantics.specs.Sections.{Mode, Switch};
 ghost use Rattle.semantics.specs.Plant.{Plant, rateNamed, switchTruths};
 ghost use Rattle.semantics.specs.Events.{eventIn};
-ghost use Rattle.semantics.specs.Run.{Action, valued, walk, act, judgeTick, judgePick, judge as judgeOf};
+ghost use Rattle.semantics.specs.Run.{Action, valued, walk, act, judgeTick, judgePick, judge as judgeOf, setNumber, valueBytes};
+ghost use Rattle.codec.specs.Writing.{Wrote};
 ghost use Rattle.nodeset.specs.Sets.{mem, members};
 ghost use Rattle.execution.specs.Told.{doneTold, stepTold, goesOn, truthTold, orElse, Left};
 ghost use Rattle.execution.specs.Ranges.{Sized, sums, advanced, stored, assigned, rangesOnly};
@@ -558,4 +559,47 @@ pub fn booked(c: Counts, answer: u8) -> Counts
         turned_away: bump(c.turned_away, between(23, 31, answer)),
         faulted: bump(c.faulted, answer == 203),
     }
+}
+
+// The eight bytes of a set of nodes below 64, at a place; the next place.
+fn put_set(d: &mut [u8], i: usize, acting: NodeSet) -> usize
+    requires { ⌜ (i + 8 ≤ length (now d)) × ((n : ℕ) → mem (acting .words) n ≡ true → n < 64) ⌝ }
+    ensures { λ r. ⌜ (r ≡ i + 8) × Wrote (now (d .entry)) i (bigEndian 8 (setNumber (members (acting .words)))) (now (d .exit)) ⌝ }
+{
+    let ws = acting.words;
+    let w = ws[0] as usize;
+    let j = codec::put4(d, i, w / 4294967296);
+    codec::put4(d, j, w % 4294967296)
+}
+
+// The values, four bytes each, at a place; the next place.
+fn put_values(d: &mut [u8], i: usize, values: &[i32]) -> usize
+    requires { ⌜ i + 4 * length (now values) ≤ length (now d) ⌝ }
+    ensures { λ r. ⌜ (r ≡ i + 4 * length (now (values .entry))) × Wrote (now (d .entry)) i (flatMap valueBytes (now (values .entry))) (now (d .exit)) ⌝ }
+{
+    let mut at = i;
+    let mut j = 0;
+    while j < values.len() {
+        at = codec::put_signed(d, at, values[j]);
+        j += 1;
+    }
+    at
+}
+
+// The record of an event at a place: its answer, the acting nodes, values and modes; the next place.
+pub fn put_record(
+    d: &mut [u8],
+    i: usize,
+    answer: u8,
+    acting: NodeSet,
+    values: &[i32],
+    modes: &[u8],
+) -> usize
+    requires { ⌜ (i + (9 + 4 * length (now values) + length (now modes)) ≤ length (now d)) × ((n : ℕ) → mem (acting .words) n ≡ true → n < 64) ⌝ }
+    ensures { λ r. ⌜ (r ≡ i + (9 + 4 * length (now (values .entry)) + length (now (modes .entry)))) × Wrote (now (d .entry)) i (answer ∷ bigEndian 8 (setNumber (members (acting .words))) ++ (flatMap valueBytes (now (values .entry)) ++ now (modes .entry))) (now (d .exit)) ⌝ }
+{
+    let j = codec::put1(d, i, answer);
+    let k = put_set(d, j, acting);
+    let l = put_values(d, k, values);
+    codec::put_slice(d, l, modes)
 }
