@@ -1,0 +1,15 @@
+mod Steps
+mod Adds
+mod Acts
+mod Standing
+mod Walks
+mod Taking
+mod Rates
+mod Scans
+mod Lending
+mod Formed
+mod Events
+mod Which
+pub mod Keeping
+pub mod Books
+mod Records

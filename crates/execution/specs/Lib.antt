@@ -1,0 +1,6 @@
+pub mod Told
+pub mod Ranges
+pub mod Deeds
+pub mod Modes
+pub mod Ready
+pub mod Booking

@@ -1,0 +1,106 @@
+-- What a runner promises of the plain data that it lends.
+use mathlib.Core.Path.{_≡_}
+use mathlib.Core.Bool.{Bool, true}
+use mathlib.Core.List.{List, [], _∷_, map}
+use mathlib.Core.Option.{some}
+use Prim.Native.Nat.{ℕ, _+_, _*_, _≤_, _<_}
+use lib.Dec.{ltb}
+use lib.IntN.{ℤ, pos}
+use lib.ListN.{length, getD, getElem?}
+use Rattle.semantics.specs.Bytes.{every}
+use Rattle.semantics.specs.Sections.{Variable, Rate, Selector, Equation, steady, choice}
+use Rattle.semantics.specs.Plant.{Plant, equationNamed, drivenOnce, selectors, modeExists, noMode, rateAmong}
+use Rattle.semantics.specs.Starts.{modesFit}
+use Rattle.semantics.specs.Run.{Action, test, wait, assign, switch, stop}
+use Rattle.semantics.specs.TableFile.{actionKind, actionOf}
+use Rattle.nodeset.specs.Sets.{mem}
+use Rattle.execution.specs.Deeds.{cutAt, Cut}
+use Rattle.execution.specs.Modes.{Stands}
+
+pub record Lent : Type 0 where
+  -- the equation section, and the place of mode m of selector j at 8 * j + m
+  pub equations : List ℕ
+  pub places : List ℕ
+  -- of each variable its rate of kind 1, and its range
+  pub steady : List ℤ
+  pub lows : List ℤ
+  pub highs : List ℤ
+  -- of each node its action's kind, and where its operand lies
+  pub operands : List ℕ
+  pub kinds : List ℕ
+  pub starts : List ℕ
+  pub ends : List ℕ
+
+abbrev pub lent : List ℕ → List ℕ → List ℤ → List ℤ → List ℤ → List ℕ → List ℕ → List ℕ → List ℕ → Lent
+lent es places rates lows highs ops kinds starts ends = record {
+  equations = es;
+  places = places;
+  steady = rates;
+  lows = lows;
+  highs = highs;
+  operands = ops;
+  kinds = kinds;
+  starts = starts;
+  ends = ends;
+}
+
+-- ---- the plant
+-- the rates of kind 1
+unfoldable pub steadyRates : List Equation → List Rate
+steadyRates [] = []
+steadyRates (steady r ∷ es) = r ∷ steadyRates es
+steadyRates (choice c ∷ es) = steadyRates es
+
+-- mode m of selector j stands at its place
+pub record ModeLent (l : Lent) (j : ℕ) (c : Selector) (m : ℕ) : Type 0 where
+  pub row : 8 * j + m < length (l .places)
+  pub stands : Stands (l .equations) (getD (l .places) (8 * j + m) 0) (getD (c .modes) m noMode)
+
+pub record PlantLent (p : Plant) (l : Lent) : Type 0 where
+  pub lows : l .lows ≡ map (λ (x : Variable). x .minimum) (p .variables)
+  pub highs : l .highs ≡ map (λ (x : Variable). x .maximum) (p .variables)
+  pub few : length (p .variables) ≤ 32
+  pub long : length (l .steady) ≡ 32
+  pub steady : (v : ℕ) → v < length (p .variables) → getD (l .steady) v (pos 0) ≡ rateAmong (steadyRates (p .equations)) v
+  pub modes : (j : ℕ) (c : Selector) → getElem? (selectors p) j ≡ some c → (m : ℕ) → m < length (c .modes) → ModeLent l j c m
+  -- conditions 7 and 8
+  pub named : every (equationNamed (length (p .variables))) (p .equations) ≡ true
+  pub once : drivenOnce [] (p .equations) ≡ true
+
+-- ---- a node
+-- condition 11: what an action names exists
+unfoldable pub actionNamed : ℕ → List Selector → Action → Bool
+actionNamed variables cs (test t) = true
+actionNamed variables cs (wait t) = true
+actionNamed variables cs (assign v e) = ltb v variables
+actionNamed variables cs (switch s m) = modeExists cs s m
+actionNamed variables cs stop = true
+
+abbrev pub operandAt : Lent → ℕ → List ℕ
+operandAt l n = cutAt (l .operands) (l .starts) (l .ends) n
+
+pub record NodeLent (p : Plant) (a : Action) (l : Lent) (n : ℕ) : Type 0 where
+  pub below : n < 64
+  pub kind : n < length (l .kinds)
+  pub cut : Cut (l .operands) (l .starts) (l .ends) n
+  pub is : actionOf (actionKind (getD (l .kinds) n 0)) (operandAt l n) ≡ some a
+  pub named : actionNamed (length (p .variables)) (selectors p) a ≡ true
+
+-- ---- an event
+-- a value for each variable, and an existing mode for each selector
+pub record Fits (p : Plant) (vs : List ℤ) (ms : List ℕ) : Type 0 where
+  pub values : length vs ≡ length (p .variables)
+  pub modes : length ms ≡ length (selectors p)
+  pub exist : modesFit (selectors p) ms ≡ true
+
+-- acting is the set of the nodes that act
+pub record Ready (p : Plant) (action : ℕ → Action) (l : Lent) (acting : List ℕ) (vs : List ℤ) (ms : List ℕ) : Type 0 where
+  pub plant : PlantLent p l
+  pub nodes : (n : ℕ) → mem acting n ≡ true → NodeLent p (action n) l n
+  pub fits : Fits p vs ms
+
+-- there are such a plant and such actions
+pub record Promised (l : Lent) (acting : List ℕ) (vs : List ℤ) (ms : List ℕ) : Type 0 where
+  pub plant : Plant
+  pub action : ℕ → Action
+  pub ready : Ready plant action l acting vs ms
