@@ -1,0 +1,4 @@
+-- What the contracts of the compiler cite.
+pub mod SetRows
+pub mod Meeting
+pub mod Located

@@ -1,0 +1,1 @@
+// The compiler: the table of a schedule.
