@@ -1,1 +1,3 @@
 // The compiler: the table of a schedule.
+pub mod locations;
+pub mod rows;
