@@ -16,3 +16,4 @@ pub mod WholeTree
 pub mod LaidTree
 -- the whole file
 pub mod Stages
+pub mod Promises
