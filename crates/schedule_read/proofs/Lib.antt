@@ -17,3 +17,4 @@ pub mod LaidTree
 -- the whole file
 pub mod Stages
 pub mod Promises
+pub mod NodeActions
