@@ -1,7 +1,7 @@
 -- The action of a node is what its kind, by the array of kinds, makes of its payload.
 use mathlib.Core.Path.{_≡_, refl, sym, ap, _∙_}
 use mathlib.Core.Bool.{Bool, true, false, cond}
-use mathlib.Core.List.{List, [], _∷_, _++_, map}
+use mathlib.Core.List.{List, [], _∷_, _++_, map, List·Memᴰ as Mem}
 use mathlib.Core.Option.{Option, none, some, bind}
 use Prim.Native.Nat.{ℕ, zero, suc, _+_, _-_, _≤_, _<_}
 use native.Mathlib.Nat.{zero-add}
@@ -10,7 +10,7 @@ use native.Mathlib.Omega.{arith}
 use borrow.Author.Tests.{eq-eqb, ne-eqb}
 use lib.Dec.{leb, eqb}
 use lib.ListN.{length, getD, getElem?, take, drop, set, replicate, length-append, length-replicate}
-use lib.Seq.{length-take-le}
+use lib.Seq.{getD-take, length-take-le}
 use Rattle.semantics.specs.Bytes.{noBytes, twoBytes, byteAndRest}
 use Rattle.semantics.specs.Run.{Action, test, wait, assign, switch, stop}
 use Rattle.semantics.specs.TableFile.{NodeAction, actionKind}
@@ -18,6 +18,11 @@ use Rattle.semantics.specs.TableFile as TableFile
 use Rattle.semantics.specs.Tables.{actionAt}
 use Rattle.semantics.proofs.Facts.{none-not-some, some-is}
 use Rattle.schedules.specs.Nodes.{Node, sequence, parallel, while-do, if-else, continue-until, reset, reinitial, switch-to, stop-all, Kind, a-sequence, a-parallel, a-while, an-if, a-continue, a-reset, a-reinitial, a-switch, a-stop, no-kind, kindOf, childCount, nodeOf, actionOf, listed, actionsFrom, actionsOf}
+use Rattle.schedules.specs.Trees.{Tree, treeOf}
+use Rattle.schedules.specs.Residuals.{Residual, acting}
+use Rattle.schedules.proofs.ActingDetermines.{Of}
+use Rattle.schedules.proofs.MovesFit.{move-fits}
+use Rattle.schedules.proofs.ReadShapes.{root-shapes}
 use Rattle.schedule_read.specs.Index.{pad}
 use Rattle.schedule_read.specs.Indexed.{NodesAt}
 use Rattle.schedule_read.specs.Actions.{actionNumber, actionNumbers}
@@ -88,19 +93,13 @@ action-made no-kind b e = none-not-some e
 abbrev numbered : ℕ → ℕ
 numbered k = actionNumber (kindOf k)
 
-getD-take : (l : List ℕ) (n i : ℕ) → i < n → getD (take n l) i 0 ≡ getD l i 0
-getD-take l zero i h = absurd (omega arith)
-getD-take [] (suc n) i h = refl
-getD-take (x ∷ l) (suc n) zero h = refl
-getD-take (x ∷ l) (suc n) (suc i) h = getD-take l n i (omega arith)
-
 module _ (kinds : List ℕ) (count : ℕ) (few : count ≤ 64) (full : count ≤ length kinds) where
   first-length : length (take count kinds) ≡ count
   first-length = length-take-le count kinds full
 
   pub kind-number : (n : ℕ) → n < count → getD (actionNumbers kinds count) n 0 ≡ actionNumber (kindOf (getD kinds n 0))
   unfolding actionNumbers
-  kind-number n h = pad-map 64 0 numbered (take count kinds) n (omega (arith, first-length)) ∙ ap numbered (getD-take kinds count n h)
+  kind-number n h = pad-map 64 0 numbered (take count kinds) n (omega (arith, first-length)) ∙ ap numbered (getD-take count kinds n 0 h)
 
   pub numbers-long : length (actionNumbers kinds count) ≡ 64
   unfolding actionNumbers
@@ -134,6 +133,10 @@ module _ {s kinds starts ends : List ℕ} {count : ℕ} {ns : List Node} (d : No
       beyond [] i h = refl
       beyond (x ∷ l) zero h = absurd (omega arith)
       beyond (x ∷ l) (suc i) h = beyond l i (omega arith)
+
+-- a node that acts in a residual of the tree has an action
+pub acting-action : (ns : List Node) {t : Tree} {r : Residual} → treeOf ns ≡ some t → Of t r → (n : ℕ) → Mem n (acting r) → (a : Action) × (actionAt (actionsOf ns) n ≡ some a)
+acting-action ns h o n m = move-fits o (root-shapes ns h .1) n true m .known
 
 -- ---- the loop
 pub numbers-start : (kinds : List ℕ) → replicate 64 0 ≡ pad 64 0 (map numbered (take 0 kinds))
