@@ -9,3 +9,6 @@ pub mod EntryLines
 pub mod MembersFrom
 -- the locations in turn
 pub mod LocationRows
+-- actions
+pub mod ActionForms
+pub mod ActionLoop

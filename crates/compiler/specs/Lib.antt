@@ -2,3 +2,4 @@
 pub mod SetRows
 pub mod Meeting
 pub mod Located
+pub mod ActionTable

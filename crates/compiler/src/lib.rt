@@ -1,3 +1,5 @@
 // The compiler: the table of a schedule.
+pub mod actions;
 pub mod locations;
 pub mod rows;
+pub mod spot;
