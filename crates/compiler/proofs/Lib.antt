@@ -12,3 +12,6 @@ pub mod LocationRows
 -- actions
 pub mod ActionForms
 pub mod ActionLoop
+-- the call
+pub mod TableBytes
+pub mod CallStages

@@ -3,3 +3,4 @@ pub mod SetRows
 pub mod Meeting
 pub mod Located
 pub mod ActionTable
+pub mod CallParts
