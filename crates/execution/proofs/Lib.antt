@@ -7,9 +7,10 @@ mod Taking
 mod Rates
 mod Scans
 mod Lending
-mod Formed
+pub mod Formed
 mod Events
 mod Which
 pub mod Keeping
 pub mod Books
 mod Records
+pub mod Outcomes

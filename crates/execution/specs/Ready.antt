@@ -25,7 +25,7 @@ pub record Lent : Type 0 where
   pub steady : List ℤ
   pub lows : List ℤ
   pub highs : List ℤ
-  -- of each node its action's kind, and where its operand lies
+  -- of each node its action's kind as in a table (1 test, 2 wait, 3 assign, 4 switch, 5 stop), and where its operand lies
   pub operands : List ℕ
   pub kinds : List ℕ
   pub starts : List ℕ
