@@ -14,3 +14,4 @@ pub mod Keeping
 pub mod Books
 mod Records
 pub mod Outcomes
+pub mod PlantReady
