@@ -2,3 +2,4 @@ pub mod StartLoop
 pub mod StartBytes
 pub mod StartTurns
 pub mod StartLaws
+pub mod PlantStart
