@@ -15,3 +15,4 @@ pub mod Books
 mod Records
 pub mod Outcomes
 pub mod PlantReady
+pub mod Stepping
