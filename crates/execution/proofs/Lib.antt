@@ -16,3 +16,4 @@ mod Records
 pub mod Outcomes
 pub mod PlantReady
 pub mod Stepping
+pub mod Runs
