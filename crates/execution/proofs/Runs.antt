@@ -11,7 +11,7 @@ use lib.ListN.{length, getD, take, drop, length-append}
 use lib.Seq.{drop-drop}
 use Rattle.semantics.specs.Bytes.{bigEndian, overwrite}
 use Rattle.semantics.specs.Editions.{edition1}
-use Rattle.semantics.specs.Refusals.{accepted}
+use Rattle.semantics.specs.Refusals.{refused, accepted}
 use Rattle.semantics.specs.Plant.{Plant, selectors}
 use Rattle.semantics.specs.Starts.{Start}
 use Rattle.semantics.specs.Events.{eventsIn}
@@ -162,6 +162,10 @@ module _ {S : Type 0} (p : Plant) (c : Control S) (st₀ : Situation S) (events 
         none-left j e = ap (λ j. answers edition1 p c st (eventsIn 3 j (drop (3 * k) events))) e ∙ no-events p c st (drop (3 * k) events)
 
 -- ---- the call
+pub not-run : (d : List ℕ) (n : ℕ) → report d (refused n) ≡ record { refusal = n; taken = 0; turned-away = 0; faulted = 0; records = d }
+unfolding report
+not-run d n = refl
+
 pub reported : {S : Type 0} (c : Control S) (l : List (Answered S)) (d₀ : List ℕ) {cs : Counts} {d : List ℕ} → RunDone c l d₀ cs d → report d₀ (accepted (outcomeOf edition1 c l)) ≡ record { refusal = 0; taken = cs .taken; turned-away = cs .«turned_away»; faulted = cs .faulted; records = d }
 unfolding report outcomeOf countsOf answerBytes
 reported c l d₀ r = rw (r .counted, r .wrote) refl

@@ -6,11 +6,10 @@ use mathlib.Core.Option.{none, some}
 use Prim.Native.Nat.{ℕ}
 use lib.IntN.{ℤ}
 use Rattle.semantics.specs.Editions.{edition1}
-use Rattle.semantics.specs.Expressions.{above, below}
 use Rattle.semantics.specs.Plant.{Plant}
 use Rattle.semantics.specs.Events.{Event, eventIn}
 use Rattle.semantics.specs.Run as Run
-use Rattle.semantics.specs.Run.{away, faulty, pass, to, finished, halted, nobody, mover, Done, Control, judge, at, over, faultAnswer, turnedAway, arrive, follow, settle, step, setNumber, actingSet}
+use Rattle.semantics.specs.Run.{away, faulty, pass, to, finished, halted, Done, Control, judge, at, over, faultAnswer, turnedAway, arrive, follow, settle, step, setNumber, actingSet}
 use Rattle.nodeset.specs.Sets.{members}
 use Rattle.execution.specs.Told.{valuesLeft, modesLeft, Left}
 use Rattle.execution.specs.Ready.{Lent, Ready, Fits}
