@@ -6,7 +6,7 @@ use mathlib.Core.Option.{Option, none, some}
 use Prim.Native.Nat.{ℕ, zero, suc, _+_, _-_, _*_, _≤_, _<_}
 use native.Mathlib.Omega.{arith}
 use borrow.Author.Tests.{leb-true}
-use lib.ListN.{length, getD, drop, replicate, getElem?, List·getD-append}
+use lib.ListN.{length, getD, drop, replicate, getElem?, length-append, length-replicate, List·getD-append}
 use Rattle.semantics.specs.Bytes.{read, broken, byte, after, _>>=_, give, times}
 use Rattle.semantics.specs.Editions.{edition1}
 use Rattle.semantics.specs.TableFile.{NodeAction, Entry, readEntry, readLocation, readLocations, locationsIn}
@@ -101,6 +101,15 @@ module _ (acts : List NodeAction) (s : List ℕ) {ls : List (List Entry)} (e : l
       let low = t .1 in
       let high = t .2 in
       (omega arith, omega arith)
+
+  pub places-full : length (locationsOf acts s .places) ≡ 1024
+  unfolding locationIndex pad
+  places-full =
+      let t = times-of s e in
+      let high = t .2 in
+      let ps = placesFrom (length s) (readLocation edition1) (length ls) (drop 2 s) in
+      let m : length ps ≡ length ls = places-length (length s) (readLocation edition1) (length ls) (drop 2 s) (t .3) in
+      ap (λ z. length (z .places)) (index-is acts s e h) ∙ length-append ps _ ∙ simp length-replicate (omega arith)
 
   pub location-at : (k : ℕ) → k < locationsOf acts s .count → LocationAt s ls k (getD (locationsOf acts s .places) k 0)
   unfolding locationIndex pad

@@ -2,4 +2,6 @@
 pub mod Ends
 pub mod TableParts
 pub mod ActionIndex
+pub mod OperandForms
 pub mod LocationIndex
+pub mod TableIndex
