@@ -1,4 +1,5 @@
 use mathlib.Core.Path.{sym, _∙_}
+use native.Mathlib.Omega.{arith}
 use borrow.Author.Tests.{not-true, not-false}
 use Rattle.table_read.proofs.TableStages.{by-plant, few-variables, modes-full, modes-room, equations-there, by-switches, by-actions, by-operands, by-locations, all-passed}
 use borrow.Author.Needs.{needs}
@@ -15,7 +16,7 @@ returns : tie.Need-returns
 returns c = (c .refused .ensures) ∙ by-plant (c .before .before .before .before .before .before .before .before .args .parts) (c .before .before .before .before .before .before .before .before .args .vs .now) (c .before .before .before .before .before .before .before .before .args .es .now) (c .before .before .before .before .before .before .before .before .args .ops .now) (c .before .before .before .before .before .before .before .before .args .locs .now) (c .before .before .before .read .ensures) (c .before .if1 .taken)
 
 read-requires-2 : tie.Need-read-requires-2
-read-requires-2 c κs = (equations-there (c .before .before .before .before .before .before .before .before .args .parts) (c .before .before .before .before .before .before .before .before .args .vs .now) (c .before .before .before .before .before .before .before .before .args .es .now) (c .before .before .before .before .before .before .before .before .args .ops .now) (c .before .before .before .before .before .before .before .before .args .locs .now) (c .before .before .before .read .ensures) (c .before .if1 .left), few-variables (c .before .before .before .before .before .before .before .before .args .parts) (c .before .before .before .before .before .before .before .before .args .vs .now) (c .before .before .before .before .before .before .before .before .args .es .now) (c .before .before .before .before .before .before .before .before .args .ops .now) (c .before .before .before .before .before .before .before .before .args .locs .now) (c .before .before .before .read .ensures) (c .before .if1 .left))
+read-requires-2 c κs = (equations-there (c .before .before .before .before .before .before .before .before .args .parts) (c .before .before .before .before .before .before .before .before .args .vs .now) (c .before .before .before .before .before .before .before .before .args .es .now) (c .before .before .before .before .before .before .before .before .args .ops .now) (c .before .before .before .before .before .before .before .before .args .locs .now) (c .before .before .before .read .ensures) (c .before .if1 .left), omega (arith, few-variables (c .before .before .before .before .before .before .before .before .args .parts) (c .before .before .before .before .before .before .before .before .args .vs .now) (c .before .before .before .before .before .before .before .before .args .es .now) (c .before .before .before .before .before .before .before .before .args .ops .now) (c .before .before .before .before .before .before .before .before .args .locs .now) (c .before .before .before .read .ensures) (c .before .if1 .left)))
 
 refused-requires-2 : tie.Need-refused-requires-2
 refused-requires-2 c κs = search needs
