@@ -18,6 +18,7 @@ use Rattle.codec.proofs.Reading.{either, nat2At}
 use Rattle.codec.proofs.Known.{cons, times-length, after-byte, not-past, after-nat2, not-nat2}
 use Rattle.codec.proofs.Places.{Takes, takes-then, takes-guard, takes-byte, takes-number, takes-nat2, takes-give, takes-times, places-length, placed, placed-before}
 use Rattle.table_read.specs.LocationIndex.{entryAt, pad, noLocations, locationIndex, locationsRead, locationsOf}
+use Rattle.table_read.specs.Promised.{EntriesAt}
 use Rattle.table_read.proofs.EntryLoop.{entry-is, entry-took}
 use Rattle.table_read.proofs.LocationLoop.{accept}
 
@@ -127,11 +128,7 @@ module _ (acts : List NodeAction) (s : List ℕ) {ls : List (List Entry)} (e : l
         reads = x .nth .got ∙ ap (λ z. read z (x .nth .end)) (getD-of ls k [] (x .nth .is));
       })
 
--- ---- the entries of a location stand one after the other, 5 bytes each, after their count
-pub record EntriesAt (s : List ℕ) (p : ℕ) (es : List Entry) : Type 0 where
-  pub inside : p + 5 * length es ≤ length s
-  pub entry : (j : ℕ) → j < length es → getElem? es j ≡ some (entryAt s (p + 5 * j))
-
+-- ---- the entries of a location
 entries-from : (s : List ℕ) (n p : ℕ) (m : List ℕ) {es : List Entry} {e : List ℕ} → p ≤ length s → m ≡ drop p s → times n (readEntry edition1) m ≡ read es e → EntriesAt s p es
 unfolding times give
 entries-from s zero p m b q h = subst (EntriesAt s p) (read-value h) (record { inside = omega arith; entry = λ j i. absurd (omega arith) })

@@ -3,7 +3,7 @@ use mathlib.Core.Path.{_≡_, refl, sym, ap, subst, _∙_}
 use mathlib.Core.Bool.{Bool, true, false, cond}
 use mathlib.Core.List.{List, [], _∷_}
 use mathlib.Core.Option.{Option, none, some}
-use Prim.Native.Nat.{ℕ, zero, suc, _+_, _-_, _≤_, _<_}
+use Prim.Native.Nat.{ℕ, zero, suc, _-_, _≤_, _<_}
 use native.Mathlib.Omega.{arith}
 use borrow.Author.Tests.{ltb-true, eqb-true}
 use lib.Dec.{ltb, eqb}
@@ -29,6 +29,7 @@ use Rattle.table_read.specs.declared.call.TableIndex.{TableIndex}
 use Rattle.table_read.specs.TableParts.{partsIn, partsOf, sectionsAt}
 use Rattle.table_read.specs.ActionIndex.{nodeExists, actionsLaid, operandsFit, actionIndex, byNode, actionsOf}
 use Rattle.table_read.specs.LocationIndex.{locationIndex, locationsOf}
+use Rattle.table_read.specs.Promised.{LocationPromised, Leads, leads-to, finishes, halts}
 use Rattle.table_read.specs.TableIndex.{indexOf, tableIndex}
 use Rattle.table_read.proofs.PartsStand.{AllStand, accepted-parts, read-parts, parts-are}
 use Rattle.table_read.proofs.ByNode.{listed-length}
@@ -36,7 +37,7 @@ use Rattle.table_read.proofs.ActionLoop.{accept as actions-accept}
 use Rattle.table_read.proofs.LocationLoop.{accept as locations-accept}
 use Rattle.table_read.proofs.ActionsFound.{Here, no-action, one-action, action-here, index-is, laid-actions, nowhere-above}
 use Rattle.table_read.proofs.ActionsFit.{fit-parts, by-node-every}
-use Rattle.table_read.proofs.LocationsFound.{EntriesAt, location-at, location-entries, count-is, count-bounds, places-full}
+use Rattle.table_read.proofs.LocationsFound.{location-at, location-entries, count-is, count-bounds, places-full}
 use Rattle.table_read.proofs.OperandTurns.{operandOf}
 
 -- ---- accepted or refused
@@ -171,14 +172,7 @@ pub lengths-of : (s : List ℕ) {l : List NodeAction} → actionsIn edition1 s �
 unfolding actionIndex byNode
 lengths-of s e h = let i = index-is s e h in (ap (λ (x : Actions). length (x .kinds)) i ∙ listed-length 64 _, ap (λ (x : Actions). length (x .starts)) i ∙ listed-length 64 _, ap (λ (x : Actions). length (x .ends)) i ∙ listed-length 64 _)
 
--- ---- a location; its entries es stand in the location section s
-pub record LocationPromised (s : List ℕ) (p : ℕ) (n : ℕ) (acts : List NodeAction) (es : List Entry) : Type 0 where
-  pub before-end : p < length s
-  pub counted : length es ≡ getD s p 0
-  pub some-entries : 1 ≤ length es
-  pub entries : EntriesAt s (p + 1) es
-  pub fits : locationFits n acts es ≡ true
-
+-- ---- a location
 getD-all : {A : Type 0} {P : A → Type 0} (l : List A) (k : ℕ) (d : A) → k < length l → All P l → P (getD l k d)
 getD-all [] k d h a = absurd (omega arith)
 getD-all (x ∷ l) zero d h (all-cons i a) = i
@@ -239,12 +233,7 @@ pub nodes-rise : (n : ℕ) (acts : List NodeAction) (es : List Entry) → locati
 unfolding locationFits
 nodes-rise n acts es h = and-left (risingFrom 0 (entryNodes es)) (every (entryFits n acts) es) h
 
--- ---- where a move leads: to a location, or to an end
-pub data Leads (n t : ℕ) : Type 0 where
-  leads-to : t < n → Leads n t
-  finishes : t ≡ FINISHED → Leads n t
-  halts : t ≡ HALTED → Leads n t
-
+-- ---- where a move leads
 goes-on : (n t : ℕ) → goesOn n t ≡ true → Leads n t
 unfolding goesOn
 goes-on n t h = by-cases (ltb t n) (λ e. leads-to (ltb-true t n e)) (λ e. finishes (eqb-true t FINISHED (rw (goesOn, e) at h)))

@@ -4,4 +4,5 @@ pub mod TableParts
 pub mod ActionIndex
 pub mod OperandForms
 pub mod LocationIndex
+pub mod Promised
 pub mod TableIndex
