@@ -1,0 +1,2 @@
+// Running a schedule by the rules.
+pub mod steps;
