@@ -15,3 +15,5 @@ pub mod Books
 mod Records
 pub mod Outcomes
 pub mod PlantReady
+pub mod Stepping
+pub mod Runs

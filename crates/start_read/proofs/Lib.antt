@@ -3,3 +3,4 @@ pub mod StartBytes
 pub mod StartTurns
 pub mod StartLaws
 pub mod PlantStart
+pub mod AdmissionLaws
