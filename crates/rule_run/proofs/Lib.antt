@@ -1,1 +1,3 @@
 pub mod Settling
+pub mod Running
+pub mod ScheduleReady

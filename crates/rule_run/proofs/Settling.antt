@@ -6,11 +6,10 @@ use mathlib.Core.Option.{Option, none, some}
 use Prim.Native.Nat.{ℕ}
 use lib.IntN.{ℤ}
 use Rattle.semantics.specs.Editions.{edition1}
-use Rattle.semantics.specs.Expressions.{Side, above, below}
 use Rattle.semantics.specs.Plant.{Plant, among}
-use Rattle.semantics.specs.Events.{Event, eventIn}
+use Rattle.semantics.specs.Events.{eventIn}
 use Rattle.semantics.specs.Run as Run
-use Rattle.semantics.specs.Run.{away, faulty, pass, nobody, mover, Next, to, finished, halted, Done, turnedAway, arrive, follow, faultAnswer, settle, step, judge}
+use Rattle.semantics.specs.Run.{Next, arrive, judge}
 use Rattle.semantics.specs.Tables.{actionOrStop}
 use Rattle.semantics.proofs.Facts.{true-not-false, mem-among}
 use Rattle.semantics.proofs.Verdicts.{judged-possible}
@@ -30,12 +29,12 @@ use Rattle.moves.specs.declared.How.the-variants.{To, Finished, Halted}
 use Rattle.moves.proofs.Callers.{standing, led-on, led-to-finish, led-to-halt}
 use Rattle.execution.specs.Ready.{Lent, PlantLent, NodeLent, Fits, Ready}
 use Rattle.execution.specs.Ready as Judged
-use Rattle.execution.specs.Told.{valuesLeft, modesLeft, Left}
+use Rattle.execution.specs.Told.{Left}
 use Rattle.execution.specs.declared.Verdict.{Verdict}
 use Rattle.execution.specs.declared.Verdict.the-variants.{Away, Above, Below, Stay, Move}
-use Rattle.execution.proofs.Outcomes.{Untaken, heard-away, heard-above, heard-below, heard-stay, heard-move}
-use Rattle.execution.proofs.Keeping.{fits-kept}
-use Rattle.rule_run.specs.Situations.{goingOn, ended, StandsFor, at-residual, at-end, Here, leaves, Arrives, Movable, Settles, ScheduleLent, Promised, Steps}
+use Rattle.execution.proofs.Outcomes.{heard-move}
+use Rattle.execution.proofs.Stepping.{stepped-over, stepped-away, stepped-above, stepped-below, stepped-stay, stepped-move, fits-left}
+use Rattle.rule_run.specs.Situations.{goingOn, ended, StandsFor, at-residual, at-end, Here, leaves, Arrives, Movable, ScheduleLent, Promised, Steps}
 use Rattle.rule_run.specs.declared.steps.Situation.{Situation}
 use Rattle.rule_run.specs.declared.steps.Answered.{Answered}
 
@@ -52,8 +51,8 @@ stands-at n s h = at-residual refl (h .of) (h .stands) (h .words)
 arrives-as : {t : Tree} {x : Next Residual} {a b : Answered} → a ≡ b → Arrives t x b → Arrives t x a
 arrives-as {t} {x} e k = subst (Arrives t x) (sym e) k
 
-settles-as : {s : Schedule} {r : Residual} {j : Run.Verdict Done} {vs vs' : List ℤ} {ms ms' : List ℕ} {a b : Answered} → a ≡ b → Settles s r j vs ms vs' ms' b → Settles s r j vs ms vs' ms' a
-settles-as {s} {r} {j} {vs} {vs'} {ms} {ms'} e k = subst (Settles s r j vs ms vs' ms') (sym e) k
+steps-as : {s : Schedule} {o : Option Residual} {vs vs' : List ℤ} {ms ms' e : List ℕ} {a b : Answered} → a ≡ b → Steps s o vs ms e b vs' ms' → Steps s o vs ms e a vs' ms'
+steps-as {s} {o} {vs} {vs'} {ms} {ms'} {e} q k = subst (λ (a : Answered). Steps s o vs ms e a vs' ms') (sym q) k
 
 -- ---- a move
 module _ {ks es ws : List ℕ} {n : ℕ} {b : Bool} {how : How} {set : NodeSet} (d : Advanced ks es ws n b how (set .words)) (t : Tree) (r : Residual) (h : Here ks es t ws r) {a : Answered} where
@@ -76,109 +75,92 @@ module _ {ks es ws : List ℕ} {n : ℕ} {b : Bool} {how : How} {set : NodeSet} 
   moved-to-halt q e = arrives-as e (record { place = none; is = λ s vs ms. ap (λ x. arrive s x vs ms) (led-to-halt d (h .lies) (h .of) (h .stands) q .0); stands = stands-over t 202 })
 
 -- ---- a judged event
-module _ {ks es : List ℕ} {set : NodeSet} (s : Schedule) (r : Residual) (h : Here ks es (s .root) (set .words) r) (j : Run.Verdict Done) (vs : List ℤ) (ms : List ℕ) (vs' : List ℤ) (ms' : List ℕ) {v : Verdict} (l : Left j vs ms v vs' ms') {a : Answered} where
-  pub settled-away : {n : ℕ} → v ≡ Away n → a ≡ goingOn n set → Settles s r j vs ms vs' ms' a
-  unfolding settle turnedAway
-  settled-away {n} q e =
-      let u = heard-away j vs ms vs' ms' l q in
-      settles-as e (record { place = some r; is = ap (settle (ruleControl s) r (Run.at r vs ms)) (u .judged) ∙ rw (u .values, u .modes) refl; stands = stands-at n set h })
+module _ {ks es : List ℕ} {set : NodeSet} (s : Schedule) (r : Residual) (h : Here ks es (s .root) (set .words) r) (vs : List ℤ) (ms e : List ℕ) (vs' : List ℤ) (ms' : List ℕ) {v : Verdict}
+    (l : Left (judge edition1 (s .plant) (ruleControl s .action) (members (set .words)) vs ms (eventIn edition1 e)) vs ms v vs' ms') where
+  acts : members (set .words) ≡ ruleControl s .acting r
+  unfolding ruleControl
+  acts = h .stands
 
-  faulted : {side : Side} → Untaken j (faulty side) vs ms vs' ms' → a ≡ ended 203 → Settles s r j vs ms vs' ms' a
-  unfolding settle faultAnswer
-  faulted {above} u e = settles-as e (record { place = none; is = ap (settle (ruleControl s) r (Run.at r vs ms)) (u .judged) ∙ rw (u .values, u .modes) refl; stands = stands-over _ 203 })
-  faulted {below} u e = settles-as e (record { place = none; is = ap (settle (ruleControl s) r (Run.at r vs ms)) (u .judged) ∙ rw (u .values, u .modes) refl; stands = stands-over _ 203 })
+  pub settled-away : {n : ℕ} {a : Answered} → v ≡ Away n → a ≡ goingOn n set → Steps s (some r) vs ms e a vs' ms'
+  settled-away {n} q k = steps-as k (record { place = some r; is = stepped-away (s .plant) (ruleControl s) r (set .words) acts vs ms e vs' ms' l q; stands = stands-at n set h })
 
-  pub settled-above : v ≡ Above → a ≡ ended 203 → Settles s r j vs ms vs' ms' a
-  settled-above q = faulted (heard-above j vs ms vs' ms' l q)
+  pub settled-above : {a : Answered} → v ≡ Above → a ≡ ended 203 → Steps s (some r) vs ms e a vs' ms'
+  settled-above q k = steps-as k (record { place = none; is = stepped-above (s .plant) (ruleControl s) r (set .words) acts vs ms e vs' ms' l q; stands = stands-over (s .root) 203 })
 
-  pub settled-below : v ≡ Below → a ≡ ended 203 → Settles s r j vs ms vs' ms' a
-  settled-below q = faulted (heard-below j vs ms vs' ms' l q)
+  pub settled-below : {a : Answered} → v ≡ Below → a ≡ ended 203 → Steps s (some r) vs ms e a vs' ms'
+  settled-below q k = steps-as k (record { place = none; is = stepped-below (s .plant) (ruleControl s) r (set .words) acts vs ms e vs' ms' l q; stands = stands-over (s .root) 203 })
 
-  pub settled-stay : v ≡ Stay → a ≡ goingOn 200 set → Settles s r j vs ms vs' ms' a
-  unfolding settle follow arrive
-  settled-stay q e = settles-as e (record { place = some r; is = ap (settle (ruleControl s) r (Run.at r vs ms)) (heard-stay j vs ms vs' ms' l q); stands = stands-at 200 set h })
+  pub settled-stay : {a : Answered} → v ≡ Stay → a ≡ goingOn 200 set → Steps s (some r) vs ms e a vs' ms'
+  settled-stay q k = steps-as k (record { place = some r; is = stepped-stay (s .plant) (ruleControl s) r (set .words) acts vs ms e vs' ms' l q; stands = stands-at 200 set h })
 
-  pub settled-move : {n : ℕ} {b : Bool} → v ≡ Move n b → Arrives (s .root) (move r n b) a → Settles s r j vs ms vs' ms' a
-  unfolding settle follow ruleControl
-  settled-move q k = record { place = k .place; is = ap (settle (ruleControl s) r (Run.at r vs ms)) (heard-move j vs ms vs' ms' l q) ∙ k .is (Run.at r vs ms) vs' ms'; stands = k .stands }
-
--- ---- what an event leaves fits again
-left-fits : (p : Plant) (action : ℕ → Run.Action) (l : Lent) (ws : List ℕ) (vs : List ℤ) (ms : List ℕ) → Ready p action l ws vs ms → (e : Event) {v : Verdict} {vs' : List ℤ} {ms' : List ℕ} →
-    Left (judge edition1 p action (members ws) vs ms e) vs ms v vs' ms' → Fits p vs' ms'
-unfolding valuesLeft modesLeft
-left-fits p action l ws vs ms q e {v} {vs'} {ms'} left = go (judge edition1 p action (members ws) vs ms e) refl (left .values) (left .modes)
-  where
-    same : {xs : List ℤ} {ns : List ℕ} → vs' ≡ xs → ms' ≡ ns → Fits p xs ns → Fits p vs' ms'
-    same a b f = rw (a, b) f
-
-    go : (j : Run.Verdict Done) → judge edition1 p action (members ws) vs ms e ≡ j → vs' ≡ valuesLeft vs j → ms' ≡ modesLeft ms j → Fits p vs' ms'
-    go (away n) h a b = same a b (q .fits)
-    go (faulty s) h a b = same a b (q .fits)
-    go (pass d) h a b = same a b (fits-kept p action l ws vs ms q e d h)
+  pub settled-move : {n : ℕ} {b : Bool} {a : Answered} → v ≡ Move n b → Arrives (s .root) (move r n b) a → Steps s (some r) vs ms e a vs' ms'
+  unfolding ruleControl
+  settled-move q k = record { place = k .place; is = stepped-move (s .plant) (ruleControl s) r (set .words) acts vs ms e vs' ms' l q ∙ k .is (Run.at r vs ms) vs' ms'; stands = k .stands }
 
 -- ---- an event
 abbrev actionOfRule : Schedule → ℕ → Run.Action
 actionOfRule s = actionOrStop (actionsOf (s .nodes))
 
-not-over : {t : Tree} {x : Situation} {o : Option Residual} → StandsFor t x o → x .over ≡ false → (r : Residual) × (o ≡ some r) × (Of t r) × (members (x .acting .words) ≡ acting r) × Words (x .acting .words)
-not-over (at-residual {r = r} e h i w) f = (r, refl, h, i, w)
+-- where the run is not over
+record Acting (t : Tree) (ws : List ℕ) (o : Option Residual) : Type 0 where
+  residual : Residual
+  is : o ≡ some residual
+  of : Of t residual
+  acts : members ws ≡ acting residual
+  words : Words ws
+
+not-over : {t : Tree} {x : Situation} {o : Option Residual} → StandsFor t x o → x .over ≡ false → Acting t (x .acting .words) o
+not-over (at-residual {r = r} e h i w) f = record { residual = r; is = refl; of = h; acts = i; words = w }
 not-over (at-end e i w) f = true-not-false (sym e ∙ f)
 
-module _ {l : Lent} {ks es : List ℕ} {x : Situation} {vs : List ℤ} {ms : List ℕ} where
+-- what the event is judged to be, and what that makes of the acting nodes, for every schedule that the arrays hold
+abbrev JudgedAs : Lent → List ℕ → List ℤ → List ℕ → List ℕ → Verdict → List ℤ → List ℕ → Type 0
+JudgedAs l ws vs ms e v vs' ms' = (p : Plant) (f : ℕ → Run.Action) → Ready p f l ws vs ms → Left (judge edition1 p f (members ws) vs ms (eventIn edition1 e)) vs ms v vs' ms'
+
+abbrev SettledAs : List ℕ → List ℕ → List ℕ → Verdict → Answered → Type 0
+SettledAs ks es ws v a = (s : Schedule) (y : Residual) → Here ks es (s .root) ws y → (vs : List ℤ) (ms e : List ℕ) (vs' : List ℤ) (ms' : List ℕ) →
+    Left (judge edition1 (s .plant) (ruleControl s .action) (members ws) vs ms (eventIn edition1 e)) vs ms v vs' ms' → Steps s (some y) vs ms e a vs' ms'
+
+module _ {l : Lent} {ks es : List ℕ} {vs : List ℤ} {ms : List ℕ} where
   -- what judging asks
-  ready : (s : Schedule) (r : Residual) → ScheduleLent s l ks es → Of (s .root) r → members (x .acting .words) ≡ acting r → Words (x .acting .words) → Fits (s .plant) vs ms → Ready (s .plant) (actionOfRule s) l (x .acting .words) vs ms
-  ready s r d o e w f = record {
+  ready : (s : Schedule) {ws : List ℕ} {o : Option Residual} → ScheduleLent s l ks es → Acting (s .root) ws o → Fits (s .plant) vs ms → Ready (s .plant) (actionOfRule s) l ws vs ms
+  ready s d q f = record {
     plant = d .plant;
-    nodes = λ n m. d .nodes r o n (ap (among n) (sym e) ∙ among-set w n ∙ m);
+    nodes = λ n m. d .nodes (q .residual) (q .of) n (ap (among n) (sym (q .acts)) ∙ among-set (q .words) n ∙ m);
     fits = f;
   }
 
-  pub judging : Promised l ks es x vs ms → x .over ≡ false → Judged.Promised l (x .acting .words) vs ms
-  judging p f =
-      let q = not-over (p .stands) f in
-      record { plant = p .schedule .plant; action = actionOfRule (p .schedule); ready = ready (p .schedule) (q .0) (p .lent) (q .2 .0) (q .2 .1 .0) (q .2 .1 .1) (p .fits) }
+  module _ {x : Situation} where
+    pub judging : Promised l ks es x vs ms → x .over ≡ false → Judged.Promised l (x .acting .words) vs ms
+    judging p f = record { plant = p .schedule .plant; action = actionOfRule (p .schedule); ready = ready (p .schedule) (p .lent) (not-over (p .stands) f) (p .fits) }
 
-  -- what the event is judged to be, for every schedule that the arrays hold
-  abbrev JudgedAs : List ℕ → Verdict → List ℤ → List ℕ → Type 0
-  JudgedAs e v vs' ms' = (p : Plant) (f : ℕ → Run.Action) → Ready p f l (x .acting .words) vs ms → Left (judge edition1 p f (members (x .acting .words)) vs ms (eventIn edition1 e)) vs ms v vs' ms'
+    -- a node that moves acts
+    pub movable : (e : List ℕ) {v : Verdict} {vs' : List ℤ} {ms' : List ℕ} → Promised l ks es x vs ms → x .over ≡ false → JudgedAs l (x .acting .words) vs ms e v vs' ms' → Movable ks es (x .acting .words) v
+    movable e {v} {vs'} {ms'} p f k =
+        let q = not-over (p .stands) f in
+        let left = k _ _ (judging p f .ready) in
+        record {
+          standing = λ n b i.
+              let m = judged-possible edition1 _ _ _ _ _ (eventIn edition1 e) _ n b (heard-move _ vs ms vs' ms' left i) refl in
+              standing (q .words) (p .lent .tree) (q .of) (q .acts) (sym (among-set (q .words) n) ∙ mem-among n (members (x .acting .words)) (m .0));
+        }
 
-  -- a node that moves acts
-  pub movable : {e : List ℕ} {v : Verdict} {vs' : List ℤ} {ms' : List ℕ} → Promised l ks es x vs ms → x .over ≡ false → JudgedAs e v vs' ms' → Movable ks es (x .acting .words) v
-  movable {e} {v} {vs'} {ms'} p f k =
-      let q = not-over (p .stands) f in
-      let w = q .2 .1 .1 in
-      let left = k _ _ (judging p f .ready) in
-      record {
-        standing = λ n b i.
-            let m = judged-possible edition1 _ _ _ _ _ (eventIn edition1 e) _ n b (heard-move _ vs ms vs' ms' left i) refl in
-            standing w (p .lent .tree) (q .2 .0) (q .2 .1 .0) (sym (among-set w n) ∙ mem-among n (members (x .acting .words)) (m .0));
-      }
+    -- the whole event
+    module _ (s : Schedule) (o : Option Residual) (d : ScheduleLent s l ks es) (g : StandsFor (s .root) x o) (f : Fits (s .plant) vs ms) (e : List ℕ) where
+      pub step-over : {a : Answered} → x .over ≡ true → a ≡ record { answer = 23; situation = x } → Steps s o vs ms e a vs ms × Fits (s .plant) vs ms
+      step-over {a} h i = (go g, f)
+        where
+          go : {o : Option Residual} → StandsFor (s .root) x o → Steps s o vs ms e a vs ms
+          go (at-residual y _ _ _) = true-not-false (sym h ∙ y)
+          go (at-end y m w) = steps-as i (record { place = none; is = stepped-over (s .plant) (ruleControl s) vs ms e; stands = at-end y m w })
 
-  -- the whole event
-  module _ (s : Schedule) (o : Option Residual) (d : ScheduleLent s l ks es) (g : StandsFor (s .root) x o) (f : Fits (s .plant) vs ms) (e : List ℕ) where
-    pub stepped-over : {a : Answered} → x .over ≡ true → a ≡ record { answer = 23; situation = x } → Steps s o vs ms e a vs ms
-    unfolding step turnedAway
-    stepped-over {a} h i = go g
-      where
-        go : {o : Option Residual} → StandsFor (s .root) x o → Steps s o vs ms e a vs ms
-        go (at-residual y _ _ _) = true-not-false (sym h ∙ y)
-        go (at-end y m w) = subst (λ (b : Answered). Steps s none vs ms e b vs ms) (sym i) (record { place = none; is = refl; stands = at-end y m w; fits = f })
-
-    pub stepped : {v : Verdict} {vs' : List ℤ} {ms' : List ℕ} {a : Answered} → x .over ≡ false → JudgedAs e v vs' ms' →
-        ((s : Schedule) (y : Residual) → Here ks es (s .root) (x .acting .words) y → (j : Run.Verdict Done) (vs : List ℤ) (ms : List ℕ) (vs' : List ℤ) (ms' : List ℕ) → Left j vs ms v vs' ms' → Settles s y j vs ms vs' ms' a) →
-        Steps s o vs ms e a vs' ms'
-    unfolding step ruleControl
-    stepped {v} {vs'} {ms'} {a} h k m = go g
-      where
-        go : {o : Option Residual} → StandsFor (s .root) x o → Steps s o vs ms e a vs' ms'
-        go (at-residual {r = r} y i n w) =
-            let q = ready s r d i n w f in
-            let left = k (s .plant) (actionOfRule s) q in
-            let z = m s r (record { lies = d .tree; of = i; stands = n; words = w }) _ vs ms vs' ms' left in
-            record {
-              place = z .place;
-              is = ap (λ b. settle (ruleControl s) r (Run.at r vs ms) (judge edition1 (s .plant) (actionOfRule s) b vs ms (eventIn edition1 e))) (sym n) ∙ z .is;
-              stands = z .stands;
-              fits = left-fits (s .plant) (actionOfRule s) l (x .acting .words) vs ms q (eventIn edition1 e) left;
-            }
-        go (at-end y n w) = true-not-false (sym y ∙ h)
+      pub step-at : {v : Verdict} {vs' : List ℤ} {ms' : List ℕ} {a : Answered} → x .over ≡ false → JudgedAs l (x .acting .words) vs ms e v vs' ms' → SettledAs ks es (x .acting .words) v a → Steps s o vs ms e a vs' ms' × Fits (s .plant) vs' ms'
+      unfolding ruleControl
+      step-at {v} {vs'} {ms'} {a} h k m =
+          let q = not-over g h in
+          let r = ready s d q f in
+          let left = k (s .plant) (actionOfRule s) r in
+          (at-place (q .is) (m s (q .residual) (record { lies = d .tree; of = q .of; stands = q .acts; words = q .words }) vs ms e vs' ms' left), fits-left (s .plant) (actionOfRule s) l (x .acting .words) vs ms r (eventIn edition1 e) left)
+        where
+          at-place : {p : Option Residual} → o ≡ p → Steps s p vs ms e a vs' ms' → Steps s o vs ms e a vs' ms'
+          at-place i k = rw i k

@@ -8,7 +8,7 @@ use lib.IntN.{ℤ}
 use Rattle.semantics.specs.Editions.{edition1}
 use Rattle.semantics.specs.Plant.{among}
 use Rattle.semantics.specs.Run as Run
-use Rattle.semantics.specs.Run.{Next, Done, arrive, settle, step}
+use Rattle.semantics.specs.Run.{Next, arrive, step}
 use Rattle.semantics.specs.Tables.{actionOrStop}
 use Rattle.schedules.specs.Nodes.{actionsOf}
 use Rattle.schedules.specs.Trees.{Tree}
@@ -61,12 +61,6 @@ pub record Arrives (t : Tree) (x : Next Residual) (a : Answered) : Type 0 where
 pub record Movable (ks es ws : List ℕ) (v : Verdict) : Type 0 where
   pub standing : (n : ℕ) (b : Bool) → v ≡ Move n b → Standing ks es ws n
 
--- an event judged j at r, with values and modes before and after it, is answered so
-pub record Settles (s : Schedule) (r : Residual) (j : Run.Verdict Done) (vs : List ℤ) (ms : List ℕ) (vs' : List ℤ) (ms' : List ℕ) (a : Answered) : Type 0 where
-  pub place : Option Residual
-  pub is : settle (ruleControl s) r (Run.at r vs ms) j ≡ leaves (a .answer) place vs' ms'
-  pub stands : StandsFor (s .root) (a .situation) place
-
 -- ---- the whole event
 -- the arrays hold the schedule: its plant, its tree, and what each node does that acts in a residual of it
 pub record ScheduleLent (s : Schedule) (l : Lent) (ks es : List ℕ) : Type 0 where
@@ -87,4 +81,3 @@ pub record Steps (s : Schedule) (o : Option Residual) (vs : List ℤ) (ms : List
   pub place : Option Residual
   pub is : step edition1 (s .plant) (ruleControl s) (record { place = o; values = vs; modes = ms }) e ≡ leaves (a .answer) place vs' ms'
   pub stands : StandsFor (s .root) (a .situation) place
-  pub fits : Fits (s .plant) vs' ms'
