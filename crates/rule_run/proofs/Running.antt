@@ -4,6 +4,7 @@ use mathlib.Core.Bool.{Bool, true, false}
 use mathlib.Core.List.{List, [], _∷_, _++_, flatMap}
 use mathlib.Core.Option.{Option, none, some}
 use Prim.Native.Nat.{ℕ, _+_, _*_, _/_, _^_, _≤_, _<_}
+use native.Mathlib.Nat.{mul-le-mul-right}
 use native.Mathlib.Omega.{arith}
 use lib.IntN.{ℤ}
 use lib.ListN.{length}
@@ -12,6 +13,7 @@ use Rattle.semantics.specs.Editions.{edition1}
 use Rattle.semantics.specs.Plant.{among}
 use Rattle.semantics.specs.Run as Run
 use Rattle.semantics.specs.Run.{setNumber, actingSet, valueBytes}
+use Rattle.semantics.specs.Calls.{recordSize}
 use Rattle.semantics.proofs.Facts.{true-not-false}
 use Rattle.schedules.specs.Trees.{Tree}
 use Rattle.schedules.specs.Residuals.{Residual, fresh, acting}
@@ -22,6 +24,7 @@ use Rattle.nodeset.specs.declared.NodeSet.{NodeSet}
 use Rattle.nodeset.proofs.Members.{among-set}
 use Rattle.moves.specs.Contracts.{Planted, Begun}
 use Rattle.codec.specs.Writing.{Wrote}
+use Rattle.codec.proofs.Writing.{wrote-length}
 use Rattle.execution.specs.Booking.{bookedOf, Room}
 use Rattle.execution.specs.Ready.{Lent, Fits}
 use Rattle.execution.specs.declared.Counts.{Counts}
@@ -66,6 +69,19 @@ module _ {l : Lent} {ks es : List ℕ} {vs₀ : List ℤ} {ms₀ events d₀ : L
     -- what the record asks
     pub going-room : (s : Schedule) → Asked s l ks es vs₀ ms₀ events d₀ → Going s vs₀ ms₀ events d₀ k i x cs vs ms d → k < length events / 3 → {vs' : List ℤ} {ms' : List ℕ} → Fits (s .plant) vs' ms' → i + (9 + 4 * length vs' + length ms') ≤ length d
     going-room s q g h f = run-room (s .plant) (ruleControl s) (begins s vs₀ ms₀) events (length events / 3) d₀ (g .so-far) h (q .room) f
+
+    -- what is lent keeps its length
+    pub going-values : (q : Asking l ks es vs₀ ms₀ events d₀) → Going (q .schedule) vs₀ ms₀ events d₀ k i x cs vs ms d → length vs ≡ length vs₀
+    going-values q g = g .so-far .fits .values ∙ sym (q .asked .fits .values)
+
+    pub going-modes : (q : Asking l ks es vs₀ ms₀ events d₀) → Going (q .schedule) vs₀ ms₀ events d₀ k i x cs vs ms d → length ms ≡ length ms₀
+    going-modes q g = g .so-far .fits .modes ∙ sym (q .asked .fits .modes)
+
+    pub going-records : (q : Asking l ks es vs₀ ms₀ events d₀) → Going (q .schedule) vs₀ ms₀ events d₀ k i x cs vs ms d → length d ≡ length d₀
+    going-records q g =
+        let r = recordSize edition1 (q .schedule .plant) in
+        let b : k * r ≤ length events / 3 * r = mul-le-mul-right r (g .so-far .few) in
+        wrote-length (g .so-far .wrote) (omega (arith, g .so-far .size, q .asked .room))
 
 -- ---- an event
 module _ {vs₀ : List ℤ} {ms₀ events d₀ : List ℕ} {k i : ℕ} {x : Situation} {cs : Counts} {vs : List ℤ} {ms d : List ℕ} (s : Schedule) (g : Going s vs₀ ms₀ events d₀ k i x cs vs ms d) where

@@ -1,2 +1,3 @@
 // Running a schedule by the rules.
+pub mod runs;
 pub mod steps;
