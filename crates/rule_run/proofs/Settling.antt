@@ -39,9 +39,6 @@ use Rattle.rule_run.specs.declared.steps.Situation.{Situation}
 use Rattle.rule_run.specs.declared.steps.Answered.{Answered}
 
 -- ---- answers
-pub over-empty : (n : ℕ) {s : NodeSet} → s .words ≡ emptySet → _≡_ {A = Answered} (record { answer = n; situation = record { over = true; acting = s } }) (ended n)
-over-empty n e = ap (λ (w : List ℕ). record { answer = n; situation = record { over = true; acting = record { words = w } } }) e
-
 stands-over : (t : Tree) (n : ℕ) → StandsFor t (ended n .situation) none
 stands-over t n = at-end refl members-empty words-empty
 
