@@ -1,0 +1,3 @@
+// Running a table.
+pub mod entries;
+pub mod steps;
