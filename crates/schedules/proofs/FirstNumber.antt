@@ -25,6 +25,32 @@ use Rattle.schedules.specs.Compiling.{scheduleLocations, tableOf, judgeC
 use Rattle.schedules.specs.Calls.{ruleProgram, ruleRun, readSchedule, scheduleCounts, compile, compiledInto}
 use Rattle.schedules.specs.Conditions.{fileParts, filePlant, fileNodes, fileTree, fileSchedule, is1, is2, is3, ofPlant, is9, is10, is11, is12, is13, is14, fileConditions, compileConditions, ruleRunConditions}
 
+module _ (ed : Edition) (file : List ℕ) where
+  -- 4 to 8 of the two sections, as conditions of the file
+  of-parts : {parts : FileSections} → fileParts ed file ≡ some parts → (is : Edition → List ℕ → List ℕ → Bool) → ofPlant ed file is ≡ is ed (parts .variables) (parts .equations)
+  unfolding ofPlant
+  of-parts e is = given-some _ e
+
+  of-plant : {parts : FileSections} {A : Type 0} {j : Judged A} {l : List Condition} → fileParts ed file ≡ some parts →
+      Firsts j (plantConditions ed (parts .variables) (parts .equations) ++ l) →
+      Firsts j ((4 if ofPlant ed file is4) ∷ (5 if ofPlant ed file is5) ∷ (6 if ofPlant ed file is6) ∷ (7 if ofPlant ed file is7) ∷ (8 if ofPlant ed file is8) ∷ l)
+  unfolding plantConditions
+  of-plant e f = rw (of-parts e is4, of-parts e is5, of-parts e is6, of-parts e is7, of-parts e is8) f
+
+  pub file-first : Firsts (judgeFile ed file) (fileConditions ed file)
+  unfolding judgeFile fileConditions is1 is2 is3 is9 is10 is11 is12 fileNodes filePlant fileParts
+  file-first =
+      by-ensure 1 (fileHeader ed file) refl (λ h1.
+      by-ensure 2 (fileLength file) refl (λ h2.
+      by-need 3 (fileSectionsIn (drop 3 file)) refl (λ parts e.
+      of-plant e (by-then (plant-first ed (parts .variables) (parts .equations)) (λ p j.
+      let q = bind-some _ e ∙ plant-in ed (parts .variables) (parts .equations) j in
+      by-need 9 (nodesIn ed (parts .schedule)) (given-some _ e) (λ ns f.
+      let n = bind-some _ e ∙ f in
+      by-need 10 (treeOf ns) (given-some _ n) (λ t g.
+      by-ensure 11 (every (nodeNamed (length (p .variables)) (selectors p)) ns) (given-some _ q ∙ given-some _ n) (λ h11.
+      by-ensure 12 (every (nodeReads ed (length (p .variables))) ns && switchesRead ed p) (given-some _ q ∙ given-some _ n) (λ h12. by-end _)))))))))
+
 -- an accepted file: its parts, and the conditions that they passed
 pub record Passed (ed : Edition) (file : List ℕ) (s : Schedule) : Type 0 where
   pub header : fileHeader ed file ≡ true
@@ -59,31 +85,6 @@ passed ed file s h =
     })
 
 module _ (ed : Edition) (file : List ℕ) where
-  -- 4 to 8 of the two sections, as conditions of the file
-  of-parts : {parts : FileSections} → fileParts ed file ≡ some parts → (is : Edition → List ℕ → List ℕ → Bool) → ofPlant ed file is ≡ is ed (parts .variables) (parts .equations)
-  unfolding ofPlant
-  of-parts e is = given-some _ e
-
-  of-plant : {parts : FileSections} {A : Type 0} {j : Judged A} {l : List Condition} → fileParts ed file ≡ some parts →
-      Firsts j (plantConditions ed (parts .variables) (parts .equations) ++ l) →
-      Firsts j ((4 if ofPlant ed file is4) ∷ (5 if ofPlant ed file is5) ∷ (6 if ofPlant ed file is6) ∷ (7 if ofPlant ed file is7) ∷ (8 if ofPlant ed file is8) ∷ l)
-  unfolding plantConditions
-  of-plant e f = rw (of-parts e is4, of-parts e is5, of-parts e is6, of-parts e is7, of-parts e is8) f
-
-  pub file-first : Firsts (judgeFile ed file) (fileConditions ed file)
-  unfolding judgeFile fileConditions is1 is2 is3 is9 is10 is11 is12 fileNodes filePlant fileParts
-  file-first =
-      by-ensure 1 (fileHeader ed file) refl (λ h1.
-      by-ensure 2 (fileLength file) refl (λ h2.
-      by-need 3 (fileSectionsIn (drop 3 file)) refl (λ parts e.
-      of-plant e (by-then (plant-first ed (parts .variables) (parts .equations)) (λ p j.
-      let q = bind-some _ e ∙ plant-in ed (parts .variables) (parts .equations) j in
-      by-need 9 (nodesIn ed (parts .schedule)) (given-some _ e) (λ ns f.
-      let n = bind-some _ e ∙ f in
-      by-need 10 (treeOf ns) (given-some _ n) (λ t g.
-      by-ensure 11 (every (nodeNamed (length (p .variables)) (selectors p)) ns) (given-some _ q ∙ given-some _ n) (λ h11.
-      by-ensure 12 (every (nodeReads ed (length (p .variables))) ns && switchesRead ed p) (given-some _ q ∙ given-some _ n) (λ h12. by-end _)))))))))
-
   pub file-schedule : {s : Schedule} → judgeFile ed file ≡ accepted s → fileSchedule ed file ≡ some s
   unfolding fileSchedule fileTree fileNodes filePlant fileParts
   file-schedule {s} h =
@@ -97,13 +98,13 @@ module _ (ed : Edition) (file : List ℕ) where
 
   pub compile-first : (buffer : List ℕ) → Firsts (judgeCompile ed file buffer) (compileConditions ed file buffer)
   unfolding judgeCompile compileConditions is13 is14
-  compile-first buffer = by-then file-first (λ s e.
+  compile-first buffer = by-then (file-first ed file) (λ s e.
       by-ensure 13 (leb (length (scheduleLocations s)) locationLimit) (given-some _ (file-schedule e)) (λ h13.
       by-ensure 14 (leb (length (tableOf ed s)) (length buffer)) (given-some _ (file-schedule e)) (λ h14. by-end _)))
 
   pub rule-run-first : (start events buffer : List ℕ) → Firsts (judgeRun ed (ruleProgram ed file) start events buffer) (ruleRunConditions ed file start events buffer)
   unfolding ruleProgram ruleRunConditions
-  rule-run-first start events buffer = run-first ed start events buffer (by-map _ file-first) program
+  rule-run-first start events buffer = run-first ed start events buffer (by-map _ (file-first ed file)) program
     where
       program : (g : Program Residual) → ruleProgram ed file ≡ accepted g → filePlant ed file ≡ some (g .plant)
       program g e =

@@ -1,0 +1,4 @@
+// Running a schedule by the rules.
+pub mod call;
+mod runs;
+mod steps;
