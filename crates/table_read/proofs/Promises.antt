@@ -5,8 +5,8 @@ use mathlib.Core.List.{List, [], _∷_}
 use mathlib.Core.Option.{Option, none, some}
 use Prim.Native.Nat.{ℕ, zero, suc, _-_, _≤_, _<_}
 use native.Mathlib.Omega.{arith}
-use borrow.Author.Tests.{ltb-true, eqb-true}
-use lib.Dec.{ltb, eqb}
+use borrow.Author.Tests.{leb-true, ltb-true, eqb-true}
+use lib.Dec.{leb, ltb, eqb}
 use lib.ListN.{length, getD}
 use Rattle.semantics.specs.Bytes.{every}
 use Rattle.semantics.specs.Editions.{edition1}
@@ -211,7 +211,7 @@ locations-promised t {tb} o q = subst (λ x. LocationsPromised x tb) (sym q)
     record { count = n; low = omega arith; high = omega arith; full = places-full (tb .actions) _ (o .locations) (o .locations-passed) })
 
 -- ---- the entries of a location that fits
--- fewer than 65, each with an action
+-- each with an action
 pub record EntryPromised (n : ℕ) (acts : List NodeAction) (e : Entry) : Type 0 where
   pub action : Action
   pub is : actionAt acts (e .node) ≡ some action
@@ -233,6 +233,35 @@ pub nodes-rise : (n : ℕ) (acts : List NodeAction) (es : List Entry) → locati
 unfolding locationFits
 nodes-rise n acts es h = and-left (risingFrom 0 (entryNodes es)) (every (entryFits n acts) es) h
 
+-- no more entries than nodes
+rising-few : (m low : ℕ) (l : List ℕ) → risingFrom low l ≡ true → All (λ n. n < m) l → length l ≤ m - low
+unfolding risingFrom
+rising-few m low [] h a = omega arith
+rising-few m low (n ∷ l) h (all-cons b a) = go (leb low n) refl h (λ i. rising-few m (suc n) l i a)
+  where
+    go : (t : Bool) → leb low n ≡ t → elim t [ true ↦ risingFrom (suc n) l | false ↦ false ] ≡ true → (risingFrom (suc n) l ≡ true → length l ≤ m - suc n) → suc (length l) ≤ m - low
+    go true e h f =
+        let i = leb-true low n e in
+        let k = f h in
+        omega arith
+    go false e h f = true-not-false (sym h)
+
+pub entries-few : (t : List ℕ) {tb : Table} → Opened t tb → (k : ℕ) → k < length (tb .locations) → length (getD (tb .locations) k []) ≤ 64
+unfolding entryNodes
+entries-few t {tb} o k h =
+    let es = getD (tb .locations) k [] in
+    let fits = location-promised t o refl k h .fits in
+    let few = rising-few 64 0 (entryNodes es) (nodes-rise _ _ es fits) (below es (entries-promised _ (tb .actions) es fits)) in
+    omega (arith, same es)
+  where
+    below : (es : List Entry) → All (EntryPromised (length (tb .locations)) (tb .actions)) es → All (λ n. n < 64) (entryNodes es)
+    below [] all-nil = all-nil
+    below (e ∷ es) (all-cons p a) = all-cons (nodes-below (tb .actions) (e .node) (laid-actions _ (o .actions) (o .actions-passed)) (p .is)) (below es a)
+
+    same : (es : List Entry) → length (entryNodes es) ≡ length es
+    same [] = refl
+    same (e ∷ es) = ap suc (same es)
+
 -- ---- where a move leads
 goes-on : (n t : ℕ) → goesOn n t ≡ true → Leads n t
 unfolding goesOn
@@ -250,3 +279,12 @@ leads n (switch s m) t u true h p = goes-on n t (and-left (goesOn n t) (eqb u NO
 leads n (switch s m) t u false h p = true-not-false (sym p)
 leads n stop t u true h p = halts (eqb-true t HALTED (and-left (eqb t HALTED) (eqb u NONE) h))
 leads n stop t u false h p = true-not-false (sym p)
+
+-- no second target but a test's
+pub no-second : (n : ℕ) (a : Action) (t u : ℕ) → targetsFit n a t u ≡ true → isTest a ≡ false → u ≡ NONE
+unfolding targetsFit isTest
+no-second n (test c) t u h i = true-not-false i
+no-second n (wait c) t u h i = eqb-true u NONE (and-right (goesOn n t) (eqb u NONE) h)
+no-second n (assign v e) t u h i = eqb-true u NONE (and-right (goesOn n t) (eqb u NONE) h)
+no-second n (switch s m) t u h i = eqb-true u NONE (and-right (goesOn n t) (eqb u NONE) h)
+no-second n stop t u h i = eqb-true u NONE (and-right (eqb t HALTED) (eqb u NONE) h)
