@@ -24,6 +24,7 @@ unfoldable pub actionRows : List ℕ → List ℕ → List ℕ → List ℕ → 
 actionRows s acts starts ends zero = []
 actionRows s acts starts ends (suc n) = actionRows s acts starts ends n ++ actionRow n (getD acts n 0) (operandAt s starts ends n)
 
+-- how many of them have an action
 unfoldable pub actionCount : List ℕ → ℕ → ℕ
 actionCount acts zero = 0
 actionCount acts (suc n) = actionCount acts n + actionOnce (getD acts n 0)

@@ -1,6 +1,6 @@
 // The compiler: the table of a schedule.
-pub mod actions;
+mod actions;
 pub mod call;
-pub mod locations;
-pub mod rows;
-pub mod spot;
+mod locations;
+mod rows;
+mod spot;
