@@ -15,7 +15,7 @@ use Rattle.schedules.specs.Trees.{Tree}
 use Rattle.schedules.specs.Residuals.{Residual, acting}
 use Rattle.schedules.specs.Files.{Schedule, ruleControl}
 use Rattle.schedules.specs.Laid.{Lies}
-use Rattle.schedules.proofs.ActingDetermines.{Of}
+use Rattle.schedules.specs.Reached.{Of}
 use Rattle.nodeset.specs.Sets.{members, emptySet, Words}
 use Rattle.nodeset.specs.declared.NodeSet.{NodeSet}
 use Rattle.moves.specs.Contracts.{Standing}

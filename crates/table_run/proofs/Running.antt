@@ -37,12 +37,12 @@ use Rattle.table_run.proofs.EntryTurns.{listed-of, counted-of, acting-a
 pub acting-few : {t : Table} {l : Lent} {locs places : List ℕ} {x : Situation} {o : Option ℕ} → TableLent t l locs places → StandsFor t x o → (n : ℕ) → mem (x .acting .words) n ≡ true → n < 64
 unfolding among
 acting-few {t} d (at-location {y = y} f p h e w) n m = d .nodes n (actionOrStop (t .actions) n) (acting-action (d .locations .at y h .promised) n (ap (among n) (sym e) ∙ among-set w n ∙ m)) .below
-acting-few d (at-end y e w) n m = true-not-false (sym m ∙ sym (among-set w n) ∙ ap (among n) e)
+acting-few d (at-end y z e w) n m = true-not-false (sym m ∙ sym (among-set w n) ∙ ap (among n) e)
 
 shown : (t : Table) {x : Situation} {o : Option ℕ} → StandsFor t x o → actingSet (tableControl t) o ≡ setNumber (members (x .acting .words))
 unfolding tableControl
 shown t {x} (at-location {y = y} f p h e w) = set-at (tableControl t) (x .acting .words) y e
-shown t {x} (at-end y e w) = set-over (tableControl t) (x .acting .words) e
+shown t {x} (at-end y z e w) = set-over (tableControl t) (x .acting .words) e
 
 -- ---- what is asked
 module _ {l : Lent} {locs places : List ℕ} {vs₀ : List ℤ} {ms₀ events d₀ : List ℕ} where

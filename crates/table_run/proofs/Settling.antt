@@ -40,7 +40,7 @@ pub over-empty : (n : ℕ) {s : NodeSet} → s .words ≡ emptySet → _≡_ {A 
 over-empty n e = ap (λ (w : List ℕ). record { answer = n; situation = record { over = true; place = 0; acting = record { words = w } } }) e
 
 stands-over : (t : Table) (n : ℕ) → StandsFor t (ended n .situation) none
-stands-over t n = at-end refl members-empty words-empty
+stands-over t n = at-end refl refl members-empty words-empty
 
 stands-at : {t : Table} {locs places : List ℕ} {x : ℕ} (n : ℕ) (s : NodeSet) → Here t locs places x (s .words) → StandsFor t (goingOn n x s .situation) (some x)
 stands-at n s h = at-location refl refl (h .below) (h .stands) (h .words)
@@ -149,7 +149,7 @@ module _ {locs places : List ℕ} {x : ℕ} {set : NodeSet} {v : Verdict} (t : T
 -- ---- an event
 not-over : {t : Table} {x : Situation} {o : Option ℕ} → StandsFor t x o → x .over ≡ false → (x .place < length (t .locations)) × (members (x .acting .words) ≡ entryNodes (entriesAt t (x .place))) × Words (x .acting .words)
 not-over {t} {x} (at-location e p h i w) f = (subst (λ y. y < length (t .locations)) (sym p) h, i ∙ ap (λ y. entryNodes (entriesAt t y)) (sym p), w)
-not-over (at-end e i w) f = true-not-false (sym e ∙ f)
+not-over (at-end e z i w) f = true-not-false (sym e ∙ f)
 
 module _ (l : Lent) (locs places : List ℕ) (x : Situation) (vs : List ℤ) (ms : List ℕ) where
   here-at : (t : Table) {o : Option ℕ} → TableLent t l locs places → StandsFor t x o → x .over ≡ false → Here t locs places (x .place) (x .acting .words)
@@ -197,7 +197,7 @@ module _ (l : Lent) (locs places : List ℕ) (x : Situation) (vs : List ℤ) (ms
       where
         go : {o : Option ℕ} → StandsFor t x o → Steps t o vs ms e a vs ms
         go (at-location y _ _ _ _) = true-not-false (sym h ∙ y)
-        go (at-end y m w) = steps-as i (record { place = none; is = stepped-over (t .plant) (tableControl t) vs ms e; stands = at-end y m w })
+        go (at-end y z m w) = steps-as i (record { place = none; is = stepped-over (t .plant) (tableControl t) vs ms e; stands = at-end y z m w })
 
     pub step-at : {v : Verdict} {vs' : List ℤ} {ms' : List ℕ} {a : Answered} → x .over ≡ false → JudgedAs e v vs' ms' → SettledAs v a → Steps t o vs ms e a vs' ms' × Fits (t .plant) vs' ms'
     step-at {v} {vs'} {ms'} {a} h k m =
@@ -208,4 +208,4 @@ module _ (l : Lent) (locs places : List ℕ) (x : Situation) (vs : List ℤ) (ms
       where
         go : {o : Option ℕ} → StandsFor t x o → Steps t (some (x .place)) vs ms e a vs' ms' → Steps t o vs ms e a vs' ms'
         go (at-location y p i n w) s = subst (λ y. Steps t (some y) vs ms e a vs' ms') p s
-        go (at-end y n w) s = true-not-false (sym y ∙ h)
+        go (at-end y z n w) s = true-not-false (sym y ∙ h)

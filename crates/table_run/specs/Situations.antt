@@ -34,7 +34,7 @@ ended n = record { answer = n; situation = record { over = true; place = 0; acti
 -- at a location, whose entries' nodes act, or the run is over and none do
 pub data StandsFor (t : Table) (x : Situation) : Option ℕ → Type 0 where
   at-location : {y : ℕ} → x .over ≡ false → x .place ≡ y → y < length (t .locations) → members (x .acting .words) ≡ entryNodes (entriesAt t y) → Words (x .acting .words) → StandsFor t x (some y)
-  at-end : x .over ≡ true → members (x .acting .words) ≡ [] → Words (x .acting .words) → StandsFor t x none
+  at-end : x .over ≡ true → x .place ≡ 0 → members (x .acting .words) ≡ [] → Words (x .acting .words) → StandsFor t x none
 
 -- ---- the location section
 -- location x stands at its place

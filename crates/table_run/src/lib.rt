@@ -1,5 +1,5 @@
 // Running a table.
 pub mod call;
-pub mod entries;
-pub mod runs;
+mod entries;
+mod runs;
 pub mod steps;
