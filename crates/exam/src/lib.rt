@@ -1,0 +1,1 @@
+// Definitions and theorems only: specs/ is read first, proofs/ holds it down.
