@@ -8,7 +8,7 @@ use lib.Dec.{eqb}
 use borrow.Author.Tests.{eqb-true, eq-eqb}
 use Rattle.semantics.specs.Calls.{Ran}
 use Rattle.semantics.proofs.Facts.{and-left, and-right, and-both, true-not-false}
-use Rattle.exam.specs.Exam.{sameBytes, agreed}
+use Rattle.exam.specs.Exam.{sameBytes, sameNumbers, agreed}
 
 pub same-true : (a b : List ℕ) → sameBytes a b ≡ true → a ≡ b
 unfolding sameBytes
@@ -31,21 +31,21 @@ pub record Same (n : ℕ) (r t : Ran) : Type 0 where
   pub records : take n (r .records) ≡ take n (t .records)
 
 pub agreed-true : (n : ℕ) (r t : Ran) → Same n r t → agreed n r t ≡ true
-unfolding agreed
+unfolding agreed sameNumbers
 agreed-true n r t s =
-    and-both (eq-eqb _ _ (s .refusal)) (and-both (eq-eqb _ _ (s .taken)) (and-both (eq-eqb _ _ (s .turned-away)) (and-both (eq-eqb _ _ (s .faulted))
-    (ap (λ l. sameBytes l (take n (t .records))) (s .records) ∙ same-refl (take n (t .records))))))
+    and-both (and-both (eq-eqb _ _ (s .refusal)) (and-both (eq-eqb _ _ (s .taken)) (and-both (eq-eqb _ _ (s .turned-away)) (eq-eqb _ _ (s .faulted)))))
+    (ap (λ l. sameBytes l (take n (t .records))) (s .records) ∙ same-refl (take n (t .records)))
 
 pub true-agreed : (n : ℕ) (r t : Ran) → agreed n r t ≡ true → Same n r t
-unfolding agreed
+unfolding agreed sameNumbers
 true-agreed n r t h =
-    let a = and-right (eqb (r .refusal) (t .refusal)) _ h in
-    let b = and-right (eqb (r .taken) (t .taken)) _ a in
-    let c = and-right (eqb (r .turned-away) (t .turned-away)) _ b in
+    let a = and-left (sameNumbers r t) (sameBytes (take n (r .records)) (take n (t .records))) h in
+    let b = and-right (eqb (r .refusal) (t .refusal)) _ a in
+    let c = and-right (eqb (r .taken) (t .taken)) _ b in
     record {
-      refusal = eqb-true _ _ (and-left (eqb (r .refusal) (t .refusal)) _ h);
-      taken = eqb-true _ _ (and-left (eqb (r .taken) (t .taken)) _ a);
-      turned-away = eqb-true _ _ (and-left (eqb (r .turned-away) (t .turned-away)) _ b);
-      faulted = eqb-true _ _ (and-left (eqb (r .faulted) (t .faulted)) _ c);
-      records = same-true _ _ (and-right (eqb (r .faulted) (t .faulted)) _ c);
+      refusal = eqb-true _ _ (and-left (eqb (r .refusal) (t .refusal)) _ a);
+      taken = eqb-true _ _ (and-left (eqb (r .taken) (t .taken)) _ b);
+      turned-away = eqb-true _ _ (and-left (eqb (r .turned-away) (t .turned-away)) (eqb (r .faulted) (t .faulted)) c);
+      faulted = eqb-true _ _ (and-right (eqb (r .turned-away) (t .turned-away)) (eqb (r .faulted) (t .faulted)) c);
+      records = same-true _ _ (and-right (sameNumbers r t) (sameBytes (take n (r .records)) (take n (t .records))) h);
     }

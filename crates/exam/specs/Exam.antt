@@ -35,11 +35,13 @@ sameBytes [] (y ∷ ys) = false
 sameBytes (x ∷ xs) [] = false
 sameBytes (x ∷ xs) (y ∷ ys) = eqb x y && sameBytes xs ys
 
--- two runs compared: refusals, counts, and the first n bytes of their record buffers
+-- two runs compared: refusals and counts
+unfoldable pub sameNumbers : Ran → Ran → Bool
+sameNumbers r t = eqb (r .refusal) (t .refusal) && (eqb (r .taken) (t .taken) && (eqb (r .turned-away) (t .turned-away) && eqb (r .faulted) (t .faulted)))
+
+-- and the first n bytes of their record buffers
 unfoldable pub agreed : ℕ → Ran → Ran → Bool
-agreed n r t =
-    eqb (r .refusal) (t .refusal) && (eqb (r .taken) (t .taken) && (eqb (r .turned-away) (t .turned-away) && (eqb (r .faulted) (t .faulted) &&
-    sameBytes (take n (r .records)) (take n (t .records)))))
+agreed n r t = sameNumbers r t && sameBytes (take n (r .records)) (take n (t .records))
 
 -- what the call returns
 pub record Examined : Type 0 where
