@@ -159,6 +159,12 @@ module _ (s : List ℕ) {ns : List Node} {t : Tree} (h : nodesIn edition1 s ≡ 
   pub laid : Laid (nodesOf s .kinds) (treeIn s .ends) t 0 (length ns)
   laid = written-laid ((one-tree ns t) .0 g) kinds-held ends-held (omega arith)
 
+  pub tree-size : treeSize t ≡ length ns
+  tree-size = written-size ((one-tree ns t) .0 g)
+
+  pub ends-long : length (treeIn s .ends) ≡ 64
+  ends-long = ap (λ (r : Subtrees). length (r .ends)) tree-is ∙ length-pad 64 0 (treeEnds t 0) (omega (arith, length-tree-ends t 0, tree-size, indexed s h .counted, indexed s h .few-nodes))
+
   pub lies : Lies (nodesOf s .kinds) (treeIn s .ends) t
   lies = record {
     laid = subst (Laid (nodesOf s .kinds) (treeIn s .ends) t 0) (sym (laid-end laid)) laid;

@@ -16,3 +16,5 @@ pub mod WholeTree
 pub mod LaidTree
 -- the whole file
 pub mod Stages
+pub mod Promises
+pub mod NodeActions

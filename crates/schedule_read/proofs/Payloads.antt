@@ -22,7 +22,7 @@ module _ (Q : Kind → Type 0) where
   pick true x y f q = f refl
   pick false x y f q = q
 
-  by-kind : (k : ℕ) → (k ≡ 1 → Q a-sequence) → (k ≡ 2 → Q a-parallel) → (k ≡ 3 → Q a-while) → (k ≡ 4 → Q an-if) → (k ≡ 5 → Q a-continue) → (k ≡ 6 → Q a-reset) → (k ≡ 7 → Q a-reinitial) → (k ≡ 8 → Q a-switch) → (k ≡ 9 → Q a-stop) → Q no-kind → Q (kindOf k)
+  pub by-kind : (k : ℕ) → (k ≡ 1 → Q a-sequence) → (k ≡ 2 → Q a-parallel) → (k ≡ 3 → Q a-while) → (k ≡ 4 → Q an-if) → (k ≡ 5 → Q a-continue) → (k ≡ 6 → Q a-reset) → (k ≡ 7 → Q a-reinitial) → (k ≡ 8 → Q a-switch) → (k ≡ 9 → Q a-stop) → Q no-kind → Q (kindOf k)
   unfolding kindOf
   by-kind k f₁ f₂ f₃ f₄ f₅ f₆ f₇ f₈ f₉ q =
       pick (eqb k 1) _ _ (λ e. f₁ (eqb-true k 1 e)) (pick (eqb k 2) _ _ (λ e. f₂ (eqb-true k 2 e)) (pick (eqb k 3) _ _ (λ e. f₃ (eqb-true k 3 e))

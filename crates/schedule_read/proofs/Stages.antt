@@ -18,6 +18,7 @@ use Rattle.schedules.specs.Nodes.{Node, nodesIn, nodeNamed, nodeReads}
 use Rattle.schedules.specs.Trees.{Tree, treeOf}
 use Rattle.schedules.specs.Files.{Schedule, fileHeader, fileLength, judgeFile}
 use Rattle.schedules.specs.Calls.{scheduleCounts, readSchedule}
+use Rattle.schedules.proofs.FirstNumber as FirstNumber
 use Rattle.codec.proofs.Known.{times-length}
 use Rattle.plant.specs.Equations.{pad, modeCount}
 use Rattle.plant.specs.Sound.{There}
@@ -27,25 +28,26 @@ use Rattle.plant.proofs.EquationCases.{section-at}
 use Rattle.plant.proofs.PlantLaws.{Passed, passed-all, passes, variables-of, variables-high, selectors-of, modes-of}
 use Rattle.schedule_read.specs.FileParts.{noParts, partsIn, partsRead, partsOf, sectionsAt}
 use Rattle.schedule_read.specs.Indexed.{NodesAt, Indexed, ModesAt, Selected, Passes}
-use Rattle.schedule_read.specs.Index.{nodesOf}
+use Rattle.schedule_read.specs.Index.{notNodes, nodesOf}
 use Rattle.schedule_read.specs.Ends.{noTree, subtreesOf, treeIn}
-use Rattle.schedule_read.specs.ScheduleFile.{numbers, noSchedule, judgeSections, sectionsRead, judgeNodes, PlantAt, Planted}
+use Rattle.schedule_read.specs.ScheduleFile.{numbers, noSchedule, indexAt, scheduleIndex, judgeSections, sectionsIndex, judgeNodes, PlantAt, Planted}
 use Rattle.schedule_read.specs.declared.call.FileRead.{FileRead}
+use Rattle.schedule_read.specs.declared.call.ScheduleIndex.{ScheduleIndex}
 use Rattle.schedule_read.specs.declared.parts.Parts.{Parts}
 use Rattle.schedule_read.specs.declared.nodes.Nodes.{Nodes}
 use Rattle.schedule_read.specs.declared.tree.Subtrees.{Subtrees}
 use Rattle.schedule_read.proofs.PartsStand.{Opened, Accepted, refused-1, refused-2, refused-3, accepted-parts}
 use Rattle.schedule_read.proofs.ModeCounts.{padded}
-use Rattle.schedule_read.proofs.NodeIndex.{nodes-accepted, nodes-refused}
+use Rattle.schedule_read.proofs.NodeIndex.{nodes-accepted, nodes-refused, indexed}
 use Rattle.schedule_read.proofs.FoundNodes.{found-nodes}
 use Rattle.schedule_read.proofs.WholeTree.{of-nodes}
 
-abbrev answer : Judged Schedule → FileRead
-answer j = numbers (scheduleCounts j)
+answer-refused : (q : Parts) {j : Judged Schedule} {n : ℕ} → j ≡ refused n → noSchedule n ≡ indexAt q j
+unfolding indexAt
+answer-refused q e = rw e refl
 
-answer-refused : {j : Judged Schedule} {n : ℕ} → j ≡ refused n → noSchedule n ≡ answer j
-unfolding numbers scheduleCounts
-answer-refused e = rw e refl
+pub nothing-else : (r : ℕ) {q : Parts} {p : PlantRead} {n : Nodes} {t : Subtrees} → q ≡ noParts r → p ≡ refusedPlant 0 → n ≡ notNodes → t ≡ noTree → _≡_ {A = ScheduleIndex} (record { refusal = r; parts = q; plant = p; nodes = n; subtrees = t }) (noSchedule r)
+nothing-else r e f g h = cc
 
 -- ---- 1 to 3
 after-3 : (f : List ℕ) {parts : FileSections} → Opened f → fileSectionsIn (drop 3 f) ≡ some parts → judgeFile edition1 f ≡ judgeSections parts
@@ -53,23 +55,23 @@ unfolding judgeFile judgeSections
 after-3 f o e = go-ensure 1 _ (o .header) ∙ go-ensure 2 _ (o .length-field) ∙ go-need 3 _ e
 
 module _ (f : List ℕ) {p : Parts} (h : p ≡ partsOf f) where
-  said : {n : ℕ} → noParts n ≡ partsOf f → judgeFile edition1 f ≡ refused n → noSchedule (p .refusal) ≡ numbers (readSchedule edition1 f)
-  unfolding readSchedule
-  said e k = ap (λ (p : Parts). noSchedule (p .refusal)) (h ∙ sym e) ∙ answer-refused k
+  said : {n : ℕ} → noParts n ≡ partsOf f → judgeFile edition1 f ≡ refused n → noSchedule (p .refusal) ≡ scheduleIndex f
+  unfolding scheduleIndex
+  said e k = ap (λ (p : Parts). noSchedule (p .refusal)) (h ∙ sym e) ∙ answer-refused _ k
 
-  pub by-parts : (p .refusal ≡ 0 → ⊥) → noSchedule (p .refusal) ≡ numbers (readSchedule edition1 f)
+  pub by-parts : (p .refusal ≡ 0 → ⊥) → noSchedule (p .refusal) ≡ scheduleIndex f
   unfolding judgeFile partsOf partsRead partsIn ensure need _>>_ _>>=_
   by-parts z = first (fileHeader edition1 f) refl
     where
-      third : fileHeader edition1 f ≡ true → fileLength f ≡ true → (o : Option FileSections) → fileSectionsIn (drop 3 f) ≡ o → noSchedule (p .refusal) ≡ numbers (readSchedule edition1 f)
+      third : fileHeader edition1 f ≡ true → fileLength f ≡ true → (o : Option FileSections) → fileSectionsIn (drop 3 f) ≡ o → noSchedule (p .refusal) ≡ scheduleIndex f
       third a b none e = said (refused-3 f (record { header = a; length-field = b }) e) (rw (a, b, e) refl)
       third a b (some s) e = absurd (z (ap (λ (p : Parts). p .refusal) h ∙ rw (a, b, e) refl))
 
-      second : fileHeader edition1 f ≡ true → (b : Bool) → fileLength f ≡ b → noSchedule (p .refusal) ≡ numbers (readSchedule edition1 f)
+      second : fileHeader edition1 f ≡ true → (b : Bool) → fileLength f ≡ b → noSchedule (p .refusal) ≡ scheduleIndex f
       second a true e = third a e (fileSectionsIn (drop 3 f)) refl
       second a false e = said (refused-2 f a e) (rw (a, e) refl)
 
-      first : (b : Bool) → fileHeader edition1 f ≡ b → noSchedule (p .refusal) ≡ numbers (readSchedule edition1 f)
+      first : (b : Bool) → fileHeader edition1 f ≡ b → noSchedule (p .refusal) ≡ scheduleIndex f
       first true e = second e (fileLength f) refl
       first false e = said (refused-1 f e) (rw e refl)
 
@@ -77,9 +79,9 @@ module _ (f : List ℕ) {p : Parts} (h : p ≡ partsOf f) where
   parts-stand z = subst (Accepted f) (sym h) (accepted-parts f (sym (ap (λ (p : Parts). p .refusal) h) ∙ z))
 
   pub by-sections : p .refusal ≡ 0 →
-      sectionsRead (take (p .«variables_to» - p .«variables_from») (drop (p .«variables_from») f)) (take (p .«equations_to» - p .«equations_from») (drop (p .«equations_from») f)) (take (p .«schedule_to» - p .«schedule_from») (drop (p .«schedule_from») f)) ≡ numbers (readSchedule edition1 f)
-  unfolding readSchedule sectionsRead sectionsAt
-  by-sections z = let a = parts-stand z in ap answer (sym (after-3 f (a .opened) (a .are)))
+      sectionsIndex p (take (p .«variables_to» - p .«variables_from») (drop (p .«variables_from») f)) (take (p .«equations_to» - p .«equations_from») (drop (p .«equations_from») f)) (take (p .«schedule_to» - p .«schedule_from») (drop (p .«schedule_from») f)) ≡ scheduleIndex f
+  unfolding scheduleIndex sectionsIndex sectionsAt
+  by-sections z = let a = parts-stand z in ap (indexAt p) (sym (after-3 f (a .opened) (a .are))) ∙ ap (λ q. indexAt q (judgeFile edition1 f)) h
 
 -- ---- 11 and 12
 both : (p : Plant) (ns : List Node) (x : Schedule) →
@@ -164,19 +166,19 @@ few-selectors es {qs} e =
 counts-at : {modes ms : List ℕ} {c d : ℕ} {cs : List Selector} → modes ≡ ms → c ≡ d → ModesAt ms d cs → ModesAt modes c cs
 counts-at e f a = rw (e, f) a
 
-counts : {a b c x y z : ℕ} → a ≡ x → b ≡ y → c ≡ z → _≡_ {A = FileRead} (record { refusal = 0; variables = a; selectors = b; nodes = c }) (record { refusal = 0; variables = x; selectors = y; nodes = z })
-counts e f g = cc
+joined : (q : Parts) {p p′ : PlantRead} {n n′ : Nodes} {t t′ : Subtrees} → p ≡ p′ → n ≡ n′ → t ≡ t′ → _≡_ {A = ScheduleIndex} (record { refusal = 0; parts = q; plant = p; nodes = n; subtrees = t }) (record { refusal = 0; parts = q; plant = p′; nodes = n′; subtrees = t′ })
+joined q e f g = cc
 
-module _ (vs es s : List ℕ) {p : PlantRead} (h : p ≡ plantOf vs es) where
+module _ (at-parts : Parts) (vs es s : List ℕ) {p : PlantRead} (h : p ≡ plantOf vs es) where
   sections : FileSections
   sections = record { variables = vs; equations = es; schedule = s }
 
-  pub by-plant : (p .refusal ≡ 0 → ⊥) → noSchedule (p .refusal) ≡ sectionsRead vs es s
-  unfolding sectionsRead judgeSections plantOf plantAnswer refusedPlant acceptedPlant _>>=_
+  pub by-plant : (p .refusal ≡ 0 → ⊥) → noSchedule (p .refusal) ≡ sectionsIndex at-parts vs es s
+  unfolding sectionsIndex judgeSections plantOf plantAnswer refusedPlant acceptedPlant _>>=_
   by-plant z = go (judgePlant edition1 vs es) refl
     where
-      go : (j : Judged Plant) → judgePlant edition1 vs es ≡ j → noSchedule (p .refusal) ≡ sectionsRead vs es s
-      go (refused n) e = ap (λ (p : PlantRead). noSchedule (p .refusal)) (h ∙ ap plantAnswer e) ∙ answer-refused (rw e refl)
+      go : (j : Judged Plant) → judgePlant edition1 vs es ≡ j → noSchedule (p .refusal) ≡ sectionsIndex at-parts vs es s
+      go (refused n) e = ap (λ (p : PlantRead). noSchedule (p .refusal)) (h ∙ ap plantAnswer e) ∙ answer-refused at-parts (rw e refl)
       go (accepted q) e = absurd (z (ap (λ (p : PlantRead). p .refusal) (h ∙ ap plantAnswer e)))
 
   module _ (z : p .refusal ≡ 0) where
@@ -210,9 +212,9 @@ module _ (vs es s : List ℕ) {p : PlantRead} (h : p ≡ plantOf vs es) where
 
     -- ---- 9
     module _ {n : Nodes} (k : n ≡ nodesOf s) where
-      pub by-nodes : (n .refusal ≡ 0 → ⊥) → noSchedule 9 ≡ sectionsRead vs es s
-      unfolding sectionsRead judgeSections need _>>=_
-      by-nodes y = answer-refused (go-then _ plant-is ∙ rw (nodes-refused s (λ i. y (ap (λ (n : Nodes). n .refusal) k ∙ i))) refl)
+      pub by-nodes : (n .refusal ≡ 0 → ⊥) → noSchedule 9 ≡ sectionsIndex at-parts vs es s
+      unfolding sectionsIndex judgeSections need _>>=_
+      by-nodes y = answer-refused at-parts (go-then _ plant-is ∙ rw (nodes-refused s (λ i. y (ap (λ (n : Nodes). n .refusal) k ∙ i))) refl)
 
       module _ (y : n .refusal ≡ 0) where
         ns : List Node
@@ -233,12 +235,12 @@ module _ (vs es s : List ℕ) {p : PlantRead} (h : p ≡ plantOf vs es) where
           tree-answer : t ≡ subtreesOf (treeOf ns)
           tree-answer = w ∙ of-nodes s nodes-are
 
-          pub by-tree : t .ok ≡ false → noSchedule 10 ≡ sectionsRead vs es s
-          unfolding sectionsRead judgeSections subtreesOf need _>>=_
+          pub by-tree : t .ok ≡ false → noSchedule 10 ≡ sectionsIndex at-parts vs es s
+          unfolding sectionsIndex judgeSections subtreesOf need _>>=_
           by-tree x = go (treeOf ns) refl
             where
-              go : (o : Option Tree) → treeOf ns ≡ o → noSchedule 10 ≡ sectionsRead vs es s
-              go none e = answer-refused (go-then _ plant-is ∙ go-need 9 _ nodes-are ∙ rw e refl)
+              go : (o : Option Tree) → treeOf ns ≡ o → noSchedule 10 ≡ sectionsIndex at-parts vs es s
+              go none e = answer-refused at-parts (go-then _ plant-is ∙ go-need 9 _ nodes-are ∙ rw e refl)
               go (some u) e = true-not-false (sym (ap (λ (t : Subtrees). t .ok) (tree-answer ∙ ap subtreesOf e)) ∙ x)
 
           -- ---- 11 and 12
@@ -254,18 +256,35 @@ module _ (vs es s : List ℕ) {p : PlantRead} (h : p ≡ plantOf vs es) where
                 go none e = true-not-false (sym x ∙ ap (λ (t : Subtrees). t .ok) (tree-answer ∙ ap subtreesOf e))
                 go (some u) e = (u, go-then _ plant-is ∙ go-need 9 _ nodes-are ∙ go-need 10 _ e ∙ both plant ns _)
 
-            pub by-last : (r ≡ 0 → ⊥) → noSchedule r ≡ sectionsRead vs es s
-            unfolding sectionsRead sections refusalOf
+            pub by-last : (r ≡ 0 → ⊥) → noSchedule r ≡ sectionsIndex at-parts vs es s
+            unfolding sectionsIndex sections refusalOf
             by-last v = go (judgeNodes plant ns) refl
               where
-                go : (j : Judged (Unit {0})) → judgeNodes plant ns ≡ j → noSchedule r ≡ sectionsRead vs es s
-                go (refused m) e = ap noSchedule (last ∙ ap refusalOf e) ∙ answer-refused (after-10 .1 ∙ then-refused _ e)
+                go : (j : Judged (Unit {0})) → judgeNodes plant ns ≡ j → noSchedule r ≡ sectionsIndex at-parts vs es s
+                go (refused m) e = ap noSchedule (last ∙ ap refusalOf e) ∙ answer-refused at-parts (after-10 .1 ∙ then-refused _ e)
                 go (accepted m) e = absurd (v (last ∙ ap refusalOf e))
 
-            pub all-passed : r ≡ 0 → record { refusal = 0; variables = p .variables; selectors = p .selectors; nodes = n .count } ≡ sectionsRead vs es s
-            unfolding sectionsRead sections refusalOf numbers scheduleCounts
+            pub all-passed : r ≡ 0 → record { refusal = 0; parts = at-parts; plant = p; nodes = n; subtrees = t } ≡ sectionsIndex at-parts vs es s
+            unfolding sectionsIndex sections refusalOf indexAt
             all-passed v = go (judgeNodes plant ns) refl
               where
-                go : (j : Judged (Unit {0})) → judgeNodes plant ns ≡ j → record { refusal = 0; variables = p .variables; selectors = p .selectors; nodes = n .count } ≡ sectionsRead vs es s
+                go : (j : Judged (Unit {0})) → judgeNodes plant ns ≡ j → record { refusal = 0; parts = at-parts; plant = p; nodes = n; subtrees = t } ≡ sectionsIndex at-parts vs es s
                 go (refused m) e = let i : r ≡ m = last ∙ ap refusalOf e in absurd (omega (arith, some-number plant ns e))
-                go (accepted m) e = counts variables-are selectors-are (sym (at .counted)) ∙ sym (ap answer (after-10 .1 ∙ then-accepted _ e))
+                go (accepted m) e = joined at-parts h k w ∙ sym (ap (indexAt at-parts) (after-10 .1 ∙ then-accepted _ e))
+
+-- ---- the counts of the call
+abbrev countsIn : ScheduleIndex → FileRead
+countsIn x = record { refusal = x .refusal; variables = x .plant .variables; selectors = x .plant .selectors; nodes = x .nodes .count }
+
+same-counts : {a b c x y z : ℕ} → a ≡ x → b ≡ y → c ≡ z → _≡_ {A = FileRead} (record { refusal = 0; variables = a; selectors = b; nodes = c }) (record { refusal = 0; variables = x; selectors = y; nodes = z })
+same-counts e f g = cc
+
+pub counted : (f : List ℕ) {x : ScheduleIndex} → x ≡ scheduleIndex f → countsIn x ≡ numbers (readSchedule edition1 f)
+unfolding scheduleIndex indexAt numbers readSchedule scheduleCounts refusedPlant
+counted f h = ap countsIn h ∙ go (judgeFile edition1 f) refl
+  where
+    go : (j : Judged Schedule) → judgeFile edition1 f ≡ j → countsIn (indexAt (partsOf f) j) ≡ numbers (scheduleCounts j)
+    go (refused n) e = refl
+    go (accepted s) e =
+        let a = FirstNumber.passed edition1 f s e in
+        same-counts (variables-of _ _ (a .plant)) (selectors-of _ _ (a .plant)) (sym (indexed _ (a .nodes) .counted))

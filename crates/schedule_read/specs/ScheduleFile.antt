@@ -7,24 +7,45 @@ use Prim.Native.Nat.{ℕ, _≤_}
 use lib.ListN.{length}
 use Rattle.semantics.specs.Bytes.{every}
 use Rattle.semantics.specs.Editions.{edition1}
-use Rattle.semantics.specs.Refusals.{Judged, accepted, _>>=_, _>>_, ensure, need}
+use Rattle.semantics.specs.Refusals.{Judged, refused, accepted, _>>=_, _>>_, ensure, need}
 use Rattle.semantics.specs.Sections.{equationsIn}
 use Rattle.semantics.specs.Plant.{Plant, judgePlant, switchesRead, selectors}
 use Rattle.schedules.specs.FileSections.{FileSections}
 use Rattle.schedules.specs.Nodes.{Node, nodesIn, nodeNamed, nodeReads}
 use Rattle.schedules.specs.Trees.{treeOf}
-use Rattle.schedules.specs.Files.{Schedule}
-use Rattle.schedules.specs.Calls.{ScheduleRead, scheduleCounts}
+use Rattle.schedules.specs.Files.{Schedule, judgeFile}
+use Rattle.schedules.specs.Calls.{ScheduleRead}
+use Rattle.plant.specs.PlantRead.{refusedPlant, plantOf}
+use Rattle.schedule_read.specs.FileParts.{noParts, partsOf}
+use Rattle.schedule_read.specs.Index.{notNodes, nodesOf}
+use Rattle.schedule_read.specs.Ends.{noTree, treeIn}
 use Rattle.schedule_read.specs.Indexed.{ModesAt}
 use Rattle.schedule_read.specs.declared.call.FileRead.{FileRead}
+use Rattle.schedule_read.specs.declared.call.ScheduleIndex.{ScheduleIndex}
+use Rattle.schedule_read.specs.declared.parts.Parts.{Parts}
 
 -- the four numbers in the code's type
 unfoldable pub numbers : ScheduleRead → FileRead
 numbers r = record { refusal = r .refusal; variables = r .variables; selectors = r .selectors; nodes = r .nodes }
 
 -- a refusal
-abbrev pub noSchedule : ℕ → FileRead
-noSchedule n = record { refusal = n; variables = 0; selectors = 0; nodes = 0 }
+abbrev pub noSchedule : ℕ → ScheduleIndex
+noSchedule n = record { refusal = n; parts = noParts n; plant = refusedPlant 0; nodes = notNodes; subtrees = noTree }
+
+-- a call of which the sections stand there
+unfoldable pub indexAt : Parts → Judged Schedule → ScheduleIndex
+indexAt p (refused n) = noSchedule n
+indexAt p (accepted s) = record {
+  refusal = 0;
+  parts = p;
+  plant = plantOf (s .sections .variables) (s .sections .equations);
+  nodes = nodesOf (s .sections .schedule);
+  subtrees = treeIn (s .sections .schedule);
+}
+
+-- a schedule file: refused, or where its parts stand
+unfoldable pub scheduleIndex : List ℕ → ScheduleIndex
+scheduleIndex f = indexAt (partsOf f) (judgeFile edition1 f)
 
 -- ---- for the code's own contracts
 -- 4 to 12, as judgeFile has them after 3
@@ -37,8 +58,8 @@ judgeSections parts = do
   ensure 12 (every (nodeReads edition1 (length (p .variables))) ns && switchesRead edition1 p)
   accepted (record { sections = parts; plant = p; nodes = ns; root = t })
 
-unfoldable pub sectionsRead : List ℕ → List ℕ → List ℕ → FileRead
-sectionsRead vs es s = numbers (scheduleCounts (judgeSections (record { variables = vs; equations = es; schedule = s })))
+unfoldable pub sectionsIndex : Parts → List ℕ → List ℕ → List ℕ → ScheduleIndex
+sectionsIndex p vs es s = indexAt p (judgeSections (record { variables = vs; equations = es; schedule = s }))
 
 -- 11 and 12
 unfoldable pub judgeNodes : Plant → List Node → Judged (Unit {0})

@@ -4,15 +4,20 @@ ghost use mathlib.Core.List.{List};
 ghost use Rattle.semantics.specs.Editions.{edition1};
 ghost use Rattle.semantics.specs.Refusals.{refusalOf};
 ghost use Rattle.semantics.specs.Plant.{Plant};
+ghost use Rattle.plant.specs.PlantRead.{refusedPlant};
 ghost use Rattle.schedules.specs.Nodes.{Node};
 ghost use Rattle.schedules.specs.Calls.{readSchedule};
 ghost use Rattle.schedule_read.specs.Indexed.{NodesAt, Indexed};
-ghost use Rattle.schedule_read.specs.ScheduleFile.{numbers, noSchedule, sectionsRead, judgeNodes, PlantAt, Planted};
+ghost use Rattle.schedule_read.specs.ScheduleFile.{numbers, noSchedule, sectionsIndex, scheduleIndex, judgeNodes, PlantAt, Planted};
 use super::names;
 use super::nodes;
+use super::nodes::Nodes;
 use super::operands;
 use super::parts;
+use super::parts::Parts;
 use super::tree;
+use super::tree::Subtrees;
+use plant::sections::PlantRead;
 
 // 0, or the number of the first condition that is broken; all counts are 0 then
 pub struct FileRead {
@@ -22,14 +27,44 @@ pub struct FileRead {
     pub nodes: usize,
 }
 
-fn refused(n: u8) -> FileRead
+// a schedule file as what runs or compiles it looks things up: where its sections stand, the plant, the nodes, the subtrees;
+// refused as above, and all else empty then
+pub struct ScheduleIndex {
+    pub refusal: u8,
+    pub parts: Parts,
+    pub plant: PlantRead,
+    pub nodes: Nodes,
+    pub subtrees: Subtrees,
+}
+
+fn no_plant() -> PlantRead
+    ensures { λ r. ⌜ r ≡ refusedPlant 0 ⌝ }
+{
+    PlantRead {
+        refusal: 0,
+        variables: 0,
+        lows: [0; 32],
+        highs: [0; 32],
+        selectors: 0,
+        modes: [0; 16],
+        places: [0; 128],
+        steady: [0; 32],
+    }
+}
+
+fn refused(n: u8) -> ScheduleIndex
     ensures { λ r. ⌜ r ≡ noSchedule n ⌝ }
 {
-    FileRead {
+    let parts = parts::refused(n);
+    let plant = no_plant();
+    let nodes = nodes::refused();
+    let subtrees = tree::no_tree();
+    ScheduleIndex {
         refusal: n,
-        variables: 0,
-        selectors: 0,
-        nodes: 0,
+        parts: parts,
+        plant: plant,
+        nodes: nodes,
+        subtrees: subtrees,
     }
 }
 
@@ -60,9 +95,9 @@ fn checked(
     0
 }
 
-// 4 to 12, of the three sections
-fn sections(vs: &[u8], es: &[u8], s: &[u8]) -> FileRead
-    ensures { λ r. ⌜ r ≡ sectionsRead (now (vs .entry)) (now (es .entry)) (now (s .entry)) ⌝ }
+// 4 to 12, of the three sections that stand at these places
+fn sections(parts: Parts, vs: &[u8], es: &[u8], s: &[u8]) -> ScheduleIndex
+    ensures { λ r. ⌜ r ≡ sectionsIndex parts (now (vs .entry)) (now (es .entry)) (now (s .entry)) ⌝ }
 {
     let p = plant::sections::read(vs, es);
     let first = p.refusal;
@@ -98,16 +133,17 @@ fn sections(vs: &[u8], es: &[u8], s: &[u8]) -> FileRead
     if last != 0 {
         return refused(last);
     }
-    FileRead {
+    ScheduleIndex {
         refusal: 0,
-        variables: variables,
-        selectors: selectors,
-        nodes: count,
+        parts: parts,
+        plant: p,
+        nodes: n,
+        subtrees: t,
     }
 }
 
-pub fn read(file: &[u8]) -> FileRead
-    ensures { λ r. ⌜ r ≡ numbers (readSchedule edition1 (now (file .entry))) ⌝ }
+pub fn index(file: &[u8]) -> ScheduleIndex
+    ensures { λ r. ⌜ r ≡ scheduleIndex (now (file .entry)) ⌝ }
 {
     let p = parts::read(file);
     let first = p.refusal;
@@ -120,5 +156,19 @@ pub fn read(file: &[u8]) -> FileRead
     let d = p.equations_to;
     let e = p.schedule_from;
     let f = p.schedule_to;
-    sections(&file[a..b], &file[c..d], &file[e..f])
+    sections(p, &file[a..b], &file[c..d], &file[e..f])
+}
+
+pub fn read(file: &[u8]) -> FileRead
+    ensures { λ r. ⌜ r ≡ numbers (readSchedule edition1 (now (file .entry))) ⌝ }
+{
+    let x = index(file);
+    let plant = x.plant;
+    let nodes = x.nodes;
+    FileRead {
+        refusal: x.refusal,
+        variables: plant.variables,
+        selectors: plant.selectors,
+        nodes: nodes.count,
+    }
 }

@@ -1,4 +1,5 @@
 // Reading a schedule file.
+pub mod actions;
 pub mod call;
 pub mod names;
 pub mod nodes;

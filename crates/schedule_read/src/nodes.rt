@@ -14,7 +14,7 @@ pub struct Nodes {
     pub ends: [usize; 64],
 }
 
-fn refused() -> Nodes
+pub fn refused() -> Nodes
     ensures { λ r. ⌜ r ≡ notNodes ⌝ }
 {
     let kinds = [0u8; 64];

@@ -23,7 +23,7 @@ enum Walk {
     Lost,
 }
 
-fn no_tree() -> Subtrees
+pub fn no_tree() -> Subtrees
     ensures { λ r. ⌜ r ≡ noTree ⌝ }
 {
     let ends = [0usize; 64];

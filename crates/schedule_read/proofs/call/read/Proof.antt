@@ -1,67 +1,13 @@
-use mathlib.Core.Path.{sym, _∙_}
 use borrow.Author.Needs.{needs}
-use borrow.Author.Tests.{not-true, not-false}
-use Rattle.schedule_read.proofs.Stages.{by-parts, parts-stand, by-sections}
+use Rattle.schedule_read.proofs.Stages.{counted}
 use Rattle.schedule_read.proofs.call.read.Statement.{statement}
 use Rattle.schedule_read.proofs.call.read.Tie as tie
 
-read-requires : tie.Need-read-requires
-read-requires c κs = search needs
-
-refused-requires : tie.Need-refused-requires
-refused-requires c κs = search needs
+index-requires : tie.Need-index-requires
+index-requires c κs = search needs
 
 returns : tie.Need-returns
-returns c = c .refused .ensures ∙ by-parts (c .before .before .before .before .args .file .now) (c .before .before .read .ensures) (c .before .if1 .taken)
-
-sub-sections : tie.Need-sub-sections
-sub-sections c = parts-stand (c .before .before .before .args .file .now) (c .before .read .ensures) (c .if1 .left) .variables .ordered
-
-part-sections-start : tie.Need-part-sections-start
-part-sections-start c = parts-stand (c .before .before .before .args .file .now) (c .before .read .ensures) (c .if1 .left) .variables .ordered
-
-part-sections-end : tie.Need-part-sections-end
-part-sections-end c = parts-stand (c .before .before .before .args .file .now) (c .before .read .ensures) (c .if1 .left) .variables .inside
-
-sub-sections-2 : tie.Need-sub-sections-2
-sub-sections-2 c = parts-stand (c .before .before .before .before .args .file .now) (c .before .before .read .ensures) (c .before .if1 .left) .equations .ordered
-
-part-sections-start-2 : tie.Need-part-sections-start-2
-part-sections-start-2 c = parts-stand (c .before .before .before .before .args .file .now) (c .before .before .read .ensures) (c .before .if1 .left) .equations .ordered
-
-part-sections-end-2 : tie.Need-part-sections-end-2
-part-sections-end-2 c = parts-stand (c .before .before .before .before .args .file .now) (c .before .before .read .ensures) (c .before .if1 .left) .equations .inside
-
-sub-sections-3 : tie.Need-sub-sections-3
-sub-sections-3 c = parts-stand (c .before .before .before .before .before .args .file .now) (c .before .before .before .read .ensures) (c .before .before .if1 .left) .schedule .ordered
-
-part-sections-start-3 : tie.Need-part-sections-start-3
-part-sections-start-3 c = parts-stand (c .before .before .before .before .before .args .file .now) (c .before .before .before .read .ensures) (c .before .before .if1 .left) .schedule .ordered
-
-part-sections-end-3 : tie.Need-part-sections-end-3
-part-sections-end-3 c = parts-stand (c .before .before .before .before .before .args .file .now) (c .before .before .before .read .ensures) (c .before .before .if1 .left) .schedule .inside
-
-sections-requires : tie.Need-sections-requires
-sections-requires c κs = search needs
-
-returns-2 : tie.Need-returns-2
-returns-2 c = c .sections .ensures ∙ by-sections (c .before .before .before .before .before .before .before .args .file .now) (c .before .before .before .before .before .read .ensures) (c .before .before .before .before .if1 .left)
+returns c = counted _ (c .before .before .index .ensures)
 
 pub read-spec : {M : Type 1} → statement M
-read-spec =
-    tie.close
-    (tie.spec
-    read-requires
-    refused-requires
-    returns
-    sub-sections
-    part-sections-start
-    part-sections-end
-    sub-sections-2
-    part-sections-start-2
-    part-sections-end-2
-    sub-sections-3
-    part-sections-start-3
-    part-sections-end-3
-    sections-requires
-    returns-2)
+read-spec = tie.close (tie.spec index-requires returns)

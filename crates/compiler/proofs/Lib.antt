@@ -1,0 +1,17 @@
+-- the rows of sets
+pub mod RowLaws
+pub mod Fronts
+pub mod Lookup
+-- the targets of a node, of a location
+pub mod OneTarget
+pub mod TwoTargets
+pub mod EntryLines
+pub mod MembersFrom
+-- the locations in turn
+pub mod LocationRows
+-- actions
+pub mod ActionForms
+pub mod ActionLoop
+-- the call
+pub mod TableBytes
+pub mod CallStages

@@ -1,0 +1,49 @@
+use mathlib.Core.Path.{_≡_, refl, sym, _∙_}
+use borrow.Author.Needs.{needs}
+use native.Mathlib.Omega.{arith}
+use Rattle.compiler.specs.CallParts.{tableWith}
+use Rattle.compiler.proofs.TableBytes.{with-length}
+use Rattle.compiler.proofs.CallStages.{no-room, room}
+use Rattle.compiler.proofs.call.finish.Statement.{statement}
+use Rattle.compiler.proofs.call.finish.Tie as tie
+
+add-whole : tie.Need-add-whole
+add-whole c = search needs
+
+add-whole-2 : tie.Need-add-whole-2
+add-whole-2 c = search needs
+
+add-whole-3 : tie.Need-add-whole-3
+add-whole-3 c = search needs
+
+add-whole-4 : tie.Need-add-whole-4
+add-whole-4 c = search needs
+
+refused-requires : tie.Need-refused-requires
+refused-requires c κs = search needs
+
+returns : tie.Need-returns
+returns c = let s = c .before .before .before .before .before .before .before in let a = s .args in no-room (tableWith (a .vs .now) (a .es .now) (a .k) (a .acts .now) (a .n) (a .locs .now)) (a .table .now) (c .refused .ensures .0) (c .refused .ensures .1) (omega (arith, c .before .if1 .taken, (with-length (a .vs .now) (a .es .now) (a .k) (a .acts .now) (a .n) (a .locs .now))))
+
+put-table-requires : tie.Need-put-table-requires
+put-table-requires c κs = let s = c .before .before .before .before .before .before .before in (refl, c .before .if1 .left, s .pre .0, s .pre .1, s .pre .2, s .pre .3, s .pre .4)
+
+same-length : tie.Need-same-length
+same-length c = search needs
+
+returns-2 : tie.Need-returns-2
+returns-2 c = let s = c .before .before .before .before .before .before .before .before .before .before in let a = s .args in room (tableWith (a .vs .now) (a .es .now) (a .k) (a .acts .now) (a .n) (a .locs .now)) (a .table .now) (omega (arith, c .before .before .put-table .ensures .0, (with-length (a .vs .now) (a .es .now) (a .k) (a .acts .now) (a .n) (a .locs .now)))) (omega (arith, c .before .before .before .before .if1 .left, (with-length (a .vs .now) (a .es .now) (a .k) (a .acts .now) (a .n) (a .locs .now)))) (c .before .before .put-table .ensures .1)
+
+pub finish-spec : {M : Type 1} → statement M
+finish-spec =
+    tie.close
+    (tie.spec
+    add-whole
+    add-whole-2
+    add-whole-3
+    add-whole-4
+    refused-requires
+    returns
+    put-table-requires
+    same-length
+    returns-2)

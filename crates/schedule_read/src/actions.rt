@@ -1,0 +1,37 @@
+// By node the kind of its action, as a table has it.
+ghost use mathlib.Core.Path.{_≡_};
+ghost use mathlib.Core.List.{map};
+ghost use Prim.Native.Nat.{_≤_};
+ghost use lib.ListN.{length, take};
+ghost use Rattle.schedules.specs.Nodes.{kindOf};
+ghost use Rattle.schedule_read.specs.Index.{pad};
+ghost use Rattle.schedule_read.specs.Actions.{actionNumber, actionNumbers};
+
+// of a node of kind k; 0 where it has no action
+fn kind(k: u8) -> u8
+    ensures { λ r. ⌜ r ≡ actionNumber (kindOf k) ⌝ }
+{
+    match k {
+        3 => 1,
+        4 => 1,
+        5 => 2,
+        6 => 3,
+        7 => 3,
+        8 => 4,
+        9 => 5,
+        _ => 0,
+    }
+}
+
+pub fn kinds(kinds: &[u8], count: usize) -> [u8; 64]
+    requires { ⌜ (count ≤ 64) × (count ≤ length (now kinds)) ⌝ }
+    ensures { λ r. ⌜ r ≡ actionNumbers (now (kinds .entry)) count ⌝ }
+{
+    let mut acts = [0u8; 64];
+    let mut i = 0;
+    while i < count {
+        acts[i] = kind(kinds[i]);
+        i += 1;
+    }
+    acts
+}
