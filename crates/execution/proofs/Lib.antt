@@ -7,9 +7,13 @@ mod Taking
 mod Rates
 mod Scans
 mod Lending
-mod Formed
+pub mod Formed
 mod Events
 mod Which
 pub mod Keeping
 pub mod Books
 mod Records
+pub mod Outcomes
+pub mod PlantReady
+pub mod Stepping
+pub mod Runs

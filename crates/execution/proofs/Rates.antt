@@ -14,7 +14,7 @@ use Rattle.semantics.specs.Sections.{Rate, Mode, Selector, Equation, steady, ch
 use Rattle.semantics.specs.Plant.{noMode, among, apart, onceAfter, modeDrives, drives, modesOnce, drivenOnce, selectorsOf, currentOf, ratesOf, rateAmong}
 use Rattle.semantics.proofs.Facts.{true-not-false, and-left, and-right, by-cases, All, all-nil, all-cons}
 use Rattle.execution.specs.Modes.{laid}
-use Rattle.execution.specs.Ready.{steadyRates}
+use Rattle.plant.specs.Equations.{steadyRates}
 use Rattle.execution.proofs.Walks.{length-laid, laid-append}
 
 abbrev drivenBy : List Rate → List ℕ

@@ -4,12 +4,12 @@ use mathlib.Core.Bool.{Bool, true, false, cond}
 use mathlib.Core.List.{List}
 use Prim.Native.Nat.{ℕ, _-_, _≤_, _<_}
 use lib.Dec.{eqb}
+use lib.IntN.{ℤ}
 use lib.ListN.{length, getD, take, drop}
 use Rattle.semantics.specs.Editions.{edition1}
 use Rattle.semantics.specs.Expressions.{truthValue}
 use Rattle.semantics.specs.Run.{Action, test, wait, assign, switch, stop}
 use Rattle.nodeset.specs.Sets.{mem}
-use lib.IntN.{ℤ}
 use Rattle.execution.specs.Told.{truthTold}
 use Rattle.execution.specs.declared.Verdict.{Verdict}
 use Rattle.execution.specs.declared.Verdict.the-variants.{Away, Stay}

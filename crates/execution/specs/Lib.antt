@@ -4,3 +4,4 @@ pub mod Deeds
 pub mod Modes
 pub mod Ready
 pub mod Booking
+pub mod Runs

@@ -5,16 +5,14 @@ use mathlib.Core.List.{List, [], _∷_}
 use Prim.Native.Nat.{ℕ, suc, _+_, _*_, _-_, _≤_, _<_}
 use lib.IntN.{ℤ}
 use lib.ListN.{length, getD, set, take, drop, getElem?}
-use Rattle.semantics.specs.Bytes.{every, broken, read}
+use Rattle.semantics.specs.Bytes.{every, read}
 use Rattle.semantics.specs.Editions.{edition1}
 use Rattle.semantics.specs.Expressions.{truthValue}
 use Rattle.semantics.specs.Sections.{Rate, Switch, Mode, readMode}
-use Rattle.semantics.specs.Plant.{noMode, rateNamed}
+use Rattle.semantics.specs.Plant.{rateNamed}
 use Rattle.semantics.specs.Run.{Verdict, Done, pass, _>>=_, _>>_, allow, find, valued, nobody}
-
 -- the mode that is read at a place
-unfoldable pub modeAt : List ℕ → ℕ → Mode
-modeAt es at = elim (readMode (drop at es)) [ broken ↦ noMode | read m rest ↦ m ]
+unfoldable pub use Rattle.plant.specs.Equations.{modeAt}
 
 pub record Stands (es : List ℕ) (at : ℕ) (m : Mode) : Type 0 where
   pub inside : at ≤ length es

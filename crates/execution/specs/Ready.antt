@@ -1,19 +1,20 @@
 -- What a runner promises of the plain data that it lends.
 use mathlib.Core.Path.{_≡_}
 use mathlib.Core.Bool.{Bool, true}
-use mathlib.Core.List.{List, [], _∷_, map}
+use mathlib.Core.List.{List, [], map}
 use mathlib.Core.Option.{some}
 use Prim.Native.Nat.{ℕ, _+_, _*_, _≤_, _<_}
 use lib.Dec.{ltb}
 use lib.IntN.{ℤ, pos}
 use lib.ListN.{length, getD, getElem?}
 use Rattle.semantics.specs.Bytes.{every}
-use Rattle.semantics.specs.Sections.{Variable, Rate, Selector, Equation, steady, choice}
+use Rattle.semantics.specs.Sections.{Variable, Selector}
 use Rattle.semantics.specs.Plant.{Plant, equationNamed, drivenOnce, selectors, modeExists, noMode, rateAmong}
 use Rattle.semantics.specs.Starts.{modesFit}
 use Rattle.semantics.specs.Run.{Action, test, wait, assign, switch, stop}
 use Rattle.semantics.specs.TableFile.{actionKind, actionOf}
 use Rattle.nodeset.specs.Sets.{mem}
+use Rattle.plant.specs.Equations.{steadyRates}
 use Rattle.execution.specs.Deeds.{cutAt, Cut}
 use Rattle.execution.specs.Modes.{Stands}
 
@@ -25,7 +26,7 @@ pub record Lent : Type 0 where
   pub steady : List ℤ
   pub lows : List ℤ
   pub highs : List ℤ
-  -- of each node its action's kind, and where its operand lies
+  -- of each node its action's kind as in a table (1 test, 2 wait, 3 assign, 4 switch, 5 stop), and where its operand lies
   pub operands : List ℕ
   pub kinds : List ℕ
   pub starts : List ℕ
@@ -45,12 +46,6 @@ lent es places rates lows highs ops kinds starts ends = record {
 }
 
 -- ---- the plant
--- the rates of kind 1
-unfoldable pub steadyRates : List Equation → List Rate
-steadyRates [] = []
-steadyRates (steady r ∷ es) = r ∷ steadyRates es
-steadyRates (choice c ∷ es) = steadyRates es
-
 -- mode m of selector j stands at its place
 pub record ModeLent (l : Lent) (j : ℕ) (c : Selector) (m : ℕ) : Type 0 where
   pub row : 8 * j + m < length (l .places)

@@ -180,7 +180,7 @@ pub selector-named : (variables : ℕ) (es : List Equation) → every (equationN
 selector-named variables es h j g = named-in variables es (every-all (equationNamed variables) es h) j g
 
 -- ---- rates
-put-length : (rs : List Rate) (l : List ℤ) → length (putRates rs l) ≡ length l
+pub put-length : (rs : List Rate) (l : List ℤ) → length (putRates rs l) ≡ length l
 unfolding putRates
 put-length [] l = refl
 put-length (r ∷ rs) l = length-set (putRates rs l) (r .driven) (r .rate) ∙ put-length rs l

@@ -12,6 +12,11 @@ module _ {A : Type 0} (n : ℕ) (d : A) where
   unfolding pad
   length-pad l h = omega (arith, length-append l (replicate (n - length l) d), length-replicate (n - length l) d)
 
+  -- however long the list is
+  pub pad-long : (l : List A) → n ≤ length (pad n d l)
+  unfolding pad
+  pad-long l = omega (arith, length-append l (replicate (n - length l) d), length-replicate (n - length l) d)
+
   pub set-pad : (l : List A) (x : A) → length l < n → set (pad n d l) (length l) x ≡ pad n d (l ++ (x ∷ []))
   unfolding pad
   set-pad l x h =

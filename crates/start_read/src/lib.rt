@@ -1,4 +1,6 @@
 // The values and modes that a run starts from: 20.
+pub mod admission; // admission.rt: 20 to 22 in order
+
 ghost use mathlib.Core.Path.{_≡_};
 ghost use Rattle.semantics.specs.Expressions.{ranged};
 ghost use Rattle.semantics.specs.Plant.{Plant};

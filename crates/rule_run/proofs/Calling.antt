@@ -1,0 +1,218 @@
+-- The call of a run by the rules: what the index, the admission and the events make of it.
+use mathlib.Core.Path.{_≡_, refl, sym, ap, _∙_}
+use mathlib.Core.List.{List, [], _∷_}
+use mathlib.Core.Option.{some}
+use Prim.Native.Nat.{ℕ, zero, suc, _+_, _-_, _*_, _/_, _≤_}
+use native.Mathlib.Omega.{arith}
+use lib.IntN.{ℤ}
+use lib.ListN.{length, getElem?, take, drop, length-append}
+use Rattle.semantics.specs.Editions.{edition1}
+use Rattle.semantics.specs.Refusals.{Judged, refused, accepted, _>>=_}
+use Rattle.semantics.specs.Plant.{Plant, selectorsOf, selectors, judgePlant}
+use Rattle.semantics.specs.Sections.{Selector, Equation, steady, choice}
+use Rattle.semantics.specs.Events.{eventsIn}
+use Rattle.semantics.specs.Starts.{Start}
+use Rattle.semantics.specs.Calls as Calls
+use Rattle.semantics.specs.Calls.{Program, Outcome, judgeRun, report, outcomeOf, runFrom}
+use Rattle.schedules.specs.Residuals.{Residual}
+use Rattle.schedules.specs.Files.{Schedule, judgeFile, ruleControl}
+use Rattle.schedules.specs.Calls.{ruleProgram, ruleRun}
+use Rattle.plant.specs.PlantRead.{plantOf}
+use Rattle.plant.specs.declared.sections.PlantRead.{PlantRead}
+use Rattle.plant.specs.Equations.{modeSize, equationSize, startsFrom, pad, modePlaces}
+use Rattle.plant.proofs.Padding.{length-pad}
+use Rattle.plant.proofs.EquationCases.{starts-length}
+use Rattle.plant.proofs.EquationLaws.{few-selectors, few-modes-each}
+use Rattle.plant.proofs.PlantLaws.{passed-all, variables-of, selectors-of, places-of}
+use Rattle.schedule_read.specs.Actions.{actionNumbers}
+use Rattle.schedule_read.specs.ScheduleFile.{scheduleIndex}
+use Rattle.schedule_read.specs.declared.call.ScheduleIndex.{ScheduleIndex}
+use Rattle.schedule_read.proofs.PartsStand.{Inside}
+use Rattle.schedule_read.proofs.Promises.{Promised, index-refused, index-schedule, promised}
+use Rattle.start_read.specs.StartRead.{Arrays, Room}
+use Rattle.start_read.specs.Admission.{admitted}
+use Rattle.start_read.specs.declared.admission.Admitted.{Admitted}
+use Rattle.start_read.proofs.PlantStart.{arrays-held, room-held}
+use Rattle.start_read.proofs.AdmissionLaws.{run-unread, run-refused, run-admitted}
+use Rattle.execution.specs.Ready.{Lent, lent, Fits}
+use Rattle.execution.specs.Runs.{RunDone}
+use Rattle.execution.specs.declared.Counts.{Counts}
+use Rattle.execution.proofs.PlantReady.{fits-start}
+use Rattle.execution.proofs.Runs.{not-run, reported, run-from}
+use Rattle.rule_run.specs.Situations.{ScheduleLent}
+use Rattle.rule_run.specs.Runs.{Asked, Asking, Whole}
+use Rattle.rule_run.specs.Called.{notRun, ranWith, Admits, Admitting}
+use Rattle.rule_run.specs.declared.call.Ran.{Ran}
+use Rattle.rule_run.proofs.ScheduleReady.{LentFrom, schedule-lent}
+
+-- ---- the lengths of the arrays
+take-full : {A : Type 0} (n : ℕ) (l : List A) → length (take n l) ≡ n → n ≤ length l
+take-full zero l h = omega arith
+take-full (suc n) [] h = absurd (omega arith)
+take-full (suc n) (x ∷ l) h = let i : length (take n l) ≡ n = omega arith in let k = take-full n l i in omega arith
+
+-- eight places for each selector
+places-few : (at : ℕ) (qs : List Equation) → ((j : ℕ) (c : Selector) → getElem? (selectorsOf qs) j ≡ some c → length (c .modes) ≤ 8) → length (modePlaces at qs) ≡ 8 * length (selectorsOf qs)
+unfolding modePlaces selectorsOf
+places-few at [] h = refl
+places-few at (steady r ∷ qs) h = places-few _ qs h
+places-few at (choice c ∷ qs) h =
+    let row = startsFrom modeSize (at + 5) (c .modes) in
+    let e = length-pad 8 0 row (omega (arith, starts-length modeSize (at + 5) (c .modes), h 0 c refl)) in
+    omega (arith, length-append (pad 8 0 row) (modePlaces (at + equationSize (choice c)) qs), places-few (at + equationSize (choice c)) qs (λ j x k. h (suc j) x k))
+
+places-full : (vs es : List ℕ) {p : Plant} → judgePlant edition1 vs es ≡ accepted p → length (plantOf vs es .places) ≡ 128
+places-full vs es {p} h =
+    let e = passed-all vs es h .equations in
+    ap length (places-of vs es h) ∙ length-pad 128 0 (modePlaces 1 (p .equations)) (omega (arith, places-few 1 (p .equations) (λ j c g. few-modes-each es e j g), few-selectors es e))
+
+room-as : {x y : PlantRead} → x ≡ y → Room (y .variables) (y .lows) (y .highs) (y .selectors) (y .modes) → Room (x .variables) (x .lows) (x .highs) (x .selectors) (x .modes)
+room-as e a = rw e a
+
+-- of all that is lent
+pub record Sized (f : List ℕ) (ix : ScheduleIndex) (asked : Admitted) : Type 0 where
+  pub equations : Inside f (ix .parts .«equations_from») (ix .parts .«equations_to»)
+  pub schedule : Inside f (ix .parts .«schedule_from») (ix .parts .«schedule_to»)
+  pub places : length (ix .plant .places) ≡ 128
+  pub lows : ix .plant .variables ≤ length (ix .plant .lows)
+  pub highs : ix .plant .variables ≤ length (ix .plant .highs)
+  pub count : ix .nodes .count ≤ 64
+  pub kinds : length (ix .nodes .kinds) ≡ 64
+  pub starts : length (ix .nodes .starts) ≡ 64
+  pub ends : length (ix .nodes .ends) ≡ 64
+  pub subtrees : length (ix .subtrees .ends) ≡ 64
+  pub values : ix .plant .variables ≤ length (asked .values)
+  pub modes : ix .plant .selectors ≤ length (asked .modes)
+
+-- ---- the arrays that are lent
+pub lent-from : (f : List ℕ) (ix : ScheduleIndex) {acts : List ℕ} → acts ≡ actionNumbers (ix .nodes .kinds) (ix .nodes .count) →
+    LentFrom f ix (lent (take (ix .parts .«equations_to» - ix .parts .«equations_from») (drop (ix .parts .«equations_from») f)) (ix .plant .places) (ix .plant .steady) (take (ix .plant .variables) (ix .plant .lows)) (take (ix .plant .variables) (ix .plant .highs))
+    (take (ix .parts .«schedule_to» - ix .parts .«schedule_from») (drop (ix .parts .«schedule_from») f)) acts (ix .nodes .starts) (ix .nodes .ends))
+lent-from f ix e = record { equations = refl; places = refl; steady = refl; lows = refl; highs = refl; operands = refl; kinds = e; starts = refl; ends = refl }
+
+module _ (f : List ℕ) {ix : ScheduleIndex} (h : ix ≡ scheduleIndex f) {asked : Admitted} {events d : List ℕ} where
+  pub promised-of : {s : Schedule} → Admits f asked events d s → Promised f ix s
+  promised-of a = promised f h (a .judged)
+
+  variables-are : {s : Schedule} → Admits f asked events d s → ix .plant .variables ≡ length (s .plant .variables)
+  variables-are a = let p = promised-of a in ap (λ (x : PlantRead). x .variables) (p .plant) ∙ variables-of _ _ (p .plant-judged)
+
+  selectors-are : {s : Schedule} → Admits f asked events d s → ix .plant .selectors ≡ length (selectors (s .plant))
+  selectors-are a = let p = promised-of a in ap (λ (x : PlantRead). x .selectors) (p .plant) ∙ selectors-of _ _ (p .plant-judged)
+
+  pub asked-of : {l : Lent} {s : Schedule} → LentFrom f ix l → Admits f asked events d s → Asked s l (ix .nodes .kinds) (ix .subtrees .ends) (take (ix .plant .variables) (asked .values)) (take (ix .plant .selectors) (asked .modes)) events d
+  asked-of q a = record {
+    lent = schedule-lent (promised-of a) q;
+    fits = rw (variables-are a, selectors-are a) (a .fits);
+    room = a .room;
+  }
+
+  pub asking-of : {l : Lent} → LentFrom f ix l → Admitting f asked events d → Asking l (ix .nodes .kinds) (ix .subtrees .ends) (take (ix .plant .variables) (asked .values)) (take (ix .plant .selectors) (asked .modes)) events d
+  asking-of q a = record { schedule = a .schedule; asked = asked-of q (a .admits) }
+
+  -- by the schedule's counts
+  pub whole-of : {s : Schedule} {cs : Counts} {d' : List ℕ} → Admits f asked events d s → Whole s (take (ix .plant .variables) (asked .values)) (take (ix .plant .selectors) (asked .modes)) events d cs d' →
+      Whole s (take (length (s .plant .variables)) (asked .values)) (take (length (selectors (s .plant))) (asked .modes)) events d cs d'
+  whole-of a w = rw (← variables-are a, ← selectors-are a) w
+
+  pub sized : Admitting f asked events d → Sized f ix asked
+  sized g =
+      let a = g .admits in
+      let p = promised-of a in
+      let r = room-as (p .plant) (room-held _ _ (p .plant-judged)) in
+      record {
+        equations = p .equations .inside;
+        schedule = p .schedule .inside;
+        places = ap (λ (x : PlantRead). length (x .places)) (p .plant) ∙ places-full _ _ (p .plant-judged);
+        lows = r .lows-there;
+        highs = r .highs-there;
+        count = p .nodes .few;
+        kinds = p .nodes .kinds-full;
+        starts = p .nodes .starts-full;
+        ends = p .nodes .ends-full;
+        subtrees = p .ends-full;
+        values = rw (variables-are a) (take-full _ (asked .values) (a .fits .values));
+        modes = rw (selectors-are a) (take-full _ (asked .modes) (a .fits .modes));
+      }
+
+-- ---- the call
+arrays-as : {x y : PlantRead} {p : Plant} → x ≡ y → Arrays p (y .variables) (y .lows) (y .highs) (y .selectors) (y .modes) → Arrays p (x .variables) (x .lows) (x .highs) (x .selectors) (x .modes)
+arrays-as e a = rw e a
+
+program-refused : (f : List ℕ) {n : ℕ} → judgeFile edition1 f ≡ refused n → ruleProgram edition1 f ≡ refused n
+unfolding ruleProgram _>>=_
+program-refused f e = rw e refl
+
+abbrev programOf : Schedule → Program Residual
+programOf s = record { plant = s .plant; control = ruleControl s }
+
+program-accepted : (f : List ℕ) {s : Schedule} → judgeFile edition1 f ≡ accepted s → ruleProgram edition1 f ≡ accepted (programOf s)
+unfolding ruleProgram _>>=_
+program-accepted f e = rw e refl
+
+-- the events of the program
+whole-from : (s : Schedule) (events : List ℕ) {asked x : Admitted} {d d' : List ℕ} {cs : Counts} → asked ≡ x → Whole s (take (length (s .plant .variables)) (asked .values)) (take (length (selectors (s .plant))) (asked .modes)) events d cs d' →
+    RunDone (ruleControl s) (runFrom edition1 (programOf s) (record { values = take (length (s .plant .variables)) (x .values); modes = take (length (selectors (s .plant))) (x .modes) }) events) d cs d'
+unfolding runFrom Calls.eventCount
+whole-from s events e v = rw (← e) v
+
+module _ (f start events d : List ℕ) {ix : ScheduleIndex} (h : ix ≡ scheduleIndex f) where
+  not-ran : {n : ℕ} {r : Ran} → judgeRun edition1 (ruleProgram edition1 f) start events d ≡ refused n → r ≡ notRun n → ranWith r d ≡ ruleRun edition1 f start events d
+  unfolding ruleRun ranWith
+  not-ran {n} e k = ap (λ (r : Ran). ranWith r d) k ∙ sym (ap (report d) e ∙ not-run d n)
+
+  pub by-file : {r : Ran} → (ix .refusal ≡ 0 → ⊥) → r ≡ notRun (ix .refusal) → ranWith r d ≡ ruleRun edition1 f start events d
+  by-file z k = not-ran (ap (λ j. judgeRun edition1 j start events d) (program-refused f (index-refused f h z)) ∙ run-unread Residual (ix .refusal) start events d) k
+
+  module _ (z : ix .refusal ≡ 0) where
+    schedule : Schedule
+    schedule = index-schedule f h z .0
+
+    judged : judgeFile edition1 f ≡ accepted schedule
+    unfolding schedule
+    judged = index-schedule f h z .1
+
+    vows : Promised f ix schedule
+    vows = promised f h judged
+
+    -- what admission asks
+    pub room-of : Room (ix .plant .variables) (ix .plant .lows) (ix .plant .highs) (ix .plant .selectors) (ix .plant .modes)
+    room-of = room-as (vows .plant) (room-held _ _ (vows .plant-judged))
+
+    arrays-of : Arrays (schedule .plant) (ix .plant .variables) (ix .plant .lows) (ix .plant .highs) (ix .plant .selectors) (ix .plant .modes)
+    arrays-of = arrays-as (vows .plant) (arrays-held _ _ (vows .plant-judged))
+
+    run-is : {j : Judged Outcome} → judgeRun edition1 (accepted (programOf schedule)) start events d ≡ j → judgeRun edition1 (ruleProgram edition1 f) start events d ≡ j
+    run-is e = ap (λ j. judgeRun edition1 j start events d) (program-accepted f judged) ∙ e
+
+    module _ {asked : Admitted} (g : (p : Plant) → Arrays p (ix .plant .variables) (ix .plant .lows) (ix .plant .highs) (ix .plant .selectors) (ix .plant .modes) → asked ≡ admitted p start (length events) (length d)) where
+      asked-is : asked ≡ admitted (schedule .plant) start (length events) (length d)
+      asked-is = g (schedule .plant) arrays-of
+
+      pub by-admission : {r : Ran} → (asked .refusal ≡ 0 → ⊥) → r ≡ notRun (asked .refusal) → ranWith r d ≡ ruleRun edition1 f start events d
+      by-admission y k =
+          let e = ap (λ (a : Admitted). a .refusal) asked-is in
+          not-ran (run-is (run-refused (programOf schedule) start events d (λ i. y (e ∙ i)) ∙ ap refused (sym e))) k
+
+      module _ (y : asked .refusal ≡ 0) where
+        admits : Admits f asked events d schedule
+        admits =
+            let a = run-admitted (programOf schedule) start events d (sym (ap (λ (a : Admitted). a .refusal) asked-is) ∙ y) in
+            record {
+              judged = judged;
+              fits = rw asked-is (fits-start (schedule .plant) _ (a .values) (a .modes) (a .fits));
+              room = a .room;
+            }
+
+        pub admitting : Admitting f asked events d
+        admitting = record { schedule = schedule; admits = admits }
+
+        pub by-events : {r : Ran} {cs : Counts} {d' : List ℕ} →
+            ((s : Schedule) → Admits f asked events d s → Whole s (take (length (s .plant .variables)) (asked .values)) (take (length (selectors (s .plant))) (asked .modes)) events d cs d') →
+            r ≡ record { refusal = 0; taken = cs .taken; «turned_away» = cs .«turned_away»; faulted = cs .faulted } → ranWith r d' ≡ ruleRun edition1 f start events d
+        unfolding ruleRun ranWith
+        by-events {r} {cs} {d'} w k =
+            let a = run-admitted (programOf schedule) start events d (sym (ap (λ (a : Admitted). a .refusal) asked-is) ∙ y) in
+            let st : Start = record { values = take (length (schedule .plant .variables)) (admitted (schedule .plant) start (length events) (length d) .values); modes = take (length (selectors (schedule .plant))) (admitted (schedule .plant) start (length events) (length d) .modes) } in
+            let done : RunDone (ruleControl schedule) (runFrom edition1 (programOf schedule) st events) d cs d' = whole-from schedule events asked-is (w schedule admits) in
+            ap (λ (r : Ran). ranWith r d') k ∙ sym (ap (report d) (run-is (a .judged)) ∙ reported (ruleControl schedule) _ d done)

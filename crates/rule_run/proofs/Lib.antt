@@ -1,0 +1,4 @@
+pub mod Settling
+pub mod Running
+pub mod ScheduleReady
+pub mod Calling

@@ -1,0 +1,102 @@
+-- The loop of a run by the rules.
+use mathlib.Core.Path.{_≡_, refl, sym, ap, _∙_}
+use mathlib.Core.Bool.{Bool, true, false}
+use mathlib.Core.List.{List, [], _∷_, _++_, flatMap}
+use mathlib.Core.Option.{Option, none, some}
+use Prim.Native.Nat.{ℕ, _+_, _*_, _/_, _^_, _≤_, _<_}
+use native.Mathlib.Nat.{mul-le-mul-right}
+use native.Mathlib.Omega.{arith}
+use lib.IntN.{ℤ}
+use lib.ListN.{length}
+use Rattle.semantics.specs.Bytes.{bigEndian}
+use Rattle.semantics.specs.Editions.{edition1}
+use Rattle.semantics.specs.Plant.{among}
+use Rattle.semantics.specs.Run as Run
+use Rattle.semantics.specs.Run.{setNumber, actingSet, valueBytes}
+use Rattle.semantics.specs.Calls.{recordSize}
+use Rattle.semantics.proofs.Facts.{true-not-false}
+use Rattle.schedules.specs.Trees.{Tree}
+use Rattle.schedules.specs.Residuals.{Residual, fresh, acting}
+use Rattle.schedules.specs.Files.{Schedule, ruleControl}
+use Rattle.schedules.proofs.ResidualsKept.{of-fresh}
+use Rattle.nodeset.specs.Sets.{mem, members, Words}
+use Rattle.nodeset.specs.declared.NodeSet.{NodeSet}
+use Rattle.nodeset.proofs.Members.{among-set}
+use Rattle.moves.specs.Contracts.{Planted, Begun}
+use Rattle.codec.specs.Writing.{Wrote}
+use Rattle.codec.proofs.Writing.{wrote-length}
+use Rattle.execution.specs.Booking.{bookedOf, Room}
+use Rattle.execution.specs.Ready.{Lent, Fits}
+use Rattle.execution.specs.declared.Counts.{Counts}
+use Rattle.execution.proofs.Runs.{eventAt, run-start, run-counts, run-room, run-next, run-end}
+use Rattle.execution.proofs.Stepping.{set-at, set-over}
+use Rattle.rule_run.specs.Situations.{StandsFor, at-residual, at-end, ScheduleLent, Promised, Steps}
+use Rattle.rule_run.specs.Runs.{Asked, Asking, begins, Going, Whole}
+use Rattle.rule_run.specs.declared.steps.Situation.{Situation}
+use Rattle.rule_run.specs.declared.steps.Answered.{Answered}
+
+-- ---- the set of the acting nodes
+-- they are nodes of a schedule
+pub acting-few : {s : Schedule} {l : Lent} {ks es : List ℕ} {x : Situation} {o : Option Residual} → ScheduleLent s l ks es → StandsFor (s .root) x o → (n : ℕ) → mem (x .acting .words) n ≡ true → n < 64
+unfolding among
+acting-few d (at-residual {r = r} y i e w) n m = d .nodes r i n (ap (among n) (sym e) ∙ among-set w n ∙ m) .below
+acting-few d (at-end y e w) n m = true-not-false (sym m ∙ sym (among-set w n) ∙ ap (among n) e)
+
+shown : (s : Schedule) {x : Situation} {o : Option Residual} → StandsFor (s .root) x o → actingSet (ruleControl s) o ≡ setNumber (members (x .acting .words))
+unfolding ruleControl
+shown s {x} (at-residual {r = r} y i e w) = set-at (ruleControl s) (x .acting .words) r e
+shown s {x} (at-end y e w) = set-over (ruleControl s) (x .acting .words) e
+
+-- ---- what is asked
+module _ {l : Lent} {ks es : List ℕ} {vs₀ : List ℤ} {ms₀ events d₀ : List ℕ} where
+  pub planted : Asking l ks es vs₀ ms₀ events d₀ → Planted ks es
+  planted q = record { tree = q .schedule .root; lies = q .asked .lent .tree }
+
+  pub going-start : {set : NodeSet} (s : Schedule) → Asked s l ks es vs₀ ms₀ events d₀ → Begun ks es (set .words) →
+      Going s vs₀ ms₀ events d₀ 0 0 (record { over = false; acting = set }) (record { taken = 0; «turned_away» = 0; faulted = 0 }) vs₀ ms₀ d₀
+  unfolding ruleControl
+  going-start s a b = record {
+    place = some (fresh (s .root));
+    stands = at-residual refl (of-fresh (s .root)) (b .begins (s .root) (a .lent .tree)) (b .words);
+    so-far = run-start (s .plant) (ruleControl s) (begins s vs₀ ms₀) events (length events / 3) d₀ (a .fits);
+  }
+
+  module _ {k i : ℕ} {x : Situation} {cs : Counts} {vs : List ℤ} {ms d : List ℕ} where
+    -- what the step asks
+    pub going-promised : (q : Asking l ks es vs₀ ms₀ events d₀) → Going (q .schedule) vs₀ ms₀ events d₀ k i x cs vs ms d → Promised l ks es x vs ms
+    going-promised q g = record { schedule = q .schedule; lent = q .asked .lent; place = g .place; stands = g .stands; fits = g .so-far .fits }
+
+    -- what the record asks
+    pub going-room : (s : Schedule) → Asked s l ks es vs₀ ms₀ events d₀ → Going s vs₀ ms₀ events d₀ k i x cs vs ms d → k < length events / 3 → {vs' : List ℤ} {ms' : List ℕ} → Fits (s .plant) vs' ms' → i + (9 + 4 * length vs' + length ms') ≤ length d
+    going-room s q g h f = run-room (s .plant) (ruleControl s) (begins s vs₀ ms₀) events (length events / 3) d₀ (g .so-far) h (q .room) f
+
+    -- what is lent keeps its length
+    pub going-values : (q : Asking l ks es vs₀ ms₀ events d₀) → Going (q .schedule) vs₀ ms₀ events d₀ k i x cs vs ms d → length vs ≡ length vs₀
+    going-values q g = g .so-far .fits .values ∙ sym (q .asked .fits .values)
+
+    pub going-modes : (q : Asking l ks es vs₀ ms₀ events d₀) → Going (q .schedule) vs₀ ms₀ events d₀ k i x cs vs ms d → length ms ≡ length ms₀
+    going-modes q g = g .so-far .fits .modes ∙ sym (q .asked .fits .modes)
+
+    pub going-records : (q : Asking l ks es vs₀ ms₀ events d₀) → Going (q .schedule) vs₀ ms₀ events d₀ k i x cs vs ms d → length d ≡ length d₀
+    going-records q g =
+        let r = recordSize edition1 (q .schedule .plant) in
+        let b : k * r ≤ length events / 3 * r = mul-le-mul-right r (g .so-far .few) in
+        wrote-length (g .so-far .wrote) (omega (arith, g .so-far .size, q .asked .room))
+
+-- ---- an event
+module _ {vs₀ : List ℤ} {ms₀ events d₀ : List ℕ} {k i : ℕ} {x : Situation} {cs : Counts} {vs : List ℤ} {ms d : List ℕ} (s : Schedule) (g : Going s vs₀ ms₀ events d₀ k i x cs vs ms d) where
+  pub going-counts : k < length events / 3 → length events < 2 ^ 64 → Room cs
+  going-counts h m = run-counts (s .plant) (ruleControl s) (begins s vs₀ ms₀) events (length events / 3) d₀ (g .so-far) h (omega arith)
+
+  pub going-next : k < length events / 3 → {e : List ℕ} {a : Answered} {vs' : List ℤ} {ms' : List ℕ} → e ≡ eventAt events (3 * k) → Steps s (g .place) vs ms e a vs' ms' → Fits (s .plant) vs' ms' → {i' : ℕ} {cs' : Counts} {d' : List ℕ} →
+      Wrote d i (a .answer ∷ bigEndian 8 (setNumber (members (a .situation .acting .words))) ++ (flatMap valueBytes vs' ++ ms')) d' → i' ≡ i + (9 + 4 * length vs' + length ms') → cs' ≡ bookedOf cs (a .answer) →
+      Going s vs₀ ms₀ events d₀ (k + 1) i' (a .situation) cs' vs' ms' d'
+  going-next h {a = a} {vs' = vs'} {ms' = ms'} q t f w j b = record {
+    place = t .place;
+    stands = t .stands;
+    so-far =
+        run-next (s .plant) (ruleControl s) (begins s vs₀ ms₀) events (length events / 3) d₀ (g .so-far) h (omega arith) (a .answer) (t .place) vs' ms' (a .situation .acting .words) q (t .is) (shown s (t .stands)) f w j b;
+  }
+
+  pub going-end : k ≡ length events / 3 → Whole s vs₀ ms₀ events d₀ cs d
+  going-end h = run-end (s .plant) (ruleControl s) (begins s vs₀ ms₀) events (length events / 3) d₀ (g .so-far) h

@@ -1,0 +1,4 @@
+-- What the contracts of a run by the rules cite.
+pub mod Situations
+pub mod Runs
+pub mod Called

@@ -1,0 +1,43 @@
+-- A whole run by the rules, as the code's loop has it.
+use mathlib.Core.List.{List}
+use mathlib.Core.Option.{Option}
+use Prim.Native.Nat.{ℕ, _*_, _/_, _≤_}
+use lib.IntN.{ℤ}
+use lib.ListN.{length}
+use Rattle.semantics.specs.Editions.{edition1}
+use Rattle.semantics.specs.Events.{eventsIn}
+use Rattle.semantics.specs.Run as Run
+use Rattle.semantics.specs.Run.{answers}
+use Rattle.semantics.specs.Calls.{recordSize}
+use Rattle.schedules.specs.Residuals.{Residual}
+use Rattle.schedules.specs.Files.{Schedule, ruleControl}
+use Rattle.execution.specs.Ready.{Lent, Fits}
+use Rattle.execution.specs.Runs.{RunSoFar, RunDone}
+use Rattle.execution.specs.declared.Counts.{Counts}
+use Rattle.rule_run.specs.Situations.{StandsFor, ScheduleLent}
+use Rattle.rule_run.specs.declared.steps.Situation.{Situation}
+
+-- the arrays hold the schedule, the run starts with these values and modes, and d has room for its records
+pub record Asked (s : Schedule) (l : Lent) (ks es : List ℕ) (vs : List ℤ) (ms events d : List ℕ) : Type 0 where
+  pub lent : ScheduleLent s l ks es
+  pub fits : Fits (s .plant) vs ms
+  pub room : length events / 3 * recordSize edition1 (s .plant) ≤ length d
+
+-- there is such a schedule
+pub record Asking (l : Lent) (ks es : List ℕ) (vs : List ℤ) (ms events d : List ℕ) : Type 0 where
+  pub schedule : Schedule
+  pub asked : Asked schedule l ks es vs ms events d
+
+-- "A run starts at the fresh root"
+abbrev pub begins : Schedule → List ℤ → List ℕ → Run.Situation Residual
+begins s vs ms = Run.at (ruleControl s .start) vs ms
+
+-- k events are answered, and the run stands at x with these values, modes and counts, the records up to place i
+pub record Going (s : Schedule) (vs₀ : List ℤ) (ms₀ events d₀ : List ℕ) (k i : ℕ) (x : Situation) (cs : Counts) (vs : List ℤ) (ms d : List ℕ) : Type 0 where
+  pub place : Option Residual
+  pub stands : StandsFor (s .root) x place
+  pub so-far : RunSoFar (s .plant) (ruleControl s) (begins s vs₀ ms₀) events (length events / 3) d₀ k i (record { place = place; values = vs; modes = ms }) cs d
+
+-- all events are answered
+abbrev pub Whole : Schedule → List ℤ → List ℕ → List ℕ → List ℕ → Counts → List ℕ → Type 0
+Whole s vs ms events d₀ cs d = RunDone (ruleControl s) (answers edition1 (s .plant) (ruleControl s) (begins s vs ms) (eventsIn 3 (length events / 3) events)) d₀ cs d

@@ -1,0 +1,108 @@
+// The call "running a schedule by the rules": 1 to 12, then 20 to 22, then its events.
+use super::runs;
+use execution::Counts;
+use schedule_read::call::ScheduleIndex;
+use start_read::admission::Admitted;
+ghost use mathlib.Core.Path.{_≡_};
+ghost use lib.ListN.{length, take};
+ghost use Rattle.semantics.specs.Editions.{edition1};
+ghost use Rattle.semantics.specs.Plant.{selectors};
+ghost use Rattle.schedules.specs.Files.{Schedule};
+ghost use Rattle.schedules.specs.Calls.{ruleRun};
+ghost use Rattle.schedule_read.specs.ScheduleFile.{scheduleIndex};
+ghost use Rattle.rule_run.specs.Runs.{Whole};
+ghost use Rattle.rule_run.specs.Called.{notRun, ranWith, Admits, Admitting};
+
+// 0, or the number of the first condition that is broken; all counts are 0 then
+pub struct Ran {
+    pub refusal: u8,
+    pub taken: usize,
+    pub turned_away: usize,
+    pub faulted: usize,
+}
+
+fn refused(n: u8) -> Ran
+    ensures { λ r. ⌜ r ≡ notRun n ⌝ }
+{
+    Ran {
+        refusal: n,
+        taken: 0,
+        turned_away: 0,
+        faulted: 0,
+    }
+}
+
+// The events of an admitted run, over the arrays of the file's index.
+fn lend(
+    ix: ScheduleIndex,
+    asked: Admitted,
+    file: &[u8],
+    events: &[u8],
+    records: &mut [u8],
+) -> Counts
+    requires { ⌜ (ix ≡ scheduleIndex (now file)) × Admitting (now file) asked (now events) (now records) ⌝ }
+    ensures { λ r. ⌜ ((s : Schedule) → Admits (now (file .entry)) asked (now (events .entry)) (now (records .entry)) s → Whole s (take (length (s .plant .variables)) (asked .values)) (take (length (selectors (s .plant))) (asked .modes)) (now (events .entry)) (now (records .entry)) r (now (records .exit))) ⌝ }
+{
+    let parts = ix.parts;
+    let a = parts.equations_from;
+    let b = parts.equations_to;
+    let c = parts.schedule_from;
+    let d = parts.schedule_to;
+    let plant = ix.plant;
+    let variables = plant.variables;
+    let selectors = plant.selectors;
+    let places = plant.places;
+    let steady = plant.steady;
+    let lows = plant.lows;
+    let highs = plant.highs;
+    let nodes = ix.nodes;
+    let count = nodes.count;
+    let kinds = nodes.kinds;
+    let starts = nodes.starts;
+    let ends = nodes.ends;
+    let trees = ix.subtrees;
+    let subtrees = trees.ends;
+    let acts = schedule_read::actions::kinds(&kinds, count);
+    let mut values = asked.values;
+    let mut modes = asked.modes;
+    runs::all(
+        &file[a..b],
+        &places,
+        steady,
+        &lows[..variables],
+        &highs[..variables],
+        &file[c..d],
+        &acts,
+        &starts,
+        &ends,
+        &kinds,
+        &subtrees,
+        events,
+        &mut values[..variables],
+        &mut modes[..selectors],
+        records,
+    )
+}
+
+pub fn run(file: &[u8], start: &[u8], events: &[u8], records: &mut [u8]) -> Ran
+    ensures { λ r. ⌜ ranWith r (now (records .exit)) ≡ ruleRun edition1 (now (file .entry)) (now (start .entry)) (now (events .entry)) (now (records .entry)) ⌝ }
+{
+    let ix = schedule_read::call::index(file);
+    let first = ix.refusal;
+    if first != 0 {
+        return refused(first);
+    }
+    let plant = ix.plant;
+    let asked = start_read::admission::admit(plant, start, events.len(), records.len());
+    let second = asked.refusal;
+    if second != 0 {
+        return refused(second);
+    }
+    let counts = lend(ix, asked, file, events, records);
+    Ran {
+        refusal: 0,
+        taken: counts.taken,
+        turned_away: counts.turned_away,
+        faulted: counts.faulted,
+    }
+}

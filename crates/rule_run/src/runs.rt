@@ -1,0 +1,72 @@
+// All events of a run by the rules.
+use super::steps;
+use super::steps::Situation;
+use execution::Counts;
+ghost use Rattle.schedules.specs.Files.{Schedule};
+ghost use Rattle.execution.specs.Ready.{lent};
+ghost use Rattle.rule_run.specs.Runs.{Asked, Asking, Whole};
+
+// The record of each event goes to records, one after the other. Values and modes are those that the run starts with.
+pub fn all<'a>(
+    es: &[u8],
+    places: &[usize],
+    steady: [i32; 32],
+    lows: &[i32],
+    highs: &[i32],
+    ops: &[u8],
+    acts: &[u8],
+    starts: &[usize],
+    ends: &[usize],
+    kinds: &'a [u8],
+    subtrees: &'a [usize],
+    events: &[u8],
+    values: &mut [i32],
+    modes: &mut [u8],
+    records: &mut [u8],
+) -> Counts
+    requires { ⌜ Asking (lent (now es) (now places) steady (now lows) (now highs) (now ops) (now acts) (now starts) (now ends)) (now kinds) (now subtrees) (now values) (now modes) (now events) (now records) ⌝ }
+    ensures { λ r. ⌜ ((s : Schedule) → Asked s (lent (now (es .entry)) (now (places .entry)) steady (now (lows .entry)) (now (highs .entry)) (now (ops .entry)) (now (acts .entry)) (now (starts .entry)) (now (ends .entry))) (now (kinds .entry)) (now (subtrees .entry)) (now (values .entry)) (now (modes .entry)) (now (events .entry)) (now (records .entry)) → Whole s (now (values .entry)) (now (modes .entry)) (now (events .entry)) (now (records .entry)) r (now (records .exit))) ⌝ }
+{
+    let first = moves::fresh(kinds, subtrees);
+    let mut at = Situation {
+        over: false,
+        acting: first,
+    };
+    let mut counts = Counts {
+        taken: 0,
+        turned_away: 0,
+        faulted: 0,
+    };
+    let n = events.len() / 3;
+    let mut i = 0;
+    let mut k = 0;
+    while k < n {
+        let r = steps::step(
+            es,
+            places,
+            steady,
+            lows,
+            highs,
+            ops,
+            acts,
+            starts,
+            ends,
+            kinds,
+            subtrees,
+            at,
+            events[3 * k],
+            events[3 * k + 1],
+            events[3 * k + 2],
+            values,
+            modes,
+        );
+        let answer = r.answer;
+        let next = r.situation;
+        let acting = next.acting;
+        i = execution::put_record(records, i, answer, acting, values, modes);
+        counts = execution::booked(counts, answer);
+        at = next;
+        k += 1;
+    }
+    counts
+}
