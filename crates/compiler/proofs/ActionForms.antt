@@ -8,17 +8,17 @@ use native.Mathlib.Decide.{decLt}
 use native.Mathlib.Nat.{zero-add}
 use native.Mathlib.Omega.{arith}
 use lib.Dec.{leb, eqb}
-use lib.ListN.{length, getD, getElem?, take, drop, replicate, length-append}
+use lib.ListN.{length, getD, getElem?, take, replicate, length-append}
 use lib.Seq.{take-all, length-take-le}
 use Rattle.semantics.specs.Bytes.{out, widthOf, noBytes, twoBytes, byteAndRest}
 use Rattle.semantics.specs.Editions.{edition1}
-use Rattle.semantics.specs.Run.{Action, test, wait, assign, switch, stop, isTest}
+use Rattle.semantics.specs.Run.{Action, test, stop, isTest}
 use Rattle.semantics.specs.TableFile.{NodeAction, actionBytes, writeAction}
 use Rattle.semantics.specs.Tables.{actionAt, actionOrStop}
 use Rattle.semantics.proofs.Facts.{none-not-some, some-is, at-exists, at-mem, all-mem}
-use Rattle.schedules.specs.Nodes.{Node, sequence, parallel, while-do, if-else, continue-until, reset, reinitial, switch-to, stop-all, Kind, a-sequence, a-parallel, a-while, an-if, a-continue, a-reset, a-reinitial, a-switch, a-stop, no-kind, kindOf, childCount, nodeOf, nodesIn, actionOf, listed, actionsFrom, actionsOf}
+use Rattle.schedules.specs.Nodes.{Node, sequence, parallel, Kind, a-sequence, a-parallel, a-while, an-if, a-continue, a-reset, a-reinitial, a-switch, a-stop, no-kind, kindOf, childCount, nodeOf, nodesIn, actionOf, listed, actionsFrom, actionsOf}
 use Rattle.schedules.specs.Compiling.{testsOf}
-use Rattle.schedules.proofs.NodesRead.{Short, Counted, nodes-counted}
+use Rattle.schedules.proofs.NodesRead.{nodes-counted}
 use Rattle.schedules.proofs.Places.{flat-append, take-next}
 use Rattle.schedule_read.specs.Index.{pad}
 use Rattle.schedule_read.specs.Indexed.{NodesAt}

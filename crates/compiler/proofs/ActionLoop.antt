@@ -1,11 +1,11 @@
 -- The rows of the actions, node by node.
-use mathlib.Core.Path.{_≡_, refl, sym, ap, ap₂, _∙_}
+use mathlib.Core.Path.{_≡_, refl, sym, ap, _∙_}
 use mathlib.Core.List.{List, [], _∷_, _++_}
-use Prim.Native.Nat.{ℕ, zero, suc, _+_, _-_, _*_, _≤_, _<_}
+use Prim.Native.Nat.{ℕ, zero, suc, _+_, _-_, _≤_}
 use native.Mathlib.Omega.{arith}
 use native.Mathlib.Nat.{zero-add}
 use native.Mathlib.Numerals.{add-one}
-use lib.ListN.{length, getD, length-append, take, drop, length-drop}
+use lib.ListN.{length, getD, length-append, drop, length-drop}
 use lib.Seq.{length-take-le}
 use Rattle.codec.specs.Writing.{Wrote}
 use Rattle.codec.proofs.Writing.{wrote-none, put-more, wrote-as}

@@ -4,31 +4,31 @@ use mathlib.Core.Bool.{Bool, true, false}
 use mathlib.Core.List.{List}
 use Prim.Native.Nat.{ℕ, _+_, _-_, _*_, _≤_, _<_}
 use native.Mathlib.Omega.{arith}
-use lib.Dec.{leb, eqb}
+use lib.Dec.{leb}
 use lib.ListN.{length, getD, take, drop, length-drop}
 use lib.Seq.{length-take-le}
 use borrow.Author.Tests.{le-leb, lt-leb, eqb-true}
-use Rattle.semantics.specs.Bytes.{be2, overwrite}
+use Rattle.semantics.specs.Bytes.{be2}
 use Rattle.semantics.specs.Editions.{edition1}
 use Rattle.semantics.specs.Refusals.{Judged, refused, accepted, _>>=_, _>>_, ensure, refusalOf}
 use Rattle.semantics.specs.TableFile.{locationLimit}
-use Rattle.semantics.proofs.Judging.{go-then, go-ensure}
+use Rattle.semantics.proofs.Judging.{go-ensure}
 use Rattle.schedules.specs.Files.{Schedule, fileLength, judgeFile}
 use Rattle.schedules.specs.Compiling.{testsOf, scheduleLocations, tableOf, judgeCompile}
 use Rattle.schedules.specs.Residuals.{Residual}
 use Rattle.schedules.specs.Numbering.{locations}
 use Rattle.schedules.specs.Calls.{Compiled, compiledInto, compile}
-use Rattle.schedules.proofs.FirstNumber.{Passed, passed}
+use Rattle.schedules.proofs.FirstNumber.{passed}
 use Rattle.codec.specs.Writing.{Wrote}
 use Rattle.codec.proofs.Writing.{wrote-front}
 use Rattle.schedule_read.specs.ScheduleFile.{scheduleIndex}
 use Rattle.schedule_read.specs.declared.call.ScheduleIndex.{ScheduleIndex}
 use Rattle.schedule_read.specs.Actions.{actionNumbers}
-use Rattle.schedule_read.proofs.Promises.{Slice, Promised, index-refused, index-schedule, promised}
+use Rattle.schedule_read.proofs.Promises.{Slice, Promised, index-schedule, promised}
 use Rattle.schedule_read.proofs.NodeActions.{numbers-long}
 use Rattle.compiler.specs.Meeting.{testsIn}
 use Rattle.compiler.specs.Located.{rowBytes, Located, located, too-many, Numbered}
-use Rattle.compiler.specs.ActionTable.{actionRows, ActionsPut}
+use Rattle.compiler.specs.ActionTable.{ActionsPut}
 use Rattle.compiler.specs.CallParts.{returned, leaves, tableWith, judgeRoom, judgeRest, judgeAsked, Lent}
 use Rattle.compiler.specs.Measured.{judgeMeasure, lengthOf}
 use Rattle.compiler.proofs.ActionForms.{actions-written, actions-counted, operands, tests-are}

@@ -1,14 +1,14 @@
 -- The bytes of a table, section by section.
-use mathlib.Core.Path.{_≡_, refl, sym, ap, ap₂, _∙_}
-use mathlib.Core.List.{List, [], _∷_, _++_, map, flatMap, append-assoc}
-use Prim.Native.Nat.{ℕ, suc, _+_, _≤_}
+use mathlib.Core.Path.{_≡_, refl, sym, ap, _∙_}
+use mathlib.Core.List.{List, [], _∷_, _++_, flatMap, append-assoc}
+use Prim.Native.Nat.{ℕ, suc, _+_}
 use native.Mathlib.Numerals.{add-one}
 use native.Mathlib.Omega.{arith}
 use lib.ListN.{length, take, drop, length-append, length-map}
 use lib.Seq.{take-append-seam}
 use Rattle.semantics.specs.Bytes.{out, out2, out4, overwrite}
 use Rattle.semantics.specs.Editions.{edition1}
-use Rattle.semantics.specs.TableFile.{NodeAction, inSection2, inSection4, writeAction, writeActions, writeLocation, writeLocations, tableBody, tableBytes}
+use Rattle.semantics.specs.TableFile.{inSection2, inSection4, writeAction, writeActions, writeLocations, tableBody, tableBytes}
 use Rattle.schedules.specs.Residuals.{Residual}
 use Rattle.schedules.specs.Nodes.{actionsOf}
 use Rattle.schedules.specs.Files.{Schedule}

@@ -1,8 +1,7 @@
-use mathlib.Core.Path.{_≡_, sym, _∙_}
+use mathlib.Core.Path.{sym}
 use borrow.Author.Needs.{needs}
 use native.Mathlib.Omega.{arith}
 use Rattle.schedule_read.proofs.Promises.{index-refused}
-use Rattle.schedule_read.proofs.NodeActions.{numbers-long}
 use Rattle.compiler.proofs.CallStages.{file-refused, file-accepted, indexed, lent, acts-long}
 use Rattle.compiler.proofs.call.asked.Statement.{statement}
 use Rattle.compiler.proofs.call.asked.Tie as tie

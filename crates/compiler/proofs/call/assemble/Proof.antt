@@ -1,6 +1,4 @@
-use mathlib.Core.Path.{_≡_, sym, _∙_}
-use Prim.Native.Nat.{_≤_}
-use lib.ListN.{length}
+use mathlib.Core.Path.{sym}
 use lib.Seq.{length-take-le}
 use borrow.Author.Needs.{needs}
 use native.Mathlib.Omega.{arith}
@@ -21,7 +19,7 @@ refused-requires : tie.Need-refused-requires
 refused-requires c κs = search needs
 
 returns : tie.Need-returns
-returns c = λ x g. over-13 g (c .before .before .before .before .number .ensures) (c .before .before .before .before .before .before .before .before .before .before .before .before .before .before .before .before .args .writes) (c .before .before .before .before .before .before .before .before .before .before .before .before .before .before .before .before .args .table .now) (c .refused .ensures .0) (c .refused .ensures .1) (c .before .if1 .taken)
+returns c = λ x g. over-13 g (c .before .before .before .before .number .ensures) (c .before .before .before .before .before .before .before .before .before .before .before .before .before .before .before .before .args .writes) (c .before .before .before .before .before .before .before .before .before .before .before .before .before .before .before .before .args .table .now) (c .refused .ensures .0) (c .refused .ensures .1) (omega (arith, c .before .if1 .taken))
 
 slice-aggregate-write : tie.Need-slice-aggregate-write
 slice-aggregate-write c = search needs
@@ -39,19 +37,19 @@ slice-aggregate-finish : tie.Need-slice-aggregate-finish
 slice-aggregate-finish c = sym (length-take-le _ _ (array-share-prefix-list (c .before)))
 
 array-share-prefix-rows : tie.Need-array-share-prefix-rows
-array-share-prefix-rows c = omega (arith, c .before .before .before .before .before .before .before .before .number .ensures .short (c .before .before .before .before .before .if1 .left))
+array-share-prefix-rows c = omega (arith, c .before .before .before .before .before .before .before .before .number .ensures .short (omega (arith, c .before .before .before .before .before .if1 .left)))
 
 slice-aggregate-finish-2 : tie.Need-slice-aggregate-finish-2
 slice-aggregate-finish-2 c = sym (length-take-le _ _ (array-share-prefix-rows (c .before)))
 
 finish-requires : tie.Need-finish-requires
-finish-requires c κs = let g = c .before .before .before .before .before .before .before .before .before .before .before .before .before .before .before .before .before .before .before .before .before .before .pre .lent in (g .variables-short, g .equations-short, omega (arith, c .before .before .before .before .before .write .ensures .2, slice-aggregate-finish (c .before .before)), omega (arith, c .before .before .before .before .before .before .before .if1 .left), omega (arith, c .before .before .before .before .before .before .before .before .before .before .number .ensures .short (c .before .before .before .before .before .before .before .if1 .left), slice-aggregate-finish-2 (c .before)))
+finish-requires c κs = let g = c .before .before .before .before .before .before .before .before .before .before .before .before .before .before .before .before .before .before .before .before .before .before .pre .lent in (g .variables-short, g .equations-short, omega (arith, c .before .before .before .before .before .write .ensures .2, slice-aggregate-finish (c .before .before)), omega (arith, c .before .before .before .before .before .before .before .if1 .left), omega (arith, c .before .before .before .before .before .before .before .before .before .before .number .ensures .short (omega (arith, c .before .before .before .before .before .before .before .if1 .left)), slice-aggregate-finish-2 (c .before)))
 
 same-length : tie.Need-same-length
 same-length c = search needs
 
 returns-2 : tie.Need-returns-2
-returns-2 c = λ x g. not-13 g (c .before .before .before .before .before .before .before .before .before .before .before .before .before .number .ensures) (c .before .before .before .before .before .before .before .before .before .before .before .before .before .before .before .before .before .before .before .before .before .before .before .before .before .args .writes) (c .before .before .before .before .before .before .before .before .before .before .before .before .before .before .before .before .before .before .before .before .before .before .before .before .before .args .table .now) (c .before .before .before .before .before .before .before .before .before .before .if1 .left) (c .before .before .before .before .before .before .before .before .write .ensures .0) (c .before .before .before .before .before .before .byte .ensures) (c .before .before .finish .ensures)
+returns-2 c = λ x g. not-13 g (c .before .before .before .before .before .before .before .before .before .before .before .before .before .number .ensures) (c .before .before .before .before .before .before .before .before .before .before .before .before .before .before .before .before .before .before .before .before .before .before .before .before .before .args .writes) (c .before .before .before .before .before .before .before .before .before .before .before .before .before .before .before .before .before .before .before .before .before .before .before .before .before .args .table .now) (omega (arith, c .before .before .before .before .before .before .before .before .before .before .if1 .left)) (c .before .before .before .before .before .before .before .before .write .ensures .0) (c .before .before .before .before .before .before .byte .ensures) (c .before .before .finish .ensures)
 
 pub assemble-spec : {M : Type 1} → statement M
 assemble-spec =

@@ -1,6 +1,6 @@
 use borrow.Author.Needs.{needs}
 use native.Mathlib.Omega.{arith}
-use Rattle.codec.proofs.Writing.{put-more, wrote-as}
+use Rattle.codec.proofs.Writing.{put-more}
 use Rattle.compiler.proofs.call.put_header.Statement.{statement}
 use Rattle.compiler.proofs.call.put_header.Tie as tie
 

@@ -2,7 +2,7 @@ use Prim.Native.Nat.{_≤_}
 use lib.ListN.{length}
 use borrow.Author.Needs.{needs}
 use native.Mathlib.Omega.{arith}
-use Rattle.codec.proofs.Writing.{put-more, wrote-as}
+use Rattle.codec.proofs.Writing.{put-more}
 use Rattle.semantics.specs.Bytes.{out2}
 use Rattle.semantics.specs.TableFile.{inSection2}
 use Rattle.compiler.proofs.call.put_section.Statement.{statement}

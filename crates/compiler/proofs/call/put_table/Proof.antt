@@ -1,7 +1,6 @@
 use mathlib.Core.List.{List, _∷_, _++_}
 use Prim.Native.Nat.{ℕ, _≤_}
 use lib.ListN.{length, length-append}
-use borrow.Author.Needs.{needs}
 use native.Mathlib.Omega.{arith}
 use Rattle.codec.proofs.Writing.{put-more, wrote-as}
 use Rattle.semantics.specs.Bytes.{out2, out4}
