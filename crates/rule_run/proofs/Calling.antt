@@ -2,18 +2,16 @@
 use mathlib.Core.Path.{_≡_, refl, sym, ap, _∙_}
 use mathlib.Core.List.{List, [], _∷_}
 use mathlib.Core.Option.{some}
-use Prim.Native.Nat.{ℕ, zero, suc, _+_, _-_, _*_, _/_, _≤_}
+use Prim.Native.Nat.{ℕ, zero, suc, _+_, _-_, _*_, _≤_}
 use native.Mathlib.Omega.{arith}
-use lib.IntN.{ℤ}
 use lib.ListN.{length, getElem?, take, drop, length-append}
 use Rattle.semantics.specs.Editions.{edition1}
 use Rattle.semantics.specs.Refusals.{Judged, refused, accepted, _>>=_}
 use Rattle.semantics.specs.Plant.{Plant, selectorsOf, selectors, judgePlant}
 use Rattle.semantics.specs.Sections.{Selector, Equation, steady, choice}
-use Rattle.semantics.specs.Events.{eventsIn}
 use Rattle.semantics.specs.Starts.{Start}
 use Rattle.semantics.specs.Calls as Calls
-use Rattle.semantics.specs.Calls.{Program, Outcome, judgeRun, report, outcomeOf, runFrom}
+use Rattle.semantics.specs.Calls.{Program, Outcome, judgeRun, report, runFrom}
 use Rattle.schedules.specs.Residuals.{Residual}
 use Rattle.schedules.specs.Files.{Schedule, judgeFile, ruleControl}
 use Rattle.schedules.specs.Calls.{ruleProgram, ruleRun}
@@ -34,12 +32,11 @@ use Rattle.start_read.specs.Admission.{admitted}
 use Rattle.start_read.specs.declared.admission.Admitted.{Admitted}
 use Rattle.start_read.proofs.PlantStart.{arrays-held, room-held}
 use Rattle.start_read.proofs.AdmissionLaws.{run-unread, run-refused, run-admitted}
-use Rattle.execution.specs.Ready.{Lent, lent, Fits}
+use Rattle.execution.specs.Ready.{Lent, lent}
 use Rattle.execution.specs.Runs.{RunDone}
 use Rattle.execution.specs.declared.Counts.{Counts}
 use Rattle.execution.proofs.PlantReady.{fits-start}
-use Rattle.execution.proofs.Runs.{not-run, reported, run-from}
-use Rattle.rule_run.specs.Situations.{ScheduleLent}
+use Rattle.execution.proofs.Runs.{not-run, reported}
 use Rattle.rule_run.specs.Runs.{Asked, Asking, Whole}
 use Rattle.rule_run.specs.Called.{notRun, ranWith, Admits, Admitting}
 use Rattle.rule_run.specs.declared.call.Ran.{Ran}

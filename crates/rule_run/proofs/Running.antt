@@ -1,8 +1,8 @@
 -- The loop of a run by the rules.
 use mathlib.Core.Path.{_≡_, refl, sym, ap, _∙_}
-use mathlib.Core.Bool.{Bool, true, false}
-use mathlib.Core.List.{List, [], _∷_, _++_, flatMap}
-use mathlib.Core.Option.{Option, none, some}
+use mathlib.Core.Bool.{true, false}
+use mathlib.Core.List.{List, _∷_, _++_, flatMap}
+use mathlib.Core.Option.{Option, some}
 use Prim.Native.Nat.{ℕ, _+_, _*_, _/_, _^_, _≤_, _<_}
 use native.Mathlib.Nat.{mul-le-mul-right}
 use native.Mathlib.Omega.{arith}
@@ -11,15 +11,13 @@ use lib.ListN.{length}
 use Rattle.semantics.specs.Bytes.{bigEndian}
 use Rattle.semantics.specs.Editions.{edition1}
 use Rattle.semantics.specs.Plant.{among}
-use Rattle.semantics.specs.Run as Run
 use Rattle.semantics.specs.Run.{setNumber, actingSet, valueBytes}
 use Rattle.semantics.specs.Calls.{recordSize}
 use Rattle.semantics.proofs.Facts.{true-not-false}
-use Rattle.schedules.specs.Trees.{Tree}
 use Rattle.schedules.specs.Residuals.{Residual, fresh, acting}
 use Rattle.schedules.specs.Files.{Schedule, ruleControl}
 use Rattle.schedules.proofs.ResidualsKept.{of-fresh}
-use Rattle.nodeset.specs.Sets.{mem, members, Words}
+use Rattle.nodeset.specs.Sets.{mem, members}
 use Rattle.nodeset.specs.declared.NodeSet.{NodeSet}
 use Rattle.nodeset.proofs.Members.{among-set}
 use Rattle.moves.specs.Contracts.{Planted, Begun}

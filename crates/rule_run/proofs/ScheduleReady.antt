@@ -1,33 +1,31 @@
 -- A schedule file that is read is lent: what a run asks of the arrays, from the promises of the file's index.
 use mathlib.Core.Path.{_≡_, refl, sym, ap, _∙_}
-use mathlib.Core.Bool.{Bool, true}
+use mathlib.Core.Bool.{true}
 use mathlib.Core.List.{List}
 use mathlib.Core.Option.{Option, none, some, bind}
 use Prim.Native.Nat.{ℕ, _-_, _<_, _≤_}
 use native.Mathlib.Omega.{arith}
 use lib.Dec.{ltb}
 use lib.ListN.{length, getD, getElem?, take, drop}
-use Rattle.semantics.specs.Bytes.{isSome, every}
+use Rattle.semantics.specs.Bytes.{isSome}
 use Rattle.semantics.specs.Editions.{edition1}
 use Rattle.semantics.specs.Expressions.{numberIn}
 use Rattle.semantics.specs.Sections.{Selector}
-use Rattle.semantics.specs.Plant.{among, selectors}
+use Rattle.semantics.specs.Plant.{selectors}
 use Rattle.semantics.specs.Run.{Action, test, wait, assign, switch, stop}
 use Rattle.semantics.specs.TableFile as TableFile
 use Rattle.semantics.specs.TableFile.{actionKind}
 use Rattle.semantics.specs.Tables.{operandFits, actionAt, actionOrStop}
 use Rattle.semantics.proofs.Facts.{none-not-some, and-left, among-mem, every-all, all-mem, at-mem}
 use Rattle.schedules.specs.Nodes.{Node, nodeNamed, nodeReads, actionOf, actionsOf}
-use Rattle.schedules.specs.Residuals.{Residual, acting}
+use Rattle.schedules.specs.Residuals.{acting}
 use Rattle.schedules.specs.Files.{Schedule}
-use Rattle.schedules.proofs.ActingDetermines.{Of}
 use Rattle.schedules.proofs.ActionsListed.{operand-fits}
 use Rattle.schedules.proofs.FirstNumber.{passed}
 use Rattle.schedule_read.specs.Actions.{actionNumbers}
 use Rattle.schedule_read.specs.declared.call.ScheduleIndex.{ScheduleIndex}
 use Rattle.schedule_read.proofs.NodeActions.{action-of-node, numbers-long, action-is, action-beyond, acting-action}
 use Rattle.schedule_read.proofs.Promises.{Promised}
-use Rattle.plant.specs.PlantRead.{plantOf}
 use Rattle.plant.specs.declared.sections.PlantRead.{PlantRead}
 use Rattle.execution.specs.Deeds.{Cut, cutAt}
 use Rattle.execution.specs.Ready.{Lent, PlantLent, NodeLent, actionNamed}

@@ -1,7 +1,7 @@
 -- One event of a run by the rules, part by part.
 use mathlib.Core.Path.{_≡_, refl, sym, ap, _∙_, subst}
 use mathlib.Core.Bool.{Bool, true, false}
-use mathlib.Core.List.{List, [], _∷_}
+use mathlib.Core.List.{List}
 use mathlib.Core.Option.{Option, none, some}
 use Prim.Native.Nat.{ℕ}
 use lib.IntN.{ℤ}
@@ -17,31 +17,27 @@ use Rattle.schedules.specs.Nodes.{actionsOf}
 use Rattle.schedules.specs.Trees.{Tree}
 use Rattle.schedules.specs.Residuals.{Residual, acting, move}
 use Rattle.schedules.specs.Files.{Schedule, ruleControl}
-use Rattle.schedules.specs.Laid.{Lies}
 use Rattle.schedules.proofs.ActingDetermines.{Of}
-use Rattle.nodeset.specs.Sets.{mem, members, emptySet, Words}
+use Rattle.nodeset.specs.Sets.{members, Words}
 use Rattle.nodeset.specs.declared.NodeSet.{NodeSet}
 use Rattle.nodeset.proofs.Members.{among-set, members-empty}
 use Rattle.nodeset.proofs.Membership.{words-empty}
-use Rattle.moves.specs.Contracts.{Standing, Advanced}
+use Rattle.moves.specs.Contracts.{Advanced}
 use Rattle.moves.specs.declared.How.{How}
 use Rattle.moves.specs.declared.How.the-variants.{To, Finished, Halted}
 use Rattle.moves.proofs.Callers.{standing, led-on, led-to-finish, led-to-halt}
-use Rattle.execution.specs.Ready.{Lent, PlantLent, NodeLent, Fits, Ready}
+use Rattle.execution.specs.Ready.{Lent, Fits, Ready}
 use Rattle.execution.specs.Ready as Judged
 use Rattle.execution.specs.Told.{Left}
 use Rattle.execution.specs.declared.Verdict.{Verdict}
 use Rattle.execution.specs.declared.Verdict.the-variants.{Away, Above, Below, Stay, Move}
 use Rattle.execution.proofs.Outcomes.{heard-move}
 use Rattle.execution.proofs.Stepping.{stepped-over, stepped-away, stepped-above, stepped-below, stepped-stay, stepped-move, fits-left}
-use Rattle.rule_run.specs.Situations.{goingOn, ended, StandsFor, at-residual, at-end, Here, leaves, Arrives, Movable, ScheduleLent, Promised, Steps}
+use Rattle.rule_run.specs.Situations.{goingOn, ended, StandsFor, at-residual, at-end, Here, Arrives, Movable, ScheduleLent, Promised, Steps}
 use Rattle.rule_run.specs.declared.steps.Situation.{Situation}
 use Rattle.rule_run.specs.declared.steps.Answered.{Answered}
 
 -- ---- answers
-pub over-empty : (n : ℕ) {s : NodeSet} → s .words ≡ emptySet → _≡_ {A = Answered} (record { answer = n; situation = record { over = true; acting = s } }) (ended n)
-over-empty n e = ap (λ (w : List ℕ). record { answer = n; situation = record { over = true; acting = record { words = w } } }) e
-
 stands-over : (t : Tree) (n : ℕ) → StandsFor t (ended n .situation) none
 stands-over t n = at-end refl members-empty words-empty
 

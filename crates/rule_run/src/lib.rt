@@ -1,4 +1,4 @@
 // Running a schedule by the rules.
 pub mod call;
-pub mod runs;
-pub mod steps;
+mod runs;
+mod steps;

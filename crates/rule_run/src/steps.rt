@@ -47,7 +47,7 @@ fn go_on(n: u8, acting: NodeSet) -> Answered
 fn end(n: u8) -> Answered
     ensures { λ r. ⌜ r ≡ ended n ⌝ }
 {
-    let acting = nodeset::empty();
+    let acting = NodeSet { words: [0; 4] };
     let situation = Situation {
         over: true,
         acting: acting,

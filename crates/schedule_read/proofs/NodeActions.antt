@@ -8,16 +8,16 @@ use native.Mathlib.Nat.{zero-add}
 use native.Mathlib.Numerals.{add-one}
 use native.Mathlib.Omega.{arith}
 use borrow.Author.Tests.{eq-eqb, ne-eqb}
-use lib.Dec.{leb, eqb}
-use lib.ListN.{length, getD, getElem?, take, drop, set, replicate, length-append, length-replicate}
+use lib.Dec.{leb}
+use lib.ListN.{length, getD, getElem?, take, drop, set, replicate}
 use lib.Seq.{getD-take, length-take-le}
 use Rattle.semantics.specs.Bytes.{noBytes, twoBytes, byteAndRest}
-use Rattle.semantics.specs.Run.{Action, test, wait, assign, switch, stop}
-use Rattle.semantics.specs.TableFile.{NodeAction, actionKind}
+use Rattle.semantics.specs.Run.{Action}
+use Rattle.semantics.specs.TableFile.{actionKind}
 use Rattle.semantics.specs.TableFile as TableFile
 use Rattle.semantics.specs.Tables.{actionAt}
 use Rattle.semantics.proofs.Facts.{none-not-some, some-is}
-use Rattle.schedules.specs.Nodes.{Node, sequence, parallel, while-do, if-else, continue-until, reset, reinitial, switch-to, stop-all, Kind, a-sequence, a-parallel, a-while, an-if, a-continue, a-reset, a-reinitial, a-switch, a-stop, no-kind, kindOf, childCount, nodeOf, actionOf, listed, actionsFrom, actionsOf}
+use Rattle.schedules.specs.Nodes.{Node, sequence, parallel, Kind, a-sequence, a-parallel, a-while, an-if, a-continue, a-reset, a-reinitial, a-switch, a-stop, no-kind, kindOf, childCount, nodeOf, actionOf, listed, actionsFrom, actionsOf}
 use Rattle.schedules.specs.Trees.{Tree, treeOf}
 use Rattle.schedules.specs.Residuals.{Residual, acting}
 use Rattle.schedules.proofs.ActingDetermines.{Of}
@@ -26,7 +26,7 @@ use Rattle.schedules.proofs.ReadShapes.{root-shapes}
 use Rattle.schedule_read.specs.Index.{pad}
 use Rattle.schedule_read.specs.Indexed.{NodesAt}
 use Rattle.schedule_read.specs.Actions.{actionNumber, actionNumbers}
-use Rattle.schedule_read.proofs.Pads.{pad-none, getD-pad, length-pad, pad-snoc, pad-map, pad-map-snoc, map-length}
+use Rattle.schedule_read.proofs.Pads.{pad-none, length-pad, pad-map, pad-map-snoc, map-length}
 use Rattle.schedule_read.proofs.Payloads.{by-kind}
 
 -- ---- the list of actions, by number

@@ -1,8 +1,7 @@
 -- What the index of a schedule file promises to those that run or compile it.
 use mathlib.Core.Path.{_≡_, refl, sym, ap, subst, _∙_}
-use mathlib.Core.Bool.{Bool, true, _&&_}
+use mathlib.Core.Bool.{true}
 use mathlib.Core.List.{List}
-use mathlib.Core.Option.{some}
 use Prim.Native.Nat.{ℕ, suc, _-_}
 use native.Mathlib.Omega.{arith}
 use lib.ListN.{length, take, drop}
@@ -13,8 +12,7 @@ use Rattle.semantics.specs.Plant.{judgePlant, selectors, switchesRead}
 use Rattle.semantics.specs.Conditions.{Condition}
 use Rattle.semantics.proofs.Facts.{All, all-nil, all-cons, some-is, and-left, and-right}
 use Rattle.semantics.proofs.CallsHold.{accepted-of}
-use Rattle.schedules.specs.Nodes.{Node, nodesIn, nodeNamed, nodeReads}
-use Rattle.schedules.specs.Trees.{treeOf}
+use Rattle.schedules.specs.Nodes.{nodeNamed, nodeReads}
 use Rattle.schedules.specs.Laid.{Laid, Lies}
 use Rattle.schedules.specs.Files.{Schedule, judgeFile}
 use Rattle.schedules.specs.FileSections.{FileSections}
@@ -29,7 +27,6 @@ use Rattle.schedule_read.specs.ScheduleFile.{indexAt, scheduleIndex}
 use Rattle.schedule_read.specs.declared.call.ScheduleIndex.{ScheduleIndex}
 use Rattle.schedule_read.specs.declared.parts.Parts.{Parts}
 use Rattle.schedule_read.specs.declared.nodes.Nodes.{Nodes}
-use Rattle.schedule_read.specs.declared.tree.Subtrees.{Subtrees}
 use Rattle.schedule_read.proofs.FoundNodes.{found-nodes}
 use Rattle.schedule_read.proofs.LaidTree.{laid, lies, tree-size, ends-long}
 use Rattle.schedule_read.proofs.PartsStand.{Inside, accepted-parts}

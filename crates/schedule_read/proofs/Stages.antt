@@ -1,7 +1,7 @@
 -- A schedule file judged in order: what the answers about its parts make of the whole.
 use mathlib.Core.Path.{_≡_, refl, sym, ap, subst, _∙_}
 use mathlib.Core.Bool.{Bool, true, false, _&&_}
-use mathlib.Core.List.{List, [], _∷_, map}
+use mathlib.Core.List.{List, map}
 use mathlib.Core.Option.{Option, none, some}
 use Prim.Native.Nat.{ℕ, _-_, _≤_}
 use native.Mathlib.Omega.{arith}
@@ -9,8 +9,8 @@ use lib.ListN.{length, take, drop}
 use Rattle.semantics.specs.Bytes.{every}
 use Rattle.semantics.specs.Editions.{edition1}
 use Rattle.semantics.specs.Refusals.{Judged, refused, accepted, refusalOf, need, ensure, _>>=_, _>>_}
-use Rattle.semantics.specs.Sections.{Selector, Equation, steady, choice, readEquation, equationsIn}
-use Rattle.semantics.specs.Plant.{Plant, judgePlant, switchesRead, equationReads, selectorsOf, selectors}
+use Rattle.semantics.specs.Sections.{Selector, Equation, equationsIn}
+use Rattle.semantics.specs.Plant.{Plant, judgePlant, switchesRead, equationReads, selectors}
 use Rattle.semantics.proofs.Facts.{true-not-false}
 use Rattle.semantics.proofs.Judging.{refused-not-accepted, refused-is, go-then, go-need, go-ensure}
 use Rattle.schedules.specs.FileSections.{FileSections, fileSectionsIn}
@@ -19,13 +19,12 @@ use Rattle.schedules.specs.Trees.{Tree, treeOf}
 use Rattle.schedules.specs.Files.{Schedule, fileHeader, fileLength, judgeFile}
 use Rattle.schedules.specs.Calls.{scheduleCounts, readSchedule}
 use Rattle.schedules.proofs.FirstNumber as FirstNumber
-use Rattle.codec.proofs.Known.{times-length}
 use Rattle.plant.specs.Equations.{pad, modeCount}
 use Rattle.plant.specs.Sound.{There}
 use Rattle.plant.specs.PlantRead.{refusedPlant, acceptedPlant, plantAnswer, plantOf}
 use Rattle.plant.specs.declared.sections.PlantRead.{PlantRead}
-use Rattle.plant.proofs.EquationCases.{section-at}
-use Rattle.plant.proofs.PlantLaws.{Passed, passed-all, passes, variables-of, variables-high, selectors-of, modes-of}
+use Rattle.plant.proofs.EquationLaws.{few-selectors}
+use Rattle.plant.proofs.PlantLaws.{passed-all, passes, variables-of, variables-high, selectors-of, modes-of}
 use Rattle.schedule_read.specs.FileParts.{noParts, partsIn, partsRead, partsOf, sectionsAt}
 use Rattle.schedule_read.specs.Indexed.{NodesAt, Indexed, ModesAt, Selected, Passes}
 use Rattle.schedule_read.specs.Index.{notNodes, nodesOf}
@@ -150,19 +149,6 @@ module _ {es s kinds starts ends modes : List ℕ} {count v c : ℕ} where
         nodes-passed z ns d p e = rw (sym (names-are ns d p e) ∙ x, sym (nodes-read ns d p e) ∙ y, sym (switches-read p e) ∙ z) refl
 
 -- ---- 4 to 8
-few-selectors : (es : List ℕ) {qs : List Equation} → equationsIn es ≡ some qs → length (selectorsOf qs) ≤ 16
-unfolding selectorsOf
-few-selectors es {qs} e =
-    let a = section-at es e in
-    let n = times-length readEquation _ _ (a .got) in
-    let b = a .few in
-    omega (arith, fewer qs)
-  where
-    fewer : (qs : List Equation) → length (selectorsOf qs) ≤ length qs
-    fewer [] = omega arith
-    fewer (steady r ∷ qs) = let i = fewer qs in omega arith
-    fewer (choice c ∷ qs) = let i = fewer qs in omega arith
-
 counts-at : {modes ms : List ℕ} {c d : ℕ} {cs : List Selector} → modes ≡ ms → c ≡ d → ModesAt ms d cs → ModesAt modes c cs
 counts-at e f a = rw (e, f) a
 

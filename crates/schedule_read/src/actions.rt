@@ -1,10 +1,8 @@
 // By node the kind of its action, as a table has it.
 ghost use mathlib.Core.Path.{_≡_};
-ghost use mathlib.Core.List.{map};
 ghost use Prim.Native.Nat.{_≤_};
-ghost use lib.ListN.{length, take};
+ghost use lib.ListN.{length};
 ghost use Rattle.schedules.specs.Nodes.{kindOf};
-ghost use Rattle.schedule_read.specs.Index.{pad};
 ghost use Rattle.schedule_read.specs.Actions.{actionNumber, actionNumbers};
 
 // of a node of kind k; 0 where it has no action

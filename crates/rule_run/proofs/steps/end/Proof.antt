@@ -1,13 +1,11 @@
-use Rattle.rule_run.proofs.Settling.{over-empty}
-use borrow.Author.Needs.{needs}
+use mathlib.Core.Path.{refl}
+use Rattle.nodeset.specs.Sets.{emptySet}
 use Rattle.rule_run.proofs.steps.end.Statement.{statement}
 use Rattle.rule_run.proofs.steps.end.Tie as tie
 
-empty-requires : tie.Need-empty-requires
-empty-requires c κs = search needs
-
 returns : tie.Need-returns
-returns c = over-empty _ (c .empty .ensures)
+unfolding emptySet
+returns c = refl
 
 pub end-spec : {M : Type 1} → statement M
-end-spec = tie.close (tie.spec empty-requires returns)
+end-spec = tie.close (tie.spec returns)

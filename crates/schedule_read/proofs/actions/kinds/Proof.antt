@@ -1,11 +1,11 @@
-use mathlib.Core.Path.{_≡_, ap, _∙_}
+use mathlib.Core.Path.{_≡_}
 use mathlib.Core.List.{map}
 use Prim.Native.Nat.{_≤_, _-_}
 use native.Mathlib.Omega.{arith}
 use lib.ListN.{take}
 use Rattle.schedules.specs.Nodes.{kindOf}
 use Rattle.schedule_read.specs.Index.{pad}
-use Rattle.schedule_read.specs.Actions.{actionNumber, actionNumbers}
+use Rattle.schedule_read.specs.Actions.{actionNumber}
 use Rattle.schedule_read.proofs.NodeActions.{numbers-start, numbers-next, numbers-end}
 use borrow.Author.Needs.{needs}
 use Rattle.schedule_read.proofs.actions.kinds.Statement.{statement}

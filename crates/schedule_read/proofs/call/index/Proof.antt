@@ -1,6 +1,5 @@
-use mathlib.Core.Path.{sym, _∙_}
+use mathlib.Core.Path.{_∙_}
 use borrow.Author.Needs.{needs}
-use borrow.Author.Tests.{not-true, not-false}
 use Rattle.schedule_read.proofs.Stages.{by-parts, parts-stand, by-sections}
 use Rattle.schedule_read.proofs.call.index.Statement.{statement}
 use Rattle.schedule_read.proofs.call.index.Tie as tie
