@@ -1,4 +1,5 @@
 // Schedule files read: K1, K10, K11 and files with one byte changed. A line for each: refusal, variables, selectors, nodes.
+// Then tables: K1's and others, and tables with one byte changed. A line for each: refusal, variables, selectors, actions, locations.
 ghost use Prim.Native.Nat.{_<_};
 
 fn number(n: usize) {
@@ -12,6 +13,16 @@ fn show(file: &[u8]) {
     number(r.variables);
     number(r.selectors);
     number(r.nodes);
+    io::write_all(1, b"\n");
+}
+
+fn show_table(table: &[u8]) {
+    let r = table_read::call::read(table);
+    number(r.refusal as usize);
+    number(r.variables);
+    number(r.selectors);
+    number(r.actions);
+    number(r.locations);
     io::write_all(1, b"\n");
 }
 
@@ -51,6 +62,71 @@ fn too_deep() -> [u8; 53] {
     *b"\x01\x00\x35\x00\x0D\x01\x00\x00\x00\x00\x00\x00\x00\x0A\x00\x00\x00\x00\x00\x09\x01\x00\x06\x01\x00\x00\x00\x00\x01\x00\x16\x01\x14\x06\x00\x14\x14\x14\x14\x14\x14\x14\x14\x14\x14\x14\x14\x14\x14\x14\x14\x02\x00"
 }
 
+// K1's table
+fn k1_table() -> [u8; 75] {
+    *b"\x01\x00\x00\x00\x4B\x00\x0D\x01\x00\x00\x00\x00\x00\x00\x00\x0A\x00\x00\x00\x00\x00\x09\x01\x00\x06\x01\x00\x00\x00\x00\x01\x00\x18\x02\x0B\x01\x03\x00\x10\x02\x00\x01\x00\x00\x00\x01\x0A\x02\x02\x20\x01\x00\x00\x00\x03\x02\x00\x00\x00\x00\x0E\x00\x02\x01\x01\x00\x01\xFF\xFF\x01\x02\xFF\xFE\xFF\xFF"
+}
+
+// that table with another byte at this place
+fn changed_table(at: usize, b: u8)
+    requires { ⌜ at < 75 ⌝ }
+{
+    let mut t = k1_table();
+    t[at] = b;
+    show_table(&t);
+}
+
+// the same with two more locations, equal to the two before them, which no entry leads to
+fn equal_locations() -> [u8; 87] {
+    *b"\x01\x00\x00\x00\x57\x00\x0D\x01\x00\x00\x00\x00\x00\x00\x00\x0A\x00\x00\x00\x00\x00\x09\x01\x00\x06\x01\x00\x00\x00\x00\x01\x00\x18\x02\x0B\x01\x03\x00\x10\x02\x00\x01\x00\x00\x00\x01\x0A\x02\x02\x20\x01\x00\x00\x00\x03\x02\x00\x00\x00\x00\x1A\x00\x04\x01\x01\x00\x01\xFF\xFF\x01\x02\xFF\xFE\xFF\xFF\x01\x01\x00\x01\xFF\xFF\x01\x02\xFF\xFE\xFF\xFF"
+}
+
+// the two variables and the CASE of the second file, with a switch action
+fn case_table() -> [u8; 87] {
+    *b"\x01\x00\x00\x00\x57\x00\x19\x02\x00\x00\x00\x00\x00\x00\x00\x0A\x00\x00\x00\x00\x00\x00\x00\x00\x00\x00\x00\x0A\x00\x00\x00\x00\x00\x21\x02\x00\x06\x01\x00\x00\x00\x00\x01\x00\x16\x02\x00\x02\x01\x01\x00\x00\x00\x02\x01\x09\x01\x20\x01\x00\x00\x00\x03\x02\x00\x00\x00\x00\x06\x01\x04\x00\x04\x00\x01\x00\x00\x00\x08\x00\x01\x01\x00\xFF\xFE\xFF\xFF"
+}
+
+fn changed_case_table(at: usize, b: u8)
+    requires { ⌜ at < 87 ⌝ }
+{
+    let mut t = case_table();
+    t[at] = b;
+    show_table(&t);
+}
+
+fn tables() {
+    let table = k1_table();
+    show_table(&table);
+    show_table(&table[..0]);
+    let short = [1u8, 0, 0, 0];
+    show_table(&short);
+    changed_table(0, 2); // the version
+    changed_table(4, 76); // the length field
+    changed_table(6, 14); // the length of the first section
+    changed_table(60, 15); // the length of the last section
+    changed_table(7, 0); // no variables
+    changed_table(19, 11); // the initial value above the maximum
+    changed_table(26, 1); // an equation drives a missing variable
+    changed_table(33, 3); // an action is missing
+    changed_table(35, 64); // a node number above 63
+    changed_table(47, 1); // a node number again
+    changed_table(36, 6); // the kind of an action
+    changed_table(37, 1); // an assignment to a missing variable
+    changed_table(49, 119); // no form of a truth
+    changed_table(62, 3); // a location is missing
+    changed_table(63, 0); // a location without entries
+    changed_table(64, 3); // an entry of an unknown node
+    changed_table(66, 2); // a target past the last location
+    changed_table(72, 253); // a wait that halts
+    changed_table(73, 0); // a wait with a second target
+    let more = equal_locations();
+    show_table(&more);
+    let other = case_table();
+    show_table(&other);
+    changed_case_table(57, 119); // no form of a truth, in a switch
+    changed_case_table(74, 2); // an action names a missing mode
+}
+
 fn main() {
     let file = k1();
     show(&file);
@@ -81,4 +157,5 @@ fn main() {
     show(&deepest);
     let past = too_deep();
     show(&past);
+    tables();
 }

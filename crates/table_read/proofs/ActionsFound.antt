@@ -198,7 +198,7 @@ module _ (s : List ℕ) {l : List NodeAction} (e : actionsIn edition1 s ≡ some
       go (one-action j z b c o) = (b, c)
 
 -- ---- the kinds by node say what the actions are
-nowhere-above : (l : List NodeAction) (n : ℕ) → every nodeExists l ≡ true → 64 ≤ n → actionAt l n ≡ none
+pub nowhere-above : (l : List NodeAction) (n : ℕ) → every nodeExists l ≡ true → 64 ≤ n → actionAt l n ≡ none
 unfolding actionAt nodeExists
 nowhere-above l n h k = go (every-all nodeExists l h)
   where

@@ -7,7 +7,11 @@ pub mod ByNode
 pub mod ActionLoop
 pub mod ActionsFound
 pub mod ActionsFit
+pub mod OperandTurns
 pub mod LikeKinds
 pub mod EntryLoop
 pub mod LocationLoop
 pub mod LocationsFound
+pub mod TableStages
+pub mod Promises
+pub mod TableCounts

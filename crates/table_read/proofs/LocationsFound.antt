@@ -6,7 +6,7 @@ use mathlib.Core.Option.{Option, none, some}
 use Prim.Native.Nat.{ℕ, zero, suc, _+_, _-_, _*_, _≤_, _<_}
 use native.Mathlib.Omega.{arith}
 use borrow.Author.Tests.{leb-true}
-use lib.ListN.{length, getD, drop, replicate, getElem?, List·getD-append}
+use lib.ListN.{length, getD, drop, replicate, getElem?, length-append, length-replicate, List·getD-append}
 use Rattle.semantics.specs.Bytes.{read, broken, byte, after, _>>=_, give, times}
 use Rattle.semantics.specs.Editions.{edition1}
 use Rattle.semantics.specs.TableFile.{NodeAction, Entry, readEntry, readLocation, readLocations, locationsIn}
@@ -18,6 +18,7 @@ use Rattle.codec.proofs.Reading.{either, nat2At}
 use Rattle.codec.proofs.Known.{cons, times-length, after-byte, not-past, after-nat2, not-nat2}
 use Rattle.codec.proofs.Places.{Takes, takes-then, takes-guard, takes-byte, takes-number, takes-nat2, takes-give, takes-times, places-length, placed, placed-before}
 use Rattle.table_read.specs.LocationIndex.{entryAt, pad, noLocations, locationIndex, locationsRead, locationsOf}
+use Rattle.table_read.specs.Promised.{EntriesAt}
 use Rattle.table_read.proofs.EntryLoop.{entry-is, entry-took}
 use Rattle.table_read.proofs.LocationLoop.{accept}
 
@@ -102,6 +103,15 @@ module _ (acts : List NodeAction) (s : List ℕ) {ls : List (List Entry)} (e : l
       let high = t .2 in
       (omega arith, omega arith)
 
+  pub places-full : length (locationsOf acts s .places) ≡ 1024
+  unfolding locationIndex pad
+  places-full =
+      let t = times-of s e in
+      let high = t .2 in
+      let ps = placesFrom (length s) (readLocation edition1) (length ls) (drop 2 s) in
+      let m : length ps ≡ length ls = places-length (length s) (readLocation edition1) (length ls) (drop 2 s) (t .3) in
+      ap (λ z. length (z .places)) (index-is acts s e h) ∙ length-append ps _ ∙ simp length-replicate (omega arith)
+
   pub location-at : (k : ℕ) → k < locationsOf acts s .count → LocationAt s ls k (getD (locationsOf acts s .places) k 0)
   unfolding locationIndex pad
   location-at k i =
@@ -118,11 +128,7 @@ module _ (acts : List NodeAction) (s : List ℕ) {ls : List (List Entry)} (e : l
         reads = x .nth .got ∙ ap (λ z. read z (x .nth .end)) (getD-of ls k [] (x .nth .is));
       })
 
--- ---- the entries of a location stand one after the other, 5 bytes each, after their count
-pub record EntriesAt (s : List ℕ) (p : ℕ) (es : List Entry) : Type 0 where
-  pub inside : p + 5 * length es ≤ length s
-  pub entry : (j : ℕ) → j < length es → getElem? es j ≡ some (entryAt s (p + 5 * j))
-
+-- ---- the entries of a location
 entries-from : (s : List ℕ) (n p : ℕ) (m : List ℕ) {es : List Entry} {e : List ℕ} → p ≤ length s → m ≡ drop p s → times n (readEntry edition1) m ≡ read es e → EntriesAt s p es
 unfolding times give
 entries-from s zero p m b q h = subst (EntriesAt s p) (read-value h) (record { inside = omega arith; entry = λ j i. absurd (omega arith) })

@@ -2,4 +2,7 @@
 pub mod Ends
 pub mod TableParts
 pub mod ActionIndex
+pub mod OperandForms
 pub mod LocationIndex
+pub mod Promised
+pub mod TableIndex

@@ -17,7 +17,7 @@ pub struct Actions {
     pub ends: [usize; 64],
 }
 
-fn refused() -> Actions
+pub fn refused() -> Actions
     ensures { λ r. ⌜ r ≡ noActions ⌝ }
 {
     let kinds = [0u8; 64];

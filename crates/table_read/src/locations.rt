@@ -16,7 +16,7 @@ pub struct Locations {
     pub places: [usize; 1024],
 }
 
-fn refused() -> Locations
+pub fn refused() -> Locations
     ensures { λ r. ⌜ r ≡ noLocations ⌝ }
 {
     let places = [0usize; 1024];

@@ -17,7 +17,7 @@ pub struct Parts {
     pub locations_end: usize,
 }
 
-fn refused(n: u8) -> Parts
+pub fn refused(n: u8) -> Parts
     ensures { λ r. ⌜ r ≡ noParts n ⌝ }
 {
     Parts {

@@ -1,0 +1,252 @@
+-- What the index of a table promises to the code that runs it.
+use mathlib.Core.Path.{_≡_, refl, sym, ap, subst, _∙_}
+use mathlib.Core.Bool.{Bool, true, false, cond}
+use mathlib.Core.List.{List, [], _∷_}
+use mathlib.Core.Option.{Option, none, some}
+use Prim.Native.Nat.{ℕ, zero, suc, _-_, _≤_, _<_}
+use native.Mathlib.Omega.{arith}
+use borrow.Author.Tests.{ltb-true, eqb-true}
+use lib.Dec.{ltb, eqb}
+use lib.ListN.{length, getD}
+use Rattle.semantics.specs.Bytes.{every}
+use Rattle.semantics.specs.Editions.{edition1}
+use Rattle.semantics.specs.Refusals.{Judged, refused, accepted, refusalOf}
+use Rattle.semantics.specs.Plant.{Plant, judgePlant, switchesRead, selectors}
+use Rattle.semantics.specs.Run.{Action, test, wait, assign, switch, stop, isTest, possible}
+use Rattle.semantics.specs.TableFile.{NodeAction, Entry, FINISHED, HALTED, NONE, actionKind, actionOf, actionsIn, locationsIn}
+use Rattle.semantics.specs.Tables.{Table, risingFrom, operandFits, actionNodes, actionAt, goesOn, targetsFit, entryFits, entryNodes, locationFits, locationsFit, judgeTable}
+use Rattle.semantics.specs.Conditions.{Condition, First, here, further, Firsts, refuses, accepts, _if_, is15, is16, is17, is18, is19, tableConditions}
+use Rattle.semantics.proofs.Facts.{All, all-nil, all-cons, all-map, every-all, by-cases, true-not-false, none-not-some, some-is, and-left, and-right}
+use Rattle.semantics.proofs.Judging.{refused-not-accepted, refused-is}
+use Rattle.semantics.proofs.TablePassed.{table-passed}
+use Rattle.semantics.proofs.FirstNumber.{table-first}
+use Rattle.plant.specs.PlantRead.{plantOf}
+use Rattle.codec.proofs.Reading.{either}
+use Rattle.table_read.specs.declared.parts.Parts.{Parts}
+use Rattle.table_read.specs.declared.actions.Actions.{Actions}
+use Rattle.table_read.specs.declared.locations.Locations.{Locations}
+use Rattle.table_read.specs.declared.call.TableIndex.{TableIndex}
+use Rattle.table_read.specs.TableParts.{partsIn, partsOf, sectionsAt}
+use Rattle.table_read.specs.ActionIndex.{nodeExists, actionsLaid, operandsFit, actionIndex, byNode, actionsOf}
+use Rattle.table_read.specs.LocationIndex.{locationIndex, locationsOf}
+use Rattle.table_read.specs.Promised.{LocationPromised, Leads, leads-to, finishes, halts}
+use Rattle.table_read.specs.TableIndex.{indexOf, tableIndex}
+use Rattle.table_read.proofs.PartsStand.{AllStand, accepted-parts, read-parts, parts-are}
+use Rattle.table_read.proofs.ByNode.{listed-length}
+use Rattle.table_read.proofs.ActionLoop.{accept as actions-accept}
+use Rattle.table_read.proofs.LocationLoop.{accept as locations-accept}
+use Rattle.table_read.proofs.ActionsFound.{Here, no-action, one-action, action-here, index-is, laid-actions, nowhere-above}
+use Rattle.table_read.proofs.ActionsFit.{fit-parts, by-node-every}
+use Rattle.table_read.proofs.LocationsFound.{location-at, location-entries, count-is, count-bounds, places-full}
+use Rattle.table_read.proofs.OperandTurns.{operandOf}
+
+-- ---- accepted or refused
+first-some : {n : ℕ} {l : List Condition} → All (λ (c : Condition). 1 ≤ c .refusal) l → First n l → 1 ≤ n
+first-some (all-cons h p) (here e i) = omega arith
+first-some (all-cons h p) (further e f) = first-some p f
+
+never-0 : (t : List ℕ) {n : ℕ} → judgeTable edition1 t ≡ refused n → 1 ≤ n
+unfolding tableConditions
+never-0 t {n} e = go (table-first edition1 t) e
+  where
+    all : All (λ (c : Condition). 1 ≤ c .refusal) (tableConditions edition1 t)
+    all = all-cons {x = 15 if is15 edition1 t} (omega arith) (all-cons {x = 16 if is16 edition1 t} (omega arith) (all-cons {x = 17 if is17 edition1 t} (omega arith) (all-cons {x = 18 if is18 edition1 t} (omega arith) (all-cons {x = 19 if is19 edition1 t} (omega arith) all-nil))))
+
+    go : {j : Judged Table} → Firsts j (tableConditions edition1 t) → j ≡ refused n → 1 ≤ n
+    go (refuses {n = m} f) e = let i : m ≡ n = refused-is e in omega (arith, first-some all f)
+    go (accepts k) e = refused-not-accepted (sym e)
+
+index-refusal : (t : List ℕ) → tableIndex t .refusal ≡ refusalOf (judgeTable edition1 t)
+unfolding tableIndex indexOf refusalOf
+index-refusal t = go (judgeTable edition1 t)
+  where
+    go : (j : Judged Table) → indexOf (partsOf t) (sectionsAt t (partsOf t)) j .refusal ≡ refusalOf j
+    go (refused n) = refl
+    go (accepted tb) = refl
+
+-- a table of which this is the index
+pub record Accepted (t : List ℕ) : Type 0 where
+  pub table : Table
+  pub is : judgeTable edition1 t ≡ accepted table
+
+module _ (t : List ℕ) {ix : TableIndex} (h : ix ≡ tableIndex t) where
+  refusal-is : ix .refusal ≡ refusalOf (judgeTable edition1 t)
+  refusal-is = ap (λ (x : TableIndex). x .refusal) h ∙ index-refusal t
+
+  pub table-of : ix .refusal ≡ 0 → Accepted t
+  unfolding refusalOf
+  table-of z = go (judgeTable edition1 t) refl
+    where
+      go : (j : Judged Table) → judgeTable edition1 t ≡ j → Accepted t
+      go (refused n) e = let i : n ≡ 0 = sym (ap refusalOf e) ∙ sym refusal-is ∙ z in absurd (omega (arith, never-0 t e))
+      go (accepted tb) e = record { table = tb; is = e }
+
+  pub refused-table : (ix .refusal ≡ 0 → ⊥) → judgeTable edition1 t ≡ refused (ix .refusal)
+  unfolding refusalOf
+  refused-table z = go (judgeTable edition1 t) refl
+    where
+      go : (j : Judged Table) → judgeTable edition1 t ≡ j → judgeTable edition1 t ≡ refused (ix .refusal)
+      go (refused n) e = e ∙ ap refused (sym (refusal-is ∙ ap refusalOf e))
+      go (accepted tb) e = absurd (z (refusal-is ∙ ap refusalOf e))
+
+-- ---- the sections of an accepted table, and what they passed
+pub record Opened (t : List ℕ) (tb : Table) : Type 0 where
+  pub stand : AllStand t (partsOf t) (sectionsAt t (partsOf t))
+  pub plant : judgePlant edition1 (sectionsAt t (partsOf t) .variables) (sectionsAt t (partsOf t) .equations) ≡ accepted (tb .plant)
+  pub switches : switchesRead edition1 (tb .plant) ≡ true
+  pub actions : actionsIn edition1 (sectionsAt t (partsOf t) .actions) ≡ some (tb .actions)
+  pub actions-passed : actionsOf (sectionsAt t (partsOf t) .actions) .refusal ≡ 0
+  pub operands : operandsFit (tb .plant) (tb .actions) ≡ true
+  pub locations : locationsIn edition1 (sectionsAt t (partsOf t) .locations) ≡ some (tb .locations)
+  pub locations-fit : locationsFit (tb .actions) (tb .locations) ≡ true
+  pub locations-passed : locationsOf (tb .actions) (sectionsAt t (partsOf t) .locations) .refusal ≡ 0
+
+pub opened : (t : List ℕ) {tb : Table} → judgeTable edition1 t ≡ accepted tb → Opened t tb
+unfolding partsIn actionIndex locationIndex
+opened t {tb} e =
+    let k = table-passed edition1 t e in
+    let z : partsOf t .refusal ≡ 0 = ap (λ (p : Parts). p .refusal) (read-parts t (k .header) (k .is-parts)) in
+    let s = some-is (sym (k .is-parts) ∙ parts-are t z) in
+    let f = sym (fit-parts (tb .plant) (tb .actions)) ∙ k .acts-fit in
+    let laid = and-left (actionsLaid (tb .actions)) (operandsFit (tb .plant) (tb .actions)) f in
+    let acts : actionsIn edition1 (sectionsAt t (partsOf t) .actions) ≡ some (tb .actions) = ap (λ s. actionsIn edition1 (s .actions)) (sym s) ∙ k .acts in
+    let locs : locationsIn edition1 (sectionsAt t (partsOf t) .locations) ≡ some (tb .locations) = ap (λ s. locationsIn edition1 (s .locations)) (sym s) ∙ k .locs in
+    let a = accepted-parts t z in
+    record {
+      stand = subst (AllStand t (partsOf t)) (some-is (sym (a .2) ∙ parts-are t z)) (a .3);
+      plant = ap (λ s. judgePlant edition1 (s .variables) (s .equations)) (sym s) ∙ k .plant;
+      switches = k .switches;
+      actions = acts;
+      actions-passed = ap (λ (x : Actions). x .refusal) (actions-accept _ acts laid);
+      operands = and-right (actionsLaid (tb .actions)) (operandsFit (tb .plant) (tb .actions)) f;
+      locations = locs;
+      locations-fit = k .locs-fit;
+      locations-passed = ap (λ (x : Locations). x .refusal) (locations-accept (tb .actions) _ locs (k .locs-fit));
+    }
+
+-- the index of an accepted table, field by field
+module _ (t : List ℕ) {ix : TableIndex} (h : ix ≡ tableIndex t) {tb : Table} (e : judgeTable edition1 t ≡ accepted tb) where
+  index-of : ix ≡ record { refusal = 0; parts = partsOf t; plant = plantOf (sectionsAt t (partsOf t) .variables) (sectionsAt t (partsOf t) .equations); actions = actionsOf (sectionsAt t (partsOf t) .actions); locations = locationsOf (tb .actions) (sectionsAt t (partsOf t) .locations) }
+  unfolding tableIndex indexOf
+  index-of = h ∙ rw e refl
+
+  pub parts-read : ix .parts ≡ partsOf t
+  parts-read = ap (λ (x : TableIndex). x .parts) index-of
+
+  pub plant-read : ix .plant ≡ plantOf (sectionsAt t (partsOf t) .variables) (sectionsAt t (partsOf t) .equations)
+  plant-read = ap (λ (x : TableIndex). x .plant) index-of
+
+  pub actions-read : ix .actions ≡ actionsOf (sectionsAt t (partsOf t) .actions)
+  actions-read = ap (λ (x : TableIndex). x .actions) index-of
+
+  pub locations-read : ix .locations ≡ locationsOf (tb .actions) (sectionsAt t (partsOf t) .locations)
+  locations-read = ap (λ (x : TableIndex). x .locations) index-of
+
+-- ---- a node that has an action; x is the index of the action section s
+pub record ActionPromised (s : List ℕ) (x : Actions) (p : Plant) (n : ℕ) (a : Action) : Type 0 where
+  pub below : n < 64
+  pub ordered : getD (x .starts) n 0 ≤ getD (x .ends) n 0
+  pub inside : getD (x .ends) n 0 ≤ length s
+  pub is : actionOf (actionKind (getD (x .kinds) n 0)) (operandOf s x n) ≡ some a
+  pub fits : operandFits edition1 (length (p .variables)) (selectors p) a ≡ true
+
+nodes-below : (l : List NodeAction) (n : ℕ) {a : Action} → actionsLaid l ≡ true → actionAt l n ≡ some a → n < 64
+unfolding actionsLaid
+nodes-below l n h e = either n 64 (λ i. i) (λ i. none-not-some (sym (nowhere-above l n (and-right (risingFrom 0 (actionNodes l)) (every nodeExists l) h) i) ∙ e))
+
+pub action-promised : (t : List ℕ) {tb : Table} → Opened t tb → {x : Actions} → x ≡ actionsOf (sectionsAt t (partsOf t) .actions) → (n : ℕ) {a : Action} → actionAt (tb .actions) n ≡ some a → ActionPromised (sectionsAt t (partsOf t) .actions) x (tb .plant) n a
+unfolding operandsFit
+action-promised t {tb} o {x} q n {a} e = subst (λ x. ActionPromised s x (tb .plant) n a) (sym q) (go (action-here s (o .actions) (o .actions-passed) n below))
+  where
+    s : List ℕ
+    s = sectionsAt t (partsOf t) .actions
+
+    below : n < 64
+    below = nodes-below (tb .actions) n (laid-actions s (o .actions) (o .actions-passed)) e
+
+    go : Here s (actionsOf s) (actionAt (tb .actions) n) n → ActionPromised s (actionsOf s) (tb .plant) n a
+    go (no-action i j st en) = none-not-some (sym i ∙ e)
+    go (one-action i j b c k) = record { below = below; ordered = b; inside = c; is = k ∙ sym i ∙ e; fits = by-node-every (operandFits edition1 (length (tb .plant .variables)) (selectors (tb .plant))) (tb .actions) n (o .operands) e }
+
+pub lengths-of : (s : List ℕ) {l : List NodeAction} → actionsIn edition1 s ≡ some l → actionsOf s .refusal ≡ 0 → (length (actionsOf s .kinds) ≡ 64) × (length (actionsOf s .starts) ≡ 64) × (length (actionsOf s .ends) ≡ 64)
+unfolding actionIndex byNode
+lengths-of s e h = let i = index-is s e h in (ap (λ (x : Actions). length (x .kinds)) i ∙ listed-length 64 _, ap (λ (x : Actions). length (x .starts)) i ∙ listed-length 64 _, ap (λ (x : Actions). length (x .ends)) i ∙ listed-length 64 _)
+
+-- ---- a location
+getD-all : {A : Type 0} {P : A → Type 0} (l : List A) (k : ℕ) (d : A) → k < length l → All P l → P (getD l k d)
+getD-all [] k d h a = absurd (omega arith)
+getD-all (x ∷ l) zero d h (all-cons i a) = i
+getD-all (x ∷ l) (suc k) d h (all-cons i a) = getD-all l k d (omega arith) a
+
+pub location-promised : (t : List ℕ) {tb : Table} → Opened t tb → {x : Locations} → x ≡ locationsOf (tb .actions) (sectionsAt t (partsOf t) .locations) → (k : ℕ) → k < length (tb .locations) → LocationPromised (sectionsAt t (partsOf t) .locations) (getD (x .places) k 0) (length (tb .locations)) (tb .actions) (getD (tb .locations) k [])
+unfolding locationsFit
+location-promised t {tb} o {x} q k h = subst (λ x. LocationPromised s (getD (x .places) k 0) (length (tb .locations)) (tb .actions) (getD (tb .locations) k [])) (sym q)
+    (let n = count-is (tb .actions) s (o .locations) (o .locations-passed) in
+    let a = location-at (tb .actions) s (o .locations) (o .locations-passed) k (omega arith) in
+    let b = location-entries s _ (a .reads) in
+    record {
+      before-end = a .before-end;
+      counted = b .1;
+      some-entries = b .0;
+      entries = b .2;
+      fits = getD-all (tb .locations) k [] h (every-all (locationFits (length (tb .locations)) (tb .actions)) (tb .locations) (o .locations-fit));
+    })
+  where
+    s : List ℕ
+    s = sectionsAt t (partsOf t) .locations
+
+-- how many there are, and how long the array is
+pub record LocationsPromised (x : Locations) (tb : Table) : Type 0 where
+  pub count : x .count ≡ length (tb .locations)
+  pub low : 1 ≤ length (tb .locations)
+  pub high : length (tb .locations) ≤ 1024
+  pub full : length (x .places) ≡ 1024
+
+pub locations-promised : (t : List ℕ) {tb : Table} → Opened t tb → {x : Locations} → x ≡ locationsOf (tb .actions) (sectionsAt t (partsOf t) .locations) → LocationsPromised x tb
+locations-promised t {tb} o q = subst (λ x. LocationsPromised x tb) (sym q)
+    (let n = count-is (tb .actions) _ (o .locations) (o .locations-passed) in
+    let b = count-bounds (tb .actions) _ (o .locations) (o .locations-passed) in
+    let low = b .0 in
+    let high = b .1 in
+    record { count = n; low = omega arith; high = omega arith; full = places-full (tb .actions) _ (o .locations) (o .locations-passed) })
+
+-- ---- the entries of a location that fits
+-- fewer than 65, each with an action
+pub record EntryPromised (n : ℕ) (acts : List NodeAction) (e : Entry) : Type 0 where
+  pub action : Action
+  pub is : actionAt acts (e .node) ≡ some action
+  pub fits : targetsFit n action (e .target) (e .other) ≡ true
+
+entry-promised : (n : ℕ) (acts : List NodeAction) (e : Entry) → entryFits n acts e ≡ true → EntryPromised n acts e
+unfolding entryFits
+entry-promised n acts e h = go (actionAt acts (e .node)) refl h
+  where
+    go : (o : Option Action) → actionAt acts (e .node) ≡ o → elim o [ none ↦ false | some a ↦ targetsFit n a (e .target) (e .other) ] ≡ true → EntryPromised n acts e
+    go none i k = true-not-false (sym k)
+    go (some a) i k = record { action = a; is = i; fits = k }
+
+pub entries-promised : (n : ℕ) (acts : List NodeAction) (es : List Entry) → locationFits n acts es ≡ true → All (EntryPromised n acts) es
+unfolding locationFits
+entries-promised n acts es h = all-map (λ e k. entry-promised n acts e k) (every-all (entryFits n acts) es (and-right (risingFrom 0 (entryNodes es)) (every (entryFits n acts) es) h))
+
+pub nodes-rise : (n : ℕ) (acts : List NodeAction) (es : List Entry) → locationFits n acts es ≡ true → risingFrom 0 (entryNodes es) ≡ true
+unfolding locationFits
+nodes-rise n acts es h = and-left (risingFrom 0 (entryNodes es)) (every (entryFits n acts) es) h
+
+-- ---- where a move leads
+goes-on : (n t : ℕ) → goesOn n t ≡ true → Leads n t
+unfolding goesOn
+goes-on n t h = by-cases (ltb t n) (λ e. leads-to (ltb-true t n e)) (λ e. finishes (eqb-true t FINISHED (rw (goesOn, e) at h)))
+
+pub leads : (n : ℕ) (a : Action) (t u : ℕ) (b : Bool) → targetsFit n a t u ≡ true → possible a b ≡ true → Leads n (cond b t u)
+unfolding targetsFit possible isTest
+leads n (test c) t u true h p = goes-on n t (and-left (goesOn n t) (goesOn n u) h)
+leads n (test c) t u false h p = goes-on n u (and-right (goesOn n t) (goesOn n u) h)
+leads n (wait c) t u true h p = goes-on n t (and-left (goesOn n t) (eqb u NONE) h)
+leads n (wait c) t u false h p = true-not-false (sym p)
+leads n (assign v e) t u true h p = goes-on n t (and-left (goesOn n t) (eqb u NONE) h)
+leads n (assign v e) t u false h p = true-not-false (sym p)
+leads n (switch s m) t u true h p = goes-on n t (and-left (goesOn n t) (eqb u NONE) h)
+leads n (switch s m) t u false h p = true-not-false (sym p)
+leads n stop t u true h p = halts (eqb-true t HALTED (and-left (eqb t HALTED) (eqb u NONE) h))
+leads n stop t u false h p = true-not-false (sym p)

@@ -1,0 +1,215 @@
+-- A table judged in order: what the answers about its parts make of the whole.
+use mathlib.Core.Path.{_≡_, refl, sym, ap, subst, _∙_}
+use mathlib.Core.Bool.{Bool, true, false, _&&_}
+use mathlib.Core.List.{List, map}
+use mathlib.Core.Option.{Option, none, some}
+use Prim.Native.Nat.{ℕ, _-_, _≤_}
+use native.Mathlib.Omega.{arith}
+use lib.ListN.{length, take, drop, length-map}
+use Rattle.semantics.specs.Bytes.{every}
+use Rattle.semantics.specs.Editions.{edition1}
+use Rattle.semantics.specs.Refusals.{Judged, refused, accepted, only, need, ensure, _>>=_, _>>_}
+use Rattle.semantics.specs.Sections.{Selector, Equation, equationsIn}
+use Rattle.semantics.specs.Plant.{Plant, judgePlant, switchesRead, equationReads, selectorsOf, selectors}
+use Rattle.semantics.specs.TableFile.{NodeAction, Entry, TableSections, tableSectionsIn, actionsIn, locationsIn}
+use Rattle.semantics.specs.Tables.{Table, tableHeader, operandFits, actionsFit, locationsFit, judgeTable}
+use Rattle.semantics.proofs.Judging.{go-then, go-need, go-ensure, go-only}
+use Rattle.plant.specs.Equations.{modeCount}
+use Rattle.plant.specs.Sound.{There}
+use Rattle.plant.specs.PlantRead.{refusedPlant, acceptedPlant, plantAnswer, plantOf}
+use Rattle.plant.specs.declared.sections.PlantRead.{PlantRead}
+use Rattle.plant.proofs.Padding.{length-pad}
+use Rattle.plant.proofs.EquationLaws.{few-selectors, mode-count-at}
+use Rattle.plant.proofs.PlantLaws.{passed-all, passes, variables-of, variables-high, selectors-of, modes-of}
+use Rattle.table_read.specs.declared.parts.Parts.{Parts}
+use Rattle.table_read.specs.declared.actions.Actions.{Actions}
+use Rattle.table_read.specs.declared.locations.Locations.{Locations}
+use Rattle.table_read.specs.declared.call.TableIndex.{TableIndex}
+use Rattle.table_read.specs.TableParts.{noParts, partsIn, partsRead, partsOf, sectionsAt}
+use Rattle.table_read.specs.ActionIndex.{noActions, actionsLaid, operandsFit, actionsOf}
+use Rattle.table_read.specs.OperandForms.{ModesAt}
+use Rattle.table_read.specs.LocationIndex.{noLocations, actionsLike, locationsOf}
+use Rattle.table_read.specs.TableIndex.{noTable, indexOf, tableIndex, judgeSections, sectionsFrom, sectionsIndex}
+use Rattle.table_read.proofs.PartsStand.{AllStand, refused-15, refused-16, accepted-parts, parts-are}
+use Rattle.table_read.proofs.ActionsFound.{accepted-actions, refused-actions, kinds-say}
+use Rattle.table_read.proofs.ActionsFit.{fit-parts}
+use Rattle.table_read.proofs.LikeKinds.{locations-like}
+use Rattle.table_read.proofs.LocationsFound.{accepted-locations, refused-locations}
+use Rattle.table_read.proofs.OperandTurns.{AllFit}
+
+index-refused : (p : Parts) (s : TableSections) {j : Judged Table} {n : ℕ} → j ≡ refused n → noTable n ≡ indexOf p s j
+unfolding indexOf
+index-refused p s e = rw e refl
+
+-- ---- 15 and 16
+module _ (t : List ℕ) {p : Parts} (h : p ≡ partsOf t) where
+  said : {n : ℕ} → partsOf t ≡ noParts n → judgeTable edition1 t ≡ refused n → noTable (p .refusal) ≡ tableIndex t
+  unfolding tableIndex
+  said e k = ap (λ (p : Parts). noTable (p .refusal)) (h ∙ e) ∙ index-refused (partsOf t) (sectionsAt t (partsOf t)) k
+
+  pub by-parts : (p .refusal ≡ 0 → ⊥) → noTable (p .refusal) ≡ tableIndex t
+  unfolding judgeTable partsOf partsRead partsIn ensure need _>>_ _>>=_
+  by-parts z = first (tableHeader edition1 t) refl
+    where
+      second : tableHeader edition1 t ≡ true → (o : Option TableSections) → tableSectionsIn (drop 5 t) ≡ o → noTable (p .refusal) ≡ tableIndex t
+      second a none e = said (refused-16 t a e) (rw (a, e) refl)
+      second a (some s) e = absurd (z (ap (λ (p : Parts). p .refusal) h ∙ rw (a, e) refl))
+
+      first : (b : Bool) → tableHeader edition1 t ≡ b → noTable (p .refusal) ≡ tableIndex t
+      first true e = second e (tableSectionsIn (drop 5 t)) refl
+      first false e = said (refused-15 t e) (rw e refl)
+
+  module _ (z : p .refusal ≡ 0) where
+    not-refused : partsOf t .refusal ≡ 0
+    not-refused = sym (ap (λ (p : Parts). p .refusal) h) ∙ z
+
+    pub parts-stand : (s : TableSections) × AllStand t p s
+    parts-stand = let a = accepted-parts t not-refused in (a .0, subst (λ p. AllStand t p (a .0)) (sym h) (a .3))
+
+    after-16 : judgeTable edition1 t ≡ judgeSections (sectionsAt t (partsOf t))
+    unfolding judgeTable judgeSections
+    after-16 = go-ensure 15 _ (accepted-parts t not-refused .1) ∙ go-need 16 _ (parts-are t not-refused)
+
+    pub by-sections : sectionsIndex p (take (p .«variables_end» - p .variables) (drop (p .variables) t)) (take (p .«equations_end» - p .equations) (drop (p .equations) t)) (take (p .«actions_end» - p .actions) (drop (p .actions) t)) (take (p .«locations_end» - p .locations) (drop (p .locations) t)) ≡ tableIndex t
+    unfolding sectionsIndex tableIndex sectionsAt
+    by-sections = ap (λ (p : Parts). indexOf p (sectionsAt t p) (judgeSections (sectionsAt t p))) h ∙ ap (indexOf (partsOf t) (sectionsAt t (partsOf t))) (sym after-16)
+
+-- ---- 17
+moded : {counts full : List ℕ} {c n : ℕ} {cs : List Selector} → counts ≡ full → c ≡ n → ModesAt full n cs → ModesAt counts c cs
+moded e f a = rw (e, f) a
+
+pub found : {p : Parts} {q q' : PlantRead} {a a' : Actions} {l l' : Locations} → q ≡ q' → a ≡ a' → l ≡ l' → _≡_ {A = TableIndex} (record { refusal = 0; parts = p; plant = q; actions = a; locations = l }) (record { refusal = 0; parts = p; plant = q'; actions = a'; locations = l' })
+found e f g = cc
+
+module _ (p : Parts) (vs es ops locs : List ℕ) {q : PlantRead} (h : q ≡ plantOf vs es) where
+  refuses : {n : ℕ} → judgeSections (sectionsFrom vs es ops locs) ≡ refused n → noTable n ≡ sectionsIndex p vs es ops locs
+  unfolding sectionsIndex
+  refuses e = index-refused p (sectionsFrom vs es ops locs) e
+
+  pub by-plant : (q .refusal ≡ 0 → ⊥) → noTable 17 ≡ sectionsIndex p vs es ops locs
+  unfolding judgeSections plantOf plantAnswer acceptedPlant only _>>=_
+  by-plant z = go (judgePlant edition1 vs es) refl
+    where
+      go : (j : Judged Plant) → judgePlant edition1 vs es ≡ j → noTable 17 ≡ sectionsIndex p vs es ops locs
+      go (refused n) e = refuses (rw e refl)
+      go (accepted x) e = absurd (z (ap (λ (q : PlantRead). q .refusal) (h ∙ ap plantAnswer e)))
+
+  module _ (z : q .refusal ≡ 0) where
+    plant : Plant
+    plant = passes vs es (sym (ap (λ (q : PlantRead). q .refusal) h) ∙ z) .plant
+
+    plant-is : judgePlant edition1 vs es ≡ accepted plant
+    unfolding plant
+    plant-is = passes vs es (sym (ap (λ (q : PlantRead). q .refusal) h) ∙ z) .is
+
+    variables-are : q .variables ≡ length (plant .variables)
+    variables-are = ap (λ (q : PlantRead). q .variables) h ∙ variables-of vs es plant-is
+
+    pub few-variables : q .variables ≤ 32
+    few-variables = omega (arith, variables-are, variables-high vs es plant-is)
+
+    selectors-are : q .selectors ≡ length (selectors plant)
+    selectors-are = ap (λ (q : PlantRead). q .selectors) h ∙ selectors-of vs es plant-is
+
+    few-cases : q .selectors ≤ 16
+    unfolding selectors
+    few-cases = omega (arith, selectors-are, few-selectors es (passed-all vs es plant-is .equations))
+
+    pub modes-full : length (q .modes) ≡ 16
+    unfolding selectors
+    modes-full = ap length (ap (λ (q : PlantRead). q .modes) h ∙ modes-of vs es plant-is) ∙ length-pad 16 0 (map modeCount (selectors plant)) few
+      where
+        few : length (map modeCount (selectorsOf (plant .equations))) ≤ 16
+        few = omega (arith, few-selectors es (passed-all vs es plant-is .equations), length-map (selectorsOf (plant .equations)) modeCount)
+
+    pub modes-room : q .selectors ≤ length (q .modes)
+    modes-room = omega (arith, few-cases, modes-full)
+
+    modes-at : ModesAt (q .modes) (q .selectors) (selectors plant)
+    unfolding selectors
+    modes-at = moded (ap (λ (q : PlantRead). q .modes) h ∙ modes-of vs es plant-is) selectors-are (record { counted = refl; entries = λ j g. mode-count-at (plant .equations) j g })
+
+    pub equations-there : There (equationsIn es)
+    equations-there = record { value = plant .equations; is = passed-all vs es plant-is .equations }
+
+    module _ {b : Bool} (k : (qs : List Equation) → equationsIn es ≡ some qs → b ≡ every (equationReads edition1 (q .variables)) qs) where
+      switches-are : b ≡ switchesRead edition1 plant
+      unfolding switchesRead
+      switches-are = k (plant .equations) (passed-all vs es plant-is .equations) ∙ ap (λ n. every (equationReads edition1 n) (plant .equations)) variables-are
+
+      pub by-switches : b ≡ false → noTable 17 ≡ sectionsIndex p vs es ops locs
+      unfolding judgeSections ensure _>>_
+      by-switches e = refuses (go-then _ (go-only 17 plant-is) ∙ rw (sym switches-are ∙ e) refl)
+
+      -- ---- 18
+      module _ (e : b ≡ true) where
+        passed-17 : switchesRead edition1 plant ≡ true
+        passed-17 = sym switches-are ∙ e
+
+        module _ {a : Actions} (i : a ≡ actionsOf ops) where
+          pub by-actions : (a .refusal ≡ 0 → ⊥) → noTable 18 ≡ sectionsIndex p vs es ops locs
+          unfolding judgeSections need ensure _>>=_ _>>_
+          by-actions y = go (actionsIn edition1 ops) refl
+            where
+              unfit : (l : List NodeAction) → actionsIn edition1 ops ≡ some l → actionsFit edition1 plant l ≡ false
+              unfit l f = fit-parts plant l ∙ ap (λ b. b && operandsFit plant l) (refused-actions ops (λ w. y (ap (λ (a : Actions). a .refusal) i ∙ w)) .1 l f)
+
+              go : (o : Option (List NodeAction)) → actionsIn edition1 ops ≡ o → noTable 18 ≡ sectionsIndex p vs es ops locs
+              go none f = refuses (go-then _ (go-only 17 plant-is) ∙ go-ensure 17 _ passed-17 ∙ rw f refl)
+              go (some l) f = refuses (go-then _ (go-only 17 plant-is) ∙ go-ensure 17 _ passed-17 ∙ go-need 18 _ f ∙ rw (unfit l f) refl)
+
+          module _ (y : a .refusal ≡ 0) where
+            index-passed : actionsOf ops .refusal ≡ 0
+            index-passed = sym (ap (λ (a : Actions). a .refusal) i) ∙ y
+
+            acts : List NodeAction
+            acts = accepted-actions ops index-passed .0
+
+            acts-are : actionsIn edition1 ops ≡ some acts
+            unfolding acts
+            acts-are = accepted-actions ops index-passed .1
+
+            acts-laid : actionsLaid acts ≡ true
+            unfolding acts
+            acts-laid = accepted-actions ops index-passed .2
+
+            module _ {r : Bool} (j : AllFit ops (q .variables) (q .selectors) (q .modes) r) where
+              operands-are : r ≡ operandsFit plant acts
+              unfolding operandsFit
+              operands-are = j (selectors plant) modes-at acts acts-are ∙ ap (λ n. every (λ (a : NodeAction). operandFits edition1 n (selectors plant) (a .action)) acts) variables-are
+
+              fit-is : actionsFit edition1 plant acts ≡ r
+              fit-is = fit-parts plant acts ∙ ap (λ b. b && operandsFit plant acts) acts-laid ∙ sym operands-are
+
+              pub by-operands : r ≡ false → noTable 18 ≡ sectionsIndex p vs es ops locs
+              unfolding judgeSections ensure _>>_
+              by-operands f = refuses (go-then _ (go-only 17 plant-is) ∙ go-ensure 17 _ passed-17 ∙ go-need 18 _ acts-are ∙ rw (fit-is ∙ f) refl)
+
+              -- ---- 19
+              module _ (f : r ≡ true) {l : Locations} (w : l ≡ locationsOf (actionsLike (a .kinds)) locs) where
+                by-kinds : locationsOf (actionsLike (a .kinds)) locs ≡ locationsOf acts locs
+                by-kinds = ap (λ (a : Actions). locationsOf (actionsLike (a .kinds)) locs) i ∙ locations-like acts (actionsOf ops .kinds) locs (kinds-say ops acts-are index-passed)
+
+                locations-are : l ≡ locationsOf acts locs
+                locations-are = w ∙ by-kinds
+
+                pub by-locations : (l .refusal ≡ 0 → ⊥) → noTable 19 ≡ sectionsIndex p vs es ops locs
+                unfolding judgeSections need ensure _>>=_ _>>_
+                by-locations x = go (locationsIn edition1 locs) refl
+                  where
+                    unfit : (ls : List (List Entry)) → locationsIn edition1 locs ≡ some ls → locationsFit acts ls ≡ false
+                    unfit ls g = refused-locations acts locs (λ u. x (ap (λ (l : Locations). l .refusal) locations-are ∙ u)) .1 ls g
+
+                    go : (o : Option (List (List Entry))) → locationsIn edition1 locs ≡ o → noTable 19 ≡ sectionsIndex p vs es ops locs
+                    go none g = refuses (go-then _ (go-only 17 plant-is) ∙ go-ensure 17 _ passed-17 ∙ go-need 18 _ acts-are ∙ go-ensure 18 _ (fit-is ∙ f) ∙ rw g refl)
+                    go (some ls) g = refuses (go-then _ (go-only 17 plant-is) ∙ go-ensure 17 _ passed-17 ∙ go-need 18 _ acts-are ∙ go-ensure 18 _ (fit-is ∙ f) ∙ go-need 19 _ g ∙ rw (unfit ls g) refl)
+
+                pub all-passed : l .refusal ≡ 0 → record { refusal = 0; parts = p; plant = q; actions = a; locations = l } ≡ sectionsIndex p vs es ops locs
+                unfolding sectionsIndex indexOf judgeSections
+                all-passed x =
+                    let g = accepted-locations acts locs (sym (ap (λ (l : Locations). l .refusal) locations-are) ∙ x) in
+                    found h i locations-are ∙ sym (ap (indexOf p (sectionsFrom vs es ops locs)) (go-then _ (go-only 17 plant-is) ∙ go-ensure 17 _ passed-17 ∙ go-need 18 _ acts-are ∙ go-ensure 18 _ (fit-is ∙ f) ∙ go-need 19 _ (g .1) ∙ go-ensure 19 _ (g .2)))
+
+-- ---- the answers
+pub refused-is : {n : ℕ} {p : Parts} {q : PlantRead} {a : Actions} {l : Locations} → p ≡ noParts n → q ≡ refusedPlant n → a ≡ noActions → l ≡ noLocations → record { refusal = n; parts = p; plant = q; actions = a; locations = l } ≡ noTable n
+refused-is e f g h = cc

@@ -1,0 +1,57 @@
+-- The call "reading a table" (15 to 19), as the code answers it, and the index that a run of the table looks into.
+use mathlib.Core.List.{List}
+use Prim.Native.Nat.{ℕ}
+use Rattle.semantics.specs.Editions.{edition1}
+use Rattle.semantics.specs.Refusals.{Judged, refused, accepted, _>>=_, _>>_, ensure, need, only}
+use Rattle.semantics.specs.Plant.{judgePlant, switchesRead}
+use Rattle.semantics.specs.TableFile.{TableSections, actionsIn, locationsIn}
+use Rattle.semantics.specs.Tables.{Table, actionsFit, locationsFit, judgeTable}
+use Rattle.semantics.specs.Calls as Calls
+use Rattle.plant.specs.PlantRead.{refusedPlant, plantOf}
+use Rattle.table_read.specs.declared.parts.Parts.{Parts}
+use Rattle.table_read.specs.declared.call.TableIndex.{TableIndex}
+use Rattle.table_read.specs.declared.call.TableRead.{TableRead}
+use Rattle.table_read.specs.TableParts.{noParts, partsOf, sectionsAt}
+use Rattle.table_read.specs.ActionIndex.{noActions, actionsOf}
+use Rattle.table_read.specs.LocationIndex.{noLocations, locationsOf}
+
+-- the five numbers in the code's type
+unfoldable pub tableNumbers : Calls.TableRead → TableRead
+tableNumbers r = record { refusal = r .refusal; variables = r .variables; selectors = r .selectors; actions = r .actions; locations = r .locations }
+
+-- a refusal
+abbrev pub noTable : ℕ → TableIndex
+noTable n = record { refusal = n; parts = noParts n; plant = refusedPlant n; actions = noActions; locations = noLocations }
+
+-- what stands in the sections s, themselves at the places p
+unfoldable pub indexOf : Parts → TableSections → Judged Table → TableIndex
+indexOf p s (refused n) = noTable n
+indexOf p s (accepted t) = record {
+  refusal = 0;
+  parts = p;
+  plant = plantOf (s .variables) (s .equations);
+  actions = actionsOf (s .actions);
+  locations = locationsOf (t .actions) (s .locations);
+}
+
+-- the number of the first condition that is broken, or 0 and where all stands
+unfoldable pub tableIndex : List ℕ → TableIndex
+tableIndex t = indexOf (partsOf t) (sectionsAt t (partsOf t)) (judgeTable edition1 t)
+
+-- ---- for the code's own contracts
+-- 17 to 19, as judgeTable has them after 16
+unfoldable pub judgeSections : TableSections → Judged Table
+judgeSections parts = do
+  p ← only 17 (judgePlant edition1 (parts .variables) (parts .equations))
+  ensure 17 (switchesRead edition1 p)
+  acts ← need 18 (actionsIn edition1 (parts .actions))
+  ensure 18 (actionsFit edition1 p acts)
+  locs ← need 19 (locationsIn edition1 (parts .locations))
+  ensure 19 (locationsFit acts locs)
+  accepted (record { plant = p; actions = acts; locations = locs })
+
+abbrev pub sectionsFrom : List ℕ → List ℕ → List ℕ → List ℕ → TableSections
+sectionsFrom vs es ops locs = record { variables = vs; equations = es; actions = ops; locations = locs }
+
+unfoldable pub sectionsIndex : Parts → List ℕ → List ℕ → List ℕ → List ℕ → TableIndex
+sectionsIndex p vs es ops locs = indexOf p (sectionsFrom vs es ops locs) (judgeSections (sectionsFrom vs es ops locs))

@@ -1,0 +1,133 @@
+// The call "reading a table": conditions 15 to 19, in order.
+use super::actions;
+use super::actions::Actions;
+use super::locations;
+use super::locations::Locations;
+use super::operands;
+use super::parts;
+use super::parts::Parts;
+use plant::sections::PlantRead;
+ghost use mathlib.Core.Path.{_≡_};
+ghost use Rattle.semantics.specs.Editions.{edition1};
+ghost use Rattle.semantics.specs.Calls.{readTable};
+ghost use Rattle.plant.specs.PlantRead.{refusedPlant};
+ghost use Rattle.table_read.specs.TableIndex.{tableNumbers, noTable, tableIndex, sectionsIndex};
+
+// 0, or the number of the first condition that is broken; where the sections stand, and what a run looks up in them
+pub struct TableIndex {
+    pub refusal: u8,
+    pub parts: Parts,
+    pub plant: PlantRead,
+    pub actions: Actions,
+    pub locations: Locations,
+}
+
+// 0, or the number of the first condition that is broken; all counts are 0 then
+pub struct TableRead {
+    pub refusal: u8,
+    pub variables: usize,
+    pub selectors: usize,
+    pub actions: usize,
+    pub locations: usize,
+}
+
+fn no_plant(n: u8) -> PlantRead
+    ensures { λ r. ⌜ r ≡ refusedPlant n ⌝ }
+{
+    PlantRead {
+        refusal: n,
+        variables: 0,
+        lows: [0; 32],
+        highs: [0; 32],
+        selectors: 0,
+        modes: [0; 16],
+        places: [0; 128],
+        steady: [0; 32],
+    }
+}
+
+fn refused(n: u8) -> TableIndex
+    ensures { λ r. ⌜ r ≡ noTable n ⌝ }
+{
+    let parts = parts::refused(n);
+    let plant = no_plant(n);
+    let actions = actions::refused();
+    let locations = locations::refused();
+    TableIndex {
+        refusal: n,
+        parts,
+        plant,
+        actions,
+        locations,
+    }
+}
+
+// 17 to 19, of the four sections
+fn sections(parts: Parts, vs: &[u8], es: &[u8], ops: &[u8], locs: &[u8]) -> TableIndex
+    ensures { λ r. ⌜ r ≡ sectionsIndex parts (now (vs .entry)) (now (es .entry)) (now (ops .entry)) (now (locs .entry)) ⌝ }
+{
+    let plant = plant::sections::read(vs, es);
+    if plant.refusal != 0 {
+        return refused(17);
+    }
+    let variables = plant.variables;
+    let selectors = plant.selectors;
+    let modes = plant.modes;
+    if !plant::truths::read(es, variables) {
+        return refused(17);
+    }
+    let actions = actions::read(ops);
+    if actions.refusal != 0 {
+        return refused(18);
+    }
+    if !operands::read(ops, actions, variables, selectors, &modes) {
+        return refused(18);
+    }
+    let kinds = actions.kinds;
+    let locations = locations::read(locs, &kinds);
+    if locations.refusal != 0 {
+        return refused(19);
+    }
+    TableIndex {
+        refusal: 0,
+        parts,
+        plant,
+        actions,
+        locations,
+    }
+}
+
+pub fn index(table: &[u8]) -> TableIndex
+    ensures { λ r. ⌜ r ≡ tableIndex (now (table .entry)) ⌝ }
+{
+    let p = parts::read(table);
+    let first = p.refusal;
+    if first != 0 {
+        return refused(first);
+    }
+    let a = p.variables;
+    let b = p.variables_end;
+    let c = p.equations;
+    let d = p.equations_end;
+    let e = p.actions;
+    let f = p.actions_end;
+    let g = p.locations;
+    let h = p.locations_end;
+    sections(p, &table[a..b], &table[c..d], &table[e..f], &table[g..h])
+}
+
+pub fn read(table: &[u8]) -> TableRead
+    ensures { λ r. ⌜ r ≡ tableNumbers (readTable edition1 (now (table .entry))) ⌝ }
+{
+    let x = index(table);
+    let plant = x.plant;
+    let actions = x.actions;
+    let locations = x.locations;
+    TableRead {
+        refusal: x.refusal,
+        variables: plant.variables,
+        selectors: plant.selectors,
+        actions: actions.count,
+        locations: locations.count,
+    }
+}

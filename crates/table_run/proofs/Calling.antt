@@ -1,0 +1,216 @@
+-- The call of a run of a table: what the index, the admission and the events make of it.
+use mathlib.Core.Path.{_≡_, refl, sym, ap, _∙_}
+use mathlib.Core.List.{List, [], _∷_}
+use mathlib.Core.Option.{some}
+use Prim.Native.Nat.{ℕ, zero, suc, _+_, _-_, _*_, _≤_}
+use native.Mathlib.Omega.{arith}
+use lib.ListN.{length, getElem?, take, length-append}
+use Rattle.semantics.specs.Editions.{edition1}
+use Rattle.semantics.specs.Refusals.{Judged, refused, accepted, _>>=_}
+use Rattle.semantics.specs.Plant.{Plant, selectorsOf, selectors, judgePlant}
+use Rattle.semantics.specs.Sections.{Selector, Equation, steady, choice}
+use Rattle.semantics.specs.Starts.{Start}
+use Rattle.semantics.specs.Tables.{Table, judgeTable, tableControl}
+use Rattle.semantics.specs.Calls as Calls
+use Rattle.semantics.specs.Calls.{Program, Outcome, judgeRun, report, runFrom, tableProgram, tableRun}
+use Rattle.plant.specs.PlantRead.{plantOf}
+use Rattle.plant.specs.declared.sections.PlantRead.{PlantRead}
+use Rattle.plant.specs.Equations.{modeSize, equationSize, startsFrom, pad, modePlaces}
+use Rattle.plant.proofs.Padding.{length-pad}
+use Rattle.plant.proofs.EquationCases.{starts-length}
+use Rattle.plant.proofs.EquationLaws.{few-selectors, few-modes-each}
+use Rattle.plant.proofs.PlantLaws.{passed-all, variables-of, selectors-of, places-of}
+use Rattle.table_read.specs.TableIndex.{tableIndex}
+use Rattle.table_read.specs.declared.call.TableIndex.{TableIndex}
+use Rattle.table_read.proofs.Promises.{table-of, refused-table}
+use Rattle.start_read.specs.StartRead.{Arrays, Room}
+use Rattle.start_read.specs.Admission.{admitted}
+use Rattle.start_read.specs.declared.admission.Admitted.{Admitted}
+use Rattle.start_read.proofs.PlantStart.{arrays-held, room-held}
+use Rattle.start_read.proofs.AdmissionLaws.{run-unread, run-refused, run-admitted}
+use Rattle.execution.specs.Ready.{Lent, lent}
+use Rattle.execution.specs.Runs.{RunDone}
+use Rattle.execution.specs.declared.Counts.{Counts}
+use Rattle.execution.proofs.PlantReady.{fits-start}
+use Rattle.execution.proofs.Runs.{not-run, reported}
+use Rattle.table_run.specs.Runs.{Asked, Asking, Whole}
+use Rattle.table_run.specs.Called.{notRun, ranWith, Admits, Admitting}
+use Rattle.table_run.specs.declared.call.Ran.{Ran}
+use Rattle.table_run.proofs.TableReady.{cutFrom, LentFrom, plant-is, plant-judged, equations-stand, actions-stand, locations-stand, kinds-full, starts-full, ends-full, locations-held, table-lent}
+
+-- ---- the lengths of the arrays
+take-full : {A : Type 0} (n : ℕ) (l : List A) → length (take n l) ≡ n → n ≤ length l
+take-full zero l h = omega arith
+take-full (suc n) [] h = absurd (omega arith)
+take-full (suc n) (x ∷ l) h = let i : length (take n l) ≡ n = omega arith in let k = take-full n l i in omega arith
+
+-- eight places for each selector
+places-few : (at : ℕ) (qs : List Equation) → ((j : ℕ) (c : Selector) → getElem? (selectorsOf qs) j ≡ some c → length (c .modes) ≤ 8) → length (modePlaces at qs) ≡ 8 * length (selectorsOf qs)
+unfolding modePlaces selectorsOf
+places-few at [] h = refl
+places-few at (steady r ∷ qs) h = places-few _ qs h
+places-few at (choice c ∷ qs) h =
+    let row = startsFrom modeSize (at + 5) (c .modes) in
+    let e = length-pad 8 0 row (omega (arith, starts-length modeSize (at + 5) (c .modes), h 0 c refl)) in
+    omega (arith, length-append (pad 8 0 row) (modePlaces (at + equationSize (choice c)) qs), places-few (at + equationSize (choice c)) qs (λ j x k. h (suc j) x k))
+
+rows-full : (vs es : List ℕ) {p : Plant} → judgePlant edition1 vs es ≡ accepted p → length (plantOf vs es .places) ≡ 128
+rows-full vs es {p} h =
+    let e = passed-all vs es h .equations in
+    ap length (places-of vs es h) ∙ length-pad 128 0 (modePlaces 1 (p .equations)) (omega (arith, places-few 1 (p .equations) (λ j c g. few-modes-each es e j g), few-selectors es e))
+
+room-as : {x y : PlantRead} → x ≡ y → Room (y .variables) (y .lows) (y .highs) (y .selectors) (y .modes) → Room (x .variables) (x .lows) (x .highs) (x .selectors) (x .modes)
+room-as e a = rw e a
+
+arrays-as : {x y : PlantRead} {p : Plant} → x ≡ y → Arrays p (y .variables) (y .lows) (y .highs) (y .selectors) (y .modes) → Arrays p (x .variables) (x .lows) (x .highs) (x .selectors) (x .modes)
+arrays-as e a = rw e a
+
+-- from a place of the bytes to another
+pub record Inside (f : List ℕ) (a b : ℕ) : Type 0 where
+  pub ordered : a ≤ b
+  pub inside : b ≤ length f
+
+-- all that is lent
+pub record Sized (f : List ℕ) (ix : TableIndex) (asked : Admitted) : Type 0 where
+  pub equations : Inside f (ix .parts .equations) (ix .parts .«equations_end»)
+  pub actions : Inside f (ix .parts .actions) (ix .parts .«actions_end»)
+  pub locations : Inside f (ix .parts .locations) (ix .parts .«locations_end»)
+  pub rows : length (ix .plant .places) ≡ 128
+  pub lows : ix .plant .variables ≤ length (ix .plant .lows)
+  pub highs : ix .plant .variables ≤ length (ix .plant .highs)
+  pub kinds : length (ix .actions .kinds) ≡ 64
+  pub starts : length (ix .actions .starts) ≡ 64
+  pub ends : length (ix .actions .ends) ≡ 64
+  pub places : length (ix .locations .places) ≡ 1024
+  pub values : ix .plant .variables ≤ length (asked .values)
+  pub modes : ix .plant .selectors ≤ length (asked .modes)
+
+-- ---- the arrays that are lent
+abbrev pub lentOf : List ℕ → TableIndex → Lent
+lentOf f ix =
+    lent (cutFrom f (ix .parts .equations) (ix .parts .«equations_end»)) (ix .plant .places) (ix .plant .steady) (take (ix .plant .variables) (ix .plant .lows)) (take (ix .plant .variables) (ix .plant .highs))
+    (cutFrom f (ix .parts .actions) (ix .parts .«actions_end»)) (ix .actions .kinds) (ix .actions .starts) (ix .actions .ends)
+
+lent-from : (f : List ℕ) (ix : TableIndex) → LentFrom f ix (lentOf f ix)
+lent-from f ix = record { equations = refl; places = refl; steady = refl; lows = refl; highs = refl; operands = refl; kinds = refl; starts = refl; ends = refl }
+
+module _ (f : List ℕ) {ix : TableIndex} (h : ix ≡ tableIndex f) {asked : Admitted} {events d : List ℕ} where
+  variables-are : {t : Table} → Admits f asked events d t → ix .plant .variables ≡ length (t .plant .variables)
+  variables-are a = ap (λ (x : PlantRead). x .variables) (plant-is f h (a .judged)) ∙ variables-of _ _ (plant-judged f h (a .judged))
+
+  selectors-are : {t : Table} → Admits f asked events d t → ix .plant .selectors ≡ length (selectors (t .plant))
+  selectors-are a = ap (λ (x : PlantRead). x .selectors) (plant-is f h (a .judged)) ∙ selectors-of _ _ (plant-judged f h (a .judged))
+
+  pub asked-of : {t : Table} → Admits f asked events d t → Asked t (lentOf f ix) (cutFrom f (ix .parts .locations) (ix .parts .«locations_end»)) (ix .locations .places) (take (ix .plant .variables) (asked .values)) (take (ix .plant .selectors) (asked .modes)) events d
+  asked-of a = record {
+    lent = table-lent f h (a .judged) (lent-from f ix);
+    fits = rw (variables-are a, selectors-are a) (a .fits);
+    room = a .room;
+  }
+
+  pub asking-of : Admitting f asked events d → Asking (lentOf f ix) (cutFrom f (ix .parts .locations) (ix .parts .«locations_end»)) (ix .locations .places) (take (ix .plant .variables) (asked .values)) (take (ix .plant .selectors) (asked .modes)) events d
+  asking-of a = record { table = a .table; asked = asked-of (a .admits) }
+
+  -- by the table's counts
+  pub whole-of : {t : Table} {cs : Counts} {d' : List ℕ} → Admits f asked events d t → Whole t (take (ix .plant .variables) (asked .values)) (take (ix .plant .selectors) (asked .modes)) events d cs d' →
+      Whole t (take (length (t .plant .variables)) (asked .values)) (take (length (selectors (t .plant))) (asked .modes)) events d cs d'
+  whole-of a w = rw (← variables-are a, ← selectors-are a) w
+
+  pub sized : Admitting f asked events d → Sized f ix asked
+  sized g =
+      let a = g .admits in
+      let j = a .judged in
+      let r = room-as (plant-is f h j) (room-held _ _ (plant-judged f h j)) in
+      let x = equations-stand f h j in
+      let y = actions-stand f h j in
+      let z = locations-stand f h j in
+      record {
+        equations = record { ordered = x .ordered; inside = x .inside };
+        actions = record { ordered = y .ordered; inside = y .inside };
+        locations = record { ordered = z .ordered; inside = z .inside };
+        rows = ap (λ (x : PlantRead). length (x .places)) (plant-is f h j) ∙ rows-full _ _ (plant-judged f h j);
+        lows = r .lows-there;
+        highs = r .highs-there;
+        kinds = kinds-full f h j;
+        starts = starts-full f h j;
+        ends = ends-full f h j;
+        places = locations-held f h j .full;
+        values = rw (variables-are a) (take-full _ (asked .values) (a .fits .values));
+        modes = rw (selectors-are a) (take-full _ (asked .modes) (a .fits .modes));
+      }
+
+-- ---- the call
+program-refused : (f : List ℕ) {n : ℕ} → judgeTable edition1 f ≡ refused n → tableProgram edition1 f ≡ refused n
+unfolding tableProgram _>>=_
+program-refused f e = rw e refl
+
+abbrev programOf : Table → Program ℕ
+programOf t = record { plant = t .plant; control = tableControl t }
+
+program-accepted : (f : List ℕ) {t : Table} → judgeTable edition1 f ≡ accepted t → tableProgram edition1 f ≡ accepted (programOf t)
+unfolding tableProgram _>>=_
+program-accepted f e = rw e refl
+
+-- the events of the program
+whole-from : (t : Table) (events : List ℕ) {asked x : Admitted} {d d' : List ℕ} {cs : Counts} → asked ≡ x → Whole t (take (length (t .plant .variables)) (asked .values)) (take (length (selectors (t .plant))) (asked .modes)) events d cs d' →
+    RunDone (tableControl t) (runFrom edition1 (programOf t) (record { values = take (length (t .plant .variables)) (x .values); modes = take (length (selectors (t .plant))) (x .modes) }) events) d cs d'
+unfolding runFrom Calls.eventCount
+whole-from t events e v = rw (← e) v
+
+module _ (f start events d : List ℕ) {ix : TableIndex} (h : ix ≡ tableIndex f) where
+  not-ran : {n : ℕ} {r : Ran} → judgeRun edition1 (tableProgram edition1 f) start events d ≡ refused n → r ≡ notRun n → ranWith r d ≡ tableRun edition1 f start events d
+  unfolding tableRun ranWith
+  not-ran {n} e k = ap (λ (r : Ran). ranWith r d) k ∙ sym (ap (report d) e ∙ not-run d n)
+
+  pub by-table : {r : Ran} → (ix .refusal ≡ 0 → ⊥) → r ≡ notRun (ix .refusal) → ranWith r d ≡ tableRun edition1 f start events d
+  by-table z k = not-ran (ap (λ j. judgeRun edition1 j start events d) (program-refused f (refused-table f h z)) ∙ run-unread ℕ (ix .refusal) start events d) k
+
+  module _ (z : ix .refusal ≡ 0) where
+    table : Table
+    table = table-of f h z .table
+
+    judged : judgeTable edition1 f ≡ accepted table
+    unfolding table
+    judged = table-of f h z .is
+
+    -- what admission asks
+    pub room-of : Room (ix .plant .variables) (ix .plant .lows) (ix .plant .highs) (ix .plant .selectors) (ix .plant .modes)
+    room-of = room-as (plant-is f h judged) (room-held _ _ (plant-judged f h judged))
+
+    arrays-of : Arrays (table .plant) (ix .plant .variables) (ix .plant .lows) (ix .plant .highs) (ix .plant .selectors) (ix .plant .modes)
+    arrays-of = arrays-as (plant-is f h judged) (arrays-held _ _ (plant-judged f h judged))
+
+    run-is : {j : Judged Outcome} → judgeRun edition1 (accepted (programOf table)) start events d ≡ j → judgeRun edition1 (tableProgram edition1 f) start events d ≡ j
+    run-is e = ap (λ j. judgeRun edition1 j start events d) (program-accepted f judged) ∙ e
+
+    module _ {asked : Admitted} (g : (p : Plant) → Arrays p (ix .plant .variables) (ix .plant .lows) (ix .plant .highs) (ix .plant .selectors) (ix .plant .modes) → asked ≡ admitted p start (length events) (length d)) where
+      asked-is : asked ≡ admitted (table .plant) start (length events) (length d)
+      asked-is = g (table .plant) arrays-of
+
+      pub by-admission : {r : Ran} → (asked .refusal ≡ 0 → ⊥) → r ≡ notRun (asked .refusal) → ranWith r d ≡ tableRun edition1 f start events d
+      by-admission y k =
+          let e = ap (λ (a : Admitted). a .refusal) asked-is in
+          not-ran (run-is (run-refused (programOf table) start events d (λ i. y (e ∙ i)) ∙ ap refused (sym e))) k
+
+      module _ (y : asked .refusal ≡ 0) where
+        admits : Admits f asked events d table
+        admits =
+            let a = run-admitted (programOf table) start events d (sym (ap (λ (a : Admitted). a .refusal) asked-is) ∙ y) in
+            record {
+              judged = judged;
+              fits = rw asked-is (fits-start (table .plant) _ (a .values) (a .modes) (a .fits));
+              room = a .room;
+            }
+
+        pub admitting : Admitting f asked events d
+        admitting = record { table = table; admits = admits }
+
+        pub by-events : {r : Ran} {cs : Counts} {d' : List ℕ} →
+            ((t : Table) → Admits f asked events d t → Whole t (take (length (t .plant .variables)) (asked .values)) (take (length (selectors (t .plant))) (asked .modes)) events d cs d') →
+            r ≡ record { refusal = 0; taken = cs .taken; «turned_away» = cs .«turned_away»; faulted = cs .faulted } → ranWith r d' ≡ tableRun edition1 f start events d
+        unfolding tableRun ranWith
+        by-events {r} {cs} {d'} w k =
+            let a = run-admitted (programOf table) start events d (sym (ap (λ (a : Admitted). a .refusal) asked-is) ∙ y) in
+            let st : Start = record { values = take (length (table .plant .variables)) (admitted (table .plant) start (length events) (length d) .values); modes = take (length (selectors (table .plant))) (admitted (table .plant) start (length events) (length d) .modes) } in
+            let done : RunDone (tableControl table) (runFrom edition1 (programOf table) st events) d cs d' = whole-from table events asked-is (w table admits) in
+            ap (λ (r : Ran). ranWith r d') k ∙ sym (ap (report d) (run-is (a .judged)) ∙ reported (tableControl table) _ d done)

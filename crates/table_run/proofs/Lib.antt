@@ -1,0 +1,5 @@
+pub mod EntryTurns
+pub mod Settling
+pub mod Running
+pub mod TableReady
+pub mod Calling

@@ -1,0 +1,75 @@
+// All events of a run of a table.
+use super::entries;
+use super::steps;
+use super::steps::Situation;
+use execution::Counts;
+ghost use Rattle.semantics.specs.Tables.{Table};
+ghost use Rattle.execution.specs.Ready.{lent};
+ghost use Rattle.table_run.specs.Runs.{Asked, Asking, Whole};
+
+// The record of each event goes to records, one after the other. Values and modes are those that the run starts with.
+pub fn all(
+    es: &[u8],
+    rows: &[usize],
+    steady: [i32; 32],
+    lows: &[i32],
+    highs: &[i32],
+    ops: &[u8],
+    kinds: &[u8],
+    starts: &[usize],
+    ends: &[usize],
+    locs: &[u8],
+    places: &[usize],
+    events: &[u8],
+    values: &mut [i32],
+    modes: &mut [u8],
+    records: &mut [u8],
+) -> Counts
+    requires { ⌜ Asking (lent (now es) (now rows) steady (now lows) (now highs) (now ops) (now kinds) (now starts) (now ends)) (now locs) (now places) (now values) (now modes) (now events) (now records) ⌝ }
+    ensures { λ r. ⌜ ((t : Table) → Asked t (lent (now (es .entry)) (now (rows .entry)) steady (now (lows .entry)) (now (highs .entry)) (now (ops .entry)) (now (kinds .entry)) (now (starts .entry)) (now (ends .entry))) (now (locs .entry)) (now (places .entry)) (now (values .entry)) (now (modes .entry)) (now (events .entry)) (now (records .entry)) → Whole t (now (values .entry)) (now (modes .entry)) (now (events .entry)) (now (records .entry)) r (now (records .exit))) ⌝ }
+{
+    let from = places[0];
+    let first = entries::acting(locs, from);
+    let mut at = Situation {
+        over: false,
+        place: 0,
+        acting: first,
+    };
+    let mut counts = Counts {
+        taken: 0,
+        turned_away: 0,
+        faulted: 0,
+    };
+    let n = events.len() / 3;
+    let mut i = 0;
+    let mut k = 0;
+    while k < n {
+        let r = steps::step(
+            es,
+            rows,
+            steady,
+            lows,
+            highs,
+            ops,
+            kinds,
+            starts,
+            ends,
+            locs,
+            places,
+            at,
+            events[3 * k],
+            events[3 * k + 1],
+            events[3 * k + 2],
+            values,
+            modes,
+        );
+        let answer = r.answer;
+        let next = r.situation;
+        let acting = next.acting;
+        i = execution::put_record(records, i, answer, acting, values, modes);
+        counts = execution::booked(counts, answer);
+        at = next;
+        k += 1;
+    }
+    counts
+}
