@@ -3,7 +3,7 @@ use mathlib.Core.Path.{_≡_, refl, sym, ap, _∙_}
 use mathlib.Core.Bool.{true, false}
 use mathlib.Core.List.{List, [], _∷_, _++_, flatMap}
 use mathlib.Core.Logic.{_⊎_}
-use mathlib.Core.Option.{some}
+use mathlib.Core.Option.{Option, some}
 use Prim.Native.Nat.{ℕ, suc, _*_}
 use native.Mathlib.Omega.{arith}
 use lib.ListN.{length, take, drop}
@@ -11,6 +11,7 @@ use lib.Seq.{take-append-seam}
 use Rattle.semantics.specs.Bytes.{overwrite}
 use Rattle.semantics.specs.Editions.{Edition}
 use Rattle.semantics.specs.Refusals.{Judged, refused, accepted, _>>=_, refusalOf}
+use Rattle.semantics.specs.Plant.{Plant}
 use Rattle.semantics.specs.Starts.{Start}
 use Rattle.semantics.specs.Run.{recordOf}
 use Rattle.semantics.specs.Calls.{Program, Ran, judgeRun, eventCount, recordSize, roomForRecords}
@@ -27,7 +28,7 @@ use Rattle.schedules.specs.Agreement.{RunsAgree}
 use Rattle.schedules.proofs.FirstNumber.{file-plant, compile-first, compiled-refusal}
 use Rattle.schedules.proofs.Agreement.{agreement, compile-taken, first-not-0, never-0}
 use Rattle.exam.specs.Exam.{Examined, judgeExam, agreed, refusedExam, reported, examTable, examined, examOf, examConditions, ExamHolds}
-use Rattle.exam.proofs.Agreed.{agreed-true}
+use Rattle.exam.proofs.Comparing.{agreed-true}
 
 -- a call that is known to accept adds no number
 known : {A B : Type 0} {j : Judged A} {a : A} (f : A → Judged B) {l : List Condition} → j ≡ accepted a → Firsts (f a) l → Firsts (j >>= f) l
@@ -63,8 +64,15 @@ told {ed} {s} {by-rules = by-rules} {by-table = by-table} {r = r} {t = t} n a e 
   records = ap (take n) (a .rules-records) ∙ written-front _ by-rules n e ∙ sym (ap (take n) (a .table-records) ∙ written-front _ by-table n e);
 })
 
+no-zero : (n : ℕ) → suc n ≡ 0 → ⊥
+no-zero n e = omega arith
+
+pub run-numbers : (ed : Edition) (plant : Option Plant) (start events buffer : List ℕ) → All (λ (c : Condition). c .refusal ≡ 0 → ⊥) (runConditions ed plant start events buffer)
+unfolding runConditions
+run-numbers ed plant start events buffer = all-cons (no-zero 19) (all-cons (no-zero 20) (all-cons (no-zero 21) all-nil))
+
 module _ (ed : Edition) (file start events table records others : List ℕ) where
-  exam-judged : Firsts (judgeExam ed file start events table records others) (examConditions ed file start events table records others)
+  pub exam-judged : Firsts (judgeExam ed file start events table records others) (examConditions ed file start events table records others)
   unfolding judgeExam examConditions is22
   exam-judged = by-then (compile-first ed file table) (λ t e.
       let k = compile-taken ed file table e in
@@ -73,14 +81,12 @@ module _ (ed : Edition) (file start events table records others : List ℕ) wher
       (by-then (run-first ed start events records (by-end _) (λ g i. p ∙ ap (λ (g : Program Residual). some (g .plant)) (Judging.accepted-is i))) (λ o i.
       by-ensure 22 (roomForRecords ed (k .of .plant) events others) (given-some _ p) (λ h22. by-end _))))
 
-  exam-numbers : All (λ (c : Condition). c .refusal ≡ 0 → ⊥) (examConditions ed file start events table records others)
-  unfolding examConditions runConditions
-  exam-numbers = all-append (never-0 ed file table) (all-cons (no 19) (all-cons (no 20) (all-cons (no 21) (all-cons (no 21) all-nil))))
-    where
-      no : (n : ℕ) → suc n ≡ 0 → ⊥
-      no n e = omega arith
+  -- no number is 0
+  pub exam-numbers : All (λ (c : Condition). c .refusal ≡ 0 → ⊥) (examConditions ed file start events table records others)
+  unfolding examConditions
+  exam-numbers = all-append (never-0 ed file table) (all-append (run-numbers ed (filePlant ed file) start events records) (all-cons (no-zero 21) all-nil))
 
-  exam-refusal : (j : Judged ℕ) → (examined ed file start events table records others j) .refusal ≡ refusalOf j
+  pub exam-refusal : (j : Judged ℕ) → (examined ed file start events table records others j) .refusal ≡ refusalOf j
   unfolding examined refusedExam reported refusalOf
   exam-refusal (refused n) = refl
   exam-refusal (accepted n) = refl
@@ -103,7 +109,7 @@ module _ (ed : Edition) (file start events table records others : List ℕ) wher
       go (accepted n) h = absurd (h refl)
 
   -- the length of the records that are compared, of a call that accepts
-  exam-length : {s : Schedule} {n : ℕ} → judgeFile ed file ≡ accepted s → judgeExam ed file start events table records others ≡ accepted n → eventCount ed events * recordSize ed (s .plant) ≡ n
+  pub exam-length : {s : Schedule} {n : ℕ} → judgeFile ed file ≡ accepted s → judgeExam ed file start events table records others ≡ accepted n → eventCount ed events * recordSize ed (s .plant) ≡ n
   unfolding judgeExam
   exam-length {s} h e =
       let a = Judging.passed-then (judgeCompile ed file table) _ e in

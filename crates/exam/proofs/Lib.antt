@@ -1,2 +1,4 @@
-pub mod Agreed
+pub mod Comparing
 pub mod ExamHolds
+pub mod ExamStages
+pub mod Sizes

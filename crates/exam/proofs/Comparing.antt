@@ -5,7 +5,7 @@ use mathlib.Core.List.{List, [], _∷_}
 use Prim.Native.Nat.{ℕ}
 use lib.ListN.{take}
 use lib.Dec.{eqb}
-use borrow.Author.Tests.{eqb-true, eq-eqb}
+use borrow.Author.Tests.{eqb-true, eq-eqb, ne-eqb}
 use Rattle.semantics.specs.Calls.{Ran}
 use Rattle.semantics.proofs.Facts.{and-left, and-right, and-both, true-not-false}
 use Rattle.exam.specs.Exam.{sameBytes, sameNumbers, agreed}
@@ -49,3 +49,37 @@ true-agreed n r t h =
       faulted = eqb-true _ _ (and-right (eqb (r .turned-away) (t .turned-away)) (eqb (r .faulted) (t .faulted)) c);
       records = same-true _ _ (and-right (sameNumbers r t) (sameBytes (take n (r .records)) (take n (t .records))) h);
     }
+
+-- a test that tells whether two lists are the same
+pub same-is : (q : Bool) (a b : List ℕ) → (q ≡ true → a ≡ b) × (a ≡ b → q ≡ true) → q ≡ sameBytes a b
+same-is q a b h = go (sameBytes a b) refl
+  where
+    go : (s : Bool) → sameBytes a b ≡ s → q ≡ sameBytes a b
+    go true e = h .1 (same-true a b e) ∙ sym e
+    go false e = no q refl ∙ sym e
+      where
+        no : (p : Bool) → q ≡ p → q ≡ false
+        no true f = true-not-false (sym (ap (λ l. sameBytes l b) (h .0 f) ∙ same-refl b) ∙ e)
+        no false f = f
+
+-- ---- the tests one after the other
+module _ (r t : Ran) (s : Bool) where
+  pub refusals-differ : (r .refusal ≡ t .refusal → ⊥) → false ≡ (sameNumbers r t && s)
+  unfolding sameNumbers
+  refusals-differ h = rw (ne-eqb _ _ h) refl
+
+  pub taken-differ : r .refusal ≡ t .refusal → (r .taken ≡ t .taken → ⊥) → false ≡ (sameNumbers r t && s)
+  unfolding sameNumbers
+  taken-differ a h = rw (eq-eqb _ _ a, ne-eqb _ _ h) refl
+
+  pub turned-away-differ : r .refusal ≡ t .refusal → r .taken ≡ t .taken → (r .turned-away ≡ t .turned-away → ⊥) → false ≡ (sameNumbers r t && s)
+  unfolding sameNumbers
+  turned-away-differ a b h = rw (eq-eqb _ _ a, eq-eqb _ _ b, ne-eqb _ _ h) refl
+
+  pub faulted-differ : r .refusal ≡ t .refusal → r .taken ≡ t .taken → r .turned-away ≡ t .turned-away → (r .faulted ≡ t .faulted → ⊥) → false ≡ (sameNumbers r t && s)
+  unfolding sameNumbers
+  faulted-differ a b c h = rw (eq-eqb _ _ a, eq-eqb _ _ b, eq-eqb _ _ c, ne-eqb _ _ h) refl
+
+  pub numbers-same : r .refusal ≡ t .refusal → r .taken ≡ t .taken → r .turned-away ≡ t .turned-away → r .faulted ≡ t .faulted → s ≡ (sameNumbers r t && s)
+  unfolding sameNumbers
+  numbers-same a b c d = rw (eq-eqb _ _ a, eq-eqb _ _ b, eq-eqb _ _ c, eq-eqb _ _ d) refl
