@@ -1,15 +1,16 @@
 -- The call, a law for each return.
 use mathlib.Core.Path.{_≡_, refl, sym, ap, subst, _∙_}
-use mathlib.Core.Bool.{Bool, true}
+use mathlib.Core.Bool.{Bool, true, false}
 use mathlib.Core.List.{List}
 use Prim.Native.Nat.{ℕ, _+_, _-_, _*_, _≤_, _<_}
 use native.Mathlib.Omega.{arith}
+use lib.Dec.{leb}
 use lib.ListN.{length, getD, take, drop, length-drop}
 use lib.Seq.{length-take-le}
 use borrow.Author.Tests.{le-leb, lt-leb, eqb-true}
 use Rattle.semantics.specs.Bytes.{be2}
 use Rattle.semantics.specs.Editions.{edition1}
-use Rattle.semantics.specs.Refusals.{refused, accepted, _>>=_, _>>_, ensure}
+use Rattle.semantics.specs.Refusals.{Judged, refused, accepted, _>>=_, _>>_, ensure, refusalOf}
 use Rattle.semantics.specs.TableFile.{locationLimit}
 use Rattle.semantics.proofs.Judging.{go-ensure}
 use Rattle.schedules.specs.Files.{Schedule, fileLength, judgeFile}
@@ -28,44 +29,57 @@ use Rattle.schedule_read.proofs.NodeActions.{numbers-long}
 use Rattle.compiler.specs.Meeting.{testsIn}
 use Rattle.compiler.specs.Located.{rowBytes, Located, located, too-many, Numbered}
 use Rattle.compiler.specs.ActionTable.{ActionsPut}
-use Rattle.compiler.specs.CallParts.{returned, tableWith, judgeRoom, judgeRest, Lent}
+use Rattle.compiler.specs.CallParts.{returned, leaves, tableWith, judgeRoom, judgeRest, judgeAsked, Lent}
+use Rattle.compiler.specs.Measured.{judgeMeasure, lengthOf}
 use Rattle.compiler.proofs.ActionForms.{actions-written, actions-counted, operands, tests-are}
 use Rattle.compiler.proofs.TableBytes.{taken-front, table-is}
 
--- ---- 14
-pub no-room : (t buffer : List ℕ) {n w : ℕ} → n ≡ 14 → w ≡ 0 → length buffer < length t → returned n w buffer ≡ compiledInto buffer (judgeRoom t buffer)
-unfolding compiledInto judgeRoom ensure _>>_
-no-room t buffer e f h = rw (e, f, lt-leb (length t) (length buffer) h) refl
+-- a refusal leaves the buffer, whatever is asked
+refused-leaves : (w : Bool) (buffer : List ℕ) (n : ℕ) → returned n 0 buffer ≡ leaves w buffer (refused n)
+unfolding leaves compiledInto
+refused-leaves true buffer n = refl
+refused-leaves false buffer n = refl
 
-pub room : (t buffer : List ℕ) {n : ℕ} {e : List ℕ} → n ≡ length t → length t ≤ length buffer → Wrote buffer 0 t e → returned 0 n e ≡ compiledInto buffer (judgeRoom t buffer)
-unfolding compiledInto judgeRoom ensure _>>_
-room t buffer f h w = rw (le-leb (length t) (length buffer) h, f, wrote-front w) refl
+-- ---- 14
+pub no-room : {w : Bool} (t buffer : List ℕ) {m n : ℕ} → w ≡ true → m ≡ 14 → n ≡ 0 → length buffer < length t → returned m n buffer ≡ leaves w buffer (judgeRoom w t buffer)
+unfolding leaves compiledInto judgeRoom ensure _>>_
+no-room t buffer i e f h = rw (i, e, f, lt-leb (length t) (length buffer) h) refl
+
+pub room : {w : Bool} (t buffer : List ℕ) {n : ℕ} {e : List ℕ} → w ≡ true → n ≡ length t → length t ≤ length buffer → Wrote buffer 0 t e → returned 0 n e ≡ leaves w buffer (judgeRoom w t buffer)
+unfolding leaves compiledInto judgeRoom ensure _>>_
+room t buffer i f h v = rw (i, le-leb (length t) (length buffer) h, f, wrote-front v) refl
+
+pub no-table : {w : Bool} (t buffer : List ℕ) {n : ℕ} → w ≡ false → n ≡ length t → returned 0 n buffer ≡ leaves w buffer (judgeRoom w t buffer)
+unfolding leaves judgeRoom
+no-table t buffer i f = rw (i, f) refl
 
 -- ---- 13, and the table of the schedule
-module _ {vs es sch kinds subs acts starts ends : List ℕ} {count : ℕ} {s : Schedule} (g : Lent vs es sch kinds subs acts starts ends count s) {b b′ : List ℕ} {c at : ℕ} (x : Numbered kinds subs acts b c b′ at) (buffer : List ℕ) where
+module _ {vs es sch kinds subs acts starts ends : List ℕ} {count : ℕ} {s : Schedule} (g : Lent vs es sch kinds subs acts starts ends count s) {b b′ : List ℕ} {c at : ℕ} (x : Numbered kinds subs acts b c b′ at) (w : Bool) (buffer : List ℕ) where
   same-locations : locations (testsIn acts) (s .root) ≡ scheduleLocations s
   unfolding scheduleLocations
   same-locations = ap (λ (f : ℕ → Bool). locations f (s .root)) (g .tests)
 
-  pub over-13 : {n w : ℕ} → n ≡ 13 → w ≡ 0 → locationLimit < c → returned n w buffer ≡ compiledInto buffer (judgeRest s buffer)
-  unfolding judgeRest compiledInto ensure _>>_
-  over-13 e f h = rw (e, f, lt-leb (length (scheduleLocations s)) locationLimit (subst (λ (l : List Residual). locationLimit < length l) same-locations (many (x .gives (s .root) (g .tree))))) refl
+  pub over-13 : {m n : ℕ} → m ≡ 13 → n ≡ 0 → locationLimit < c → returned m n buffer ≡ leaves w buffer (judgeRest w s buffer)
+  unfolding judgeRest ensure _>>_
+  over-13 e f h =
+      let g = subst (λ (l : List Residual). locationLimit < length l) same-locations (many (x .gives (s .root) (g .tree))) in
+      rw (e, f, lt-leb (length (scheduleLocations s)) locationLimit g) (refused-leaves w buffer 13)
     where
       many : Located (testsIn acts) (s .root) b c b′ at → locationLimit < length (locations (testsIn acts) (s .root))
       many (located u v w z) = absurd (omega arith)
       many (too-many u v) = v
 
-  pub not-13 : {a a′ : List ℕ} {k k′ p : ℕ} {r : Compiled} → c ≤ locationLimit → ActionsPut sch acts starts ends count a a′ k p → k′ ≡ k → r ≡ compiledInto buffer (judgeRoom (tableWith vs es k′ (take p a′) c (take at b′)) buffer) → r ≡ compiledInto buffer (judgeRest s buffer)
+  pub not-13 : {a a′ : List ℕ} {k k′ p : ℕ} {r : Compiled} → c ≤ locationLimit → ActionsPut sch acts starts ends count a a′ k p → k′ ≡ k → r ≡ leaves w buffer (judgeRoom w (tableWith vs es k′ (take p a′) c (take at b′)) buffer) → r ≡ leaves w buffer (judgeRest w s buffer)
   unfolding judgeRest scheduleLocations
-  not-13 {a′ = a′} {k = k} {k′ = k′} {p = p} h y o e = e ∙ ap (λ (i : ℕ). compiledInto buffer (judgeRoom (tableWith vs es i (take p a′) c (take at b′)) buffer)) o ∙ ap (compiledInto buffer) (go (x .gives (s .root) (g .tree)))
+  not-13 {a′ = a′} {k = k} {k′ = k′} {p = p} h y o e = e ∙ ap (λ (i : ℕ). leaves w buffer (judgeRoom w (tableWith vs es i (take p a′) c (take at b′)) buffer)) o ∙ ap (leaves w buffer) (go (x .gives (s .root) (g .tree)))
     where
-      room-of : length (scheduleLocations s) ≡ c → tableWith vs es k (take p a′) c (take at b′) ≡ tableOf edition1 s → judgeRoom (tableWith vs es k (take p a′) c (take at b′)) buffer ≡ judgeRest s buffer
-      room-of l q = ap (λ (t : List ℕ). judgeRoom t buffer) q ∙ sym (go-ensure 13 (judgeRoom (tableOf edition1 s) buffer) (le-leb (length (scheduleLocations s)) locationLimit (omega arith)))
+      room-of : length (scheduleLocations s) ≡ c → tableWith vs es k (take p a′) c (take at b′) ≡ tableOf edition1 s → judgeRoom w (tableWith vs es k (take p a′) c (take at b′)) buffer ≡ judgeRest w s buffer
+      room-of l q = ap (λ (t : List ℕ). judgeRoom w t buffer) q ∙ sym (go-ensure 13 (judgeRoom w (tableOf edition1 s) buffer) (le-leb (length (scheduleLocations s)) locationLimit (omega arith)))
 
       by-schedule : {ls : List ℕ} → ls ≡ rowBytes (testsOf (s .nodes)) (locations (testsOf (s .nodes)) (s .root)) (locations (testsOf (s .nodes)) (s .root)) → ls ≡ rowBytes (testsOf (s .nodes)) (scheduleLocations s) (scheduleLocations s)
       by-schedule e = e
 
-      go : Located (testsIn acts) (s .root) b c b′ at → judgeRoom (tableWith vs es k (take p a′) c (take at b′)) buffer ≡ judgeRest s buffer
+      go : Located (testsIn acts) (s .root) b c b′ at → judgeRoom w (tableWith vs es k (take p a′) c (take at b′)) buffer ≡ judgeRest w s buffer
       go (too-many u v) = absurd (omega arith)
       go (located u v w z) =
           let l = sym (ap length same-locations) ∙ v in
@@ -73,13 +87,36 @@ module _ {vs es sch kinds subs acts starts ends : List ℕ} {count : ℕ} {s : S
           room-of l (table-is s (g .variables) (g .equations) (y .counts ∙ g .counted) (taken-front (y .ends-at) (y .writes) ∙ g .listed) (sym l) (by-schedule rows))
 
 -- ---- the file
-pub file-refused : (f buffer : List ℕ) {m n w : ℕ} → m ≡ n → w ≡ 0 → judgeFile edition1 f ≡ refused n → returned m w buffer ≡ compile edition1 f buffer
-unfolding compile judgeCompile compiledInto _>>=_
-file-refused f buffer g h e = rw (g, h, e) refl
+pub file-refused : (f : List ℕ) (w : Bool) (buffer : List ℕ) {l m n : ℕ} → m ≡ n → l ≡ 0 → judgeFile edition1 f ≡ refused n → returned m l buffer ≡ leaves w buffer (judgeAsked w f buffer)
+unfolding judgeAsked _>>=_
+file-refused f w buffer {n = n} g h e = rw (g, h, e) (refused-leaves w buffer n)
 
-pub file-accepted : (f buffer : List ℕ) {s : Schedule} {r : Compiled} → judgeFile edition1 f ≡ accepted s → r ≡ compiledInto buffer (judgeRest s buffer) → r ≡ compile edition1 f buffer
-unfolding compile judgeCompile judgeRest judgeRoom _>>=_
-file-accepted f buffer e h = h ∙ rw e refl
+pub file-accepted : (f : List ℕ) (w : Bool) (buffer : List ℕ) {s : Schedule} {r : Compiled} → judgeFile edition1 f ≡ accepted s → r ≡ leaves w buffer (judgeRest w s buffer) → r ≡ leaves w buffer (judgeAsked w f buffer)
+unfolding judgeAsked _>>=_
+file-accepted f w buffer e h = h ∙ rw e refl
+
+-- ---- what is asked
+pub asked-table : (f buffer : List ℕ) → leaves true buffer (judgeAsked true f buffer) ≡ compile edition1 f buffer
+unfolding leaves judgeAsked judgeRest judgeRoom compile judgeCompile
+asked-table f buffer = refl
+
+-- the length alone
+pub asked-length : (f buffer : List ℕ) {m n : ℕ} {e : List ℕ} → returned m n e ≡ leaves false buffer (judgeAsked false f buffer) →
+    (m ≡ refusalOf (judgeMeasure edition1 f)) × (n ≡ lengthOf (judgeMeasure edition1 f))
+unfolding leaves judgeAsked judgeRest judgeRoom judgeMeasure refusalOf lengthOf _>>=_ _>>_ ensure
+asked-length f buffer h = let g = go (judgeFile edition1 f) in (ap (λ (x : Compiled). x .refusal) h ∙ g .0, ap (λ (x : Compiled). x .written) h ∙ g .1)
+  where
+    few : (s : Schedule) (b : Bool) →
+        (leaves false buffer (ensure 13 b >> accepted (tableOf edition1 s)) .refusal ≡ refusalOf (ensure 13 b >> accepted (length (tableOf edition1 s)))) ×
+        (leaves false buffer (ensure 13 b >> accepted (tableOf edition1 s)) .written ≡ lengthOf (ensure 13 b >> accepted (length (tableOf edition1 s))))
+    few s true = (refl, refl)
+    few s false = (refl, refl)
+
+    go : (j : Judged Schedule) →
+        (leaves false buffer (j >>= λ s. judgeRest false s buffer) .refusal ≡ refusalOf (j >>= λ s. ensure 13 (leb (length (scheduleLocations s)) locationLimit) >> accepted (length (tableOf edition1 s)))) ×
+        (leaves false buffer (j >>= λ s. judgeRest false s buffer) .written ≡ lengthOf (j >>= λ s. ensure 13 (leb (length (scheduleLocations s)) locationLimit) >> accepted (length (tableOf edition1 s))))
+    go (refused n) = (refl, refl)
+    go (accepted s) = few s (leb (length (scheduleLocations s)) locationLimit)
 
 file-short : (f : List ℕ) → fileLength f ≡ true → getD f 1 0 < 256 → getD f 2 0 < 256 → length f < 65536
 unfolding fileLength be2

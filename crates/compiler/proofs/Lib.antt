@@ -15,3 +15,4 @@ pub mod ActionLoop
 -- the call
 pub mod TableBytes
 pub mod CallStages
+pub mod Measuring

@@ -4,3 +4,4 @@ pub mod Meeting
 pub mod Located
 pub mod ActionTable
 pub mod CallParts
+pub mod Measured

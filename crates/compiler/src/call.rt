@@ -8,12 +8,13 @@ ghost use Prim.Native.Nat.{ℕ, _+_, _≤_, _<_};
 ghost use lib.ListN.{length, take};
 ghost use Rattle.semantics.specs.Bytes.{out2, out4};
 ghost use Rattle.semantics.specs.Editions.{edition1};
+ghost use Rattle.semantics.specs.Refusals.{refusalOf};
 ghost use Rattle.semantics.specs.TableFile.{inSection2, inSection4};
 ghost use Rattle.schedules.specs.Files.{Schedule};
-ghost use Rattle.schedules.specs.Calls.{compiledInto};
 ghost use Rattle.schedules.specs.Calls as calls;
 ghost use Rattle.codec.specs.Writing.{Wrote};
-ghost use Rattle.compiler.specs.CallParts.{returned, tableWith, judgeRoom, judgeRest, Lent, Lending};
+ghost use Rattle.compiler.specs.CallParts.{returned, leaves, tableWith, judgeRoom, judgeRest, judgeAsked, Lent, Lending};
+ghost use Rattle.compiler.specs.Measured.{judgeMeasure, lengthOf};
 
 // 0 and the length of the table; or the number of the first condition that is broken, and 0
 pub struct Compiled {
@@ -89,7 +90,7 @@ fn put_table<'a>(
     put_locations(table, d, n, locs)
 }
 
-// 14, or the table written
+// 14, or the table written; where it is not asked for, its length
 fn finish<'a>(
     vs: &'a [u8],
     es: &'a [u8],
@@ -98,11 +99,18 @@ fn finish<'a>(
     n: usize,
     locs: &'a [u8],
     table: &mut [u8],
+    writes: bool,
 ) -> Compiled
     requires { ⌜ (length (now vs) < 65536) × (length (now es) < 65536) × (length (now acts) ≤ 12928) × (n < 65536) × (length (now locs) ≤ 328704) ⌝ }
-    ensures { λ r. ⌜ returned (r .refusal) (r .length) (now (table .exit)) ≡ compiledInto (now (table .entry)) (judgeRoom (tableWith (now (vs .entry)) (now (es .entry)) k (now (acts .entry)) n (now (locs .entry))) (now (table .entry))) ⌝ }
+    ensures { λ r. ⌜ returned (r .refusal) (r .length) (now (table .exit)) ≡ leaves writes (now (table .entry)) (judgeRoom writes (tableWith (now (vs .entry)) (now (es .entry)) k (now (acts .entry)) n (now (locs .entry))) (now (table .entry))) ⌝ }
 {
     let whole = vs.len() + es.len() + acts.len() + locs.len() + 18;
+    if !writes {
+        return Compiled {
+            refusal: 0,
+            length: whole,
+        };
+    }
     if table.len() < whole {
         return refused(14);
     }
@@ -113,7 +121,7 @@ fn finish<'a>(
     }
 }
 
-// 13 and 14, or the table written, of the sections and the index of a schedule's nodes
+// 13 and 14, or the table written or measured, of the sections and the index of a schedule's nodes
 fn assemble<'a>(
     vs: &'a [u8],
     es: &'a [u8],
@@ -125,9 +133,10 @@ fn assemble<'a>(
     ends: &'a [usize],
     count: usize,
     table: &mut [u8],
+    writes: bool,
 ) -> Compiled
     requires { ⌜ Lending (now vs) (now es) (now s) (now kinds) (now subs) (now acts) (now starts) (now ends) count ⌝ }
-    ensures { λ r. ⌜ ((x : Schedule) → Lent (now (vs .entry)) (now (es .entry)) (now (s .entry)) (now (kinds .entry)) (now (subs .entry)) (now (acts .entry)) (now (starts .entry)) (now (ends .entry)) count x → returned (r .refusal) (r .length) (now (table .exit)) ≡ compiledInto (now (table .entry)) (judgeRest x (now (table .entry)))) ⌝ }
+    ensures { λ r. ⌜ ((x : Schedule) → Lent (now (vs .entry)) (now (es .entry)) (now (s .entry)) (now (kinds .entry)) (now (subs .entry)) (now (acts .entry)) (now (starts .entry)) (now (ends .entry)) count x → returned (r .refusal) (r .length) (now (table .exit)) ≡ leaves writes (now (table .entry)) (judgeRest writes x (now (table .entry)))) ⌝ }
 {
     let mut sets = [0u64; 4096];
     let mut rows = [0u8; 328704];
@@ -141,11 +150,21 @@ fn assemble<'a>(
     let m = actions::write(s, acts, starts, ends, count, &mut list);
     let k = m.count;
     let p = m.at;
-    finish(vs, es, spot::byte(k), &list[..p], n, &rows[..q], table)
+    finish(
+        vs,
+        es,
+        spot::byte(k),
+        &list[..p],
+        n,
+        &rows[..q],
+        table,
+        writes,
+    )
 }
 
-pub fn compile(file: &[u8], table: &mut [u8]) -> Compiled
-    ensures { λ r. ⌜ returned (r .refusal) (r .length) (now (table .exit)) ≡ calls.compile edition1 (now (file .entry)) (now (table .entry)) ⌝ }
+// the table, or only its length
+fn asked(file: &[u8], table: &mut [u8], writes: bool) -> Compiled
+    ensures { λ r. ⌜ returned (r .refusal) (r .length) (now (table .exit)) ≡ leaves writes (now (table .entry)) (judgeAsked writes (now (file .entry)) (now (table .entry))) ⌝ }
 {
     let x = schedule_read::call::index(file);
     let refusal = x.refusal;
@@ -178,5 +197,20 @@ pub fn compile(file: &[u8], table: &mut [u8]) -> Compiled
         &ends,
         count,
         table,
+        writes,
     )
+}
+
+pub fn compile(file: &[u8], table: &mut [u8]) -> Compiled
+    ensures { λ r. ⌜ returned (r .refusal) (r .length) (now (table .exit)) ≡ calls.compile edition1 (now (file .entry)) (now (table .entry)) ⌝ }
+{
+    asked(file, table, true)
+}
+
+// 1 to 13, and the length of the table that compiling would write
+pub fn measure(file: &[u8]) -> Compiled
+    ensures { λ r. ⌜ (r .refusal ≡ refusalOf (judgeMeasure edition1 (now (file .entry)))) × (r .length ≡ lengthOf (judgeMeasure edition1 (now (file .entry)))) ⌝ }
+{
+    let mut none = [0u8; 1];
+    asked(file, &mut none, false)
 }

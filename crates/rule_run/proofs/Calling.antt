@@ -6,7 +6,7 @@ use Prim.Native.Nat.{ℕ, zero, suc, _+_, _-_, _*_, _≤_}
 use native.Mathlib.Omega.{arith}
 use lib.ListN.{length, getElem?, take, drop, length-append}
 use Rattle.semantics.specs.Editions.{edition1}
-use Rattle.semantics.specs.Refusals.{Judged, refused, accepted, _>>=_}
+use Rattle.semantics.specs.Refusals.{Judged, refused, accepted, _>>=_, refusalOf}
 use Rattle.semantics.specs.Plant.{Plant, selectorsOf, selectors, judgePlant}
 use Rattle.semantics.specs.Sections.{Selector, Equation, steady, choice}
 use Rattle.semantics.specs.Starts.{Start}
@@ -158,8 +158,16 @@ module _ (f start events d : List ℕ) {ix : ScheduleIndex} (h : ix ≡ schedule
   unfolding ruleRun ranWith
   not-ran {n} e k = ap (λ (r : Ran). ranWith r d) k ∙ sym (ap (report d) e ∙ not-run d n)
 
+  file-judged : (ix .refusal ≡ 0 → ⊥) → judgeRun edition1 (ruleProgram edition1 f) start events d ≡ refused (ix .refusal)
+  file-judged z = ap (λ j. judgeRun edition1 j start events d) (program-refused f (index-refused f h z)) ∙ run-unread Residual (ix .refusal) start events d
+
   pub by-file : {r : Ran} → (ix .refusal ≡ 0 → ⊥) → r ≡ notRun (ix .refusal) → ranWith r d ≡ ruleRun edition1 f start events d
-  by-file z k = not-ran (ap (λ j. judgeRun edition1 j start events d) (program-refused f (index-refused f h z)) ∙ run-unread Residual (ix .refusal) start events d) k
+  by-file z k = not-ran (file-judged z) k
+
+  -- the number alone
+  pub check-file : (ix .refusal ≡ 0 → ⊥) → ix .refusal ≡ refusalOf (judgeRun edition1 (ruleProgram edition1 f) start events d)
+  unfolding refusalOf
+  check-file z = sym (ap refusalOf (file-judged z))
 
   module _ (z : ix .refusal ≡ 0) where
     schedule : Schedule
@@ -186,10 +194,21 @@ module _ (f start events d : List ℕ) {ix : ScheduleIndex} (h : ix ≡ schedule
       asked-is : asked ≡ admitted (schedule .plant) start (length events) (length d)
       asked-is = g (schedule .plant) arrays-of
 
-      pub by-admission : {r : Ran} → (asked .refusal ≡ 0 → ⊥) → r ≡ notRun (asked .refusal) → ranWith r d ≡ ruleRun edition1 f start events d
-      by-admission y k =
+      admission-refused : (asked .refusal ≡ 0 → ⊥) → judgeRun edition1 (ruleProgram edition1 f) start events d ≡ refused (asked .refusal)
+      admission-refused y =
           let e = ap (λ (a : Admitted). a .refusal) asked-is in
-          not-ran (run-is (run-refused (programOf schedule) start events d (λ i. y (e ∙ i)) ∙ ap refused (sym e))) k
+          run-is (run-refused (programOf schedule) start events d (λ i. y (e ∙ i)) ∙ ap refused (sym e))
+
+      pub by-admission : {r : Ran} → (asked .refusal ≡ 0 → ⊥) → r ≡ notRun (asked .refusal) → ranWith r d ≡ ruleRun edition1 f start events d
+      by-admission y k = not-ran (admission-refused y) k
+
+      pub check-admission : asked .refusal ≡ refusalOf (judgeRun edition1 (ruleProgram edition1 f) start events d)
+      unfolding refusalOf
+      check-admission = go (asked .refusal) refl
+        where
+          go : (n : ℕ) → asked .refusal ≡ n → asked .refusal ≡ refusalOf (judgeRun edition1 (ruleProgram edition1 f) start events d)
+          go zero e = e ∙ sym (ap refusalOf (run-is (run-admitted (programOf schedule) start events d (sym (ap (λ (a : Admitted). a .refusal) asked-is) ∙ e) .judged)))
+          go (suc n) e = sym (ap refusalOf (admission-refused (λ z. omega arith)))
 
       module _ (y : asked .refusal ≡ 0) where
         admits : Admits f asked events d schedule

@@ -4,11 +4,15 @@ use execution::Counts;
 use schedule_read::call::ScheduleIndex;
 use start_read::admission::Admitted;
 ghost use mathlib.Core.Path.{_≡_};
+ghost use mathlib.Core.List.{List};
+ghost use Prim.Native.Nat.{ℕ};
 ghost use lib.ListN.{length, take};
 ghost use Rattle.semantics.specs.Editions.{edition1};
+ghost use Rattle.semantics.specs.Refusals.{refusalOf};
 ghost use Rattle.semantics.specs.Plant.{selectors};
+ghost use Rattle.semantics.specs.Calls.{judgeRun};
 ghost use Rattle.schedules.specs.Files.{Schedule};
-ghost use Rattle.schedules.specs.Calls.{ruleRun};
+ghost use Rattle.schedules.specs.Calls.{ruleProgram, ruleRun};
 ghost use Rattle.schedule_read.specs.ScheduleFile.{scheduleIndex};
 ghost use Rattle.rule_run.specs.Runs.{Whole};
 ghost use Rattle.rule_run.specs.Called.{notRun, ranWith, Admits, Admitting};
@@ -105,4 +109,18 @@ pub fn run(file: &[u8], start: &[u8], events: &[u8], records: &mut [u8]) -> Ran
         turned_away: counts.turned_away,
         faulted: counts.faulted,
     }
+}
+
+// 1 to 12 and 20 to 22 in order, or 0: of a run with so many event bytes and a record buffer of so many bytes
+pub fn check(file: &[u8], start: &[u8], events: usize, room: usize) -> u8
+    ensures { λ r. ⌜ ((es d : List ℕ) → length es ≡ events → length d ≡ room → r ≡ refusalOf (judgeRun edition1 (ruleProgram edition1 (now (file .entry))) (now (start .entry)) es d)) ⌝ }
+{
+    let ix = schedule_read::call::index(file);
+    let first = ix.refusal;
+    if first != 0 {
+        return first;
+    }
+    let plant = ix.plant;
+    let asked = start_read::admission::admit(plant, start, events, room);
+    asked.refusal
 }

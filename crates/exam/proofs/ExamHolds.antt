@@ -1,0 +1,155 @@
+-- Examining refuses with the first number that applies, leaves everything as it was where it refuses, and where it does not refuse the two runs agree.
+use mathlib.Core.Path.{_≡_, refl, sym, ap, _∙_}
+use mathlib.Core.Bool.{true, false}
+use mathlib.Core.List.{List, [], _∷_, _++_, flatMap}
+use mathlib.Core.Logic.{_⊎_}
+use mathlib.Core.Option.{Option, some}
+use Prim.Native.Nat.{ℕ, suc, _*_}
+use native.Mathlib.Omega.{arith}
+use lib.ListN.{length, take, drop}
+use lib.Seq.{take-append-seam}
+use Rattle.semantics.specs.Bytes.{overwrite}
+use Rattle.semantics.specs.Editions.{Edition}
+use Rattle.semantics.specs.Refusals.{Judged, refused, accepted, _>>=_, refusalOf}
+use Rattle.semantics.specs.Plant.{Plant}
+use Rattle.semantics.specs.Starts.{Start}
+use Rattle.semantics.specs.Run.{recordOf}
+use Rattle.semantics.specs.Calls.{Program, Ran, judgeRun, eventCount, recordSize, roomForRecords}
+use Rattle.semantics.specs.Conditions.{Condition, is20, is21, is22, runConditions}
+use Rattle.semantics.proofs.Facts.{All, all-nil, all-cons, all-append}
+use Rattle.semantics.proofs.Judging as Judging
+use Rattle.semantics.proofs.FirstNumber.{First, Clear, none-left, one-clear, Firsts, refuses, accepts, by-then, by-ensure, by-end, given-some, run-first, first-or-none}
+use Rattle.schedules.specs.Residuals.{Residual}
+use Rattle.schedules.specs.Files.{Schedule, judgeFile, ruleControl}
+use Rattle.schedules.specs.Compiling.{judgeCompile}
+use Rattle.schedules.specs.Calls.{ruleProgram, ruleRun, compile}
+use Rattle.schedules.specs.Conditions.{filePlant, compileConditions}
+use Rattle.schedules.specs.Agreement.{RunsAgree}
+use Rattle.schedules.proofs.FirstNumber.{file-plant, compile-first, compiled-refusal}
+use Rattle.schedules.proofs.Agreement.{agreement, compile-taken, first-not-0, never-0}
+use Rattle.exam.specs.Exam.{Examined, judgeExam, agreed, refusedExam, reported, examTable, examined, examOf, examConditions, ExamHolds}
+use Rattle.exam.proofs.Comparing.{agreed-true}
+
+-- a call that is known to accept adds no number
+known : {A B : Type 0} {j : Judged A} {a : A} (f : A → Judged B) {l : List Condition} → j ≡ accepted a → Firsts (f a) l → Firsts (j >>= f) l
+unfolding _>>=_
+known f e h = rw e h
+
+-- none applies of either list
+clear-parts : (k : List Condition) {l : List Condition} → Clear (k ++ l) → Clear k × Clear l
+clear-parts [] c = (none-left, c)
+clear-parts (x ∷ k) (one-clear e c) = let p = clear-parts k c in (one-clear e (p .0), p .1)
+
+pub rule-program : (ed : Edition) (file : List ℕ) {s : Schedule} → judgeFile ed file ≡ accepted s → ruleProgram ed file ≡ accepted (record { plant = s .plant; control = ruleControl s })
+unfolding ruleProgram
+rule-program ed file h = Judging.go-then _ h
+
+-- four conditions that do not apply
+four : {a b c d : Condition} → Clear (a ∷ b ∷ c ∷ d ∷ []) → (a .applies ≡ false) × (b .applies ≡ false) × (c .applies ≡ false) × (d .applies ≡ false)
+four (one-clear e (one-clear f (one-clear g (one-clear h k)))) = (e, f, g, h)
+
+-- the records that a run wrote
+written-front : (w b : List ℕ) (n : ℕ) → length w ≡ n → take n (overwrite w b) ≡ w
+unfolding overwrite
+written-front w b n e = ap (λ n. take n (overwrite w b)) (sym e) ∙ take-append-seam w (drop (length w) b)
+
+-- what two such runs say is found to agree
+told : {ed : Edition} {s : Schedule} {st : Start} {events by-rules by-table : List ℕ} {r t : Ran} (n : ℕ) (a : RunsAgree ed s st events by-rules by-table r t) →
+    length (flatMap (recordOf ed (ruleControl s)) (a .said)) ≡ n → agreed n r t ≡ true
+told {ed} {s} {by-rules = by-rules} {by-table = by-table} {r = r} {t = t} n a e = agreed-true n r t (record {
+  refusal = a .rules-taken-on ∙ sym (a .table-taken-on);
+  taken = sym (a .table-counts .0);
+  turned-away = sym (a .table-counts .1);
+  faulted = sym (a .table-counts .2);
+  records = ap (take n) (a .rules-records) ∙ written-front _ by-rules n e ∙ sym (ap (take n) (a .table-records) ∙ written-front _ by-table n e);
+})
+
+no-zero : (n : ℕ) → suc n ≡ 0 → ⊥
+no-zero n e = omega arith
+
+pub run-numbers : (ed : Edition) (plant : Option Plant) (start events buffer : List ℕ) → All (λ (c : Condition). c .refusal ≡ 0 → ⊥) (runConditions ed plant start events buffer)
+unfolding runConditions
+run-numbers ed plant start events buffer = all-cons (no-zero 19) (all-cons (no-zero 20) (all-cons (no-zero 21) all-nil))
+
+module _ (ed : Edition) (file start events table records others : List ℕ) where
+  pub exam-judged : Firsts (judgeExam ed file start events table records others) (examConditions ed file start events table records others)
+  unfolding judgeExam examConditions is22
+  exam-judged = by-then (compile-first ed file table) (λ t e.
+      let k = compile-taken ed file table e in
+      let p = file-plant ed file (k .of-file) in
+      known _ (rule-program ed file (k .of-file))
+      (by-then (run-first ed start events records (by-end _) (λ g i. p ∙ ap (λ (g : Program Residual). some (g .plant)) (Judging.accepted-is i))) (λ o i.
+      by-ensure 22 (roomForRecords ed (k .of .plant) events others) (given-some _ p) (λ h22. by-end _))))
+
+  -- no number is 0
+  pub exam-numbers : All (λ (c : Condition). c .refusal ≡ 0 → ⊥) (examConditions ed file start events table records others)
+  unfolding examConditions
+  exam-numbers = all-append (never-0 ed file table) (all-append (run-numbers ed (filePlant ed file) start events records) (all-cons (no-zero 21) all-nil))
+
+  pub exam-refusal : (j : Judged ℕ) → (examined ed file start events table records others j) .refusal ≡ refusalOf j
+  unfolding examined refusedExam reported refusalOf
+  exam-refusal (refused n) = refl
+  exam-refusal (accepted n) = refl
+
+  -- the refusal is the first of the call's numbers that applies, or 0 where none does; 15 to 19 are not among them
+  pub exam-first : First ((examOf ed file start events table records others) .refusal) (examConditions ed file start events table records others) ⊎
+      (((examOf ed file start events table records others) .refusal ≡ 0) × Clear (examConditions ed file start events table records others))
+  unfolding examOf
+  exam-first = rw (exam-refusal (judgeExam ed file start events table records others)) (first-or-none exam-judged)
+
+  -- on a refusal: the number, and nothing written
+  pub exam-refused : ((examOf ed file start events table records others) .refusal ≡ 0 → ⊥) →
+      examOf ed file start events table records others ≡ refusedExam ((examOf ed file start events table records others) .refusal) table records others
+  unfolding examOf examined refusedExam reported
+  exam-refused = go (judgeExam ed file start events table records others)
+    where
+      go : (j : Judged ℕ) → ((examined ed file start events table records others j) .refusal ≡ 0 → ⊥) →
+          examined ed file start events table records others j ≡ refusedExam ((examined ed file start events table records others j) .refusal) table records others
+      go (refused n) h = refl
+      go (accepted n) h = absurd (h refl)
+
+  -- the length of the records that are compared, of a call that accepts
+  pub exam-length : {s : Schedule} {n : ℕ} → judgeFile ed file ≡ accepted s → judgeExam ed file start events table records others ≡ accepted n → eventCount ed events * recordSize ed (s .plant) ≡ n
+  unfolding judgeExam
+  exam-length {s} h e =
+      let a = Judging.passed-then (judgeCompile ed file table) _ e in
+      let b = Judging.passed-then (ruleProgram ed file) _ (a .2) in
+      let c = Judging.passed-then (judgeRun ed (accepted (b .0)) start events records) _ (b .2) in
+      let d = Judging.passed-ensure 22 _ _ (c .2) in
+      ap (λ (g : Program Residual). eventCount ed events * recordSize ed (g .plant)) (Judging.accepted-is (sym (rule-program ed file h) ∙ b .1)) ∙ Judging.accepted-is (d .1)
+
+  -- compiling accepts where the call does
+  exam-compiled : {n : ℕ} → judgeExam ed file start events table records others ≡ accepted n → (compile ed file table) .refusal ≡ 0
+  unfolding judgeExam compile refusalOf
+  exam-compiled e = let a = Judging.passed-then (judgeCompile ed file table) _ e in compiled-refusal table (judgeCompile ed file table) ∙ ap refusalOf (a .1)
+
+  -- demand 3 of the call: where it is not refused, neither run is, and both come to what the rules derive
+  pub exam-agrees : (examOf ed file start events table records others) .refusal ≡ 0 → ExamHolds ed file start events table records others
+  unfolding examOf examined refusedExam reported examTable runConditions examConditions
+  exam-agrees = go (judgeExam ed file start events table records others) refl exam-judged
+    where
+      go : (j : Judged ℕ) → judgeExam ed file start events table records others ≡ j → Firsts j (examConditions ed file start events table records others) →
+          (examined ed file start events table records others j) .refusal ≡ 0 → ExamHolds ed file start events table records others
+      go (refused n) e (refuses f) z = absurd (first-not-0 exam-numbers f z)
+      go (accepted n) e (accepts c) z =
+          let q = exam-compiled e in
+          let a = agreement ed file table q in
+          let p = file-plant ed file (a .schedule-read) in
+          let l = exam-length (a .schedule-read) e in
+          let k = four ((clear-parts (compileConditions ed file table) c) .1) in
+          let r = a .runs start events records others
+          (ap (λ o. is20 ed o start events records) (sym p) ∙ k .0)
+          (ap (λ o. is21 ed o start events records) (sym p) ∙ k .1)
+          (ap (λ o. is22 ed o start events records) (sym p) ∙ k .2)
+          (ap (λ o. is22 ed o start events others) (sym p) ∙ k .3) in
+          let i : examOf ed file start events table records others ≡ examined ed file start events table records others (accepted n) = ap (examined ed file start events table records others) e in
+          record {
+            agree-told = ap (λ (x : Examined). x .agree) i ∙ told n (r .2) (r .2 .records-length ∙ l);
+            compiled = q;
+            schedule = a .schedule;
+            schedule-read = a .schedule-read;
+            st = r .0;
+            start-read = r .1;
+            runs = r .2;
+            result = i ∙ ap (λ n. reported n ((compile ed file table) .written) ((compile ed file table) .table) (ruleRun ed file start events records) (examTable ed file start events table records others)) (sym l);
+          }

@@ -1,0 +1,254 @@
+-- Examining judged in order: what each answer makes of the whole.
+use mathlib.Core.Path.{_≡_, refl, sym, ap, _∙_}
+use mathlib.Core.Bool.{Bool, true, false, _&&_}
+use mathlib.Core.List.{List}
+use Prim.Native.Nat.{ℕ, _*_, _/_, _<_, _≤_}
+use native.Mathlib.Omega.{arith}
+use borrow.Author.Tests.{leb-true}
+use lib.ListN.{length, take, drop, length-append}
+use lib.Dec.{eqb}
+use Rattle.semantics.specs.Bytes.{overwrite}
+use Rattle.semantics.specs.Editions.{Edition, edition1}
+use Rattle.semantics.specs.Refusals.{Judged, refused, accepted, _>>=_, _>>_, ensure, need, refusalOf}
+use Rattle.semantics.specs.Plant.{Plant}
+use Rattle.semantics.specs.Starts.{startIn, startFits}
+use Rattle.semantics.specs.Calls.{Program, Outcome, Ran, judgeRun, tableRun, outcomeOf, runFrom, wholeEvents, eventCount, recordSize, roomForRecords}
+use Rattle.semantics.specs.Conditions.{Condition}
+use Rattle.semantics.proofs.Facts.{All, all-append}
+use Rattle.semantics.proofs.Judging as Judging
+use Rattle.semantics.proofs.CallsHold.{accepted-of}
+use Rattle.schedules.specs.Residuals.{Residual}
+use Rattle.schedules.specs.Files.{Schedule, judgeFile, ruleControl}
+use Rattle.schedules.specs.Compiling.{judgeCompile, tableOf}
+use Rattle.schedules.specs.Calls as S
+use Rattle.schedules.specs.Calls.{ruleProgram, ruleRun, compile, compiledInto}
+use Rattle.schedules.specs.Conditions.{filePlant, ruleRunConditions}
+use Rattle.schedules.proofs.FirstNumber.{rule-run-first}
+use Rattle.schedules.proofs.Agreement.{compile-taken}
+use Rattle.exam.specs.Exam as Exam
+use Rattle.exam.specs.Exam.{judgeExam, sameBytes, sameNumbers, agreed, reported, refusedExam, examTable, examined, examOf}
+use Rattle.exam.specs.Examining.{numbers, noExam, Returned, Room}
+use Rattle.exam.specs.declared.Examined.{Examined}
+use Rattle.rule_run.specs.Called as ruled
+use Rattle.rule_run.specs.declared.call.Ran as R
+use Rattle.table_run.specs.Called as tabled
+use Rattle.table_run.specs.declared.call.Ran as T
+use Rattle.compiler.specs.CallParts.{returned}
+use Rattle.compiler.specs.Measured.{judgeMeasure, lengthOf}
+use Rattle.compiler.proofs.Measuring.{file-numbers, Sized, measure-refused, measure-sized, too-short, long-enough}
+use Rattle.exam.proofs.ExamHolds.{rule-program, run-numbers, exam-judged, exam-numbers, exam-length, exam-refusal, exam-agrees}
+
+-- a refusal is the whole call's
+refused-first : {A B : Type 0} (j : Judged A) (f : A → Judged B) → (refusalOf j ≡ 0 → ⊥) → refusalOf (j >>= f) ≡ refusalOf j
+unfolding refusalOf _>>=_
+refused-first (refused n) f z = refl
+refused-first (accepted a) f z = absurd (z refl)
+
+refused-at : {A B : Type 0} {j : Judged A} {n : ℕ} (f : A → Judged B) → j ≡ refused n → refusalOf (j >>= f) ≡ n
+unfolding refusalOf _>>=_
+refused-at f e = rw e refl
+
+-- a last test's number does not depend on what is accepted
+last-test : {A B : Type 0} (n : ℕ) (t : Bool) (a : A) (b : B) → refusalOf (ensure n t >> accepted a) ≡ refusalOf (ensure n t >> accepted b)
+unfolding refusalOf _>>_ ensure
+last-test n true a b = refl
+last-test n false a b = refl
+
+-- a run into another buffer: only 22 is left to judge
+other-buffer : {S A : Type 0} (ed : Edition) (g : Program S) (start events buffer other : List ℕ) {o : Outcome} (a : A) → judgeRun ed (accepted g) start events buffer ≡ accepted o →
+    refusalOf (judgeRun ed (accepted g) start events other) ≡ refusalOf (ensure 22 (roomForRecords ed (g .plant) events other) >> accepted a)
+unfolding judgeRun
+other-buffer ed g start events buffer other a h =
+    let b = Judging.passed-need 20 (startIn (g .plant) start) _ (sym (Judging.go-then _ refl) ∙ h) in
+    let c = Judging.passed-ensure 20 _ _ (b .2) in
+    let d = Judging.passed-ensure 21 _ _ (c .1) in
+    ap refusalOf (Judging.go-then _ refl ∙ Judging.go-need 20 _ (b .1) ∙ Judging.go-ensure 20 _ (c .0) ∙ Judging.go-ensure 21 _ (d .0)) ∙ last-test 22 _ _ a
+
+module _ (ed : Edition) (file start events table records others : List ℕ) where
+  -- 1 to 13
+  pub by-measure : {a b : ℕ} → (a ≡ refusalOf (judgeMeasure ed file)) × (b ≡ lengthOf (judgeMeasure ed file)) → (a ≡ 0 → ⊥) → a ≡ refusalOf (judgeExam ed file start events table records others)
+  unfolding judgeExam
+  by-measure h z =
+      let k = measure-refused ed file h table z in
+      sym (refused-first (judgeCompile ed file table) _ (λ e. z (sym k ∙ e)) ∙ k)
+
+  module _ {a b : ℕ} (h : (a ≡ refusalOf (judgeMeasure ed file)) × (b ≡ lengthOf (judgeMeasure ed file))) (z : a ≡ 0) where
+    abbrev size : Sized ed file b
+    size = measure-sized ed file h z
+
+    abbrev program : Program Residual
+    program = record { plant = size .schedule .plant; control = ruleControl (size .schedule) }
+
+    -- 14
+    pub by-table : length table < b → 14 ≡ refusalOf (judgeExam ed file start events table records others)
+    unfolding judgeExam
+    by-table l = sym (refused-at _ (too-short ed file table size l))
+
+    module _ (l : b ≤ length table) where
+      compiled : judgeExam ed file start events table records others ≡
+          (judgeRun ed (accepted program) start events records >>= λ o. ensure 22 (roomForRecords ed (program .plant) events others) >> accepted (eventCount ed events * recordSize ed (program .plant)))
+      unfolding judgeExam
+      compiled = Judging.go-then _ (long-enough ed file table size l) ∙ Judging.go-then _ (rule-program ed file (size .schedule-read))
+
+      run-of : (buffer : List ℕ) → judgeRun ed (ruleProgram ed file) start events buffer ≡ judgeRun ed (accepted program) start events buffer
+      run-of buffer = ap (λ j. judgeRun ed j start events buffer) (rule-program ed file (size .schedule-read))
+
+      -- 20 to 22
+      pub by-records : {n : ℕ} → n ≡ refusalOf (judgeRun ed (ruleProgram ed file) start events records) → (n ≡ 0 → ⊥) → n ≡ refusalOf (judgeExam ed file start events table records others)
+      by-records e y =
+          let f = e ∙ ap refusalOf (run-of records) in
+          sym (ap refusalOf compiled ∙ refused-first (judgeRun ed (accepted program) start events records) _ (λ i. y (f ∙ i)) ∙ sym f)
+
+      rule-numbers : All (λ (c : Condition). c .refusal ≡ 0 → ⊥) (ruleRunConditions ed file start events records)
+      unfolding ruleRunConditions
+      rule-numbers = all-append (file-numbers ed file) (run-numbers ed (filePlant ed file) start events records)
+
+      -- 22 of the second buffer
+      pub by-others : {n k : ℕ} → n ≡ refusalOf (judgeRun ed (ruleProgram ed file) start events records) → n ≡ 0 → k ≡ refusalOf (judgeRun ed (ruleProgram ed file) start events others) →
+          k ≡ refusalOf (judgeExam ed file start events table records others)
+      by-others e y f =
+          let a = accepted-of (rule-run-first ed file start events records) rule-numbers (sym e ∙ y) in
+          let b = sym (run-of records) ∙ a .1 in
+          f ∙ ap refusalOf (run-of others) ∙ other-buffer ed program start events records others (eventCount ed events * recordSize ed (program .plant)) b ∙ sym (ap refusalOf (compiled ∙ Judging.go-then _ b))
+
+-- ---- a call that is not refused
+-- its schedule, and room for its records in both buffers
+pub record Admitted (ed : Edition) (file start events table records others : List ℕ) : Type 0 where
+  pub schedule : Schedule
+  pub schedule-read : judgeFile ed file ≡ accepted schedule
+  pub judged : judgeExam ed file start events table records others ≡ accepted (eventCount ed events * recordSize ed (schedule .plant))
+  pub room : eventCount ed events * recordSize ed (schedule .plant) ≤ length records
+  pub room-too : eventCount ed events * recordSize ed (schedule .plant) ≤ length others
+  pub compiled : (compile ed file table) .written ≤ length ((compile ed file table) .table)
+
+table-long : (ed : Edition) (file table : List ℕ) {t : List ℕ} → judgeCompile ed file table ≡ accepted t → (compile ed file table) .written ≤ length ((compile ed file table) .table)
+unfolding compile compiledInto overwrite
+table-long ed file table {t} e = rw e (simp length-append (omega arith))
+
+run-room : {S : Type 0} (ed : Edition) (g : Program S) (start events buffer : List ℕ) {o : Outcome} → judgeRun ed (accepted g) start events buffer ≡ accepted o → roomForRecords ed (g .plant) events buffer ≡ true
+unfolding judgeRun
+run-room ed g start events buffer h =
+    let b = Judging.passed-need 20 (startIn (g .plant) start) _ (sym (Judging.go-then _ refl) ∙ h) in
+    let c = Judging.passed-ensure 20 _ _ (b .2) in
+    let d = Judging.passed-ensure 21 _ _ (c .1) in
+    Judging.passed-ensure 22 _ _ (d .1) .0
+
+room-is : (ed : Edition) (p : Plant) (events buffer : List ℕ) → roomForRecords ed p events buffer ≡ true → eventCount ed events * recordSize ed p ≤ length buffer
+unfolding roomForRecords
+room-is ed p events buffer h = leb-true _ (length buffer) h
+
+pub admitted : (ed : Edition) (file start events table records others : List ℕ) → refusalOf (judgeExam ed file start events table records others) ≡ 0 → Admitted ed file start events table records others
+unfolding judgeExam
+admitted ed file start events table records others z =
+    let x = accepted-of (exam-judged ed file start events table records others) (exam-numbers ed file start events table records others) z in
+    let a = Judging.passed-then (judgeCompile ed file table) _ (x .1) in
+    let k = compile-taken ed file table (a .1) in
+    let b = Judging.passed-then (ruleProgram ed file) _ (a .2) in
+    let i = Judging.accepted-is (sym (b .1) ∙ rule-program ed file (k .of-file)) in
+    let c = Judging.passed-then (judgeRun ed (accepted (b .0)) start events records) _ (b .2) in
+    let d = Judging.passed-ensure 22 _ _ (c .2) in
+    record {
+      schedule = k .of;
+      schedule-read = k .of-file;
+      judged = x .1 ∙ ap accepted (sym (exam-length ed file start events table records others (k .of-file) (x .1)));
+      room = room-is ed (k .of .plant) events records (ap (λ (g : Program Residual). roomForRecords ed (g .plant) events records) (sym i) ∙ run-room ed (b .0) start events records (c .1));
+      room-too = room-is ed (k .of .plant) events others (ap (λ (g : Program Residual). roomForRecords ed (g .plant) events others) (sym i) ∙ d .0);
+      compiled = table-long ed file table (a .1);
+    }
+
+-- ---- what the code makes of the answers of its calls
+abbrev toldOf : ℕ → Ran → Ran → Bool → Examined
+toldOf n r t q = record {
+  refusal = 0;
+  length = n;
+  taken = r .taken;
+  «turned_away» = r .turned-away;
+  faulted = r .faulted;
+  «table_taken» = t .taken;
+  «table_turned_away» = t .turned-away;
+  «table_faulted» = t .faulted;
+  agree = q;
+}
+
+-- what is written stands in the buffer
+long-after : (w b : List ℕ) {l : List ℕ} {n : ℕ} → l ≡ overwrite w b → length w ≡ n → n ≤ length l
+unfolding overwrite
+long-after w b e f =
+    let g = ap length e ∙ length-append w (drop (length w) b) in
+    omega arith
+
+module _ (file start events table records others : List ℕ) where
+  abbrev C : S.Compiled
+  C = compile edition1 file table
+
+  abbrev X : Ran
+  X = examTable edition1 file start events table records others
+
+  abbrev Y : Ran
+  Y = ruleRun edition1 file start events records
+
+  -- compiling wrote l bytes, and left tb
+  module _ {m l : ℕ} {tb : List ℕ} (h : returned m l tb ≡ C) where
+    abbrev Z : Ran
+    Z = tableRun edition1 (take l tb) start events others
+
+    -- the run of the table that the code made
+    ran-table : Z ≡ X
+    unfolding examTable
+    ran-table = ap (λ (x : S.Compiled). tableRun edition1 (take (x .written) (x .table)) start events others) h
+
+    -- the call was accepted
+    module _ (z : refusalOf (judgeExam edition1 file start events table records others) ≡ 0) where
+      -- the room for the table holds what is read back from it
+      pub table-fits : l ≤ length tb
+      table-fits =
+          let a = admitted edition1 file start events table records others z .compiled in
+          let e = ap (λ (x : S.Compiled). x .written) h in
+          let f = ap (λ (x : S.Compiled). length (x .table)) h in
+          omega arith
+
+      module _ (r : R.Ran) (t : T.Ran) (rs os : List ℕ) (i : ruled.ranWith r rs ≡ Y) (j : tabled.ranWith t os ≡ Z) where
+        records-are : rs ≡ Y .records
+        unfolding ruled.ranWith
+        records-are = ap (λ (x : Ran). x .records) i
+
+        others-are : os ≡ X .records
+        unfolding tabled.ranWith
+        others-are = ap (λ (x : Ran). x .records) (j ∙ ran-table)
+
+        -- the record buffers hold the records that are compared
+        pub rooms : Room file (length events) (length rs) × Room file (length events) (length os)
+        unfolding examOf eventCount
+        rooms =
+            let k = exam-agrees edition1 file start events table records others (exam-refusal edition1 file start events table records others (judgeExam edition1 file start events table records others) ∙ z) in
+            let n = length events / 3 * recordSize edition1 (k .schedule .plant) in
+            let a : n ≤ length rs = long-after _ records (records-are ∙ k .runs .rules-records) (k .runs .records-length) in
+            let b : n ≤ length os = long-after _ others (others-are ∙ k .runs .table-records) (k .runs .records-length) in
+            (record { schedule = k .schedule; schedule-read = k .schedule-read; enough = a }, record { schedule = k .schedule; schedule-read = k .schedule-read; enough = b })
+
+        pub all-told : {q : Bool} → ((s : Schedule) → judgeFile edition1 file ≡ accepted s → q ≡ agreed (length events / 3 * recordSize edition1 (s .plant)) (ruled.ranWith r rs) (tabled.ranWith t os)) →
+            Returned (examOf edition1 file start events table records others) (toldOf l (ruled.ranWith r rs) (tabled.ranWith t os) q) tb rs os
+        unfolding examOf examined reported numbers eventCount
+        all-told {q} g =
+            let a = admitted edition1 file start events table records others z in
+            let n = length events / 3 * recordSize edition1 (a .schedule .plant) in
+            let k = j ∙ ran-table in
+            let w : q ≡ agreed n Y X = g (a .schedule) (a .schedule-read) ∙ ap (λ x. agreed n x (tabled.ranWith t os)) i ∙ ap (agreed n Y) k in
+            let x : examOf edition1 file start events table records others ≡ reported n (C .written) (C .table) Y X = ap (examined edition1 file start events table records others) (a .judged) in
+            record {
+              numbers-are = ap (λ (c : S.Compiled). toldOf (c .written) (ruled.ranWith r rs) (tabled.ranWith t os) q) h ∙ ap (λ y. toldOf (C .written) y (tabled.ranWith t os) q) i
+                  ∙ ap (λ y. toldOf (C .written) Y y q) k ∙ ap (toldOf (C .written) Y X) w ∙ sym (ap numbers x);
+              table-is = ap (λ (c : S.Compiled). c .table) h ∙ sym (ap (λ (x : Exam.Examined). x .table) x);
+              records-are = records-are ∙ sym (ap (λ (x : Exam.Examined). x .records) x);
+              others-are = others-are ∙ sym (ap (λ (x : Exam.Examined). x .others) x);
+            }
+
+  -- a refusal, with the buffers as they were
+  pub none-told : {n : ℕ} {r : Examined} → n ≡ refusalOf (judgeExam edition1 file start events table records others) → (n ≡ 0 → ⊥) → r ≡ noExam n →
+      Returned (examOf edition1 file start events table records others) r table records others
+  unfolding examOf refusalOf examined refusedExam numbers
+  none-told {n} {r} e z h = go (judgeExam edition1 file start events table records others) e
+    where
+      go : (j : Judged ℕ) → n ≡ refusalOf j → Returned (examined edition1 file start events table records others j) r table records others
+      go (refused m) e = record { numbers-are = h ∙ ap (λ n. noExam n) e; table-is = refl; records-are = refl; others-are = refl }
+      go (accepted m) e = absurd (z e)

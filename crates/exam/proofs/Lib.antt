@@ -1,0 +1,4 @@
+pub mod Comparing
+pub mod ExamHolds
+pub mod ExamStages
+pub mod Sizes

@@ -1,0 +1,52 @@
+-- The length of a run's records, from the counts that reading a schedule gives.
+use mathlib.Core.Path.{_≡_, refl, sym, ap, _∙_}
+use mathlib.Core.List.{List}
+use Prim.Native.Nat.{ℕ, _+_, _*_, _/_, _≤_}
+use native.Mathlib.Omega.{arith}
+use lib.ListN.{length, take, length-take}
+use Rattle.semantics.specs.Editions.{edition1}
+use Rattle.semantics.specs.Refusals.{accepted}
+use Rattle.semantics.specs.Plant.{Plant, selectors}
+use Rattle.semantics.specs.Calls.{recordSize}
+use Rattle.schedules.specs.Files.{Schedule, judgeFile}
+use Rattle.schedules.specs.Calls.{ScheduleRead, readSchedule}
+use Rattle.schedules.proofs.FirstNumber.{passed}
+use Rattle.schedules.proofs.CallsHold.{read-schedule-result}
+use Rattle.plant.proofs.PlantLaws.{passed-all, variables-high}
+use Rattle.plant.proofs.EquationLaws.{few-selectors}
+use Rattle.schedule_read.specs.ScheduleFile.{numbers}
+use Rattle.schedule_read.specs.declared.call.FileRead.{FileRead}
+use Rattle.exam.specs.Examining.{Room}
+
+-- the counts of a schedule
+pub record Counts (r : FileRead) (s : Schedule) : Type 0 where
+  pub variables : r .variables ≡ length (s .plant .variables)
+  pub selectors-are : r .selectors ≡ length (selectors (s .plant))
+  pub few : r .variables ≤ 32
+  pub few-selectors : r .selectors ≤ 16
+
+pub counts : (f : List ℕ) {r : FileRead} {s : Schedule} → r ≡ numbers (readSchedule edition1 f) → judgeFile edition1 f ≡ accepted s → Counts r s
+unfolding numbers selectors
+counts f {r} {s} h e =
+    let p = passed edition1 f s e in
+    let k = h ∙ ap numbers (read-schedule-result edition1 f e) in
+    let v : r .variables ≡ length (s .plant .variables) = ap (λ (r : FileRead). r .variables) k in
+    let c : r .selectors ≡ length (selectors (s .plant)) = ap (λ (r : FileRead). r .selectors) k in
+    let a = variables-high (s .sections .variables) (s .sections .equations) (p .plant) in
+    let q = passed-all (s .sections .variables) (s .sections .equations) (p .plant) in
+    let b = few-selectors (s .sections .equations) (q .equations) in
+    record { variables = v; selectors-are = c; few = omega arith; few-selectors = omega arith }
+
+size-of : (p : Plant) → 9 + 4 * length (p .variables) + length (selectors p) ≡ recordSize edition1 p
+unfolding recordSize
+size-of p = omega arith
+
+pub length-of : (f : List ℕ) {r : FileRead} {s : Schedule} (n : ℕ) → r ≡ numbers (readSchedule edition1 f) → judgeFile edition1 f ≡ accepted s →
+    n * (9 + 4 * r .variables + r .selectors) ≡ n * recordSize edition1 (s .plant)
+length-of f {r} {s} n h e =
+    let k = counts f h e in
+    ap (λ x. n * (9 + 4 * x + r .selectors)) (k .variables) ∙ ap (λ x. n * (9 + 4 * length (s .plant .variables) + x)) (k .selectors-are) ∙ ap (λ x. n * x) (size-of (s .plant))
+
+-- the front of a list
+pub front-length : (n : ℕ) (l : List ℕ) → n ≤ length l → n ≡ length (take n l)
+front-length n l h = sym (simp length-take (omega arith))

@@ -1,0 +1,27 @@
+use native.Mathlib.Omega.{arith}
+use borrow.Author.Needs.{needs}
+use Rattle.rule_run.specs.Called as ruled
+use Rattle.table_run.specs.Called as tabled
+use Rattle.exam.specs.Exam.{agreed, sameNumbers}
+use Rattle.exam.proofs.Sizes.{front-length}
+use Rattle.exam.proofs.compared.Statement.{statement}
+use Rattle.exam.proofs.compared.Tie as tie
+
+records-length-requires : tie.Need-records-length-requires
+records-length-requires c κs = search needs
+
+slice-aggregate-agreed : tie.Need-slice-aggregate-agreed
+slice-aggregate-agreed c = let s = c .before .before .before .before .before in let r = s .pre .0 in let e = c .before .records-length .ensures (r .schedule) (r .schedule-read) in front-length _ (s .args .a .now) (omega (arith, e, r .enough))
+
+slice-aggregate-agreed-2 : tie.Need-slice-aggregate-agreed-2
+slice-aggregate-agreed-2 c = let s = c .before .before .before .before .before .before in let r = s .pre .1 in let e = c .before .before .records-length .ensures (r .schedule) (r .schedule-read) in front-length _ (s .args .b .now) (omega (arith, e, r .enough))
+
+agreed-requires : tie.Need-agreed-requires
+agreed-requires c κs = search needs
+
+returns : tie.Need-returns
+unfolding agreed sameNumbers ruled.ranWith tabled.ranWith
+returns c = λ s h. rw (c .before .before .before .records-length .ensures s h) at (c .agreed .ensures)
+
+pub compared-spec : {M : Type 1} → statement M
+compared-spec = tie.close (tie.spec records-length-requires slice-aggregate-agreed slice-aggregate-agreed-2 agreed-requires returns)
