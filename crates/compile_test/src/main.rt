@@ -2,14 +2,12 @@
 
 fn show(file: &[u8], table: &mut [u8]) {
     let r = compiler::call::compile(file, table);
-    let refusal = [r.refusal];
     if r.refusal != 0 {
+        let refusal = [r.refusal];
         io::write_all(1, &refusal);
         return;
     }
-    if r.length <= table.len() {
-        io::write_all(1, &table[..r.length]);
-    }
+    output::front(1, table, r.length);
 }
 
 // K1
@@ -68,10 +66,11 @@ fn small() {
 
 // with one byte too few, and with just enough
 fn large() {
-    let mut table = [0u8; 298265];
     let file = widest();
-    show(&file, &mut table[..298264]);
-    show(&file, &mut table);
+    let mut short = [0u8; 298264];
+    show(&file, &mut short);
+    let mut enough = [0u8; 298265];
+    show(&file, &mut enough);
 }
 
 fn main() {

@@ -1,8 +1,9 @@
 // K1's program: a schedule on standard input, its table on standard output, or the refusal as one byte.
 // Of a longer input the first 65,536 bytes are read: no schedule has as many, so it is refused with 1 or 2 either way.
 
-fn write(bytes: &[u8]) {
-    if !io::write_all(1, bytes) {
+// The first n bytes.
+fn write(bytes: &[u8], n: usize) {
+    if !output::front(1, bytes, n) {
         io::write_all(2, b"mktable: the output could not be written\n");
     }
 }
@@ -14,10 +15,8 @@ fn main() {
     let r = compiler::call::compile(&input[..n], &mut table);
     if r.refusal != 0 {
         let refusal = [r.refusal];
-        write(&refusal);
+        write(&refusal, 1);
         return;
     }
-    if r.length <= table.len() {
-        write(&table[..r.length]);
-    }
+    write(&table, r.length);
 }
