@@ -50,12 +50,16 @@ module _ (f : List ℕ) where
   missing p h n e = not-ended cuts2 f p h (sym (end-there f p n)) e
 
   module _ (h : 3 ≤ length f) {t : SectionEnds} (is : t ≡ sectionEnds f) where
+    last : t .schedule ≡ sectionEnds f .schedule
+    last = ap (λ t. t .schedule) is
+
     pub all-stand : (t .schedule ≡ 0 → ⊥) → AllStand f t
     all-stand n =
-        let k = not-0 _ (λ e. n (ap (λ t. t .schedule) is ∙ e)) in
+        let l : sectionEnds f .schedule ≡ 0 → ⊥ = λ e. n (last ∙ e) in
+        let k = not-0 _ l in
         let vs = stands 3 h (not-0 _ k) in
         let es = stands _ (vs .inside) k in
-        subst (AllStand f) (sym is) (record { variables = vs; equations = es; schedule = stands _ (es .inside) (λ e. n (ap (λ t. t .schedule) is ∙ e)) })
+        subst (AllStand f) (sym is) (record { variables = vs; equations = es; schedule = stands _ (es .inside) l })
 
     pub one-missing : t .schedule ≡ 0 → fileSectionsIn (drop 3 f) ≡ none
     one-missing k = first (eqb (sectionEnd f 3) 0) refl
@@ -64,7 +68,7 @@ module _ (f : List ℕ) where
         second true vs e = no-equations f vs (missing _ (vs .inside) (λ i. let j = vs .is in absurd (omega arith)) (eqb-true _ 0 e))
         second false vs e =
             let es = stands _ (vs .inside) (eqb-false _ 0 e) in
-            no-schedule f vs es (missing _ (es .inside) (eqb-false _ 0 e) (sym (ap (λ t. t .schedule) is) ∙ k))
+            no-schedule f vs es (missing _ (es .inside) (eqb-false _ 0 e) (sym last ∙ k))
 
         first : (b : Bool) → eqb (sectionEnd f 3) 0 ≡ b → fileSectionsIn (drop 3 f) ≡ none
         first true e = no-variables f (missing 3 h (λ i. absurd (omega arith)) (eqb-true _ 0 e))

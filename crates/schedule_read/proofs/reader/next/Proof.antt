@@ -1,6 +1,6 @@
--- `reader::next` meets its contract: a walk of its MIR, by hand. The struct is taken apart, `end` is called on the slice and the number, and a struct is made anew of the slice and the answer.
--- A struct that holds only a `&` is Copy. What it owns is had three times: what the slice owns goes to `end`; one copy is kept whole for the exit; of the third, with the answer's facts in the place of at's, the result is made.
--- All that the proof knows of `end` is its contract.
+-- `reader::next` meets its contract: a walk of its MIR, by hand (`start` says how one reads). The struct is taken apart, `end` is called on the slice and the number, and a struct is made anew of the slice and the answer.
+-- A struct that holds only a `&` is Copy. What it owns is had three times: of one, what the slice owns goes to `end`; one is kept whole for the exit; the third, with the answer's facts in the place of at's, is what the result owns.
+-- All that the proof knows of `end` is its contract. A call (`calls-at`) begins with what the callee asks in front and ends with what it ensures there; `land` stores what it returned.
 use mathlib.Core.Path.{_≡_, refl, ap}
 use Prim.Native.Nat.{ℕ, _<_, _^_}
 use mathlib.Core.List.{[], _∷_}

@@ -1,6 +1,9 @@
--- `reader::new` meets its contract: a walk of its MIR, by hand. A `Reader` is made of the slice passed and 3, in the result's local.
--- A `&[u8]` is Copy, so what it owns is had twice: once for file at exit, and once inside the result, beside the facts of at.
--- Assumes nothing.
+-- `reader::start` meets its contract: a walk of its MIR, by hand. A `Reader` is made of the slice passed and 3, in the result's local.
+-- A `&[u8]` is Copy, so what it owns is had twice: once for the slice at exit, and once inside the result, beside the facts of at.
+--
+-- How a walk reads, here and in `next` and `ends`. The context is a list, and a number is a place in it. `alloc1` puts a local in front: its cell, and that it may be freed. `pass1` stores an argument.
+-- Each statement is one `assigns`: what is read (`look`: a cell; `look-in`: a field of one; `lit`: a constant), and the room that takes it (`init`, with that the value has the room's type).
+-- `returns` reads _0. Then each cell is room again (`forget`) and is freed (`free1`, from _0 on), and what is left is what `exits` begins with.
 use mathlib.Core.Path.{refl}
 use Prim.Native.Nat.{ℕ}
 use mathlib.Core.List.{List, [], _∷_}
@@ -79,6 +82,7 @@ module _ {M : Type 1} (𝓤 : URA M) (H : Heap 𝓤) (A : Atoms 𝓤) (W : Given
     walk p =
         qed W (raw (onEntry 𝓤 H A start.signature (κ, tt) (q, tt) (s, tt) at) ∷ []) ∵ enter ! C Λ code.function (v ∷ []) _ $
         alloc1 ! (λ l₀. alloc1 ! (λ l₁. alloc0 ! $ params1 ! $ pass1 ! (init ! 0 refl (shr-slice-lawful 𝓤 H A W (named 0) κ u8 .typed s (v ∷ []) p .0)) $ pass0 ! $
+        -- _0 = Reader { _1, 3 }
         assigns ! (agg ! (and-then ! (load ! (from ! (stop !)) (look ! 0 refl)) (and-then ! (lit ! tt) (no-more !)))) (from ! (stop !)) (init ! 2 refl (tt, (shr-slice-lawful 𝓤 H A W (named 0) κ u8 .typed s (v ∷ []) p .0 .1, (record { fits = lit< tt }, tt)))) $
         returns ! (look ! 2 refl) $ forget ! 0 refl $ forget ! 2 refl $ move ! (2 ∷ 3 ∷ []) $ free1 ! $ free1 ! $ free0 ! $ by ! exits))
 
