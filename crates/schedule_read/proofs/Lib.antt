@@ -1,4 +1,5 @@
 pub mod PartsStand
+mod SectionPlaces
 pub mod Payloads
 pub mod Passing
 pub mod ModeCounts

@@ -5,4 +5,5 @@ pub mod names;
 pub mod nodes;
 pub mod operands;
 pub mod parts;
+mod reader;
 pub mod tree;

@@ -5,6 +5,7 @@ ghost use lib.ListN.{length};
 ghost use Rattle.semantics.specs.Editions.{edition1};
 ghost use Rattle.schedules.specs.Files.{fileHeader, fileLength};
 ghost use Rattle.schedule_read.specs.FileParts.{noParts, partsOf};
+use super::reader;
 
 // 0, or the number of the first condition that is broken; each section from its start to its end
 pub struct Parts {
@@ -56,15 +57,11 @@ pub fn read(file: &[u8]) -> Parts
     if !length_field(file) {
         return refused(2);
     }
-    let v = codec::end2(file, 3);
-    if v == 0 {
-        return refused(3);
-    }
-    let e = codec::end2(file, v);
-    if e == 0 {
-        return refused(3);
-    }
-    let s = codec::end2(file, e);
+    let ends = reader::ends(file);
+    let v = ends.variables;
+    let e = ends.equations;
+    let s = ends.schedule;
+    // a section is missing
     if s == 0 {
         return refused(3);
     }
