@@ -550,7 +550,7 @@ fn bump(n: usize, on: bool) -> usize
 }
 
 // The counts with one answer more.
-pub fn booked(c: Counts, answer: u8) -> Counts
+fn counted(c: Counts, answer: u8) -> Counts
     requires { ⌜ Room c ⌝ }
     ensures { λ r. ⌜ r ≡ bookedOf c answer ⌝ }
 {
@@ -559,6 +559,24 @@ pub fn booked(c: Counts, answer: u8) -> Counts
         turned_away: bump(c.turned_away, between(23, 31, answer)),
         faulted: bump(c.faulted, answer == 203),
     }
+}
+
+// Books an answer in the counts that it is lent.
+fn book(c: &mut Counts, answer: u8)
+    requires { ⌜ Room (now c) ⌝ }
+    ensures { λ _. ⌜ now (c .exit) ≡ bookedOf (now (c .entry)) answer ⌝ }
+{
+    *c = counted(*c, answer);
+}
+
+// The same for counts by value: they are lent to `book`.
+pub fn booked(c: Counts, answer: u8) -> Counts
+    requires { ⌜ Room c ⌝ }
+    ensures { λ r. ⌜ r ≡ bookedOf c answer ⌝ }
+{
+    let mut counts = c;
+    book(&mut counts, answer);
+    counts
 }
 
 // The eight bytes of a set of nodes below 64, at a place; the next place.
