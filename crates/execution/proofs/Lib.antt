@@ -7,6 +7,7 @@ mod Taking
 mod Rates
 mod Scans
 mod Lending
+mod Lent
 pub mod Formed
 mod Events
 mod Which
