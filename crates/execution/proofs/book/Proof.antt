@@ -42,7 +42,7 @@ use Rattle.semantics.specs.Bytes.{within}
 use Rattle.execution.specs.Booking.{bumped, bookedOf, Room}
 use Rattle.execution.specs.declared.Counts.{Counts}
 use Rattle.execution.proofs.Books.{booked-within}
-use Rattle.execution.proofs.Lent.{vals, number, counts, local, written}
+use Rattle.execution.proofs.LentCounts.{vals, number, counts, local, written}
 use Rattle.execution.proofs.Counts as T
 use Rattle.execution.proofs.Counts.Laws as T′
 use Rattle.execution.proofs.counted as counted
@@ -70,19 +70,20 @@ module _ {M : Type 1} (𝓤 : URA M) (H : Heap 𝓤) (A : Atoms 𝓤) (W : Given
 
   -- a: the answer
   module _ (a : ℕ) (a-fits : a < 2 ^ 8) (C : Calls 𝓤 H) (Λ : Loops 𝓤 H) (fm : FmC 𝓤 H (W .laws) C) (known : Triple 𝓤 (C #execution·counted) Counted) where
+    -- what a call of `counted` on a count n takes: the numbers, and all that its contract binds
     abbrev numbers : ℕ → ℕ → ℕ → ℕ × (ℕ × (ℕ × (ℕ × Unit {0})))
     numbers n low high = (n, (low, (high, (a, tt))))
 
     abbrev to-counted : ℕ → ℕ → ℕ → Counted .Ghost
     to-counted n low high = ((tt, tt, tt, numbers n low high, (vint w64 n ∷ [], (vint w8 low ∷ [], (vint w8 high ∷ [], (vint w8 a ∷ [], tt))))), tt)
 
-    -- what `counted` asks is had for nothing: it owns four numbers
+    -- what it asks is had for nothing: numbers are owned at no cost
     asked : (n low high : ℕ) → n + 1 < 2 ^ 64 → low < 2 ^ 8 → high < 2 ^ 8 → ent 𝓤 (emp 𝓤) (Counted .pre (to-counted n low high))
     asked n low high room l h =
         qed W [] ∵ says ! room $ nothing ! $ number w8 a a-fits $ fjoin ! $ number w8 high h $ fjoin ! $
         number w8 low l $ fjoin ! $ number w64 n (omega arith) $ fjoin ! $ nothing ! $ join ! $ done !
 
-    -- a call of `counted`, wherever it stands: it returns the machine's number r, and r is the count
+    -- the call, wherever it stands: it returns some r that is n with the answer counted, and the walk goes on with r's machine value
     booking : {Γ : List (Item 𝓤)} {E : Env 𝓤 H} {xs : List Operand} {d : Place} {rest : Block} {q : Post 𝓤 H} (n low high : ℕ) → n + 1 < 2 ^ 64 → low < 2 ^ 8 → high < 2 ^ 8
         → Opds (Go {0}) W (raw (Counted .pre (to-counted n low high)) ∷ Γ) E xs (vint w64 n ∷ vint w8 low ∷ vint w8 high ∷ vint w8 a ∷ [])
         → ((r : ℕ) → r ≡ bumped n (within low high a) → r < 2 ^ 64 → Seq (Go {0}) W Γ (lands C Λ E d (vint w64 r) rest q)) → Seq (Go {0}) W Γ (runs C Λ E (seq (call #execution·counted xs d) rest) q)
@@ -103,6 +104,7 @@ module _ {M : Type 1} (𝓤 : URA M) (H : Heap 𝓤) (A : Atoms 𝓤) (W : Given
       abbrev at : List Val × (List Val × Unit {0})
       at = (vptr b o ∷ [], (vint w8 a ∷ [], tt))
 
+      -- what the walk leaves, at the machine value returned
       abbrev Left : Val → SProp 𝓤
       Left = walkOf 𝓤 H A book.ended stayed clauses .post (((κ, tt), (q, tt), tt, x, at), tt)
 
@@ -117,18 +119,18 @@ module _ {M : Type 1} (𝓤 : URA M) (H : Heap 𝓤) (A : Atoms 𝓤) (W : Given
       walk : Room h → ent 𝓤 (onEntry 𝓤 H A book.signature (κ, tt) (q, tt) x at) (WpFn 𝓤 H C Λ code.function (vptr b o ∷ vint w8 a ∷ []) Left)
       walk room =
           qed W ((‵ (flft κ q) ⊛ ‵ ftrue) ∷ ‵ (owns (MutRef (named 0) κ T.the-row ∷ u8 ∷ []) x at) ∷ []) ∵ split ! $ move ! (2 ∷ []) $ fsplit ! $ fsplit3 ! $ drop ! $ move ! (0 ∷ 1 ∷ 3 ∷ []) $
-          -- [obs; the borrow; the token; …]: a local for each of _0 to _4, and the two parameters put into _1 and _2
+          -- [what is observed of the struct; the borrow; the token]; then room for _0 to _4 comes in front, each with the right to free it (…), and the parameters go to _1 and _2
           enter ! C Λ code.function (vptr b o ∷ vint w8 a ∷ []) _ $
           alloc1 ! (λ l₀. alloc1 ! (λ l₁. alloc1 ! (λ l₂. alloc1 ! (λ l₃. alloc1 ! (λ l₄. alloc0 ! $ params1 ! $ pass1 ! (init ! 6 refl (tt, tt)) $ pass1 ! (init ! 4 refl (tt, record { fits = a-fits })) $ pass0 ! $
-          -- the borrow is opened: the struct lies in memory, its three numbers written out
+          -- [0 _4; …; 2 _3; …; 4 _2; …; 6 _1; …; 8 _0; …; 10 what is observed; the borrow; the token]: the borrow is opened, and the struct lies in memory with its machine value written out; what it owns is dropped, and made anew at the end
           move ! (10 ∷ 11 ∷ 12 ∷ []) $ opens ! tt T.the-row {h = h} b o (λ vs. written h vs b o $ move ! (1 ∷ []) $ drop ! $
-          -- [0 the struct; the open borrow; obs; auth; 4 _4; …; 6 _3; …; 8 _2; …; 10 _1; …; 12 _0; …], one more in front while the operands of a call are read
-          -- _4 = (*_1).taken; _3 = counted(_4, 200, 202, _2); (*_1).taken = _3
+          -- [0 the struct; the open borrow; what is observed, and the right to change it; 4 _4; …; 6 _3; …; 8 _2; …; 10 _1; …; 12 _0; …]; while a call's operands are read, what it asks stands in front
+          -- _4 = (*_1).taken; _3 = counted(_4, 200, 202, _2); (*_1).taken = _3. A literal of 128 or more is `neg-lit`: MIR writes it from the top of its width
           assigns ! (of-opd ! (load ! (from ! (hop ! (look ! 10 refl) (fld ! refl (stop !)))) (look-in ! 0 (sub ! 0 refl (whole !))))) (from ! (stop !)) (init ! 4 refl (tt, record { fits = omega (arith, room .taken) })) $
           booking (h .taken) 200 202 (room .taken) (omega arith) (omega arith) (and-then ! (local 5 refl) (and-then ! (neg-lit ! tt) (and-then ! (neg-lit ! tt) (and-then ! (local 9 refl) (no-more !))))) (λ t et t-fits.
           land ! (from ! (stop !)) (init ! 6 refl (tt, record { fits = t-fits })) $
           assigns ! (of-opd ! (local 6 refl)) (from ! (hop ! (look ! 10 refl) (fld ! refl (stop !)))) (store-in ! 0 (sub ! 0 refl (whole !)) (tt, record { fits = t-fits })) $
-          -- the same with turned_away, 23 and 31
+          -- the same with turned_away, 23 and 31; _3 and _4 hold something now
           assigns ! (of-opd ! (load ! (from ! (hop ! (look ! 10 refl) (fld ! refl (stop !)))) (look-in ! 0 (sub ! 1 refl (whole !))))) (from ! (stop !)) (store ! 4 refl (tt, record { fits = omega (arith, room .turned-away) })) $
           booking (h .«turned_away») 23 31 (room .turned-away) (omega arith) (omega arith) (and-then ! (local 5 refl) (and-then ! (lit ! tt) (and-then ! (lit ! tt) (and-then ! (local 9 refl) (no-more !))))) (λ u eu u-fits.
           land ! (from ! (stop !)) (store ! 6 refl (tt, record { fits = u-fits })) $
@@ -141,7 +143,7 @@ module _ {M : Type 1} (𝓤 : URA M) (H : Heap 𝓤) (A : Atoms 𝓤) (W : Given
           assigns ! (of-opd ! (unit-lit !)) (from ! (stop !)) (init ! 12 refl (tt, tt)) $
           -- the struct is closed at the record of the three results
           counts (of t u v) (LL.owes T.the-type T′.the-laws (of t u v) ((refl, t-fits), ((refl, u-fits), ((refl, v-fits), tt)))) $ move ! (1 ∷ 0 ∷ []) $ closes ! tt T.the-row (of t u v) (vals (of t u v)) b o $
-          -- [obs; the borrow; the token; 3 _4; …; 11 _0; …]: the result is read and the locals are freed
+          -- [what is observed; the borrow; the token; 3 _4; …; 5 _3; …; 7 _2; …; 9 _1; …; 11 _0; …]: the result is read, and the locals are freed
           returns ! (look ! 11 refl) $ forget ! 3 refl $ forget ! 5 refl $ forget ! 7 refl $ forget ! 9 refl $ forget ! 11 refl $
           move ! (11 ∷ 12 ∷ []) $ free1 ! $ move ! (9 ∷ 10 ∷ []) $ free1 ! $ move ! (7 ∷ 8 ∷ []) $ free1 ! $ move ! (5 ∷ 6 ∷ []) $ free1 ! $ move ! (3 ∷ 4 ∷ []) $ free1 ! $ free0 ! $
           keep ! (0 ∷ 1 ∷ 2 ∷ []) $ by ! (exits _ (booked-within h a et eu ev)))))))))))

@@ -41,7 +41,7 @@ use denote.Triple.Walked.{says, needs, Stays, stay-none, walkOf, goes-none, ends
 use denote.Exit.{yes}
 use Rattle.execution.specs.Booking.{bookedOf, Room}
 use Rattle.execution.specs.declared.Counts.{Counts}
-use Rattle.execution.proofs.Lent.{vals, number, counts, local, lends, returned}
+use Rattle.execution.proofs.LentCounts.{vals, number, counts, local, lends, returned}
 use Rattle.execution.proofs.Counts as T
 use Rattle.execution.proofs.Counts.Laws as T′
 use Rattle.execution.proofs.book as book
@@ -70,6 +70,7 @@ module _ {M : Type 1} (𝓤 : URA M) (H : Heap 𝓤) (A : Atoms 𝓤) (W : Given
     abbrev at : List Val × (List Val × Unit {0})
     at = (vals h, (vint w8 a ∷ [], tt))
 
+    -- what the walk leaves, at the machine value returned
     abbrev Left : Val → SProp 𝓤
     Left = walkOf 𝓤 H A booked.ended stayed clauses .post ((tt, tt, tt, (h, (a, tt)), at), tt)
 
@@ -97,7 +98,7 @@ module _ {M : Type 1} (𝓤 : URA M) (H : Heap 𝓤) (A : Atoms 𝓤) (W : Given
 
     walk : Room h → ent 𝓤 (onEntry 𝓤 H A booked.signature tt tt (h, (a, tt)) at) (WpFn 𝓤 H C Λ code.function (only (vals h) ∷ vint w8 a ∷ []) Left)
     walk room =
-        -- a local for each of _0 to _5, and the two parameters put into _1 and _2
+        -- room for _0 to _5, each with the right to free it (…); the parameters go to _1 and _2
         qed W (‵ ftrue ∷ ‵ (owns (T.the-row ∷ u8 ∷ []) (h, (a, tt)) at) ∷ []) ∵ enter ! C Λ code.function (only (vals h) ∷ vint w8 a ∷ []) _ $
         alloc1 ! (λ l₀. alloc1 ! (λ l₁. alloc1 ! (λ l₂. alloc1 ! (λ l₃. alloc1 ! (λ l₄. alloc1 ! (λ l₅. alloc0 ! $ params1 ! $ pass1 ! (init ! 8 refl (typed h is)) $ pass1 ! (init ! 6 refl (tt, record { fits = a-fits })) $ pass0 ! $
         -- [0 _5; …; 2 _4; …; 4 _3; …; 6 _2; …; 8 _1; …; 10 _0; …]
@@ -108,19 +109,19 @@ module _ {M : Type 1} (𝓤 : URA M) (H : Heap 𝓤) (A : Atoms 𝓤) (W : Given
         move ! (4 ∷ []) $ use1 W (‵ (partAt T.the-row fullShare h l₃ 0)) (lends 𝓤 H A W h l₃ is) $ lft-new ! tt (λ α. move ! (1 ∷ []) $
         use1 W (later (some (λ (δ : GName). ‵ (MutRef (named 0) (α ∷ []) T.the-row .own (lent l₃ δ) (vptr l₃ 0 ∷ [])) ⊛ ‵ (flent (α ∷ []) (Body (mem T.the-row) l₃ 0 δ))))) (lends-ref 𝓤 H A W T.the-row (named 0) (α ∷ []) h l₃ 0) $
         await ! tt $ pick ! (λ δ. split ! $ move ! (2 ∷ 0 ∷ []) $ use2 W (raw (Book .pre (to-book α l₃ δ))) (asked room α l₃ δ) $
-        -- [what `book` asks; the lender's part; 2 _5; …; 4 _4; …; of _3 the second half; 7 _2; …; 9 _1; …; 11 _0; …]
+        -- [what `book` asks; the lender's part; 2 _5; …; 4 _4; …; 6 the right to free _3; 7 _2; …; 9 _1; …; 11 _0; …]
         -- _4 = book(_5, _2)
         calls-at ! fm Book known (to-book α l₃ δ) (and-then ! (local 2 refl) (and-then ! (local 7 refl) (no-more !))) (λ v.
         use1 W (later (some (λ (u : Unit {0}). ((‵ (flft (α ∷ []) fullShare) ⊛ ‵ ftrue) ⊛ ‵ (unit .own u (v ∷ []))) ⊛ raw (ensured 𝓤 H A book.ended (book.clauses 𝓤 H A at-mem run) (α ∷ [], tt) (lent l₃ δ, (a, tt)) tt u)))) (id⊢ 𝓤 _) $ await ! tt $ pick ! (λ u.
-        -- what `book` ensures, of the counts r that it left
+        -- what `book` ensures: the counts that it left, rs .0, are the booked ones
         split ! $ move ! (1 ∷ []) $ use1 W (some (λ (rs : Counts × (Unit {0} × Unit {0})). ‵ (lasts book.ended (α ∷ [], tt) (lent l₃ δ, (a, tt)) rs) ⊛ raw (fact 𝓤 (rs .0 ≡ bookedOf h a)))) (id⊢ 𝓤 _) $ pick ! (λ rs.
         split ! $ move ! (1 ∷ []) $ heard ! (rs .0 ≡ bookedOf h a) (λ e. fsplit ! $ move ! (2 ∷ []) $ split ! $ move ! (1 ∷ []) $ feqL ! (λ is-unit. split ! $ move ! (0 ∷ 2 ∷ 4 ∷ []) $
         land ! (from ! (stop !)) (init ! 7 refl (subst (λ (y : Val). Holds (hasTy tyUnit y) × WT y) (sym (ap only is-unit)) (tt, tt))) $
-        -- [the token; the last value; the lender's part; …]: α is ended, and _3 is back
+        -- [α's token; what says the last value; the lender's part; …]: α is ended, and _3 is back at that value
         lft-end ! tt $ move ! (0 ∷ 2 ∷ 1 ∷ []) $ use3 W (later (‵ (partAt T.the-row fullShare (rs .0) l₃ 0))) (ref-back 𝓤 H A W T.the-row (α ∷ []) δ (rs .0) l₃ 0) $ await ! tt $
         use1 W (‵ (fat fullShare T′.mir l₃ 0 (only (vals (rs .0)))) ⊛ ‵ (T.the-row .own (rs .0) (vals (rs .0)))) (returned 𝓤 H A W (rs .0) l₃) $ split ! $
         move ! (1 ∷ []) $ peeks ! T.the-row (Is T.the-row) (shows 𝓤 H A T.the-row) (rs .0) (vals (rs .0)) (λ is′. move ! (1 ∷ 0 ∷ []) $
-        -- [0 _3; what the record owns; …; 4 _5; …; 6 _4; …; …; 9 _2; …; 11 _1; …; 13 _0; …]
+        -- [0 _3; what the record owns; …; 4 _5; …; 6 _4; …; 8 the right to free _3; 9 _2; …; 11 _1; …; 13 _0; …]
         -- _0 = _3, and the locals are freed
         assigns ! (of-opd ! (local 0 refl)) (from ! (stop !)) (init ! 13 refl (typed (rs .0) is′)) $
         returns ! (look ! 13 refl) $ forget ! 0 refl $ forget ! 4 refl $ forget ! 6 refl $ forget ! 9 refl $ forget ! 11 refl $ forget ! 13 refl $
