@@ -1,11 +1,11 @@
 -- Answers booked one by one are counted.
 use mathlib.Core.Path.{_≡_, refl, sym, ap, _∙_}
-use mathlib.Core.Bool.{Bool, true, false}
+use mathlib.Core.Bool.{Bool, true, false, _&&_}
 use mathlib.Core.List.{List, [], _∷_, _++_}
 use Prim.Native.Nat.{ℕ, suc, _+_, _^_, _≤_, _<_}
 use native.Mathlib.Omega.{arith}
-use borrow.Author.Tests.{lt-leb, le-leb}
-use lib.Dec.{leb}
+use borrow.Author.Tests.{lt-leb, le-leb, leb-true, eqb-true, eqb-false}
+use lib.Dec.{eqb, leb}
 use lib.ListN.{length}
 use Rattle.semantics.specs.Bytes.{within}
 use Rattle.semantics.specs.Run.{isTaken, isTurnedAway, isFaulted, howMany}
@@ -21,10 +21,24 @@ pub from-low : (a b n : ℕ) → a ≤ n → leb n b ≡ within a b n
 unfolding within
 from-low a b n h = rw (le-leb a n h) refl
 
+-- between a number and itself lies that number only
+within-one : (k n : ℕ) → within k k n ≡ eqb n k
+unfolding within
+within-one k n = go (eqb n k) (eqb-true n k) (eqb-false n k)
+  where
+    go : (b : Bool) → (b ≡ true → n ≡ k) → (b ≡ false → n ≡ k → ⊥) → leb k n && leb n k ≡ b
+    go true e f = let h : n ≡ k = e refl in rw (le-leb k n (omega (arith, h)), le-leb n k (omega (arith, h))) refl
+    go false e f = apart (leb k n) (leb n k) (leb-true k n) (leb-true n k)
+      where
+        apart : (x y : Bool) → (x ≡ true → k ≤ n) → (y ≡ true → n ≤ k) → x && y ≡ false
+        apart true true g h = absurd (f refl (omega (arith, g refl, h refl)))
+        apart true false g h = refl
+        apart false y g h = refl
+
 -- the record that the code makes
-pub booked-is : (c : Counts) (a : ℕ) {t u v : ℕ} → t ≡ bumped (c .taken) (isTaken a) → u ≡ bumped (c .«turned_away») (isTurnedAway a) → v ≡ bumped (c .faulted) (isFaulted a) → record { taken = t; «turned_away» = u; faulted = v } ≡ bookedOf c a
-unfolding bookedOf
-booked-is c a e f g = cc
+pub booked-within : (c : Counts) (a : ℕ) {t u v : ℕ} → t ≡ bumped (c .taken) (within 200 202 a) → u ≡ bumped (c .«turned_away») (within 23 31 a) → v ≡ bumped (c .faulted) (within 203 203 a) → record { taken = t; «turned_away» = u; faulted = v } ≡ bookedOf c a
+unfolding bookedOf isTaken isTurnedAway isFaulted
+booked-within c a e f g = let o = within-one 203 a in cc
 
 -- ---- one more at the end of the list
 module _ (f : ℕ → Bool) where

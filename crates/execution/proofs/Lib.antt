@@ -7,6 +7,7 @@ mod Taking
 mod Rates
 mod Scans
 mod Lending
+mod LentCounts
 pub mod Formed
 mod Events
 mod Which

@@ -549,16 +549,32 @@ fn bump(n: usize, on: bool) -> usize
     if on { n + 1 } else { n }
 }
 
+// A count, with one more where the answer lies between two numbers.
+fn counted(n: usize, low: u8, high: u8, answer: u8) -> usize
+    requires { ⌜ n + 1 < 2 ^ 64 ⌝ }
+    ensures { λ r. ⌜ r ≡ bumped n (within low high answer) ⌝ }
+{
+    bump(n, between(low, high, answer))
+}
+
+// Books one event's answer in the counts that it is lent.
+fn book(c: &mut Counts, answer: u8)
+    requires { ⌜ Room (now c) ⌝ }
+    ensures { λ _. ⌜ now (c .exit) ≡ bookedOf (now (c .entry)) answer ⌝ }
+{
+    c.taken = counted(c.taken, 200, 202, answer);
+    c.turned_away = counted(c.turned_away, 23, 31, answer);
+    c.faulted = counted(c.faulted, 203, 203, answer);
+}
+
 // The counts with one answer more.
 pub fn booked(c: Counts, answer: u8) -> Counts
     requires { ⌜ Room c ⌝ }
     ensures { λ r. ⌜ r ≡ bookedOf c answer ⌝ }
 {
-    Counts {
-        taken: bump(c.taken, between(200, 202, answer)),
-        turned_away: bump(c.turned_away, between(23, 31, answer)),
-        faulted: bump(c.faulted, answer == 203),
-    }
+    let mut counts = c;
+    book(&mut counts, answer);
+    counts
 }
 
 // The eight bytes of a set of nodes below 64, at a place; the next place.
