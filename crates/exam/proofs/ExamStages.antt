@@ -1,32 +1,31 @@
 -- Examining judged in order: what each answer makes of the whole.
 use mathlib.Core.Path.{_≡_, refl, sym, ap, _∙_}
-use mathlib.Core.Bool.{Bool, true, false, _&&_}
+use mathlib.Core.Bool.{Bool, true, false}
 use mathlib.Core.List.{List}
 use Prim.Native.Nat.{ℕ, _*_, _/_, _<_, _≤_}
 use native.Mathlib.Omega.{arith}
 use borrow.Author.Tests.{leb-true}
 use lib.ListN.{length, take, drop, length-append}
-use lib.Dec.{eqb}
 use Rattle.semantics.specs.Bytes.{overwrite}
 use Rattle.semantics.specs.Editions.{Edition, edition1}
-use Rattle.semantics.specs.Refusals.{Judged, refused, accepted, _>>=_, _>>_, ensure, need, refusalOf}
+use Rattle.semantics.specs.Refusals.{Judged, refused, accepted, _>>=_, _>>_, ensure, refusalOf}
 use Rattle.semantics.specs.Plant.{Plant}
-use Rattle.semantics.specs.Starts.{startIn, startFits}
-use Rattle.semantics.specs.Calls.{Program, Outcome, Ran, judgeRun, tableRun, outcomeOf, runFrom, wholeEvents, eventCount, recordSize, roomForRecords}
+use Rattle.semantics.specs.Starts.{startIn}
+use Rattle.semantics.specs.Calls.{Program, Outcome, Ran, judgeRun, tableRun, eventCount, recordSize, roomForRecords}
 use Rattle.semantics.specs.Conditions.{Condition}
 use Rattle.semantics.proofs.Facts.{All, all-append}
 use Rattle.semantics.proofs.Judging as Judging
 use Rattle.semantics.proofs.CallsHold.{accepted-of}
 use Rattle.schedules.specs.Residuals.{Residual}
 use Rattle.schedules.specs.Files.{Schedule, judgeFile, ruleControl}
-use Rattle.schedules.specs.Compiling.{judgeCompile, tableOf}
+use Rattle.schedules.specs.Compiling.{judgeCompile}
 use Rattle.schedules.specs.Calls as S
 use Rattle.schedules.specs.Calls.{ruleProgram, ruleRun, compile, compiledInto}
 use Rattle.schedules.specs.Conditions.{filePlant, ruleRunConditions}
 use Rattle.schedules.proofs.FirstNumber.{rule-run-first}
 use Rattle.schedules.proofs.Agreement.{compile-taken}
 use Rattle.exam.specs.Exam as Exam
-use Rattle.exam.specs.Exam.{judgeExam, sameBytes, sameNumbers, agreed, reported, refusedExam, examTable, examined, examOf}
+use Rattle.exam.specs.Exam.{judgeExam, agreed, reported, refusedExam, examTable, examined, examOf}
 use Rattle.exam.specs.Examining.{numbers, noExam, Returned, Room}
 use Rattle.exam.specs.declared.Examined.{Examined}
 use Rattle.rule_run.specs.Called as ruled

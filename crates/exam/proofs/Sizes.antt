@@ -1,7 +1,7 @@
 -- The length of a run's records, from the counts that reading a schedule gives.
-use mathlib.Core.Path.{_≡_, refl, sym, ap, _∙_}
+use mathlib.Core.Path.{_≡_, sym, ap, _∙_}
 use mathlib.Core.List.{List}
-use Prim.Native.Nat.{ℕ, _+_, _*_, _/_, _≤_}
+use Prim.Native.Nat.{ℕ, _+_, _*_, _≤_}
 use native.Mathlib.Omega.{arith}
 use lib.ListN.{length, take, length-take}
 use Rattle.semantics.specs.Editions.{edition1}
@@ -9,14 +9,13 @@ use Rattle.semantics.specs.Refusals.{accepted}
 use Rattle.semantics.specs.Plant.{Plant, selectors}
 use Rattle.semantics.specs.Calls.{recordSize}
 use Rattle.schedules.specs.Files.{Schedule, judgeFile}
-use Rattle.schedules.specs.Calls.{ScheduleRead, readSchedule}
+use Rattle.schedules.specs.Calls.{readSchedule}
 use Rattle.schedules.proofs.FirstNumber.{passed}
 use Rattle.schedules.proofs.CallsHold.{read-schedule-result}
 use Rattle.plant.proofs.PlantLaws.{passed-all, variables-high}
 use Rattle.plant.proofs.EquationLaws.{few-selectors}
 use Rattle.schedule_read.specs.ScheduleFile.{numbers}
 use Rattle.schedule_read.specs.declared.call.FileRead.{FileRead}
-use Rattle.exam.specs.Examining.{Room}
 
 -- the counts of a schedule
 pub record Counts (r : FileRead) (s : Schedule) : Type 0 where
