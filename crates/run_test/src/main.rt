@@ -1,5 +1,6 @@
 // Runs by the rules and by the table: K2, K3 and K4, a batch that a STOP ends, and a filling line over 600 events.
-// Of each run: its records (of the long one only the answers), refusal and counts, and whether the run of the table wrote the same bytes.
+// Of each run by the rules: refusal and counts, then its record buffer; of the table's run the numbers, and whether it wrote the same bytes.
+// The events of the filling line are on standard input.
 
 fn number(n: usize) {
     io::print_decimal(1, n as u64);
@@ -8,38 +9,6 @@ fn number(n: usize) {
 
 fn end_line() {
     io::write_all(1, b"\n");
-}
-
-// records of so many bytes, one a line
-fn rows(s: &[u8], size: usize) {
-    let mut k = 0;
-    let mut i = 0;
-    while i < s.len() {
-        number(s[i] as usize);
-        k += 1;
-        if k == size {
-            end_line();
-            k = 0;
-        }
-        i += 1;
-    }
-}
-
-// the first byte of each
-fn answers(s: &[u8], size: usize) {
-    let mut k = 0;
-    let mut i = 0;
-    while i < s.len() {
-        if k == 0 {
-            number(s[i] as usize);
-        }
-        k += 1;
-        if k == size {
-            k = 0;
-        }
-        i += 1;
-    }
-    end_line();
 }
 
 fn by_rules(file: &[u8], start: &[u8], events: &[u8], records: &mut [u8]) {
@@ -94,14 +63,27 @@ fn batch_table() -> [u8; 163] {
     *b"\x01\x00\x00\x00\xA3\x00\x19\x02\xFF\xFF\xFF\xF6\x00\x00\x00\x78\x00\x00\x00\x14\x00\x00\x00\x00\x00\x00\x00\x05\x00\x00\x00\x00\x00\x09\x01\x00\x06\x01\x00\x00\x00\x00\x07\x00\x46\x07\x0A\x01\x01\x21\x02\x01\x01\x00\x00\x00\x04\x0A\x03\x02\x20\x01\x00\x00\x00\x3C\x02\x00\x0A\x04\x01\x21\x01\x00\x00\x00\x6E\x02\x00\x02\x05\x05\x0B\x06\x03\x00\x11\x02\x00\x01\x00\x00\x00\x32\x0B\x07\x03\x01\x10\x02\x01\x01\x00\x00\x00\x01\x08\x08\x03\x01\x01\x00\x00\x00\x00\x00\x00\x00\x2C\x00\x07\x01\x01\x00\x01\x00\x02\x01\x03\x00\x03\xFF\xFF\x01\x08\xFF\xFE\xFF\xFF\x01\x04\x00\x04\x00\x05\x01\x05\xFF\xFD\xFF\xFF\x01\x06\x00\x06\xFF\xFF\x01\x07\x00\x00\xFF\xFF"
 }
 
-// K1 both ways, from a value, with records of 13 bytes
-fn both(start: &[u8], events: &[u8], records: &mut [u8], others: &mut [u8]) {
+// both ways
+fn both(
+    file: &[u8],
+    table: &[u8],
+    start: &[u8],
+    events: &[u8],
+    records: &mut [u8],
+    others: &mut [u8],
+) {
+    by_rules(file, start, events, records);
+    io::write_all(1, records);
+    end_line();
+    by_table(table, start, events, others);
+    compare(records, others);
+}
+
+// K1 from a value
+fn from(start: &[u8], events: &[u8], records: &mut [u8], others: &mut [u8]) {
     let file = k1();
     let table = k1_table();
-    by_rules(&file, start, events, records);
-    rows(records, 13);
-    by_table(&table, start, events, others);
-    compare(records, others);
+    both(&file, &table, start, events, records, others);
 }
 
 fn k2() {
@@ -133,30 +115,30 @@ fn k2() {
     ];
     let mut a = [0u8; 104];
     let mut b = [0u8; 104];
-    both(&[0u8, 0, 0, 0], &events, &mut a, &mut b);
+    from(&[0u8, 0, 0, 0], &events, &mut a, &mut b);
 }
 
 fn k3() {
     let events = [1u8, 1, 0, 0, 0, 0];
     let mut a = [0u8; 26];
     let mut b = [0u8; 26];
-    both(&[0u8, 0, 0, 10], &events, &mut a, &mut b);
+    from(&[0u8, 0, 0, 10], &events, &mut a, &mut b);
 }
 
 fn k4() {
     let events = [1u8, 1, 0, 1, 2, 0];
     let mut a = [0u8; 26];
     let mut b = [0u8; 26];
-    both(&[0u8, 0, 0, 9], &events, &mut a, &mut b);
+    from(&[0u8, 0, 0, 9], &events, &mut a, &mut b);
 }
 
 // 20, 21 and 22, the records as they were
 fn refused() {
     let mut a = [7u8; 26];
     let mut b = [7u8; 26];
-    both(&[0u8, 0, 0, 11], &[1u8, 1, 0], &mut a, &mut b);
-    both(&[0u8, 0, 0, 9], &[1u8, 1, 0, 0], &mut a, &mut b);
-    both(
+    from(&[0u8, 0, 0, 11], &[1u8, 1, 0], &mut a, &mut b);
+    from(&[0u8, 0, 0, 9], &[1u8, 1, 0, 0], &mut a, &mut b);
+    from(
         &[0u8, 0, 0, 9],
         &[1u8, 1, 0, 0, 0, 0, 0, 0, 0],
         &mut a,
@@ -200,70 +182,18 @@ fn halted() {
     let mut b = [0u8; 153];
     let file = batch();
     let table = batch_table();
-    by_rules(&file, &start, &events, &mut a);
-    rows(&a, 17);
-    by_table(&table, &start, &events, &mut b);
-    compare(&a, &b);
-}
-
-fn drawn(x: u16) -> u16 {
-    ((x as usize * 25173 + 13849) % 65536) as u16
-}
-
-// an event of a drawn number: half are ticks, one in eight is a switch event
-fn put_event(events: &mut [u8], i: usize, x: u16) {
-    let y = x as usize / 64;
-    let k = y % 8;
-    let z = y / 8;
-    if k < 4 {
-        put(events, i, 0, 0);
-        return;
-    }
-    if k < 7 {
-        put(events, i, 1, z % 7);
-        return;
-    }
-    put(events, i, 2, z % 2);
-}
-
-fn put(events: &mut [u8], i: usize, kind: u8, n: usize) {
-    if events.len() < 3 {
-        return;
-    }
-    if i > events.len() - 3 {
-        return;
-    }
-    events[i] = kind;
-    if kind == 2 {
-        events[i + 2] = (n % 256) as u8;
-        return;
-    }
-    events[i + 1] = (n % 256) as u8;
-}
-
-fn draw(events: &mut [u8]) {
-    let mut x = 1u16;
-    let mut i = 0;
-    while i < events.len() {
-        x = drawn(x);
-        put_event(events, i, x);
-        i = if i < events.len() { i + 3 } else { i };
-    }
+    both(&file, &table, &start, &events, &mut a, &mut b);
 }
 
 fn line() {
     let start = [0u8, 0, 0, 0, 0, 0, 0, 0, 0];
     let mut events = [0u8; 1800];
-    draw(&mut events);
+    io::read_full(0, &mut events);
     let mut a = [0u8; 10800];
     let mut b = [0u8; 10800];
     let file = filling();
     let table = filling_table();
-    by_rules(&file, &start, &events, &mut a);
-    answers(&a, 18);
-    rows(&a[10782..], 18);
-    by_table(&table, &start, &events, &mut b);
-    compare(&a, &b);
+    both(&file, &table, &start, &events, &mut a, &mut b);
 }
 
 fn main() {
