@@ -25,7 +25,7 @@ use Rattle.schedule_read.specs.Indexed.{NodesAt}
 use Rattle.schedule_read.proofs.Pads.{map-length}
 use Rattle.schedule_read.specs.Actions.{actionNumber, actionNumbers}
 use Rattle.schedule_read.proofs.NodeActions.{kind-number, numbers-long, action-of-node, action-beyond}
-use Rattle.compiler.specs.Meeting.{testsIn}
+use Rattle.numbering.specs.Meeting.{testsIn}
 use Rattle.compiler.proofs.ActionLoop.{operand-long}
 use Rattle.compiler.specs.ActionTable.{actionRow, actionOnce, operandAt, actionRows, actionCount, Operands}
 

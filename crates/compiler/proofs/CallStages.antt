@@ -26,8 +26,8 @@ use Rattle.schedule_read.specs.declared.call.ScheduleIndex.{ScheduleIndex}
 use Rattle.schedule_read.specs.Actions.{actionNumbers}
 use Rattle.schedule_read.proofs.Promises.{Slice, Promised, index-schedule, promised}
 use Rattle.schedule_read.proofs.NodeActions.{numbers-long}
-use Rattle.compiler.specs.Meeting.{testsIn}
-use Rattle.compiler.specs.Located.{rowBytes, Located, located, too-many, Numbered}
+use Rattle.numbering.specs.Meeting.{testsIn}
+use Rattle.numbering.specs.Located.{rowBytes, Located, located, too-many, Numbered}
 use Rattle.compiler.specs.ActionTable.{ActionsPut}
 use Rattle.compiler.specs.CallParts.{returned, leaves, tableWith, judgeRoom, judgeRest, judgeAsked, Lent}
 use Rattle.compiler.specs.Measured.{judgeMeasure, lengthOf}

@@ -15,7 +15,7 @@ use Rattle.schedules.specs.Files.{Schedule}
 use Rattle.schedules.specs.Compiling.{testsOf, scheduleLocations, entriesOf, tableOf}
 use Rattle.codec.specs.Writing.{Wrote}
 use Rattle.codec.proofs.Writing.{wrote-front}
-use Rattle.compiler.specs.Located.{rowBytes}
+use Rattle.numbering.specs.Located.{rowBytes}
 use Rattle.compiler.specs.CallParts.{bodyWith, tableWith}
 
 pub section-length : (s : List ℕ) → length (inSection2 s) ≡ length s + 2

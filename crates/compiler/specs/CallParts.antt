@@ -14,7 +14,7 @@ use Rattle.schedules.specs.Laid.{Lies}
 use Rattle.schedules.specs.Files.{Schedule, judgeFile}
 use Rattle.schedules.specs.Compiling.{testsOf, scheduleLocations, tableOf}
 use Rattle.schedules.specs.Calls.{Compiled, compiledInto}
-use Rattle.compiler.specs.Meeting.{testsIn}
+use Rattle.numbering.specs.Meeting.{testsIn}
 use Rattle.compiler.specs.ActionTable.{actionRows, actionCount, Operands}
 
 -- all that the call returns and leaves

@@ -1,7 +1,7 @@
 // The rows of the action section, for each node with an action: a length byte, node, kind, operand bytes.
 // acts has the kinds of the nodes' actions, starts and ends where the operands stand in the schedule section s.
-use super::spot;
-use super::spot::Spot;
+use numbering::spot;
+use numbering::spot::Spot;
 ghost use mathlib.Core.Path.{_≡_};
 ghost use Prim.Native.Nat.{ℕ, _+_, _≤_, _<_};
 ghost use lib.ListN.{length};

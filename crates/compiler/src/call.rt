@@ -1,7 +1,7 @@
 // The call "compiling": conditions 1 to 14, in order, and the table.
 use super::actions;
-use super::locations;
-use super::spot;
+use numbering::locations;
+use numbering::spot;
 ghost use mathlib.Core.Path.{_≡_};
 ghost use mathlib.Core.List.{_∷_, _++_};
 ghost use Prim.Native.Nat.{ℕ, _+_, _≤_, _<_};

@@ -1,6 +1,3 @@
 // The compiler: the table of a schedule.
 mod actions;
 pub mod call;
-mod locations;
-mod rows;
-mod spot;
