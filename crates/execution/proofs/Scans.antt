@@ -2,7 +2,7 @@
 use mathlib.Core.Path.{_≡_, refl, sym, ap, _∙_}
 use mathlib.Core.Bool.{Bool, true, false}
 use mathlib.Core.List.{List, [], _∷_, map}
-use Prim.Native.Nat.{ℕ, zero, suc, _+_, _-_, _<_}
+use Prim.Native.Nat.{ℕ, suc, _+_, _-_, _<_}
 use native.Mathlib.Numerals.{add-one}
 use native.Mathlib.Omega.{arith}
 use lib.IntN.{ℤ}
@@ -13,11 +13,12 @@ use Rattle.semantics.specs.Run as Run
 use Rattle.semantics.specs.Run.{walk}
 use Rattle.semantics.proofs.Facts.{true-not-false}
 use Rattle.nodeset.specs.Sets.{mem, membersFrom, members}
-use Rattle.execution.specs.Told.{doneTold, stepTold, goesOn, truthTold}
-use Rattle.execution.specs.Deeds.{isWaitKind, waitsAt, stillAt}
-use Rattle.execution.specs.declared.Verdict.{Verdict}
-use Rattle.execution.specs.declared.Verdict.the-variants.{Away, Stay}
-use Rattle.execution.proofs.Walks.{walk-out, walk-on}
+use Rattle.nodeset.proofs.Members.{no-more}
+use Rattle.effects.specs.Told.{doneTold, stepTold, goesOn, truthTold}
+use Rattle.execution.specs.Operands.{isWaitKind, waitsAt, stillAt}
+use Rattle.effects.specs.declared.Verdict.{Verdict}
+use Rattle.effects.specs.declared.Verdict.the-variants.{Away, Stay}
+use Rattle.effects.proofs.Steps.{walk-out, walk-on}
 
 -- the members from n on
 abbrev pub from : List ℕ → ℕ → List ℕ
@@ -38,15 +39,6 @@ module _ (ws : List ℕ) (n : ℕ) (h : n < 64) where
   from-out : mem ws n ≡ false → from ws n ≡ from ws (n + 1)
   unfolding membersFrom
   from-out e = ap (membersFrom ws n) less ∙ rw (e, membersFrom, ← add-one n) refl
-
-pub no-more : (ws : List ℕ) (n k : ℕ) → ((m : ℕ) → mem ws m ≡ true → m < n) → membersFrom ws n k ≡ []
-unfolding membersFrom
-no-more ws n zero f = refl
-no-more ws n (suc k) f = go (mem ws n) refl (no-more ws (suc n) k (λ m e. let h = f m e in omega arith))
-  where
-    go : (b : Bool) → mem ws n ≡ b → membersFrom ws (suc n) k ≡ [] → _≡_ {A = List ℕ} (elim (mem ws n) [ true ↦ n ∷ membersFrom ws (suc n) k | false ↦ membersFrom ws (suc n) k ]) []
-    go true e ih = let h = f n e in absurd (omega arith)
-    go false e ih = rw e ih
 
 from-end : (ws : List ℕ) (n : ℕ) → n ≡ 64 → ((m : ℕ) → mem ws m ≡ true → m < 64) → from ws n ≡ []
 from-end ws n e f = no-more ws n (256 - n) (λ m q. let h = f m q in omega arith)

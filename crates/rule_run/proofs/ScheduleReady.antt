@@ -27,7 +27,7 @@ use Rattle.schedule_read.specs.declared.call.ScheduleIndex.{ScheduleIndex}
 use Rattle.schedule_read.proofs.NodeActions.{action-of-node, numbers-long, action-is, action-beyond, acting-action}
 use Rattle.schedule_read.proofs.Promises.{Promised}
 use Rattle.plant.specs.declared.sections.PlantRead.{PlantRead}
-use Rattle.execution.specs.Deeds.{Cut, cutAt}
+use Rattle.execution.specs.Operands.{Cut, cutAt}
 use Rattle.execution.specs.Ready.{Lent, PlantLent, NodeLent, actionNamed}
 use Rattle.execution.proofs.PlantReady.{plant-lent}
 use Rattle.rule_run.specs.Situations.{ScheduleLent}

@@ -28,9 +28,9 @@ use Rattle.moves.specs.declared.How.the-variants.{To, Finished, Halted}
 use Rattle.moves.proofs.Callers.{standing, led-on, led-to-finish, led-to-halt}
 use Rattle.execution.specs.Ready.{Lent, Fits, Ready}
 use Rattle.execution.specs.Ready as Judged
-use Rattle.execution.specs.Told.{Left}
-use Rattle.execution.specs.declared.Verdict.{Verdict}
-use Rattle.execution.specs.declared.Verdict.the-variants.{Away, Above, Below, Stay, Move}
+use Rattle.effects.specs.Told.{Left}
+use Rattle.effects.specs.declared.Verdict.{Verdict}
+use Rattle.effects.specs.declared.Verdict.the-variants.{Away, Above, Below, Stay, Move}
 use Rattle.execution.proofs.Outcomes.{heard-move}
 use Rattle.execution.proofs.Stepping.{stepped-over, stepped-away, stepped-above, stepped-below, stepped-stay, stepped-move, fits-left}
 use Rattle.rule_run.specs.Situations.{goingOn, ended, StandsFor, at-residual, at-end, Here, Arrives, Movable, ScheduleLent, Promised, Steps}

@@ -13,7 +13,7 @@ use Rattle.schedules.specs.Residuals.{Residual}
 use Rattle.schedules.specs.Files.{Schedule, ruleControl}
 use Rattle.execution.specs.Ready.{Lent, Fits}
 use Rattle.execution.specs.Runs.{RunSoFar, RunDone}
-use Rattle.execution.specs.declared.Counts.{Counts}
+use Rattle.records.specs.declared.Counts.{Counts}
 use Rattle.rule_run.specs.Situations.{StandsFor, ScheduleLent}
 use Rattle.rule_run.specs.declared.steps.Situation.{Situation}
 

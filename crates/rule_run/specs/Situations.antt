@@ -20,8 +20,8 @@ use Rattle.nodeset.specs.Sets.{members, emptySet, Words}
 use Rattle.nodeset.specs.declared.NodeSet.{NodeSet}
 use Rattle.moves.specs.Contracts.{Standing}
 use Rattle.execution.specs.Ready.{Lent, PlantLent, NodeLent, Fits}
-use Rattle.execution.specs.declared.Verdict.{Verdict}
-use Rattle.execution.specs.declared.Verdict.the-variants.{Move}
+use Rattle.effects.specs.declared.Verdict.{Verdict}
+use Rattle.effects.specs.declared.Verdict.the-variants.{Move}
 use Rattle.rule_run.specs.declared.steps.Situation.{Situation}
 use Rattle.rule_run.specs.declared.steps.Answered.{Answered}
 

@@ -1,5 +1,5 @@
 // One event of a run by the rules.
-use execution::Verdict;
+use effects::Verdict;
 use moves::How;
 use nodeset::NodeSet;
 ghost use mathlib.Core.Path.{_≡_};
@@ -15,7 +15,7 @@ ghost use Rattle.schedules.specs.Residuals.{Residual, move};
 ghost use Rattle.schedules.specs.Files.{Schedule, ruleControl};
 ghost use Rattle.nodeset.specs.Sets.{members};
 ghost use Rattle.moves.specs.Contracts.{Standing};
-ghost use Rattle.execution.specs.Told.{Left};
+ghost use Rattle.effects.specs.Told.{Left};
 ghost use Rattle.execution.specs.Ready.{lent, Fits};
 ghost use Rattle.rule_run.specs.Situations.{goingOn, ended, Here, Arrives, Movable, StandsFor, ScheduleLent, Promised, Steps};
 

@@ -20,9 +20,9 @@ use Rattle.nodeset.specs.declared.NodeSet.{NodeSet}
 use Rattle.nodeset.proofs.Members.{among-set}
 use Rattle.codec.specs.Writing.{Wrote}
 use Rattle.codec.proofs.Writing.{wrote-length}
-use Rattle.execution.specs.Booking.{bookedOf, Room}
+use Rattle.records.specs.Booking.{bookedOf, Room}
 use Rattle.execution.specs.Ready.{Lent, Fits}
-use Rattle.execution.specs.declared.Counts.{Counts}
+use Rattle.records.specs.declared.Counts.{Counts}
 use Rattle.execution.proofs.Runs.{eventAt, run-start, run-counts, run-room, run-next, run-end}
 use Rattle.execution.proofs.Stepping.{set-at, set-over}
 use Rattle.table_run.specs.Entries.{Counted, Gathered}

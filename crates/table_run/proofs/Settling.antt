@@ -24,9 +24,9 @@ use Rattle.nodeset.proofs.Membership.{words-empty}
 use Rattle.table_read.specs.Promised.{Leads, leads-to, finishes, halts}
 use Rattle.execution.specs.Ready.{Lent, Fits, Ready}
 use Rattle.execution.specs.Ready as Judged
-use Rattle.execution.specs.Told.{Left}
-use Rattle.execution.specs.declared.Verdict.{Verdict}
-use Rattle.execution.specs.declared.Verdict.the-variants.{Away, Above, Below, Stay, Move}
+use Rattle.effects.specs.Told.{Left}
+use Rattle.effects.specs.declared.Verdict.{Verdict}
+use Rattle.effects.specs.declared.Verdict.the-variants.{Away, Above, Below, Stay, Move}
 use Rattle.execution.proofs.Outcomes.{heard-move}
 use Rattle.execution.proofs.Stepping.{stepped-over, stepped-away, stepped-above, stepped-below, stepped-stay, stepped-move, fits-left}
 use Rattle.table_run.specs.Entries.{Counted, Gathered, targetOf, Found}

@@ -12,7 +12,7 @@ use Rattle.semantics.specs.Tables.{Table, tableControl}
 use Rattle.semantics.specs.Calls.{recordSize}
 use Rattle.execution.specs.Ready.{Lent, Fits}
 use Rattle.execution.specs.Runs.{RunSoFar, RunDone}
-use Rattle.execution.specs.declared.Counts.{Counts}
+use Rattle.records.specs.declared.Counts.{Counts}
 use Rattle.table_run.specs.Situations.{StandsFor, TableLent}
 use Rattle.table_run.specs.declared.steps.Situation.{Situation}
 

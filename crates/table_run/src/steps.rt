@@ -1,6 +1,6 @@
 // One event of a run of a table.
 use super::entries;
-use execution::Verdict;
+use effects::Verdict;
 use nodeset::NodeSet;
 ghost use mathlib.Core.Path.{_≡_};
 ghost use mathlib.Core.Option.{Option, some};
@@ -12,9 +12,9 @@ ghost use Rattle.semantics.specs.Events.{eventIn};
 ghost use Rattle.semantics.specs.Run.{judge};
 ghost use Rattle.semantics.specs.Tables.{Table, tableControl};
 ghost use Rattle.nodeset.specs.Sets.{members};
-ghost use Rattle.execution.specs.Told.{Left};
+ghost use Rattle.effects.specs.Told.{Left};
 ghost use Rattle.execution.specs.Ready.{lent, Fits};
-ghost use Rattle.execution.specs.declared.Verdict.the-variants.{Move};
+ghost use Rattle.effects.specs.declared.Verdict.the-variants.{Move};
 ghost use Rattle.table_run.specs.Situations.{goingOn, ended, Here, Movable, Moving, Arrives, StandsFor, TableLent, Promised, Steps};
 
 // Where a run stands: its location and the nodes that act, or it is over and none do.

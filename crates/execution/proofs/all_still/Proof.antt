@@ -6,8 +6,8 @@ use borrow.Author.Tests.{not-true, not-false}
 use Rattle.semantics.specs.Editions.{edition1}
 use Rattle.semantics.specs.Run.{walk}
 use Rattle.nodeset.specs.Sets.{members}
-use Rattle.execution.specs.Told.{stepTold}
-use Rattle.execution.specs.Deeds.{cutAt}
+use Rattle.effects.specs.Told.{stepTold}
+use Rattle.execution.specs.Operands.{cutAt}
 use Rattle.execution.proofs.Scans.{stillFrom, still-start, still-out, still-on, still-end}
 use borrow.Author.Needs.{needs}
 use Rattle.execution.proofs.all_still.Statement.{statement}

@@ -4,7 +4,7 @@ use native.Mathlib.Omega.{arith}
 use borrow.Author.Tests.{not-true, not-false}
 use Rattle.semantics.specs.Bytes.{every}
 use Rattle.nodeset.specs.Sets.{members}
-use Rattle.execution.specs.Deeds.{isWaitKind}
+use Rattle.execution.specs.Operands.{isWaitKind}
 use Rattle.execution.proofs.Scans.{from, all-start, all-out, all-on, all-end}
 use Rattle.execution.proofs.all_wait.Statement.{statement}
 use Rattle.execution.proofs.all_wait.Tie as tie

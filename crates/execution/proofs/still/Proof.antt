@@ -1,7 +1,7 @@
 use mathlib.Core.Path.{sym, _∙_}
 use native.Mathlib.Omega.{arith}
 use borrow.Author.Tests.{not-true, not-false}
-use Rattle.execution.specs.Deeds.{Cut}
+use Rattle.execution.specs.Operands.{Cut}
 use Rattle.execution.proofs.Scans.{still-not, still-in}
 use borrow.Author.Needs.{needs}
 use Rattle.execution.proofs.still.Statement.{statement}
