@@ -28,10 +28,10 @@ use Rattle.execution.specs.Ready.{Lent, Fits}
 use Rattle.records.specs.declared.Counts.{Counts}
 use Rattle.execution.proofs.Runs.{eventAt, run-start, run-counts, run-room, run-next, run-end}
 use Rattle.execution.proofs.Stepping.{set-at, set-over}
-use Rattle.rule_run.specs.Situations.{StandsFor, at-residual, at-end, ScheduleLent, Promised, Steps}
+use Rattle.rule_step.specs.Situations.{StandsFor, at-residual, at-end, ScheduleLent, Promised, Steps}
 use Rattle.rule_run.specs.Runs.{Asked, Asking, begins, Going, Whole}
-use Rattle.rule_run.specs.declared.steps.Situation.{Situation}
-use Rattle.rule_run.specs.declared.steps.Answered.{Answered}
+use Rattle.rule_step.specs.declared.steps.Situation.{Situation}
+use Rattle.rule_step.specs.declared.steps.Answered.{Answered}
 
 -- ---- the set of the acting nodes
 -- they are nodes of a schedule

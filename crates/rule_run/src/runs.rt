@@ -1,7 +1,7 @@
 // All events of a run by the rules.
-use super::steps;
-use super::steps::Situation;
 use records::Counts;
+use rule_step::steps;
+use rule_step::steps::Situation;
 ghost use Rattle.schedules.specs.Files.{Schedule};
 ghost use Rattle.execution.specs.Ready.{lent};
 ghost use Rattle.rule_run.specs.Runs.{Asked, Asking, Whole};

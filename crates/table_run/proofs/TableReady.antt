@@ -31,7 +31,7 @@ use Rattle.table_read.proofs.Promises.{Opened, opened, parts-read, plant-read, 
 use Rattle.execution.specs.Operands.{Cut, cutAt}
 use Rattle.execution.specs.Ready.{Lent, PlantLent, NodeLent, actionNamed}
 use Rattle.execution.proofs.PlantReady.{plant-lent}
-use Rattle.table_run.specs.Situations.{LocationLent, TableLent}
+use Rattle.table_step.specs.Situations.{LocationLent, TableLent}
 
 -- a part of the table's bytes
 abbrev pub cutFrom : List ℕ → ℕ → ℕ → List ℕ

@@ -1,8 +1,8 @@
 // All events of a run of a table.
-use super::entries;
-use super::steps;
-use super::steps::Situation;
 use records::Counts;
+use table_step::entries;
+use table_step::steps;
+use table_step::steps::Situation;
 ghost use Rattle.semantics.specs.Tables.{Table};
 ghost use Rattle.execution.specs.Ready.{lent};
 ghost use Rattle.table_run.specs.Runs.{Asked, Asking, Whole};
