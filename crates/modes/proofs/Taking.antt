@@ -11,7 +11,7 @@ use Rattle.semantics.specs.Editions.{edition1}
 use Rattle.semantics.specs.Expressions.{Value, ok, fault, above, below, truthValue}
 use Rattle.semantics.specs.Sections.{Switch, Mode, readSwitch}
 use Rattle.semantics.specs.Run.{pass, _>>=_, _>>_, allow, find, valued, nobody}
-use Rattle.semantics.proofs.Facts.{true-not-false}
+use Rattle.semantics.proofs.Facts.{true-not-false, at-exists}
 use Rattle.codec.proofs.Known.{times-length, past-end}
 use Rattle.effects.specs.Told.{goesOn, truthTold, movedTold, eventTold, valuesLeft, modesLeft, Left}
 use Rattle.modes.specs.Modes.{modeAt, Stands, SwitchAt, modesFrom, modesNow, placeAt, switchTaken}
@@ -20,21 +20,12 @@ use Rattle.effects.specs.declared.Verdict.the-variants.{Away, Stay}
 use Rattle.modes.proofs.Standing.{parts}
 
 -- ---- which switch it is
-pub record Known {A : Type 0} (l : List A) (k : ℕ) : Type 0 where
-  pub value : A
-  pub is : getElem? l k ≡ some value
-
-pub known : {A : Type 0} (l : List A) (k : ℕ) → k < length l → Known l k
-known [] k h = absurd (omega arith)
-known (a ∷ l) zero h = record { value = a; is = refl }
-known (a ∷ l) (suc k) h = let x = known l k (omega arith) in record { value = x .value; is = x .is }
-
 module _ {es : List ℕ} {at : ℕ} {m : Mode} (s : Stands es at m) (c k : ℕ) (e : c ≡ at + 1 + 5 * getD es at 0) where
   counted : length (m .switches) ≡ getD es c 0
   counted = let a = parts s .switches in rw e (times-length readSwitch (getD es (at + 1 + 5 * getD es at 0) 0) (drop (at + 1 + 5 * getD es at 0 + 1) es) (a .got))
 
-  pub switch-there : k < getD es c 0 → Known (m .switches) k
-  switch-there h = let n = counted in known (m .switches) k (omega arith)
+  pub switch-there : k < getD es c 0 → (w : Switch) × (getElem? (m .switches) k ≡ some w)
+  switch-there h = let n = counted in at-exists (m .switches) k (omega arith)
 
   pub no-switch : getD es c 0 ≤ k → getElem? (m .switches) k ≡ none
   no-switch h = let n = counted in past-end (m .switches) k (omega arith)

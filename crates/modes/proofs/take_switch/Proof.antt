@@ -5,12 +5,13 @@ use native.Mathlib.Omega.{arith}
 use lib.ListN.{getElem?}
 use Rattle.semantics.specs.Editions.{edition1}
 use Rattle.semantics.specs.Expressions.{truthValue}
+use Rattle.semantics.specs.Sections.{Switch}
 use Rattle.effects.specs.Told.{truthTold}
 use Rattle.modes.specs.Modes.{modeAt, Stands, SwitchAt, modesNow}
 use Rattle.effects.specs.declared.Verdict.the-variants.{Away, Stay}
 use Rattle.modes.proofs.Standing.{parts}
 use Rattle.modes.proofs.Walks.{stands-at}
-use Rattle.modes.proofs.Taking.{Known, switch-there, no-switch, mode-now, no-mode, no-selector-left, no-switch-left, not-taken-left, taken-left, asked-at}
+use Rattle.modes.proofs.Taking.{switch-there, no-switch, mode-now, no-mode, no-selector-left, no-switch-left, not-taken-left, taken-left, asked-at}
 use borrow.Author.Needs.{needs}
 use Rattle.modes.proofs.take_switch.Statement.{statement}
 use Rattle.modes.proofs.take_switch.Tie as tie
@@ -25,14 +26,14 @@ current c =
     mode-now (a .es .now) (a .places .now) (a .modes .now) (a .s) (c .before .before .if1 .left) ∙ ap (λ (i : ℕ). some (modeAt (a .es .now) i)) (sym (c .place .ensures))
 
 -- its switch
-there : (c : tie.After-switch-at) → Known (modeAt (c .before .before .before .before .before .before .before .before .before .before .before .args .es .now) (c .before .before .before .before .before .place .result) .switches) (c .before .before .before .before .before .before .before .before .before .before .before .args .k)
+there : (c : tie.After-switch-at) → (w : Switch) × (getElem? (modeAt (c .before .before .before .before .before .before .before .before .before .before .before .args .es .now) (c .before .before .before .before .before .place .result) .switches) (c .before .before .before .before .before .before .before .before .before .before .before .args .k) ≡ some w)
 there c = switch-there (mode (c .before .before .before .before .before)) (c .before .before .before .before .switches-at .result) (c .before .before .before .before .before .before .before .before .before .before .before .args .k) (c .before .before .before .before .switches-at .ensures) (omega (arith, c .before .before .wide .ensures, c .before .if2 .left))
 
-here : (c : tie.After-switch-at) → SwitchAt (c .before .before .before .before .before .before .before .before .before .before .before .args .es .now) (c .switch-at .result) (there c .value)
-here c = c .switch-at .ensures (there c .value) (there c .is)
+here : (c : tie.After-switch-at) → SwitchAt (c .before .before .before .before .before .before .before .before .before .before .before .args .es .now) (c .switch-at .result) (there c .0)
+here c = c .switch-at .ensures (there c .0) (there c .1)
 
-answer : (c : tie.After-ask) → c .ask .result ≡ truthTold Stay (Away 30) (truthValue edition1 (c .before .before .before .before .before .before .before .before .before .before .before .before .before .before .before .args .values .now) (there (c .before .before .before .before) .value .truth))
-answer c = asked-at (c .before .before .before .before .before .before .before .before .before .before .before .before .before .before .before .args .values .now) (c .before .before .before .before .before .before .before .before .before .before .before .before .before .before .before .args .es .now) (c .before .before .before .before .switch-at .result) (there (c .before .before .before .before) .value) (here (c .before .before .before .before)) _ (c .before .before .wide2 .ensures) _ (c .ask .ensures)
+answer : (c : tie.After-ask) → c .ask .result ≡ truthTold Stay (Away 30) (truthValue edition1 (c .before .before .before .before .before .before .before .before .before .before .before .before .before .before .before .args .values .now) (there (c .before .before .before .before) .0 .truth))
+answer c = asked-at (c .before .before .before .before .before .before .before .before .before .before .before .before .before .before .before .args .values .now) (c .before .before .before .before .before .before .before .before .before .before .before .before .before .before .before .args .es .now) (c .before .before .before .before .switch-at .result) (there (c .before .before .before .before) .0) (here (c .before .before .before .before)) _ (c .before .before .wide2 .ensures) _ (c .ask .ensures)
 
 returns : tie.Need-returns
 returns c = let a = c .before .before .before .before .args in no-selector-left _ _ _ _ _ (no-mode (a .es .now) (a .places .now) (a .modes .now) (a .s) (c .if1 .taken))
@@ -101,13 +102,13 @@ same-length-2 : tie.Need-same-length-2
 same-length-2 c = search needs
 
 returns-3 : tie.Need-returns-3
-returns-3 c = let w = there (c .before .before .before .before .before .before .before) in taken-left _ _ _ _ _ _ (current (c .before .before .before .before .before .before .before .before .before .before .before .before)) (w .value) (w .is) _ (answer (c .before .before .before)) (sym (c .before .before .goes-on .ensures) ∙ c .before .if3 .taken) (sym (here (c .before .before .before .before .before .before .before) .target))
+returns-3 c = let w = there (c .before .before .before .before .before .before .before) in taken-left _ _ _ _ _ _ (current (c .before .before .before .before .before .before .before .before .before .before .before .before)) (w .0) (w .1) _ (answer (c .before .before .before)) (sym (c .before .before .goes-on .ensures) ∙ c .before .if3 .taken) (sym (here (c .before .before .before .before .before .before .before) .target))
 
 same-length-3 : tie.Need-same-length-3
 same-length-3 c = search needs
 
 returns-4 : tie.Need-returns-4
-returns-4 c = let w = there (c .before .before .before .before .before .before) in not-taken-left _ _ _ _ _ _ (current (c .before .before .before .before .before .before .before .before .before .before .before)) (w .value) (w .is) _ (answer (c .before .before)) (sym (c .before .goes-on .ensures) ∙ c .if3 .left)
+returns-4 c = let w = there (c .before .before .before .before .before .before) in not-taken-left _ _ _ _ _ _ (current (c .before .before .before .before .before .before .before .before .before .before .before)) (w .0) (w .1) _ (answer (c .before .before)) (sym (c .before .goes-on .ensures) ∙ c .if3 .left)
 
 pub take-switch-spec : {M : Type 1} → statement M
 take-switch-spec =
