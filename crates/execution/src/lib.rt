@@ -10,53 +10,34 @@ ghost use Rattle.semantics.specs.Editions.{edition1};
 ghost use Rattle.semantics.specs.Bytes.{every};
 ghost use Rattle.semantics.specs.Plant.{Plant};
 ghost use Rattle.semantics.specs.Events.{eventIn};
+ghost use Rattle.semantics.specs.Expressions.{truthValue};
 ghost use Rattle.semantics.specs.Run.{Action, walk, judgeTick, judgePick, judge as judgeOf};
 ghost use Rattle.nodeset.specs.Sets.{mem, members};
-ghost use Rattle.effects.specs.Told.{stepTold, Left};
-ghost use Rattle.execution.specs.Operands.{cutAt, Cut, isWaitKind, waitsAt, stillAt};
+ghost use Rattle.effects.specs.Told.{stepTold, truthTold, Left};
+ghost use Rattle.effects.specs.declared.Verdict.the-variants.{Away, Stay};
+ghost use Rattle.execution.specs.Operands.{cutAt, Cut, isWaitKind};
 ghost use Rattle.execution.specs.Ready.{Ready, Promised, lent};
-
-// Does node n not act, or is it a wait?
-fn waits(kinds: &[u8], acting: NodeSet, n: usize) -> bool
-    requires { ⌜ (mem (acting .words) n ≡ true → n < length (now kinds)) ⌝ }
-    ensures { λ b. ⌜ b ≡ waitsAt (now (kinds .entry)) (acting .words) n ⌝ }
-{
-    if !nodeset::contains(acting, n) {
-        return true;
-    }
-    kinds[n] == 2
-}
 
 // Are all acting nodes waits?
 fn all_wait(kinds: &[u8], acting: NodeSet) -> bool
     requires { ⌜ ((n : ℕ) → mem (acting .words) n ≡ true → (n < 64) × (n < length (now kinds))) ⌝ }
     ensures { λ b. ⌜ b ≡ every (isWaitKind (now (kinds .entry))) (members (acting .words)) ⌝ }
 {
-    let mut n = 0;
+    let mut n = nodeset::next(acting, 0);
     while n < 64 {
-        if !waits(kinds, acting, n) {
+        if kinds[n] != 2 {
             return false;
         }
-        n += 1;
+        n = nodeset::next(acting, n + 1);
     }
     true
 }
 
-// The truth of node n, where it acts.
-fn still(
-    ops: &[u8],
-    starts: &[usize],
-    ends: &[usize],
-    acting: NodeSet,
-    values: &[i32],
-    n: usize,
-) -> Verdict
-    requires { ⌜ (mem (acting .words) n ≡ true → Cut (now ops) (now starts) (now ends) n) ⌝ }
-    ensures { λ r. ⌜ r ≡ stillAt (now (values .entry)) (cutAt (now (ops .entry)) (now (starts .entry)) (now (ends .entry)) n) (acting .words) n ⌝ }
+// The truth of the wait n.
+fn still(ops: &[u8], starts: &[usize], ends: &[usize], values: &[i32], n: usize) -> Verdict
+    requires { ⌜ Cut (now ops) (now starts) (now ends) n ⌝ }
+    ensures { λ r. ⌜ r ≡ truthTold (Away 31) Stay (truthValue edition1 (now (values .entry)) (cutAt (now (ops .entry)) (now (starts .entry)) (now (ends .entry)) n)) ⌝ }
 {
-    if !nodeset::contains(acting, n) {
-        return Verdict::Stay;
-    }
     let b = starts[n];
     let e = ends[n];
     effects::ask(&ops[b..e], values, Verdict::Away(31), Verdict::Stay)
@@ -73,13 +54,13 @@ fn all_still(
     requires { ⌜ ((n : ℕ) → mem (acting .words) n ≡ true → (n < 64) × Cut (now ops) (now starts) (now ends) n) ⌝ }
     ensures { λ r. ⌜ r ≡ stepTold (walk edition1 31 (now (values .entry)) (map (cutAt (now (ops .entry)) (now (starts .entry)) (now (ends .entry))) (members (acting .words)))) ⌝ }
 {
-    let mut n = 0;
+    let mut n = nodeset::next(acting, 0);
     while n < 64 {
-        let r = still(ops, starts, ends, acting, values, n);
+        let r = still(ops, starts, ends, values, n);
         if !effects::goes_on(r) {
             return r;
         }
-        n += 1;
+        n = nodeset::next(acting, n + 1);
     }
     Verdict::Stay
 }
