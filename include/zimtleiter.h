@@ -12,9 +12,9 @@
  *
  * The caller sees to these things, on which the proofs rest:
  *  - A pointer with a length points to that many bytes, which can be read, and
- *    where it is not const written. It is not null, not even where the length is
- *    0: any address of a byte will do there. (As built today a null pointer with
- *    length 0 is an empty buffer. Nothing promises it.)
+ *    where it is not const written. It is not null, not even where the length
+ *    is 0: any address of a byte will do there. (As built today a null pointer
+ *    with length 0 is an empty buffer. Nothing promises it.)
  *  - A pointer to a uint64_t is that of a whole one, aligned and writable. What
  *    it holds before the call does not matter.
  *  - What a call writes to (table or records, length, counts) overlaps nothing
@@ -22,7 +22,7 @@
  *  - Until the call returns, nothing else writes to what is lent, and nothing
  *    else reads what the call writes to.
  *
- * Stack, as measured on the longest schedules, the deepest trees and the deepest
+ * Stack, as measured on the largest plants, the deepest trees and the deepest
  * expressions: zimtleiter_compile 400,000 bytes, zimtleiter_table_run 53,000,
  * zimtleiter_read_table 42,000, zimtleiter_rule_run 27,000,
  * zimtleiter_read_schedule 23,000. 512 KiB are room for any of them.
