@@ -1,0 +1,75 @@
+// The five calls for C, each under its plain name: include/zimtleiter.h declares them.
+// A lent slice is a pointer and a length there, a `&mut u64` a pointer. No call asks anything of its bytes.
+ghost use mathlib.Core.Path.{_≡_};
+ghost use Rattle.semantics.specs.Editions.{edition1};
+ghost use Rattle.semantics.specs.Calls.{readTable, tableRun};
+ghost use Rattle.schedules.specs.Calls.{readSchedule, compile, ruleRun};
+ghost use Rattle.capi.specs.Returned.{compiled, ran};
+
+// 0, or the first of 1 to 12 that applies
+#[no_mangle]
+pub extern "C" fn zimtleiter_read_schedule(file: &[u8]) -> u8
+    ensures { λ r. ⌜ r ≡ readSchedule edition1 (now (file .entry)) .refusal ⌝ }
+{
+    let x = schedule_read::call::read(file);
+    x.refusal
+}
+
+// 0, or the first of 15 to 19 that applies
+#[no_mangle]
+pub extern "C" fn zimtleiter_read_table(table: &[u8]) -> u8
+    ensures { λ r. ⌜ r ≡ readTable edition1 (now (table .entry)) .refusal ⌝ }
+{
+    let x = table_read::call::read(table);
+    x.refusal
+}
+
+// 0, the table and its length; or the first of 1 to 14 that applies, and length 0
+#[no_mangle]
+pub extern "C" fn zimtleiter_compile(file: &[u8], table: &mut [u8], length: &mut u64) -> u8
+    ensures { λ r. ⌜ compiled r (now (length .exit)) (now (table .exit)) ≡ compile edition1 (now (file .entry)) (now (table .entry)) ⌝ }
+{
+    let x = compiler::call::compile(file, table);
+    *length = x.length as u64;
+    x.refusal
+}
+
+// 0, the records and their counts; or the first of 1 to 12 and 20 to 22 that applies, and counts 0
+#[no_mangle]
+pub extern "C" fn zimtleiter_rule_run(
+    file: &[u8],
+    start: &[u8],
+    events: &[u8],
+    records: &mut [u8],
+    taken: &mut u64,
+    turned_away: &mut u64,
+    faulted: &mut u64,
+) -> u8
+    ensures { λ r. ⌜ ran r (now (taken .exit)) (now («turned_away» .exit)) (now (faulted .exit)) (now (records .exit)) ≡ ruleRun edition1 (now (file .entry)) (now (start .entry)) (now (events .entry)) (now (records .entry)) ⌝ }
+{
+    let by_rules = rule_run::call::run(file, start, events, records);
+    *taken = by_rules.taken as u64;
+    *turned_away = by_rules.turned_away as u64;
+    *faulted = by_rules.faulted as u64;
+    by_rules.refusal
+}
+
+// 0, the records and their counts; or the first of 15 to 22 that applies, and counts 0
+#[no_mangle]
+pub extern "C" fn zimtleiter_table_run(
+    table: &[u8],
+    start: &[u8],
+    events: &[u8],
+    records: &mut [u8],
+    taken: &mut u64,
+    turned_away: &mut u64,
+    faulted: &mut u64,
+) -> u8
+    ensures { λ r. ⌜ ran r (now (taken .exit)) (now («turned_away» .exit)) (now (faulted .exit)) (now (records .exit)) ≡ tableRun edition1 (now (table .entry)) (now (start .entry)) (now (events .entry)) (now (records .entry)) ⌝ }
+{
+    let by_table = table_run::call::run(table, start, events, records);
+    *taken = by_table.taken as u64;
+    *turned_away = by_table.turned_away as u64;
+    *faulted = by_table.faulted as u64;
+    by_table.refusal
+}
