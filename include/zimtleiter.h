@@ -1,0 +1,121 @@
+/*
+ * Zimtleiter: batch schedules compiled to state tables, and run by the rules
+ * or by the table. The library is target/staticlib/libcapi.a, which
+ * `rt staticlib capi` writes, for x86-64 Linux. Of the C library it calls only
+ * memcpy and memset. It takes no memory but the stack and keeps nothing between
+ * calls, so calls may run at the same time in several threads.
+ *
+ * Every call returns, whatever the bytes in the buffers lent to it. It returns
+ * 0, or the number of the first condition below that applies. Where it returns
+ * another number than 0, no lent buffer is written, and the length or the
+ * counts are set to 0. What is only read is left as it was in any case.
+ *
+ * The caller sees to these things, on which the proofs rest:
+ *  - A pointer with a length points to that many bytes, which can be read, and
+ *    where it is not const written. It is not null, not even where the length
+ *    is 0: any address of a byte will do there. (As built today a null pointer
+ *    with length 0 is an empty buffer. Nothing promises it.)
+ *  - A pointer to a uint64_t is that of a whole one, aligned and writable. What
+ *    it holds before the call does not matter.
+ *  - What a call writes to (table or records, length, counts) overlaps nothing
+ *    else that is lent to that call. Buffers that are only read may overlap.
+ *  - Until the call returns, nothing else writes to what is lent, and nothing
+ *    else reads what the call writes to.
+ *
+ * Stack, as measured on the largest plants, the deepest trees and the deepest
+ * expressions: zimtleiter_compile 400,000 bytes, zimtleiter_table_run 53,000,
+ * zimtleiter_read_table 42,000, zimtleiter_rule_run 27,000,
+ * zimtleiter_read_schedule 23,000. 512 KiB are room for any of them.
+ *
+ * Schedule files, tables, starting values, events and records are those of
+ * document 01; numbers of several bytes are big-endian.
+ */
+#ifndef ZIMTLEITER_H
+#define ZIMTLEITER_H
+
+#include <stddef.h>
+#include <stdint.h>
+
+/* Bytes that are room for any table: document 01's limits give 394,311. */
+#define ZIMTLEITER_TABLE_ROOM 400000
+
+#ifdef __cplusplus
+extern "C" {
+#endif
+
+/*
+ * Reads a schedule file and judges it. Returns 0, or
+ *   1  the file has under 3 bytes, or byte 0 is not 1
+ *   2  its length field is not its length
+ *   3  the three sections do not fill it just so
+ *   4  the variable count or section length is wrong
+ *   5  minimum <= initial <= maximum fails
+ *   6  the equation section breaks its layout or a count
+ *   7  an equation names a missing variable or mode
+ *   8  a variable is in two equations, or twice in one mode
+ *   9  the schedule section, its node count, a length, kind, payload or child
+ *      count breaks its layout
+ *  10  the nodes do not make just one tree
+ *  11  a node names a missing variable, selector or mode
+ *  12  a truth or number is cut, overlong, too deep, of the wrong sort, has an
+ *      unknown code or names a missing variable
+ */
+uint8_t zimtleiter_read_schedule(const uint8_t *file, size_t file_len);
+
+/*
+ * Reads a table and judges it. Returns 0, or
+ *  15  the table has under 5 bytes, or a wrong version or length
+ *  16  its four sections do not fill it
+ *  17  its first two sections break 4 to 8 or 12
+ *  18  the action section: a count, node number, kind, length or operand is
+ *      wrong, or bytes are missing or left over
+ *  19  the location section: a count, node or target is wrong, or bytes are
+ *      missing or left over
+ */
+uint8_t zimtleiter_read_table(const uint8_t *table, size_t table_len);
+
+/*
+ * Compiles a schedule file. Returns 0, 1 to 12 as above, or
+ *  13  there are over 1,024 locations
+ *  14  the lent buffer is shorter than the table
+ * On 0 the first *length bytes of table are the schedule's table, and those
+ * behind are as they were. ZIMTLEITER_TABLE_ROOM bytes are enough for any.
+ */
+uint8_t zimtleiter_compile(const uint8_t *file, size_t file_len,
+                           uint8_t *table, size_t room, uint64_t *length);
+
+/*
+ * Runs a schedule by the rules over a list of events, 3 bytes each. Returns 0,
+ * 1 to 12 as above, or
+ *  20  the starting values (4 bytes each, then modes) have a wrong length,
+ *      value or mode
+ *  21  the event bytes are not a multiple of 3
+ *  22  the record buffer is too short
+ * On 0 one record for each event stands at the front of records, in their
+ * order, and the bytes behind are as they were. A record has 9 bytes, 4 for
+ * each variable and 1 for each selector. The counts are those of the events
+ * answered 200 to 202 (taken), 23 to 31 (turned away) and 203 (faulted).
+ */
+uint8_t zimtleiter_rule_run(const uint8_t *file, size_t file_len,
+                            const uint8_t *start, size_t start_len,
+                            const uint8_t *events, size_t events_len,
+                            uint8_t *records, size_t room, uint64_t *taken,
+                            uint64_t *turned_away, uint64_t *faulted);
+
+/*
+ * Runs a table over a list of events. Returns 0, 15 to 19 or 20 to 22 as above.
+ * What it writes is as in zimtleiter_rule_run; for a table that
+ * zimtleiter_compile wrote, at its length, counts and records are those of the
+ * run of its schedule by the rules.
+ */
+uint8_t zimtleiter_table_run(const uint8_t *table, size_t table_len,
+                             const uint8_t *start, size_t start_len,
+                             const uint8_t *events, size_t events_len,
+                             uint8_t *records, size_t room, uint64_t *taken,
+                             uint64_t *turned_away, uint64_t *faulted);
+
+#ifdef __cplusplus
+}
+#endif
+
+#endif

@@ -1,0 +1,215 @@
+//! The five calls of the product against the plain implementation, on inputs from a seed.
+//! differential [SEED [SECONDS]]
+mod drafts;
+mod forms;
+mod inputs;
+mod plain;
+mod product;
+mod random;
+mod tables;
+
+use product::Given;
+use random::Random;
+use std::time::{Duration, Instant};
+
+const CALLS: [&str; 5] = ["read_schedule", "read_table", "compile", "rule_run", "table_run"];
+
+/// What was seen so far.
+#[derive(Default)]
+struct Tally {
+    inputs: u64,
+    calls: [u64; 5],
+    accepted: [u64; 5],
+    refusals: [u64; 23],
+    answers: std::collections::BTreeMap<u8, u64>,
+    longest: [usize; 4],
+    edges: [u64; 4],
+}
+
+const EDGES: [&str; 4] = ["of 65,535 bytes", "of 64 nodes", "with 1,024 locations", "with a table of 65,530 to 65,542 bytes"];
+
+/// The call, what it was lent, what it gave and what it should have given.
+struct Difference {
+    call: usize,
+    lent: Vec<(&'static str, Vec<u8>)>,
+    given: Given,
+    wanted: Given,
+}
+
+fn hex(bytes: &[u8]) -> String {
+    bytes.iter().map(|b| format!("{b:02x}")).collect()
+}
+
+impl Tally {
+    fn saw(&mut self, call: usize, refusal: u8) {
+        self.calls[call] += 1;
+        if refusal == 0 {
+            self.accepted[call] += 1;
+        } else {
+            self.refusals[refusal as usize] += 1;
+        }
+    }
+
+    fn saw_length(&mut self, what: usize, n: usize) {
+        self.longest[what] = self.longest[what].max(n);
+    }
+
+    fn print(&self, since: Instant) {
+        println!("{} s, {} inputs, 0 differences", since.elapsed().as_secs(), self.inputs);
+        let calls: Vec<String> = (0..5).map(|k| format!("{} {} of {}", CALLS[k], self.accepted[k], self.calls[k])).collect();
+        println!("  accepted: {}", calls.join(", "));
+        let refusals: Vec<String> = (1..23).map(|n| format!("{n}:{}", self.refusals[n])).collect();
+        println!("  refused: {}", refusals.join(" "));
+        let answers: Vec<String> = (23..=31).chain(200..=203).map(|n| format!("{n}:{}", self.answers.get(&n).unwrap_or(&0))).collect();
+        println!("  answered: {}", answers.join(" "));
+        let [file, table, events, records] = self.longest;
+        println!("  longest: file {file}, table {table}, events {events}, records {records} bytes");
+        let edges: Vec<String> = (0..4).map(|k| format!("{} {}", self.edges[k], EDGES[k])).collect();
+        println!("  compiled: {}", edges.join(", "));
+    }
+
+    /// A schedule that compiles, and its table.
+    fn saw_compiled(&mut self, file: &[u8], table: &[u8]) {
+        self.saw_length(0, file.len());
+        let d = tables::split(table);
+        let nodes = drafts::node_count(file);
+        let edges = [file.len() == 65_535, nodes == 64, d.locations.len() == 1024, (65_530..=65_542).contains(&table.len())];
+        for (n, seen) in self.edges.iter_mut().zip(edges) {
+            *n += seen as u64;
+        }
+    }
+
+    /// Numbers and answers that no input has reached.
+    fn unseen(&self) -> Vec<u8> {
+        let refusals = (1..23u8).filter(|n| self.refusals[*n as usize] == 0);
+        refusals.chain((23..=31).chain(200..=203).filter(|n| !self.answers.contains_key(n))).collect()
+    }
+}
+
+fn compare(call: usize, lent: &[(&'static str, &[u8])], given: Given, wanted: Given) -> Result<(), Box<Difference>> {
+    if given == wanted {
+        return Ok(());
+    }
+    let lent = lent.iter().map(|(name, b)| (*name, b.to_vec())).collect();
+    Err(Box::new(Difference { call, lent, given, wanted }))
+}
+
+/// The written bytes at the front of the old ones.
+fn over(written: &[u8], old: &[u8]) -> Vec<u8> {
+    let mut l = written.to_vec();
+    l.extend(old.get(written.len()..).unwrap_or(&[]));
+    l
+}
+
+fn read(r: &mut Random, t: &mut Tally, call: usize, bytes: &[u8]) -> Result<(), Box<Difference>> {
+    let (judged, given) = if call == 0 {
+        (plain::read_schedule(bytes), product::read_schedule(r, bytes))
+    } else {
+        (plain::read_table(bytes), product::read_table(r, bytes))
+    };
+    let wanted = Given { refusal: judged.err().unwrap_or(0), ..Given::default() };
+    t.saw(call, wanted.refusal);
+    compare(call, &[("bytes", bytes)], given, wanted)
+}
+
+/// The table, where there is one.
+fn compile(r: &mut Random, t: &mut Tally, file: &[u8]) -> Result<Option<Vec<u8>>, Box<Difference>> {
+    let whole = plain::whole_table(file);
+    let room = inputs::room(r, whole.as_ref().map_or(100, Vec::len));
+    let old = inputs::old(r, room);
+    let given = product::compile(r, file, &old);
+    let wanted = match plain::compile(&whole, room) {
+        Ok(table) => Given { numbers: vec![table.len() as u64], buffer: over(table, &old), ..Given::default() },
+        Err(n) => Given { refusal: n, numbers: vec![0], buffer: old.clone(), ..Given::default() },
+    };
+    t.saw(2, wanted.refusal);
+    compare(2, &[("file", file), ("old", &old)], given, wanted)?;
+    Ok(whole.ok())
+}
+
+/// By the rules, or a table.
+fn run(r: &mut Random, t: &mut Tally, by_table: bool, program: &[u8], start: &[u8], events: &[u8]) -> Result<(), Box<Difference>> {
+    let size = 9 + plain::initial_start(program).map_or(20, |s| s.len());
+    let room = inputs::room(r, events.len() / 3 * size);
+    let old = inputs::old(r, room);
+    let given = product::run(r, by_table, program, start, events, &old);
+    let call = if by_table { plain::table_run } else { plain::rule_run };
+    let wanted = match call(program, start, events, room) {
+        Ok(ran) => {
+            for record in ran.records.chunks(size) {
+                *t.answers.entry(record[0]).or_default() += 1;
+            }
+            t.saw_length(2, events.len());
+            t.saw_length(3, ran.records.len());
+            let numbers = vec![ran.taken, ran.turned_away, ran.faulted];
+            Given { numbers, buffer: over(&ran.records, &old), ..Given::default() }
+        }
+        Err(n) => Given { refusal: n, numbers: vec![0; 3], buffer: old.clone(), ..Given::default() },
+    };
+    let call = if by_table { 4 } else { 3 };
+    t.saw(call, wanted.refusal);
+    compare(call, &[("program", program), ("start", start), ("events", events), ("old", &old)], given, wanted)
+}
+
+/// All five calls on one schedule, one table, starts and events.
+fn input(r: &mut Random, t: &mut Tally) -> Result<(), Box<Difference>> {
+    t.inputs += 1;
+    let file = inputs::file(r);
+    read(r, t, 0, &file)?;
+    let compiled = compile(r, t, &file)?;
+    if let Some(table) = &compiled {
+        t.saw_compiled(&file, table);
+    }
+    let initial = plain::initial_start(&file).unwrap_or_else(|| vec![0; 5]);
+    let start = inputs::start(r, &initial);
+    let events = inputs::events(r, false, &file, &start);
+    run(r, t, false, &file, &start, &events)?;
+    let table = inputs::table(r, compiled.as_ref());
+    read(r, t, 1, &table)?;
+    if compiled.as_ref() == Some(&table) {
+        run(r, t, true, &table, &start, &events)?;
+    } else {
+        let initial = plain::initial_start(&table).unwrap_or_else(|| vec![0; 5]);
+        let start = inputs::start(r, &initial);
+        let events = inputs::events(r, true, &table, &start);
+        run(r, t, true, &table, &start, &events)?;
+    }
+    if plain::read_table(&table).is_ok() {
+        t.saw_length(1, table.len());
+    }
+    Ok(())
+}
+
+fn tell(seed: u64, t: &Tally, d: &Difference) {
+    println!("seed {seed}, input {}: a difference in {}", t.inputs, CALLS[d.call]);
+    for (name, bytes) in &d.lent {
+        println!("  {name} ({} bytes): {}", bytes.len(), hex(bytes));
+    }
+    for (whose, g) in [("product", &d.given), ("plain", &d.wanted)] {
+        println!("  {whose}: returned {}, numbers {:?}, touched {:?}", g.refusal, g.numbers, g.touched);
+        println!("    buffer: {}", hex(&g.buffer));
+    }
+}
+
+fn main() {
+    let mut words = std::env::args().skip(1);
+    let seed = words.next().map_or(1, |w| w.parse().expect("a seed"));
+    let seconds = words.next().map_or(60, |w| w.parse().expect("a number of seconds"));
+    let since = Instant::now();
+    let mut r = Random::new(seed);
+    let mut t = Tally::default();
+    let mut next = Duration::from_secs(10);
+    while since.elapsed() < Duration::from_secs(seconds) {
+        if let Err(d) = input(&mut r, &mut t) {
+            tell(seed, &t, &d);
+            std::process::exit(1);
+        }
+        if since.elapsed() >= next {
+            t.print(since);
+            next += Duration::from_secs(if since.elapsed().as_secs() < 60 { 10 } else { 60 });
+        }
+    }
+    println!("seed {seed}, the end");
+    t.print(since);
+    println!("  not reached: {:?}", t.unseen());
+}
