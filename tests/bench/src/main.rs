@@ -31,7 +31,7 @@ enum Work {
 const ROOM: usize = 400_000;
 
 fn by_table(r: Runs) -> Work {
-    let table = plain::compile(&r.file, ROOM).expect("a schedule that compiles");
+    let table = plain::whole_table(&r.file).expect("a schedule that compiles");
     Work::Table(table, r)
 }
 
@@ -71,8 +71,8 @@ fn compiled(who: Who, file: &[u8], out: &mut [u8]) -> Result<usize, u8> {
     match who {
         Who::Product => product::compile(file, out),
         Who::Fast => fast::compile(file, out),
-        Who::Plain => plain::compile(file, out.len()).map(|t| {
-            out[..t.len()].copy_from_slice(&t);
+        Who::Plain => plain::compile(&plain::whole_table(file), out.len()).map(|t| {
+            out[..t.len()].copy_from_slice(t);
             t.len()
         }),
     }
@@ -141,7 +141,7 @@ fn agree_beside() {
             let runs = cases::example(f, 100 * i as u64 + seed, 300);
             let name = format!("example {i} seed {seed}");
             let room = 300 * (9 + runs.start.len());
-            let table = plain::compile(f, ROOM).unwrap();
+            let table = plain::whole_table(f).unwrap();
             agree(&name, &Work::Compile(f.to_vec()), ROOM);
             agree(&name, &Work::Rules(cases::example(f, 100 * i as u64 + seed, 300)), room);
             agree(&name, &Work::Table(table.clone(), runs), room);

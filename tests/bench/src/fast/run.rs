@@ -101,6 +101,26 @@ pub struct Runner<'a, C> {
 
 const FAULT: u8 = 203;
 
+/// Copies a record of 13 to 153 bytes in blocks, the last of which may lie over the one before.
+///
+/// # Safety
+/// Both places have `size` bytes.
+#[inline(always)]
+unsafe fn put(from: &[u8; 160], to: *mut u8, size: usize) {
+    let p = from.as_ptr();
+    if size < 16 {
+        to.cast::<[u8; 8]>().write(p.cast::<[u8; 8]>().read());
+        to.add(size - 8).cast::<[u8; 8]>().write(p.add(size - 8).cast::<[u8; 8]>().read());
+        return;
+    }
+    let mut i = 0;
+    while i + 16 < size {
+        to.add(i).cast::<[u8; 16]>().write(p.add(i).cast::<[u8; 16]>().read());
+        i += 16;
+    }
+    to.add(size - 16).cast::<[u8; 16]>().write(p.add(size - 16).cast::<[u8; 16]>().read());
+}
+
 impl<'a, C: Control> Runner<'a, C> {
     /// 20 to 22, then a run that stands at its start.
     pub fn new(
@@ -441,7 +461,7 @@ impl<'a, C: Control> Runner<'a, C> {
                 faulted += (answer == FAULT) as u64;
                 self.record[0] = answer;
                 self.record.as_mut_ptr().add(1).cast::<u64>().write_unaligned(set.to_be());
-                std::ptr::copy_nonoverlapping(self.record.as_ptr(), out, size);
+                put(&self.record, out, size);
                 out = out.add(size);
                 i += 1;
                 if over {
@@ -453,7 +473,7 @@ impl<'a, C: Control> Runner<'a, C> {
         while i < n {
             // SAFETY: as above
             unsafe {
-                std::ptr::copy_nonoverlapping(self.record.as_ptr(), out, size);
+                put(&self.record, out, size);
                 out = out.add(size);
             }
             i += 1;
