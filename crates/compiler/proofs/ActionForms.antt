@@ -26,8 +26,8 @@ use Rattle.schedule_read.proofs.Pads.{map-length}
 use Rattle.schedule_read.specs.Actions.{actionNumber, actionNumbers}
 use Rattle.schedule_read.proofs.NodeActions.{kind-number, numbers-long, action-of-node, action-beyond}
 use Rattle.numbering.specs.Meeting.{testsIn}
-use Rattle.compiler.proofs.ActionLoop.{operand-long}
-use Rattle.compiler.specs.ActionTable.{actionRow, actionOnce, operandAt, actionRows, actionCount, Operands}
+use Rattle.table_write.proofs.ActionLoop.{operand-long}
+use Rattle.table_write.specs.ActionTable.{actionRow, actionOnce, operandAt, actionRows, actionCount, Operands}
 
 -- ---- a node's action, by the number of its kind and its operand bytes
 data Formed (c : ℕ) (b : List ℕ) : Option Action → Type 0 where

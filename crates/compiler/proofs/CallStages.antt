@@ -28,30 +28,14 @@ use Rattle.schedule_read.proofs.Promises.{Slice, Promised, index-schedule, prom
 use Rattle.schedule_read.proofs.NodeActions.{numbers-long}
 use Rattle.numbering.specs.Meeting.{testsIn}
 use Rattle.numbering.specs.Located.{rowBytes, Located, located, too-many, Numbered}
-use Rattle.compiler.specs.ActionTable.{ActionsPut}
-use Rattle.compiler.specs.CallParts.{returned, leaves, tableWith, judgeRoom, judgeRest, judgeAsked, Lent}
+use Rattle.table_write.specs.ActionTable.{ActionsPut}
+use Rattle.table_write.specs.TableParts.{returned, leaves, tableWith, judgeRoom}
+use Rattle.table_write.proofs.TableBytes.{taken-front}
+use Rattle.table_write.proofs.Room.{refused-leaves}
+use Rattle.compiler.specs.CallParts.{judgeRest, judgeAsked, Lent}
 use Rattle.compiler.specs.Measured.{judgeMeasure, lengthOf}
 use Rattle.compiler.proofs.ActionForms.{actions-written, actions-counted, operands, tests-are}
-use Rattle.compiler.proofs.TableBytes.{taken-front, table-is}
-
--- a refusal leaves the buffer, whatever is asked
-refused-leaves : (w : Bool) (buffer : List ℕ) (n : ℕ) → returned n 0 buffer ≡ leaves w buffer (refused n)
-unfolding leaves compiledInto
-refused-leaves true buffer n = refl
-refused-leaves false buffer n = refl
-
--- ---- 14
-pub no-room : {w : Bool} (t buffer : List ℕ) {m n : ℕ} → w ≡ true → m ≡ 14 → n ≡ 0 → length buffer < length t → returned m n buffer ≡ leaves w buffer (judgeRoom w t buffer)
-unfolding leaves compiledInto judgeRoom ensure _>>_
-no-room t buffer i e f h = rw (i, e, f, lt-leb (length t) (length buffer) h) refl
-
-pub room : {w : Bool} (t buffer : List ℕ) {n : ℕ} {e : List ℕ} → w ≡ true → n ≡ length t → length t ≤ length buffer → Wrote buffer 0 t e → returned 0 n e ≡ leaves w buffer (judgeRoom w t buffer)
-unfolding leaves compiledInto judgeRoom ensure _>>_
-room t buffer i f h v = rw (i, le-leb (length t) (length buffer) h, f, wrote-front v) refl
-
-pub no-table : {w : Bool} (t buffer : List ℕ) {n : ℕ} → w ≡ false → n ≡ length t → returned 0 n buffer ≡ leaves w buffer (judgeRoom w t buffer)
-unfolding leaves judgeRoom
-no-table t buffer i f = rw (i, f) refl
+use Rattle.compiler.proofs.ScheduleTable.{table-is}
 
 -- ---- 13, and the table of the schedule
 module _ {vs es sch kinds subs acts starts ends : List ℕ} {count : ℕ} {s : Schedule} (g : Lent vs es sch kinds subs acts starts ends count s) {b b′ : List ℕ} {c at : ℕ} (x : Numbered kinds subs acts b c b′ at) (w : Bool) (buffer : List ℕ) where

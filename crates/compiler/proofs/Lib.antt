@@ -1,7 +1,6 @@
 -- actions
 pub mod ActionForms
-pub mod ActionLoop
 -- the call
-pub mod TableBytes
+pub mod ScheduleTable
 pub mod CallStages
 pub mod Measuring

@@ -1,3 +1,2 @@
 // The compiler: the table of a schedule.
-mod actions;
 pub mod call;

@@ -14,15 +14,16 @@ use Rattle.semantics.specs.Run.{Action, test, wait, assign, switch, stop, away,
 use Rattle.semantics.proofs.Facts.{true-not-false}
 use Rattle.nodeset.specs.Sets.{mem, members}
 use Rattle.nodeset.proofs.Members.{among-members}
-use Rattle.execution.specs.Told.{doneTold, stepTold, goesOn, movedTold, eventTold, valuesLeft, modesLeft, Left, orElse}
-use Rattle.execution.specs.Ranges.{rangesOf, advanced, rangesOnly}
-use Rattle.execution.specs.Deeds.{kindOf, form, isWaitKind, Fit}
-use Rattle.execution.specs.Modes.{modesNow, laid, switchTaken}
+use Rattle.effects.specs.Told.{doneTold, stepTold, goesOn, movedTold, eventTold, valuesLeft, modesLeft, Left, orElse}
+use Rattle.effects.specs.Ranges.{rangesOf, advanced, rangesOnly}
+use Rattle.effects.specs.Deeds.{kindOf, form, Fit}
+use Rattle.execution.specs.Operands.{isWaitKind}
+use Rattle.modes.specs.Modes.{modesNow, laid, switchTaken}
 use Rattle.semantics.specs.Sections.{Mode}
 use Rattle.execution.specs.Ready.{Lent, PlantLent, Ready, operandAt}
-use Rattle.execution.specs.declared.Verdict.{Verdict}
-use Rattle.execution.specs.declared.Verdict.the-variants.{Away}
-use Rattle.execution.proofs.Walks.{then-on}
+use Rattle.effects.specs.declared.Verdict.{Verdict}
+use Rattle.effects.specs.declared.Verdict.the-variants.{Away}
+use Rattle.effects.proofs.Steps.{then-on}
 use Rattle.execution.proofs.Formed.{Formed, formed, formed-is, formed-fit, wait-kind, wait-operand, every-member, map-member}
 use Rattle.execution.proofs.Lending.{modes-current, declared-same, advance-is}
 

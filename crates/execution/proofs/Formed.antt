@@ -17,7 +17,7 @@ use Rattle.semantics.specs.TableFile.{actionKind, actionOf, a-test, a-wait, an-
 use Rattle.semantics.specs.Tables.{operandFits}
 use Rattle.semantics.proofs.Facts.{true-not-false, none-not-some, some-is, at-below, and-left}
 use Rattle.nodeset.specs.Sets.{mem, membersFrom, members}
-use Rattle.execution.specs.Deeds.{kindOf, form, Fit}
+use Rattle.effects.specs.Deeds.{kindOf, form, Fit}
 use Rattle.execution.specs.Ready.{actionNamed}
 
 -- ---- the five forms

@@ -21,9 +21,9 @@ use Rattle.semantics.proofs.Facts.{true-not-false, some-is, and-both, at-below,
 use Rattle.semantics.proofs.Verdicts.{advance-length}
 use Rattle.nodeset.specs.Sets.{mem, members}
 use Rattle.nodeset.proofs.Members.{among-members, members-below}
-use Rattle.execution.specs.Modes.{modeAt, placeAt}
+use Rattle.modes.specs.Modes.{modeAt, placeAt}
 use Rattle.execution.specs.Ready.{Lent, Ready, Fits, actionNamed}
-use Rattle.execution.proofs.Taking.{modes-length, mode-now}
+use Rattle.modes.proofs.Taking.{modes-length, mode-now}
 use Rattle.execution.proofs.Lending.{here, fit-head, modes-current, mode-named, mode-targets-named}
 
 -- ---- a mode that is set

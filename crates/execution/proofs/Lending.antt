@@ -15,11 +15,11 @@ use Rattle.semantics.specs.Sections.{Variable, Rate, Mode, Selector, Equation, 
 use Rattle.semantics.specs.Plant.{Plant, rateNamed, switchNamed, modeNamed, equationNamed, selectorsOf, selectors, noMode, currentOf, currentModes, rateOf, declared, declaredAt, allDeclared, added, advance}
 use Rattle.semantics.specs.Starts.{modesFit}
 use Rattle.semantics.proofs.Facts.{some-is, none-not-some, and-left, and-right, at-exists, All, all-nil, all-cons, every-all, all-every, all-map}
-use Rattle.execution.specs.Ranges.{rangesOf, rateIn, advanced, Sized}
-use Rattle.execution.specs.Modes.{modeAt, Stands, placeAt, modesFrom, modesNow, Current, Driving, laid}
+use Rattle.effects.specs.Ranges.{rangesOf, rateIn, advanced, Sized}
+use Rattle.modes.specs.Modes.{modeAt, Stands, placeAt, modesFrom, modesNow, Current, Driving, laid}
 use Rattle.execution.specs.Ready.{Lent, ModeLent, PlantLent, Fits}
-use Rattle.execution.proofs.Walks.{length-laid}
-use Rattle.execution.proofs.Rates.{rates-laid}
+use Rattle.modes.proofs.Walks.{length-laid}
+use Rattle.modes.proofs.Rates.{rates-laid}
 
 -- ---- the mode at its place
 pub stands-mode : {es : List ℕ} {at : ℕ} {m : Mode} → Stands es at m → modeAt es at ≡ m

@@ -10,9 +10,9 @@ use Rattle.semantics.specs.Expressions.{above, below}
 use Rattle.semantics.specs.Run as Run
 use Rattle.semantics.specs.Run.{away, faulty, pass, Moved, nobody, mover, Done, Control, Answered, setNumber, actingSet, valueBytes, recordOf}
 use Rattle.nodeset.specs.Sets.{members}
-use Rattle.execution.specs.Told.{movedTold, eventTold, valuesLeft, modesLeft, Left}
-use Rattle.execution.specs.declared.Verdict.{Verdict}
-use Rattle.execution.specs.declared.Verdict.the-variants.{Away, Above, Below, Stay, Move}
+use Rattle.effects.specs.Told.{movedTold, eventTold, valuesLeft, modesLeft, Left}
+use Rattle.effects.specs.declared.Verdict.{Verdict}
+use Rattle.effects.specs.declared.Verdict.the-variants.{Away, Above, Below, Stay, Move}
 
 -- the event is not taken: values and modes are as they were
 pub record Untaken (j v : Run.Verdict Done) (vs : List ℤ) (ms : List ℕ) (vs' : List ℤ) (ms' : List ℕ) : Type 0 where

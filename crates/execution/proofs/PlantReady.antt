@@ -21,7 +21,7 @@ use Rattle.plant.proofs.VariableLaws.{column-front}
 use Rattle.plant.proofs.EquationLookups.{mode-is}
 use Rattle.plant.proofs.EquationLaws.{ModePlaced, mode-placed, few-selectors, few-modes-each, put-length, rate-among-at}
 use Rattle.plant.proofs.PlantLaws.{passed-all, variables-of, variables-high, lows-of, highs-of, places-of, steady-of}
-use Rattle.execution.specs.Modes.{Stands}
+use Rattle.modes.specs.Modes.{Stands}
 use Rattle.execution.specs.Ready.{Lent, ModeLent, PlantLent, Fits}
 
 -- ---- lists

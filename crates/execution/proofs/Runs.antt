@@ -22,11 +22,11 @@ use Rattle.codec.specs.Writing.{Wrote}
 use Rattle.codec.proofs.Reading.{drop-some}
 use Rattle.codec.proofs.Writing.{wrote-none, put-more, wrote-as, wrote-length, wrote-front}
 use Rattle.nodeset.specs.Sets.{members}
-use Rattle.execution.specs.Booking.{bookedOf, countsOf, Room}
+use Rattle.records.specs.Booking.{bookedOf, countsOf, Room}
 use Rattle.execution.specs.Ready.{Fits}
 use Rattle.execution.specs.Runs.{answerBytes, RunSoFar, RunDone}
-use Rattle.execution.specs.declared.Counts.{Counts}
-use Rattle.execution.proofs.Books.{counts-none, counts-more, counts-room}
+use Rattle.records.specs.declared.Counts.{Counts}
+use Rattle.records.proofs.Books.{counts-none, counts-more, counts-room}
 use Rattle.execution.proofs.Outcomes.{record-is}
 
 -- ---- one more at the end

@@ -13,9 +13,9 @@ use Rattle.semantics.specs.Plant.{Plant}
 use Rattle.semantics.specs.Events.{Event, tick, pick, take-switch, senseless, EventKind, no-kind, eventKind, unused, readKind, readEvent, eventIn}
 use Rattle.semantics.specs.Run.{Action, judge, judgeTick, judgePick, judgeSwitch}
 use Rattle.semantics.specs.Run as Run
-use Rattle.execution.specs.Told.{Left}
-use Rattle.execution.specs.declared.Verdict.{Verdict}
-use Rattle.execution.specs.declared.Verdict.the-variants.{Away}
+use Rattle.effects.specs.Told.{Left}
+use Rattle.effects.specs.declared.Verdict.{Verdict}
+use Rattle.effects.specs.declared.Verdict.the-variants.{Away}
 use Rattle.execution.proofs.Events.{left-away, left-eq}
 
 -- an event whose unused bytes are 0, or not

@@ -1,7 +1,3 @@
-pub mod Told
-pub mod Ranges
-pub mod Deeds
-pub mod Modes
+pub mod Operands
 pub mod Ready
-pub mod Booking
 pub mod Runs

@@ -15,8 +15,8 @@ use Rattle.semantics.specs.Run.{Action, test, wait, assign, switch, stop}
 use Rattle.semantics.specs.TableFile.{actionKind, actionOf}
 use Rattle.nodeset.specs.Sets.{mem}
 use Rattle.plant.specs.Equations.{steadyRates}
-use Rattle.execution.specs.Deeds.{cutAt, Cut}
-use Rattle.execution.specs.Modes.{Stands}
+use Rattle.execution.specs.Operands.{cutAt, Cut}
+use Rattle.modes.specs.Modes.{Stands}
 
 pub record Lent : Type 0 where
   -- the equation section, and the place of mode m of selector j at 8 * j + m

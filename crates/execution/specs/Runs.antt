@@ -10,9 +10,9 @@ use Rattle.semantics.specs.Plant.{Plant}
 use Rattle.semantics.specs.Run.{Control, Situation, Answered, answers, recordOf}
 use Rattle.semantics.specs.Calls.{recordSize}
 use Rattle.codec.specs.Writing.{Wrote}
-use Rattle.execution.specs.Booking.{countsOf}
+use Rattle.records.specs.Booking.{countsOf}
 use Rattle.execution.specs.Ready.{Fits}
-use Rattle.execution.specs.declared.Counts.{Counts}
+use Rattle.records.specs.declared.Counts.{Counts}
 
 -- the answer of each event
 unfoldable pub answerBytes : {S : Type 0} → List (Answered S) → List ℕ

@@ -34,7 +34,7 @@ use Rattle.start_read.proofs.PlantStart.{arrays-held, room-held}
 use Rattle.start_read.proofs.AdmissionLaws.{run-unread, run-refused, run-admitted}
 use Rattle.execution.specs.Ready.{Lent, lent}
 use Rattle.execution.specs.Runs.{RunDone}
-use Rattle.execution.specs.declared.Counts.{Counts}
+use Rattle.records.specs.declared.Counts.{Counts}
 use Rattle.execution.proofs.PlantReady.{fits-start}
 use Rattle.execution.proofs.Runs.{not-run, reported}
 use Rattle.rule_run.specs.Runs.{Asked, Asking, Whole}

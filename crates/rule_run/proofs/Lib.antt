@@ -1,4 +1,3 @@
-pub mod Settling
 pub mod Running
 pub mod ScheduleReady
 pub mod Calling

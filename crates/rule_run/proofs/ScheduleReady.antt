@@ -27,10 +27,10 @@ use Rattle.schedule_read.specs.declared.call.ScheduleIndex.{ScheduleIndex}
 use Rattle.schedule_read.proofs.NodeActions.{action-of-node, numbers-long, action-is, action-beyond, acting-action}
 use Rattle.schedule_read.proofs.Promises.{Promised}
 use Rattle.plant.specs.declared.sections.PlantRead.{PlantRead}
-use Rattle.execution.specs.Deeds.{Cut, cutAt}
+use Rattle.execution.specs.Operands.{Cut, cutAt}
 use Rattle.execution.specs.Ready.{Lent, PlantLent, NodeLent, actionNamed}
 use Rattle.execution.proofs.PlantReady.{plant-lent}
-use Rattle.rule_run.specs.Situations.{ScheduleLent}
+use Rattle.rule_step.specs.Situations.{ScheduleLent}
 
 -- what is lent, by the file and its index
 pub record LentFrom (f : List ℕ) (ix : ScheduleIndex) (l : Lent) : Type 0 where

@@ -1,4 +1,3 @@
 -- What the contracts of a run by the rules cite.
-pub mod Situations
 pub mod Runs
 pub mod Called

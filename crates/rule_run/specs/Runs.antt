@@ -13,9 +13,9 @@ use Rattle.schedules.specs.Residuals.{Residual}
 use Rattle.schedules.specs.Files.{Schedule, ruleControl}
 use Rattle.execution.specs.Ready.{Lent, Fits}
 use Rattle.execution.specs.Runs.{RunSoFar, RunDone}
-use Rattle.execution.specs.declared.Counts.{Counts}
-use Rattle.rule_run.specs.Situations.{StandsFor, ScheduleLent}
-use Rattle.rule_run.specs.declared.steps.Situation.{Situation}
+use Rattle.records.specs.declared.Counts.{Counts}
+use Rattle.rule_step.specs.Situations.{StandsFor, ScheduleLent}
+use Rattle.rule_step.specs.declared.steps.Situation.{Situation}
 
 -- the arrays hold the schedule, the run starts with these values and modes, and d has room for its records
 pub record Asked (s : Schedule) (l : Lent) (ks es : List ℕ) (vs : List ℤ) (ms events d : List ℕ) : Type 0 where

@@ -1,6 +1,6 @@
 // The call "running a schedule by the rules": 1 to 12, then 20 to 22, then its events.
 use super::runs;
-use execution::Counts;
+use records::Counts;
 use schedule_read::call::ScheduleIndex;
 use start_read::admission::Admitted;
 ghost use mathlib.Core.Path.{_≡_};

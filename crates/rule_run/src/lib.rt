@@ -1,4 +1,3 @@
 // Running a schedule by the rules.
 pub mod call;
 mod runs;
-mod steps;

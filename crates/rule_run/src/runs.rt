@@ -1,7 +1,7 @@
 // All events of a run by the rules.
-use super::steps;
-use super::steps::Situation;
-use execution::Counts;
+use records::Counts;
+use rule_step::steps;
+use rule_step::steps::Situation;
 ghost use Rattle.schedules.specs.Files.{Schedule};
 ghost use Rattle.execution.specs.Ready.{lent};
 ghost use Rattle.rule_run.specs.Runs.{Asked, Asking, Whole};
@@ -63,8 +63,8 @@ pub fn all<'a>(
         let answer = r.answer;
         let next = r.situation;
         let acting = next.acting;
-        i = execution::put_record(records, i, answer, acting, values, modes);
-        counts = execution::booked(counts, answer);
+        i = records::put_record(records, i, answer, acting, values, modes);
+        counts = records::booked(counts, answer);
         at = next;
         k += 1;
     }

@@ -20,17 +20,17 @@ use Rattle.nodeset.specs.declared.NodeSet.{NodeSet}
 use Rattle.nodeset.proofs.Members.{among-set}
 use Rattle.codec.specs.Writing.{Wrote}
 use Rattle.codec.proofs.Writing.{wrote-length}
-use Rattle.execution.specs.Booking.{bookedOf, Room}
+use Rattle.records.specs.Booking.{bookedOf, Room}
 use Rattle.execution.specs.Ready.{Lent, Fits}
-use Rattle.execution.specs.declared.Counts.{Counts}
+use Rattle.records.specs.declared.Counts.{Counts}
 use Rattle.execution.proofs.Runs.{eventAt, run-start, run-counts, run-room, run-next, run-end}
 use Rattle.execution.proofs.Stepping.{set-at, set-over}
-use Rattle.table_run.specs.Entries.{Counted, Gathered}
-use Rattle.table_run.specs.Situations.{StandsFor, at-location, at-end, TableLent, Promised, Steps}
+use Rattle.table_step.specs.Entries.{Counted, Gathered}
+use Rattle.table_step.specs.Situations.{StandsFor, at-location, at-end, TableLent, Promised, Steps}
 use Rattle.table_run.specs.Runs.{Asked, Asking, begins, Going, Whole}
-use Rattle.table_run.specs.declared.steps.Situation.{Situation}
-use Rattle.table_run.specs.declared.steps.Answered.{Answered}
-use Rattle.table_run.proofs.EntryTurns.{listed-of, counted-of, acting-action}
+use Rattle.table_step.specs.declared.steps.Situation.{Situation}
+use Rattle.table_step.specs.declared.steps.Answered.{Answered}
+use Rattle.table_step.proofs.EntryTurns.{listed-of, counted-of, acting-action}
 
 -- ---- the set of the acting nodes
 -- 18 has let only nodes below 64 pass

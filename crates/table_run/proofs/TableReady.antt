@@ -28,10 +28,10 @@ use Rattle.table_read.specs.declared.call.TableIndex.{TableIndex}
 use Rattle.table_read.proofs.OperandTurns.{operandOf}
 use Rattle.table_read.proofs.PartsStand.{Stands}
 use Rattle.table_read.proofs.Promises.{Opened, opened, parts-read, plant-read, actions-read, locations-read, action-promised, lengths-of, location-promised, LocationsPromised, locations-promised}
-use Rattle.execution.specs.Deeds.{Cut, cutAt}
+use Rattle.execution.specs.Operands.{Cut, cutAt}
 use Rattle.execution.specs.Ready.{Lent, PlantLent, NodeLent, actionNamed}
 use Rattle.execution.proofs.PlantReady.{plant-lent}
-use Rattle.table_run.specs.Situations.{LocationLent, TableLent}
+use Rattle.table_step.specs.Situations.{LocationLent, TableLent}
 
 -- a part of the table's bytes
 abbrev pub cutFrom : List ℕ → ℕ → ℕ → List ℕ

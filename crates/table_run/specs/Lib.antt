@@ -1,5 +1,3 @@
 -- What the contracts of a run of a table cite.
-pub mod Entries
-pub mod Situations
 pub mod Runs
 pub mod Called

@@ -12,9 +12,9 @@ use Rattle.semantics.specs.Tables.{Table, tableControl}
 use Rattle.semantics.specs.Calls.{recordSize}
 use Rattle.execution.specs.Ready.{Lent, Fits}
 use Rattle.execution.specs.Runs.{RunSoFar, RunDone}
-use Rattle.execution.specs.declared.Counts.{Counts}
-use Rattle.table_run.specs.Situations.{StandsFor, TableLent}
-use Rattle.table_run.specs.declared.steps.Situation.{Situation}
+use Rattle.records.specs.declared.Counts.{Counts}
+use Rattle.table_step.specs.Situations.{StandsFor, TableLent}
+use Rattle.table_step.specs.declared.steps.Situation.{Situation}
 
 -- the arrays hold the table, the run starts with these values and modes, and d has room for its records
 pub record Asked (t : Table) (l : Lent) (locs places : List ℕ) (vs : List ℤ) (ms events d : List ℕ) : Type 0 where

@@ -1,6 +1,6 @@
 // The call "running a table": 15 to 19, then 20 to 22, then its events.
 use super::runs;
-use execution::Counts;
+use records::Counts;
 use start_read::admission::Admitted;
 use table_read::call::TableIndex;
 ghost use mathlib.Core.Path.{_≡_};

@@ -1,8 +1,8 @@
 // All events of a run of a table.
-use super::entries;
-use super::steps;
-use super::steps::Situation;
-use execution::Counts;
+use records::Counts;
+use table_step::entries;
+use table_step::steps;
+use table_step::steps::Situation;
 ghost use Rattle.semantics.specs.Tables.{Table};
 ghost use Rattle.execution.specs.Ready.{lent};
 ghost use Rattle.table_run.specs.Runs.{Asked, Asking, Whole};
@@ -66,8 +66,8 @@ pub fn all(
         let answer = r.answer;
         let next = r.situation;
         let acting = next.acting;
-        i = execution::put_record(records, i, answer, acting, values, modes);
-        counts = execution::booked(counts, answer);
+        i = records::put_record(records, i, answer, acting, values, modes);
+        counts = records::booked(counts, answer);
         at = next;
         k += 1;
     }

@@ -1,40 +1,50 @@
 use mathlib.Core.Path.{_≡_, sym, _∙_}
-use Prim.Native.Nat.{_-_, _≤_}
+use Prim.Native.Nat.{_+_, _-_}
 use native.Mathlib.Omega.{arith}
-use borrow.Author.Tests.{not-true, not-false}
+use borrow.Author.Tests.{eq-eqb, ne-eqb}
+use borrow.Author.Needs.{needs}
 use Rattle.semantics.specs.Bytes.{every}
 use Rattle.nodeset.specs.Sets.{members}
-use Rattle.execution.specs.Deeds.{isWaitKind}
-use Rattle.execution.proofs.Scans.{from, all-start, all-out, all-on, all-end}
+use Rattle.nodeset.proofs.Firsts.{first-on}
+use Rattle.execution.specs.Operands.{isWaitKind}
+use Rattle.execution.proofs.Scans.{At, at-next, all, all-start, all-out, all-on, all-end}
 use Rattle.execution.proofs.all_wait.Statement.{statement}
 use Rattle.execution.proofs.all_wait.Tie as tie
 
 abbrev Inv-loop : tie.InvT-loop
-Inv-loop kinds acting n₀ n = (n ≤ 64) × (every (isWaitKind kinds) (members (acting .words)) ≡ every (isWaitKind kinds) (from (acting .words) n))
+Inv-loop kinds acting n₀ n = At (acting .words) n × (every (isWaitKind kinds) (members (acting .words)) ≡ all kinds (acting .words) n)
 
 abbrev μ-loop : tie.MeasureT-loop
-μ-loop kinds acting n₀ n = 64 - n
+μ-loop kinds acting n₀ n = 256 - n
+
+next-requires : tie.Need-next-requires Inv-loop μ-loop
+next-requires c κs = search needs
 
 loop-holds : tie.Need-loop-holds Inv-loop μ-loop
-loop-holds c = let a = c .before .args in (omega arith, all-start (a .kinds .now) (a .acting .words))
+loop-holds c = (at-next _ 0 (omega arith) (c .next .ensures), all-start (c .before .before .args .kinds .now) _ (c .next .ensures))
 
-waits-requires : tie.Need-waits-requires Inv-loop μ-loop
-waits-requires c κs = λ e. c .before .before .before .pre (c .before .loop .n) e .1
+shared-slice-read-if1 : tie.Need-shared-slice-read-if1 Inv-loop μ-loop
+shared-slice-read-if1 c = c .before .before .before .before .before .pre (c .before .before .loop .n) (c .before .before .loop .inv .0 .member (omega (arith, c .before .loop-test .taken))) .1
 
 returns : tie.Need-returns Inv-loop μ-loop
-returns c = let a = c .before .before .before .before .before .args in sym (c .before .before .before .loop .inv .1 ∙ all-out (a .kinds .now) (a .acting .words) (c .before .before .before .loop .n) (c .before .before .loop-test .taken) (sym (c .before .waits .ensures) ∙ not-true _ (c .if1 .taken)))
+returns c = let i = c .before .before .before .loop .inv in sym (i .1 ∙ all-out (c .before .before .before .before .before .before .args .kinds .now) (c .before .before .before .before .before .before .args .acting .words) (c .before .before .before .loop .n) (c .before .before .loop-test .taken) (i .0) (ne-eqb _ 2 (c .if1 .taken)))
 
-add-n : tie.Need-add-n Inv-loop μ-loop
-add-n c = omega arith
+add-next : tie.Need-add-next Inv-loop μ-loop
+add-next c = omega (arith, c .before .before .loop-test .taken)
+
+next-requires-2 : tie.Need-next-requires-2 Inv-loop μ-loop
+next-requires-2 c κs = omega (arith, c .before .before .loop-test .taken)
 
 loop-less : tie.Need-loop-less Inv-loop μ-loop
-loop-less c = omega arith
+loop-less c = let h = first-on (c .before .before .before .before .before .before .before .args .acting .words) (c .before .before .before .before .loop .n + 1) _ (c .next2 .ensures) in omega (arith, c .before .before .before .loop-test .taken)
 
 loop-again : tie.Need-loop-again Inv-loop μ-loop
-loop-again c = let a = c .before .before .before .before .before .args in (omega arith, c .before .before .before .loop .inv .1 ∙ all-on (a .kinds .now) (a .acting .words) (c .before .before .before .loop .n) (c .before .before .loop-test .taken) (sym (c .before .waits .ensures) ∙ not-false _ (c .if1 .left)))
+loop-again c =
+    let i = c .before .before .before .before .loop .inv in
+    (at-next _ (c .before .before .before .before .loop .n + 1) (omega (arith, c .before .before .before .loop-test .taken)) (c .next2 .ensures), i .1 ∙ all-on (c .before .before .before .before .before .before .before .args .kinds .now) (c .before .before .before .before .before .before .before .args .acting .words) (c .before .before .before .before .loop .n) (c .before .before .before .loop-test .taken) (i .0) (c .next2 .ensures) (eq-eqb _ 2 (c .before .if1 .left)))
 
 returns-2 : tie.Need-returns-2 Inv-loop μ-loop
-returns-2 c = let a = c .before .before .before .args in sym (c .before .loop .inv .1 ∙ all-end (a .kinds .now) (a .acting .words) (c .before .loop .n) (omega arith) (λ m e. c .before .before .before .pre m e .0))
+returns-2 c = sym (c .before .loop .inv .1 ∙ all-end (c .before .before .before .before .args .kinds .now) (c .before .before .before .before .args .acting .words) (c .before .loop .n) (c .loop-test .left) (λ m e. c .before .before .before .before .pre m e .0))
 
 pub all-wait-spec : {M : Type 1} → statement M
 all-wait-spec =
@@ -42,10 +52,12 @@ all-wait-spec =
     (tie.spec
     Inv-loop
     μ-loop
+    next-requires
     loop-holds
-    waits-requires
+    shared-slice-read-if1
     returns
-    add-n
+    add-next
+    next-requires-2
     loop-less
     loop-again
     returns-2)

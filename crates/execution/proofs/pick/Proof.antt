@@ -3,7 +3,7 @@ use mathlib.Core.Bool.{true}
 use native.Mathlib.Omega.{arith}
 use borrow.Author.Tests.{not-true, not-false}
 use Rattle.nodeset.specs.Sets.{mem}
-use Rattle.execution.specs.Deeds.{Cut}
+use Rattle.execution.specs.Operands.{Cut}
 use Rattle.execution.proofs.Lending.{is-current, low-count, high-count}
 use Rattle.execution.proofs.Events.{pick-25, pick-28, pick-end, pick-fit}
 use borrow.Author.Needs.{needs}

@@ -1,0 +1,3 @@
+pub mod Steps
+mod Adds
+mod Acts

@@ -1,0 +1,126 @@
+-- The steps of an event: truths that are asked, ranges, and whether the event goes on.
+use mathlib.Core.Path.{_≡_, refl, sym, ap, _∙_}
+use mathlib.Core.Bool.{Bool, true, false, not}
+use mathlib.Core.List.{List, [], _∷_, _++_}
+use mathlib.Core.Option.{Option, none, some}
+use Prim.Native.Nat.{ℕ}
+use lib.IntN.{ℤ}
+use lib.ListN.{length}
+use lib.Signed.{ltZ}
+use types.Run.{OneOf, miss}
+use denote.Enum.Declared.{tagOf}
+use Rattle.semantics.specs.Editions.{edition1}
+use Rattle.semantics.specs.Expressions as Forms
+use Rattle.semantics.specs.Expressions.{Value, ok, fault, above, below, ranged, holds, truthIn, truthValue}
+use Rattle.semantics.specs.Run as Run
+use Rattle.semantics.specs.Run.{away, faulty, pass, _>>=_, _>>_, allow, valued, walk}
+use Rattle.semantics.proofs.Facts.{true-not-false}
+use Rattle.expression.specs.Answers.{truthOf, truthAnswer}
+use Rattle.expression.specs.declared.Truth.{Truth}
+use Rattle.expression.specs.declared.Truth.the-variants as Truths
+use Rattle.effects.specs.Told.{doneTold, stepTold, goesOn, truthTold}
+use Rattle.effects.specs.declared.Verdict.{Verdict}
+use Rattle.effects.specs.declared.Verdict.the-variants.{Away, Above, Below, Stay, Move}
+use Rattle.effects.proofs.Verdict.{the-type}
+
+-- ---- whether the event goes on
+pub not-stay : (v : Verdict) → OneOf (0 ∷ 1 ∷ 2 ∷ 4 ∷ []) (tagOf the-type v) → false ≡ goesOn v
+unfolding goesOn
+not-stay (Away n) h = refl
+not-stay Above h = refl
+not-stay Below h = refl
+not-stay Stay h = absurd (miss (0 ∷ 1 ∷ 2 ∷ 4 ∷ []) 3 tt h)
+not-stay (Move n b) h = refl
+
+-- ---- a truth that is asked
+abbrev pub byTruth : Verdict → Verdict → Truth → Verdict
+byTruth y n Truths.Yes = y
+byTruth y n Truths.No = n
+byTruth y n Truths.Above = Above
+byTruth y n Truths.Below = Below
+byTruth y n Truths.Malformed = Above
+
+module _ (y n : Verdict) where
+  by-value : (v : Value Bool) → byTruth y n (truthOf v) ≡ truthTold y n v
+  unfolding truthOf truthTold
+  by-value (ok true) = refl
+  by-value (ok false) = refl
+  by-value (fault above) = refl
+  by-value (fault below) = refl
+
+  pub asked : (vs : List ℤ) (s : List ℕ) (r t : Truth) → r ≡ truthAnswer vs (truthIn edition1 (length vs) s) → r ≡ t → byTruth y n t ≡ truthTold y n (truthValue edition1 vs s)
+  unfolding truthValue truthAnswer truthTold
+  asked vs s r t e f = ap (byTruth y n) (sym f ∙ e) ∙ go (truthIn edition1 (length vs) s)
+    where
+      go : (o : Option Forms.Truth) → byTruth y n (truthAnswer vs o) ≡ truthTold y n (elim o [ none ↦ fault above | some x ↦ holds vs x ])
+      go none = refl
+      go (some x) = by-value (holds vs x)
+
+-- ---- a range
+module _ (low high z : ℤ) where
+  pub below-it : ltZ z low ≡ true → Below ≡ stepTold (valued (ranged low high z))
+  unfolding ranged valued doneTold
+  below-it e = rw e refl
+
+  pub above-it : ltZ z low ≡ false → ltZ high z ≡ true → Above ≡ stepTold (valued (ranged low high z))
+  unfolding ranged valued doneTold
+  above-it e f = rw (e, f) refl
+
+  pub inside-it : ltZ z low ≡ false → ltZ high z ≡ false → Stay ≡ stepTold (valued (ranged low high z))
+  unfolding ranged valued doneTold
+  inside-it e f = rw (e, f) refl
+
+-- ---- walks over truths
+module _ (n : ℕ) (vs : List ℤ) where
+  pub walk-out : (t : List ℕ) (ts : List (List ℕ)) (r : Verdict) → r ≡ truthTold (Away n) Stay (truthValue edition1 vs t) → goesOn r ≡ false → r ≡ stepTold (walk edition1 n vs (t ∷ ts))
+  unfolding walk truthTold doneTold goesOn valued allow _>>=_ _>>_
+  walk-out t ts r e h = go (truthValue edition1 vs t) e
+    where
+      go : (u : Value Bool) → r ≡ truthTold (Away n) Stay u → r ≡ stepTold (valued u >>= (λ b. allow n (not b) >> walk edition1 n vs ts))
+      go (ok true) e = e
+      go (ok false) e = true-not-false (sym (ap goesOn e) ∙ h)
+      go (fault above) e = e
+      go (fault below) e = e
+
+  pub walk-on : (t : List ℕ) (ts : List (List ℕ)) (r : Verdict) → r ≡ truthTold (Away n) Stay (truthValue edition1 vs t) → goesOn r ≡ true → walk edition1 n vs (t ∷ ts) ≡ walk edition1 n vs ts
+  unfolding walk truthTold goesOn valued allow _>>=_ _>>_
+  walk-on t ts r e h = go (truthValue edition1 vs t) e
+    where
+      go : (u : Value Bool) → r ≡ truthTold (Away n) Stay u → (valued u >>= (λ b. allow n (not b) >> walk edition1 n vs ts)) ≡ walk edition1 n vs ts
+      go (ok true) e = true-not-false (sym h ∙ ap goesOn e)
+      go (ok false) e = refl
+      go (fault above) e = true-not-false (sym h ∙ ap goesOn e)
+      go (fault below) e = true-not-false (sym h ∙ ap goesOn e)
+
+  -- the truths of one list, then those of another
+  pub walk-then : (a b : List (List ℕ)) → walk edition1 n vs (a ++ b) ≡ (walk edition1 n vs a >> walk edition1 n vs b)
+  unfolding walk _>>_ _>>=_ valued allow
+  walk-then [] b = refl
+  walk-then (t ∷ ts) b = go (truthValue edition1 vs t) (walk-then ts b)
+    where
+      go : (u : Value Bool) → walk edition1 n vs (ts ++ b) ≡ (walk edition1 n vs ts >> walk edition1 n vs b) → (valued u >>= (λ c. allow n (not c) >> walk edition1 n vs (ts ++ b))) ≡ ((valued u >>= (λ c. allow n (not c) >> walk edition1 n vs ts)) >> walk edition1 n vs b)
+      go (ok true) e = refl
+      go (ok false) e = e
+      go (fault s) e = refl
+
+-- ---- a step that ends the event, and one after which it goes on
+module _ {A B : Type 0} (u : Run.Verdict A) (w : Run.Verdict B) (r : Verdict) (e : r ≡ stepTold u) where
+  pub then-out : goesOn r ≡ false → r ≡ stepTold (u >> w)
+  unfolding doneTold goesOn _>>_
+  then-out h = go u e
+    where
+      go : (u : Run.Verdict A) → r ≡ stepTold u → r ≡ stepTold (u >> w)
+      go (away n) e = e
+      go (faulty above) e = e
+      go (faulty below) e = e
+      go (pass a) e = true-not-false (sym (ap goesOn e) ∙ h)
+
+  pub then-on : goesOn r ≡ true → (u >> w) ≡ w
+  unfolding doneTold goesOn _>>_
+  then-on h = go u e
+    where
+      go : (u : Run.Verdict A) → r ≡ stepTold u → (u >> w) ≡ w
+      go (away n) e = true-not-false (sym h ∙ ap goesOn e)
+      go (faulty above) e = true-not-false (sym h ∙ ap goesOn e)
+      go (faulty below) e = true-not-false (sym h ∙ ap goesOn e)
+      go (pass a) e = refl

@@ -1,0 +1,121 @@
+use mathlib.Core.Path.{_≡_, refl, sym, ap, ap₂, _∙_}
+use mathlib.Core.List.{List, _++_}
+use Prim.Native.Nat.{_≤_, _<_, _-_}
+use lib.IntN.{ℤ, pos, _+ℤ_}
+use lib.ListN.{length, take, drop, getD, set, length-set}
+use Rattle.semantics.specs.Expressions.{ranged}
+use Rattle.semantics.specs.Run.{valued}
+use Rattle.effects.specs.Told.{stepTold, goesOn}
+use Rattle.effects.specs.Ranges.{sums}
+use Rattle.effects.proofs.Adds.{fill-here, fill-more, fill-all, length-sums, sums-at, each-in, Held, held, held-sum, held-ranged}
+use native.Mathlib.Omega.{arith}
+use Rattle.effects.proofs.add_all.Statement.{statement}
+use Rattle.effects.proofs.add_all.Tie as tie
+
+abbrev Inv-loop : tie.InvT-loop
+Inv-loop lows highs rates values₀ v₀ values v = (v ≤ length values₀) × (length values ≡ length values₀) × (values ≡ take v (sums rates values₀) ++ drop v values₀)
+
+abbrev μ-loop : tie.MeasureT-loop
+μ-loop lows highs rates values₀ v₀ values v = length values₀ - v
+
+loop-holds : tie.Need-loop-holds Inv-loop μ-loop
+loop-holds c = (omega arith, refl, refl)
+
+mul-sum : tie.Need-mul-sum Inv-loop μ-loop
+mul-sum c = omega arith
+
+shared-slice-copy-out-sum : tie.Need-shared-slice-copy-out-sum Inv-loop μ-loop
+shared-slice-copy-out-sum c = omega arith
+
+mul-sum-2 : tie.Need-mul-sum-2 Inv-loop μ-loop
+mul-sum-2 c = omega arith
+
+shared-slice-copy-out-sum-2 : tie.Need-shared-slice-copy-out-sum-2 Inv-loop μ-loop
+shared-slice-copy-out-sum-2 c = omega arith
+
+mul-sum-3 : tie.Need-mul-sum-3 Inv-loop μ-loop
+mul-sum-3 c = omega arith
+
+slice-copy-out-sum : tie.Need-slice-copy-out-sum Inv-loop μ-loop
+slice-copy-out-sum c = omega arith
+
+mul-sum-4 : tie.Need-mul-sum-4 Inv-loop μ-loop
+mul-sum-4 c = omega arith
+
+shared-slice-copy-out-sum-3 : tie.Need-shared-slice-copy-out-sum-3 Inv-loop μ-loop
+shared-slice-copy-out-sum-3 c = omega arith
+
+sum-requires : tie.Need-sum-requires Inv-loop μ-loop
+sum-requires c κs = let l = c .before .before .before .before .before in
+    let b = l .before .args in
+    let v = b .values .now in
+    let r = b .rates .now in
+    let i = l .loop .v in
+    let h : i < length v = omega arith in
+    let t = sums r v in
+    let here : getD (l .loop .values) i (pos 0) ≡ getD v i (pos 0) = ap (λ (x : List ℤ). getD x i (pos 0)) (l .loop .inv .2) ∙ fill-here t v i (pos 0) (length-sums r v) h in
+    let p = l .before .pre .0 in
+    let lo = getD (b .lows .now) i (pos 0) in
+    let hi = getD (b .highs .now) i (pos 0) in
+    let e : ranged (Held lo) (Held hi) (Held (getD (l .loop .values) i (pos 0)) +ℤ Held (getD r i (pos 0))) ≡ ranged lo hi (getD t i (pos 0)) =
+    held-ranged lo hi (getD (l .loop .values) i (pos 0)) (getD r i (pos 0)) (c .before .before .before .sum-arg .given) (c .before .before .sum-arg2 .given) (c .before .sum-arg3 .given) (c .sum-arg4 .given)
+    ∙ ap (λ (z : ℤ). ranged lo hi (z +ℤ getD r i (pos 0))) here ∙ ap (ranged lo hi) (sym (sums-at r v i h)) in
+    ap (λ x. goesOn (stepTold (valued x))) e
+    ∙ each-in (b .lows .now) (b .highs .now) t i (p .lows ∙ sym (length-sums r v)) (p .highs ∙ sym (length-sums r v)) (l .before .pre .1) (omega (arith, length-sums r v))
+
+mul-t20 : tie.Need-mul-t20 Inv-loop μ-loop
+mul-t20 c = omega arith
+
+slice-set-from-values : tie.Need-slice-set-from-values Inv-loop μ-loop
+slice-set-from-values c = omega arith
+
+add-v : tie.Need-add-v Inv-loop μ-loop
+add-v c = omega arith
+
+loop-less : tie.Need-loop-less Inv-loop μ-loop
+loop-less c = omega arith
+
+loop-again : tie.Need-loop-again Inv-loop μ-loop
+loop-again c = let l = c .before .before .before .before .before .before in
+    let b = l .before .args in
+    let v = b .values .now in
+    let r = b .rates .now in
+    let i = l .loop .v in
+    let h : i < length v = omega arith in
+    let t = sums r v in
+    let here : getD (l .loop .values) i (pos 0) ≡ getD v i (pos 0) = ap (λ (x : List ℤ). getD x i (pos 0)) (l .loop .inv .2) ∙ fill-here t v i (pos 0) (length-sums r v) h in
+    let new : Held (c .sum .result) ≡ getD t i (pos 0) =
+    held (c .sum .result) (c .sum .ok) ∙ c .sum .ensures ∙ held-sum (getD (l .loop .values) i (pos 0)) (getD r i (pos 0)) (c .before .before .sum-arg3 .given) (c .before .sum-arg4 .given) ∙ ap (λ (z : ℤ). z +ℤ getD r i (pos 0)) here ∙ sym (sums-at r v i h) in
+    (omega arith, length-set (l .loop .values) i (Held (c .sum .result)) ∙ l .loop .inv .1, ap₂ (λ (x : List ℤ) (z : ℤ). set x i z) (l .loop .inv .2) new ∙ fill-more t v i (pos 0) (length-sums r v) h)
+
+same-length : tie.Need-same-length Inv-loop μ-loop
+same-length c = c .before .loop .inv .1
+
+returns : tie.Need-returns Inv-loop μ-loop
+returns c = let l = c .before in
+    let b = l .before .args in
+    l .loop .inv .2 ∙ fill-all (sums (b .rates .now) (b .values .now)) (b .values .now) (l .loop .v) (length-sums (b .rates .now) (b .values .now)) (omega arith)
+
+pub add-all-spec : {M : Type 1} → statement M
+add-all-spec =
+    tie.close
+    (tie.spec
+    Inv-loop
+    μ-loop
+    loop-holds
+    mul-sum
+    shared-slice-copy-out-sum
+    mul-sum-2
+    shared-slice-copy-out-sum-2
+    mul-sum-3
+    slice-copy-out-sum
+    mul-sum-4
+    shared-slice-copy-out-sum-3
+    sum-requires
+    mul-t20
+    slice-set-from-values
+    add-v
+    loop-less
+    loop-again
+    same-length
+    returns)

@@ -1,0 +1,70 @@
+-- What the code answers of a verdict, and what it leaves of values and modes.
+use mathlib.Core.Path.{_≡_}
+use mathlib.Core.Bool.{Bool, true, false}
+use mathlib.Core.List.{List}
+use Prim.Native.Nat.{ℕ}
+use lib.IntN.{ℤ}
+use Rattle.semantics.specs.Expressions.{above, below, Value, ok, fault}
+use Rattle.semantics.specs.Run as Run
+use Rattle.semantics.specs.Run.{away, faulty, pass, Moved, nobody, mover, Done}
+use Rattle.effects.specs.declared.Verdict.{Verdict}
+use Rattle.effects.specs.declared.Verdict.the-variants.{Away, Above, Below, Stay, Move}
+
+-- a step of an event: the answer is d where it passes
+unfoldable pub doneTold : {A : Type 0} → Verdict → Run.Verdict A → Verdict
+doneTold d (away n) = Away n
+doneTold d (faulty above) = Above
+doneTold d (faulty below) = Below
+doneTold d (pass a) = d
+
+-- a step after which the event goes on
+abbrev pub stepTold : {A : Type 0} → Run.Verdict A → Verdict
+stepTold v = doneTold Stay v
+
+unfoldable pub goesOn : Verdict → Bool
+goesOn (Away n) = false
+goesOn Above = false
+goesOn Below = false
+goesOn Stay = true
+goesOn (Move n b) = false
+
+-- a truth: the first answer where it is true, the second where it is false
+unfoldable pub truthTold : Verdict → Verdict → Value Bool → Verdict
+truthTold y n (ok true) = y
+truthTold y n (ok false) = n
+truthTold y n (fault above) = Above
+truthTold y n (fault below) = Below
+
+-- whose move the taken event is
+unfoldable pub movedTold : Moved → Verdict
+movedTold nobody = Stay
+movedTold (mover n b) = Move n b
+
+-- the whole event
+unfoldable pub eventTold : Run.Verdict Done → Verdict
+eventTold (away n) = Away n
+eventTold (faulty above) = Above
+eventTold (faulty below) = Below
+eventTold (pass d) = movedTold (d .moved)
+
+-- "An event turned away leaves them all as they were"; a fault leaves values and modes
+unfoldable pub valuesLeft : List ℤ → Run.Verdict Done → List ℤ
+valuesLeft vs (away n) = vs
+valuesLeft vs (faulty s) = vs
+valuesLeft vs (pass d) = d .values
+
+unfoldable pub modesLeft : List ℕ → Run.Verdict Done → List ℕ
+modesLeft ms (away n) = ms
+modesLeft ms (faulty s) = ms
+modesLeft ms (pass d) = d .modes
+
+-- values and modes vs and ms, judged j: the answer r, and what is left
+pub record Left (j : Run.Verdict Done) (vs : List ℤ) (ms : List ℕ) (r : Verdict) (vs' : List ℤ) (ms' : List ℕ) : Type 0 where
+  pub answer : r ≡ eventTold j
+  pub values : vs' ≡ valuesLeft vs j
+  pub modes : ms' ≡ modesLeft ms j
+
+-- what is left where a value faults
+unfoldable pub orElse : {A : Type 0} → A → Value A → A
+orElse a (ok b) = b
+orElse a (fault s) = a

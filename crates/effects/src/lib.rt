@@ -1,0 +1,179 @@
+// What a step of an event makes of values and modes: truths that are asked, ranges, sums, a picked node's action.
+use expression::Number;
+use expression::Truth;
+ghost use mathlib.Core.Path.{_≡_};
+ghost use mathlib.Core.Bool.{true};
+ghost use Prim.Native.Nat.{_≤_, _<_};
+ghost use lib.ListN.{length, getD, drop};
+ghost use lib.IntN.{_+ℤ_};
+ghost use Rattle.semantics.specs.Editions.{edition1};
+ghost use Rattle.semantics.specs.Expressions.{ranged as rangedOf, truthValue};
+ghost use Rattle.semantics.specs.Run.{valued, act};
+ghost use Rattle.effects.specs.Told.{doneTold, stepTold, goesOn, truthTold, orElse, Left};
+ghost use Rattle.effects.specs.Ranges.{Sized, sums, advanced, stored, assigned, rangesOnly};
+ghost use Rattle.effects.specs.Deeds.{kindOf, form, Fit};
+
+// How an event is answered: turned away with a number, a fault on a side of its range, or taken, with nobody's move or with
+// the move of a node, on done or true, or on false.
+pub enum Verdict {
+    Away(u8),
+    Above,
+    Below,
+    Stay,
+    Move(usize, bool),
+}
+
+// Does the event go on after this step?
+pub fn goes_on(v: Verdict) -> bool
+    ensures { λ b. ⌜ b ≡ goesOn v ⌝ }
+{
+    match v {
+        Verdict::Stay => true,
+        _ => false,
+    }
+}
+
+// A truth: yes where it is true, no where it is false.
+pub fn ask(t: &[u8], values: &[i32], yes: Verdict, no: Verdict) -> Verdict
+    ensures { λ r. ⌜ r ≡ truthTold yes no (truthValue edition1 (now (values .entry)) (now (t .entry))) ⌝ }
+{
+    match expression::truth_value(t, values) {
+        Truth::Yes => yes,
+        Truth::No => no,
+        Truth::Above => Verdict::Above,
+        Truth::Below => Verdict::Below,
+        Truth::Malformed => Verdict::Above,
+    }
+}
+
+// A number in its range, or the side on which it lies outside.
+fn ranged(low: i32, high: i32, z: i64) -> Verdict
+    ensures { λ r. ⌜ r ≡ stepTold (valued (rangedOf low high z)) ⌝ }
+{
+    if z < (low as i64) {
+        return Verdict::Below;
+    }
+    if (high as i64) < z {
+        return Verdict::Above;
+    }
+    Verdict::Stay
+}
+
+// A value with its rate added: is the sum in its declared range?
+fn stays(low: i32, high: i32, x: i32, rate: i32) -> Verdict
+    ensures { λ r. ⌜ r ≡ stepTold (valued (rangedOf low high (x +ℤ rate))) ⌝ }
+{
+    ranged(low, high, (x as i64) + (rate as i64))
+}
+
+fn sum(low: i32, high: i32, x: i32, rate: i32) -> i32
+    requires { ⌜ goesOn (stepTold (valued (rangedOf low high (x +ℤ rate)))) ≡ true ⌝ }
+    ensures { λ y. ⌜ y ≡ x +ℤ rate ⌝ }
+{
+    x + rate
+}
+
+// Do all sums lie in their ranges? Else the side of the first that does not.
+fn all_stay(lows: &[i32], highs: &[i32], rates: &[i32], values: &[i32]) -> Verdict
+    requires { ⌜ Sized (now lows) (now highs) (now rates) (now values) ⌝ }
+    ensures { λ r. ⌜ r ≡ stepTold (valued (advanced (now (lows .entry)) (now (highs .entry)) (now (rates .entry)) (now (values .entry)))) ⌝ }
+{
+    let mut i = 0;
+    while i < values.len() {
+        let r = stays(lows[i], highs[i], values[i], rates[i]);
+        if !goes_on(r) {
+            return r;
+        }
+        i += 1;
+    }
+    Verdict::Stay
+}
+
+fn add_all(lows: &[i32], highs: &[i32], rates: &[i32], values: &mut [i32])
+    requires { ⌜ Sized (now lows) (now highs) (now rates) (now values) × (goesOn (stepTold (valued (advanced (now lows) (now highs) (now rates) (now values)))) ≡ true) ⌝ }
+    ensures { λ _. ⌜ now (values .exit) ≡ sums (now (rates .entry)) (now (values .entry)) ⌝ }
+{
+    let mut v = 0;
+    while v < values.len() {
+        values[v] = sum(lows[v], highs[v], values[v], rates[v]);
+        v += 1;
+    }
+}
+
+// Each value adds its rate, or none does.
+pub fn advance(lows: &[i32], highs: &[i32], rates: &[i32], values: &mut [i32]) -> Verdict
+    requires { ⌜ Sized (now lows) (now highs) (now rates) (now values) ⌝ }
+    ensures { λ r. ⌜ (r ≡ stepTold (valued (advanced (now (lows .entry)) (now (highs .entry)) (now (rates .entry)) (now (values .entry))))) × (now (values .exit) ≡ orElse (now (values .entry)) (advanced (now (lows .entry)) (now (highs .entry)) (now (rates .entry)) (now (values .entry)))) ⌝ }
+{
+    let fit = all_stay(lows, highs, rates, values);
+    if goes_on(fit) {
+        add_all(lows, highs, rates, values);
+    }
+    fit
+}
+
+pub fn wide(x: u8) -> usize
+    ensures { λ r. ⌜ r ≡ x ⌝ }
+{
+    x as usize
+}
+
+// Variable v becomes z where its range allows it.
+fn store(
+    z: i32,
+    v: usize,
+    lows: &[i32],
+    highs: &[i32],
+    values: &mut [i32],
+    done: Verdict,
+) -> Verdict
+    requires { ⌜ (v < length (now values)) × (length (now lows) ≡ length (now values)) × (length (now highs) ≡ length (now values)) ⌝ }
+    ensures { λ r. ⌜ (r ≡ doneTold done (valued (stored (now (lows .entry)) (now (highs .entry)) (now (values .entry)) v z))) × (now (values .exit) ≡ orElse (now (values .entry)) (stored (now (lows .entry)) (now (highs .entry)) (now (values .entry)) v z)) ⌝ }
+{
+    let r = ranged(lows[v], highs[v], z as i64);
+    if goes_on(r) {
+        values[v] = z;
+        return done;
+    }
+    r
+}
+
+// An assignment: its operand is the variable, then the number.
+fn assign(t: &[u8], lows: &[i32], highs: &[i32], values: &mut [i32], done: Verdict) -> Verdict
+    requires { ⌜ (1 ≤ length (now t)) × (getD (now t) 0 0 < length (now values)) × (length (now lows) ≡ length (now values)) × (length (now highs) ≡ length (now values)) ⌝ }
+    ensures { λ r. ⌜ (r ≡ doneTold done (valued (assigned (now (lows .entry)) (now (highs .entry)) (now (values .entry)) (getD (now (t .entry)) 0 0) (drop 1 (now (t .entry)))))) × (now (values .exit) ≡ orElse (now (values .entry)) (assigned (now (lows .entry)) (now (highs .entry)) (now (values .entry)) (getD (now (t .entry)) 0 0) (drop 1 (now (t .entry))))) ⌝ }
+{
+    let v = wide(t[0]);
+    match expression::number_value(&t[1..], values) {
+        Number::Is(z) => store(z, v, lows, highs, values, done),
+        Number::Above => Verdict::Above,
+        Number::Below => Verdict::Below,
+        Number::Malformed => Verdict::Above,
+    }
+}
+
+// What the picked node n does, by its kind and its operand.
+pub fn effect(
+    kind: u8,
+    t: &[u8],
+    lows: &[i32],
+    highs: &[i32],
+    n: usize,
+    values: &mut [i32],
+    modes: &mut [u8],
+) -> Verdict
+    requires { ⌜ Fit (kindOf kind) (now t) (length (now values)) (length (now modes)) × (length (now lows) ≡ length (now values)) × (length (now highs) ≡ length (now values)) ⌝ }
+    ensures { λ r. ⌜ Left (act edition1 (rangesOnly (now (lows .entry)) (now (highs .entry))) (now (values .entry)) (now (modes .entry)) n (form (kindOf kind) (now (t .entry)))) (now (values .entry)) (now (modes .entry)) r (now (values .exit)) (now (modes .exit)) ⌝ }
+{
+    match kind {
+        1 => ask(t, values, Verdict::Move(n, true), Verdict::Move(n, false)),
+        2 => ask(t, values, Verdict::Move(n, true), Verdict::Away(29)),
+        3 => assign(t, lows, highs, values, Verdict::Move(n, true)),
+        4 => {
+            let s = wide(t[0]);
+            modes[s] = t[1];
+            Verdict::Move(n, true)
+        }
+        _ => Verdict::Move(n, true),
+    }
+}

@@ -1,0 +1,20 @@
+-- Where the operands of the nodes lie, and which nodes are waits.
+use mathlib.Core.Bool.{Bool}
+use mathlib.Core.List.{List}
+use Prim.Native.Nat.{ℕ, _-_, _≤_, _<_}
+use lib.Dec.{eqb}
+use lib.ListN.{length, getD, take, drop}
+
+-- ---- where operands lie
+abbrev pub cutAt : List ℕ → List ℕ → List ℕ → ℕ → List ℕ
+cutAt ops starts ends n = take (getD ends n 0 - getD starts n 0) (drop (getD starts n 0) ops)
+
+pub record Cut (ops starts ends : List ℕ) (n : ℕ) : Type 0 where
+  pub start : n < length starts
+  pub end : n < length ends
+  pub low : getD starts n 0 ≤ getD ends n 0
+  pub high : getD ends n 0 ≤ length ops
+
+-- ---- is node n a wait?
+abbrev pub isWaitKind : List ℕ → ℕ → Bool
+isWaitKind kinds n = eqb (getD kinds n 0) 2

@@ -1,0 +1,4 @@
+mod Standing
+pub mod Walks
+pub mod Taking
+pub mod Rates

@@ -1,0 +1,90 @@
+-- A switch event on the current modes.
+use mathlib.Core.Path.{_≡_, refl, sym, ap, _∙_}
+use mathlib.Core.Bool.{Bool, true, false}
+use mathlib.Core.List.{List, [], _∷_}
+use mathlib.Core.Option.{none, some}
+use Prim.Native.Nat.{ℕ, zero, suc, _+_, _*_, _-_, _≤_, _<_}
+use native.Mathlib.Omega.{arith}
+use lib.IntN.{ℤ}
+use lib.ListN.{length, getD, set, take, drop, getElem?}
+use Rattle.semantics.specs.Editions.{edition1}
+use Rattle.semantics.specs.Expressions.{Value, ok, fault, above, below, truthValue}
+use Rattle.semantics.specs.Sections.{Switch, Mode, readSwitch}
+use Rattle.semantics.specs.Run.{pass, _>>=_, _>>_, allow, find, valued, nobody}
+use Rattle.semantics.proofs.Facts.{true-not-false, at-exists}
+use Rattle.codec.proofs.Known.{times-length, past-end}
+use Rattle.effects.specs.Told.{goesOn, truthTold, movedTold, eventTold, valuesLeft, modesLeft, Left}
+use Rattle.modes.specs.Modes.{modeAt, Stands, SwitchAt, modesFrom, modesNow, placeAt, switchTaken}
+use Rattle.effects.specs.declared.Verdict.{Verdict}
+use Rattle.effects.specs.declared.Verdict.the-variants.{Away, Stay}
+use Rattle.modes.proofs.Standing.{parts}
+
+-- ---- which switch it is
+module _ {es : List ℕ} {at : ℕ} {m : Mode} (s : Stands es at m) (c k : ℕ) (e : c ≡ at + 1 + 5 * getD es at 0) where
+  counted : length (m .switches) ≡ getD es c 0
+  counted = let a = parts s .switches in rw e (times-length readSwitch (getD es (at + 1 + 5 * getD es at 0) 0) (drop (at + 1 + 5 * getD es at 0 + 1) es) (a .got))
+
+  pub switch-there : k < getD es c 0 → (w : Switch) × (getElem? (m .switches) k ≡ some w)
+  switch-there h = let n = counted in at-exists (m .switches) k (omega arith)
+
+  pub no-switch : getD es c 0 ≤ k → getElem? (m .switches) k ≡ none
+  no-switch h = let n = counted in past-end (m .switches) k (omega arith)
+
+pub modes-length : (es places : List ℕ) (j : ℕ) (ms : List ℕ) → length (modesFrom es places j ms) ≡ length ms
+unfolding modesFrom
+modes-length es places j [] = refl
+modes-length es places j (m ∷ ms) = ap suc (modes-length es places (suc j) ms)
+
+modes-at : (es places : List ℕ) (j : ℕ) (ms : List ℕ) (i : ℕ) → i < length ms → getElem? (modesFrom es places j ms) i ≡ some (modeAt es (getD places (8 * (j + i) + getD ms i 0) 0))
+unfolding modesFrom
+modes-at es places j [] i h = absurd (omega arith)
+modes-at es places j (m ∷ ms) zero h = let e : j ≡ j + 0 = omega arith in ap (λ (n : ℕ). some (modeAt es (getD places (8 * n + m) 0))) e
+modes-at es places j (m ∷ ms) (suc i) h =
+    let e : suc j + i ≡ j + suc i = omega arith in
+    modes-at es places (suc j) ms i (omega arith) ∙ ap (λ (n : ℕ). some (modeAt es (getD places (8 * n + getD ms i 0) 0))) e
+
+module _ (es places ms : List ℕ) (s : ℕ) where
+  pub mode-now : s < length ms → getElem? (modesNow es places ms) s ≡ some (modeAt es (placeAt places ms s))
+  mode-now h = let e : 0 + s ≡ s = omega arith in modes-at es places 0 ms s h ∙ ap (λ (n : ℕ). some (modeAt es (getD places (8 * n + getD ms s 0) 0))) e
+
+  pub no-mode : length ms ≤ s → getElem? (modesNow es places ms) s ≡ none
+  no-mode h = past-end (modesNow es places ms) s (omega (arith, modes-length es places 0 ms))
+
+-- ---- what it does
+module _ (modes : List Mode) (vs : List ℤ) (ms : List ℕ) (s k : ℕ) where
+  pub no-selector-left : getElem? modes s ≡ none → Left (switchTaken modes vs ms s k) vs ms (Away 26) vs ms
+  unfolding switchTaken find _>>=_ eventTold valuesLeft modesLeft
+  no-selector-left e = rw e (record { answer = refl; values = refl; modes = refl })
+
+  module _ (m : Mode) (e : getElem? modes s ≡ some m) where
+    pub no-switch-left : getElem? (m .switches) k ≡ none → Left (switchTaken modes vs ms s k) vs ms (Away 26) vs ms
+    unfolding switchTaken find _>>=_ eventTold valuesLeft modesLeft
+    no-switch-left f = rw (e, f) (record { answer = refl; values = refl; modes = refl })
+
+    module _ (w : Switch) (f : getElem? (m .switches) k ≡ some w) (r : Verdict) (g : r ≡ truthTold Stay (Away 30) (truthValue edition1 vs (w .truth))) where
+      pub not-taken-left : goesOn r ≡ false → Left (switchTaken modes vs ms s k) vs ms r vs ms
+      unfolding switchTaken find _>>=_ _>>_ valued allow truthTold goesOn movedTold eventTold valuesLeft modesLeft
+      not-taken-left h = rw (e, f) (go (truthValue edition1 vs (w .truth)) g)
+        where
+          go : (u : Value Bool) → r ≡ truthTold Stay (Away 30) u → Left (valued u >>= (λ b. allow 30 b >> pass (record { moved = nobody; values = vs; modes = set ms s (w .target) }))) vs ms r vs ms
+          go (ok true) g = true-not-false (sym (ap goesOn g) ∙ h)
+          go (ok false) g = record { answer = g; values = refl; modes = refl }
+          go (fault above) g = record { answer = g; values = refl; modes = refl }
+          go (fault below) g = record { answer = g; values = refl; modes = refl }
+
+      pub taken-left : goesOn r ≡ true → {t : ℕ} → t ≡ w .target → Left (switchTaken modes vs ms s k) vs ms r vs (set ms s t)
+      unfolding switchTaken find _>>=_ _>>_ valued allow truthTold goesOn movedTold eventTold valuesLeft modesLeft
+      taken-left h {t} q = rw (e, f) (go (truthValue edition1 vs (w .truth)) g)
+        where
+          go : (u : Value Bool) → r ≡ truthTold Stay (Away 30) u → Left (valued u >>= (λ b. allow 30 b >> pass (record { moved = nobody; values = vs; modes = set ms s (w .target) }))) vs ms r vs (set ms s t)
+          go (ok true) g = record { answer = g; values = refl; modes = ap (set ms s) q }
+          go (ok false) g = true-not-false (sym h ∙ ap goesOn g)
+          go (fault above) g = true-not-false (sym h ∙ ap goesOn g)
+          go (fault below) g = true-not-false (sym h ∙ ap goesOn g)
+
+-- ---- its truth is asked at its place
+pub asked-at : (vs : List ℤ) (es : List ℕ) (q : ℕ) (w : Switch) → SwitchAt es q w → (i : ℕ) → i ≡ getD es q 0 → (r : Verdict) → r ≡ truthTold Stay (Away 30) (truthValue edition1 vs (take (q + 1 + i - (q + 2)) (drop (q + 2) es)))
+    → r ≡ truthTold Stay (Away 30) (truthValue edition1 vs (w .truth))
+asked-at vs es q w s i e r h =
+    let n : q + 1 + i - (q + 2) ≡ getD es q 0 - 1 = omega arith in
+    h ∙ ap (λ t. truthTold Stay (Away 30) (truthValue edition1 vs t)) (ap (λ j. take j (drop (q + 2) es)) n ∙ sym (s .truth))

@@ -1,0 +1,89 @@
+-- Answers booked one by one are counted.
+use mathlib.Core.Path.{_≡_, refl, sym, ap, _∙_}
+use mathlib.Core.Bool.{Bool, true, false, _&&_}
+use mathlib.Core.List.{List, [], _∷_, _++_}
+use Prim.Native.Nat.{ℕ, suc, _+_, _^_, _≤_, _<_}
+use native.Mathlib.Omega.{arith}
+use borrow.Author.Tests.{lt-leb, le-leb, leb-true, eqb-true, eqb-false}
+use lib.Dec.{eqb, leb}
+use lib.ListN.{length}
+use Rattle.semantics.specs.Bytes.{within}
+use Rattle.semantics.specs.Run.{isTaken, isTurnedAway, isFaulted, howMany}
+use Rattle.records.specs.Booking.{bumped, bookedOf, countsOf, tallied, Room}
+use Rattle.records.specs.declared.Counts.{Counts}
+
+-- ---- bounds
+pub below-low : (a b n : ℕ) → n < a → false ≡ within a b n
+unfolding within
+below-low a b n h = rw (lt-leb a n h) refl
+
+pub from-low : (a b n : ℕ) → a ≤ n → leb n b ≡ within a b n
+unfolding within
+from-low a b n h = rw (le-leb a n h) refl
+
+-- between a number and itself lies that number only
+within-one : (k n : ℕ) → within k k n ≡ eqb n k
+unfolding within
+within-one k n = go (eqb n k) (eqb-true n k) (eqb-false n k)
+  where
+    go : (b : Bool) → (b ≡ true → n ≡ k) → (b ≡ false → n ≡ k → ⊥) → leb k n && leb n k ≡ b
+    go true e f = let h : n ≡ k = e refl in rw (le-leb k n (omega (arith, h)), le-leb n k (omega (arith, h))) refl
+    go false e f = apart (leb k n) (leb n k) (leb-true k n) (leb-true n k)
+      where
+        apart : (x y : Bool) → (x ≡ true → k ≤ n) → (y ≡ true → n ≤ k) → x && y ≡ false
+        apart true true g h = absurd (f refl (omega (arith, g refl, h refl)))
+        apart true false g h = refl
+        apart false y g h = refl
+
+-- the record that the code makes
+pub booked-within : (c : Counts) (a : ℕ) {t u v : ℕ} → t ≡ bumped (c .taken) (within 200 202 a) → u ≡ bumped (c .«turned_away») (within 23 31 a) → v ≡ bumped (c .faulted) (within 203 203 a) → record { taken = t; «turned_away» = u; faulted = v } ≡ bookedOf c a
+unfolding bookedOf isTaken isTurnedAway isFaulted
+booked-within c a e f g = let o = within-one 203 a in cc
+
+-- ---- one more at the end of the list
+module _ (f : ℕ → Bool) where
+  more : (l : List ℕ) (a : ℕ) → howMany f (l ++ (a ∷ [])) ≡ bumped (howMany f l) (f a)
+  unfolding howMany bumped
+  more [] a = go (f a)
+    where
+      go : (b : Bool) → _≡_ {A = ℕ} (elim b [ true ↦ 1 | false ↦ 0 ]) (bumped 0 b)
+      go true = refl
+      go false = refl
+  more (x ∷ l) a = go (f x) (f a) (more l a)
+    where
+      go : (b c : Bool) → howMany f (l ++ (a ∷ [])) ≡ bumped (howMany f l) c → _≡_ {A = ℕ} (elim b [ true ↦ suc (howMany f (l ++ (a ∷ []))) | false ↦ howMany f (l ++ (a ∷ [])) ]) (bumped (elim b [ true ↦ suc (howMany f l) | false ↦ howMany f l ]) c)
+      go true true h = let e : suc (howMany f l + 1) ≡ suc (howMany f l) + 1 = omega arith in ap suc h ∙ e
+      go true false h = ap suc h
+      go false c h = h
+
+  at-most : (l : List ℕ) → howMany f l ≤ length l
+  unfolding howMany
+  at-most [] = omega arith
+  at-most (x ∷ l) = go (f x) (at-most l)
+    where
+      go : (b : Bool) → howMany f l ≤ length l → elim b [ true ↦ suc (howMany f l) | false ↦ howMany f l ] ≤ suc (length l)
+      go true h = omega arith
+      go false h = omega arith
+
+-- no answer is counted yet
+pub counts-none : countsOf [] ≡ record { taken = 0; «turned_away» = 0; faulted = 0 }
+unfolding countsOf howMany
+counts-none = refl
+
+pub counts-more : (l : List ℕ) (a : ℕ) → countsOf (l ++ (a ∷ [])) ≡ bookedOf (countsOf l) a
+unfolding countsOf bookedOf
+counts-more l a = let t = more isTaken l a in let u = more isTurnedAway l a in let v = more isFaulted l a in cc
+
+-- a run of so many events has room for its counts
+pub counts-room : (l : List ℕ) → length l + 1 < 2 ^ 64 → Room (countsOf l)
+unfolding countsOf
+counts-room l h = record { taken = omega (arith, at-most isTaken l); turned-away = omega (arith, at-most isTurnedAway l); faulted = omega (arith, at-most isFaulted l) }
+
+-- booked one by one, from no answers on
+tallied-from : (l k : List ℕ) → tallied (countsOf l) k ≡ countsOf (l ++ k)
+unfolding tallied
+tallied-from l [] = ap countsOf (sym (mathlib.Core.List.append-nil l))
+tallied-from l (a ∷ k) = ap (λ c. tallied c k) (sym (counts-more l a)) ∙ tallied-from (l ++ (a ∷ [])) k ∙ ap countsOf (mathlib.Core.List.append-assoc l (a ∷ []) k)
+
+pub tallied-counts : (l : List ℕ) → tallied (record { taken = 0; «turned_away» = 0; faulted = 0 }) l ≡ countsOf l
+tallied-counts l = ap (λ c. tallied c l) (sym counts-none) ∙ tallied-from [] l

@@ -1,0 +1,3 @@
+mod LentCounts
+pub mod Books
+mod Records

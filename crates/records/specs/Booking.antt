@@ -1,0 +1,29 @@
+-- The counts of a run.
+use mathlib.Core.Bool.{Bool, true, false}
+use mathlib.Core.List.{List, [], _∷_}
+use Prim.Native.Nat.{ℕ, _+_, _^_, _<_}
+use Rattle.semantics.specs.Run.{isTaken, isTurnedAway, isFaulted, howMany}
+use Rattle.records.specs.declared.Counts.{Counts}
+
+unfoldable pub bumped : ℕ → Bool → ℕ
+bumped n true = n + 1
+bumped n false = n
+
+-- the counts with one answer more
+unfoldable pub bookedOf : Counts → ℕ → Counts
+bookedOf c a = record { taken = bumped (c .taken) (isTaken a); «turned_away» = bumped (c .«turned_away») (isTurnedAway a); faulted = bumped (c .faulted) (isFaulted a) }
+
+-- the counts of a list of answers
+unfoldable pub countsOf : List ℕ → Counts
+countsOf l = record { taken = howMany isTaken l; «turned_away» = howMany isTurnedAway l; faulted = howMany isFaulted l }
+
+-- answers booked one after the other
+unfoldable pub tallied : Counts → List ℕ → Counts
+tallied c [] = c
+tallied c (a ∷ l) = tallied (bookedOf c a) l
+
+-- each count may be one more
+pub record Room (c : Counts) : Type 0 where
+  pub taken : c .taken + 1 < 2 ^ 64
+  pub turned-away : c .«turned_away» + 1 < 2 ^ 64
+  pub faulted : c .faulted + 1 < 2 ^ 64

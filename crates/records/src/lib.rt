@@ -1,0 +1,106 @@
+// The record of an event, and the counts of a run.
+use nodeset::NodeSet;
+ghost use mathlib.Core.Path.{_≡_};
+ghost use mathlib.Core.Bool.{true};
+ghost use mathlib.Core.List.{_∷_, _++_, flatMap};
+ghost use Prim.Native.Nat.{ℕ, _+_, _*_, _^_, _≤_, _<_};
+ghost use lib.ListN.{length};
+ghost use Rattle.semantics.specs.Bytes.{within, bigEndian};
+ghost use Rattle.semantics.specs.Run.{setNumber, valueBytes};
+ghost use Rattle.codec.specs.Writing.{Wrote};
+ghost use Rattle.nodeset.specs.Sets.{mem, members};
+ghost use Rattle.records.specs.Booking.{bumped, bookedOf, Room};
+
+// Of the answers of a run: taken 200..202, turned away 23..31, faulted 203.
+pub struct Counts {
+    pub taken: usize,
+    pub turned_away: usize,
+    pub faulted: usize,
+}
+
+fn between(low: u8, high: u8, n: u8) -> bool
+    ensures { λ b. ⌜ b ≡ within low high n ⌝ }
+{
+    if n < low {
+        return false;
+    }
+    n <= high
+}
+
+fn bump(n: usize, on: bool) -> usize
+    requires { ⌜ n + 1 < 2 ^ 64 ⌝ }
+    ensures { λ r. ⌜ r ≡ bumped n on ⌝ }
+{
+    if on { n + 1 } else { n }
+}
+
+// A count, with one more where the answer lies between two numbers.
+fn counted(n: usize, low: u8, high: u8, answer: u8) -> usize
+    requires { ⌜ n + 1 < 2 ^ 64 ⌝ }
+    ensures { λ r. ⌜ r ≡ bumped n (within low high answer) ⌝ }
+{
+    bump(n, between(low, high, answer))
+}
+
+// Books one event's answer in the counts that it is lent.
+fn book(c: &mut Counts, answer: u8)
+    requires { ⌜ Room (now c) ⌝ }
+    ensures { λ _. ⌜ now (c .exit) ≡ bookedOf (now (c .entry)) answer ⌝ }
+{
+    c.taken = counted(c.taken, 200, 202, answer);
+    c.turned_away = counted(c.turned_away, 23, 31, answer);
+    c.faulted = counted(c.faulted, 203, 203, answer);
+}
+
+// The counts with one answer more.
+pub fn booked(c: Counts, answer: u8) -> Counts
+    requires { ⌜ Room c ⌝ }
+    ensures { λ r. ⌜ r ≡ bookedOf c answer ⌝ }
+{
+    let mut counts = c;
+    book(&mut counts, answer);
+    counts
+}
+
+// The eight bytes of a set of nodes below 64, at a place; the next place.
+fn put_set(d: &mut [u8], i: usize, acting: NodeSet) -> usize
+    requires { ⌜ (i + 8 ≤ length (now d)) × ((n : ℕ) → mem (acting .words) n ≡ true → n < 64) ⌝ }
+    ensures { λ r. ⌜ (r ≡ i + 8) × Wrote (now (d .entry)) i (bigEndian 8 (setNumber (members (acting .words)))) (now (d .exit)) ⌝ }
+{
+    let ws = acting.words;
+    let w = ws[0] as usize;
+    let j = codec::put4(d, i, w / 4294967296);
+    codec::put4(d, j, w % 4294967296)
+}
+
+// The values, four bytes each, at a place; the next place.
+fn put_values(d: &mut [u8], i: usize, values: &[i32]) -> usize
+    requires { ⌜ i + 4 * length (now values) ≤ length (now d) ⌝ }
+    ensures { λ r. ⌜ (r ≡ i + 4 * length (now (values .entry))) × Wrote (now (d .entry)) i (flatMap valueBytes (now (values .entry))) (now (d .exit)) ⌝ }
+{
+    let mut at = i;
+    let mut j = 0;
+    while j < values.len() {
+        at = codec::put_signed(d, at, values[j]);
+        j += 1;
+    }
+    at
+}
+
+// The record of an event at a place: its answer, the acting nodes, values and modes; the next place.
+pub fn put_record(
+    d: &mut [u8],
+    i: usize,
+    answer: u8,
+    acting: NodeSet,
+    values: &[i32],
+    modes: &[u8],
+) -> usize
+    requires { ⌜ (i + (9 + 4 * length (now values) + length (now modes)) ≤ length (now d)) × ((n : ℕ) → mem (acting .words) n ≡ true → n < 64) ⌝ }
+    ensures { λ r. ⌜ (r ≡ i + (9 + 4 * length (now (values .entry)) + length (now (modes .entry)))) × Wrote (now (d .entry)) i (answer ∷ bigEndian 8 (setNumber (members (acting .words))) ++ (flatMap valueBytes (now (values .entry)) ++ now (modes .entry))) (now (d .exit)) ⌝ }
+{
+    let j = codec::put1(d, i, answer);
+    let k = put_set(d, j, acting);
+    let l = put_values(d, k, values);
+    codec::put_slice(d, l, modes)
+}

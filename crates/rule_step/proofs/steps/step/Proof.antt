@@ -1,0 +1,29 @@
+use mathlib.Core.Path.{refl}
+use mathlib.Core.List.{[], _∷_}
+use Rattle.rule_step.proofs.Settling.{judging, movable, step-over, step-at}
+use borrow.Author.Needs.{needs}
+use Rattle.rule_step.proofs.steps.step.Statement.{statement}
+use Rattle.rule_step.proofs.steps.step.Tie as tie
+
+returns : tie.Need-returns
+returns c = λ s o d g f. step-over s o d g f _ (c .if1 .taken) refl
+
+judge-requires : tie.Need-judge-requires
+judge-requires c κs = judging (c .before .before .before .before .before .before .before .before .before .before .before .before .before .pre) (c .before .before .before .if1 .left)
+
+settled-requires : tie.Need-settled-requires
+settled-requires c κs = let s = c .before .before .before .before .before .before .before .before .before .before .before .before .before .before .before .before .before .args in movable (s .a ∷ s .b ∷ s .c ∷ []) (c .before .before .before .before .before .before .before .before .before .before .before .before .before .before .before .before .before .pre) (c .before .before .before .before .before .before .before .if1 .left) (c .before .before .before .judge .ensures)
+
+same-length : tie.Need-same-length
+same-length c = search needs
+
+same-length-2 : tie.Need-same-length-2
+same-length-2 c = search needs
+
+returns-2 : tie.Need-returns-2
+returns-2 c = λ s o d g f. step-at s o d g f _ (c .before .before .before .before .before .before .before .before .if1 .left) (c .before .before .before .before .judge .ensures) (c .settled .ensures)
+
+pub step-spec : {M : Type 1} → statement M
+step-spec =
+    tie.close
+    (tie.spec returns judge-requires settled-requires same-length same-length-2 returns-2)

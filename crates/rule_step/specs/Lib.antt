@@ -1,0 +1,2 @@
+-- What the contracts of one event of a run by the rules cite.
+pub mod Situations

@@ -1,0 +1,83 @@
+-- Where a run by the rules stands, as the code has it, and what one event makes of it.
+use mathlib.Core.Path.{_≡_}
+use mathlib.Core.Bool.{Bool, true, false}
+use mathlib.Core.List.{List, []}
+use mathlib.Core.Option.{Option, none, some}
+use Prim.Native.Nat.{ℕ}
+use lib.IntN.{ℤ}
+use Rattle.semantics.specs.Editions.{edition1}
+use Rattle.semantics.specs.Plant.{among}
+use Rattle.semantics.specs.Run as Run
+use Rattle.semantics.specs.Run.{Next, arrive, step}
+use Rattle.semantics.specs.Tables.{actionOrStop}
+use Rattle.schedules.specs.Nodes.{actionsOf}
+use Rattle.schedules.specs.Trees.{Tree}
+use Rattle.schedules.specs.Residuals.{Residual, acting}
+use Rattle.schedules.specs.Files.{Schedule, ruleControl}
+use Rattle.schedules.specs.Laid.{Lies}
+use Rattle.schedules.specs.Reached.{Of}
+use Rattle.nodeset.specs.Sets.{members, emptySet, Words}
+use Rattle.nodeset.specs.declared.NodeSet.{NodeSet}
+use Rattle.moves.specs.Contracts.{Standing}
+use Rattle.execution.specs.Ready.{Lent, PlantLent, NodeLent, Fits}
+use Rattle.effects.specs.declared.Verdict.{Verdict}
+use Rattle.effects.specs.declared.Verdict.the-variants.{Move}
+use Rattle.rule_step.specs.declared.steps.Situation.{Situation}
+use Rattle.rule_step.specs.declared.steps.Answered.{Answered}
+
+-- ---- answers
+-- the run goes on, and these nodes act
+abbrev pub goingOn : ℕ → NodeSet → Answered
+goingOn n s = record { answer = n; situation = record { over = false; acting = s } }
+
+-- the run is over, and no node acts
+abbrev pub ended : ℕ → Answered
+ended n = record { answer = n; situation = record { over = true; acting = record { words = emptySet } } }
+
+-- ---- where a run stands
+-- the acting nodes are those of a residual of the tree, or the run is over and there are none
+pub data StandsFor (t : Tree) (x : Situation) : Option Residual → Type 0 where
+  at-residual : {r : Residual} → x .over ≡ false → Of t r → members (x .acting .words) ≡ acting r → Words (x .acting .words) → StandsFor t x (some r)
+  at-end : x .over ≡ true → members (x .acting .words) ≡ [] → Words (x .acting .words) → StandsFor t x none
+
+-- the tree lies in the arrays, and the set is that of one of its residuals
+pub record Here (ks es : List ℕ) (t : Tree) (ws : List ℕ) (r : Residual) : Type 0 where
+  pub lies : Lies ks es t
+  pub of : Of t r
+  pub stands : members ws ≡ acting r
+  pub words : Words ws
+
+abbrev pub leaves : ℕ → Option Residual → List ℤ → List ℕ → Run.Answered Residual
+leaves n o vs ms = record { answer = n; left = record { place = o; values = vs; modes = ms } }
+
+-- ---- one event, part by part
+-- a move that leads there is answered so
+pub record Arrives (t : Tree) (x : Next Residual) (a : Answered) : Type 0 where
+  pub place : Option Residual
+  pub is : (s : Run.Situation Residual) (vs : List ℤ) (ms : List ℕ) → arrive s x vs ms ≡ leaves (a .answer) place vs ms
+  pub stands : StandsFor t (a .situation) place
+
+-- a node that moves acts
+pub record Movable (ks es ws : List ℕ) (v : Verdict) : Type 0 where
+  pub standing : (n : ℕ) (b : Bool) → v ≡ Move n b → Standing ks es ws n
+
+-- ---- the whole event
+-- the arrays hold the schedule: its plant, its tree, and what each node does that acts in a residual of it
+pub record ScheduleLent (s : Schedule) (l : Lent) (ks es : List ℕ) : Type 0 where
+  pub plant : PlantLent (s .plant) l
+  pub tree : Lies ks es (s .root)
+  pub nodes : (r : Residual) → Of (s .root) r → (n : ℕ) → among n (acting r) ≡ true → NodeLent (s .plant) (actionOrStop (actionsOf (s .nodes)) n) l n
+
+-- there are such a schedule and such a place, and values and modes fit
+pub record Promised (l : Lent) (ks es : List ℕ) (x : Situation) (vs : List ℤ) (ms : List ℕ) : Type 0 where
+  pub schedule : Schedule
+  pub lent : ScheduleLent schedule l ks es
+  pub place : Option Residual
+  pub stands : StandsFor (schedule .root) x place
+  pub fits : Fits (schedule .plant) vs ms
+
+-- the event e at place o, with these values and modes, is answered so and leaves that
+pub record Steps (s : Schedule) (o : Option Residual) (vs : List ℤ) (ms : List ℕ) (e : List ℕ) (a : Answered) (vs' : List ℤ) (ms' : List ℕ) : Type 0 where
+  pub place : Option Residual
+  pub is : step edition1 (s .plant) (ruleControl s) (record { place = o; values = vs; modes = ms }) e ≡ leaves (a .answer) place vs' ms'
+  pub stands : StandsFor (s .root) (a .situation) place

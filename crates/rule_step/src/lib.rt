@@ -1,0 +1,2 @@
+// One event of a run by the rules.
+pub mod steps;

@@ -1,0 +1,144 @@
+// One event of a run by the rules.
+use effects::Verdict;
+use moves::How;
+use nodeset::NodeSet;
+ghost use mathlib.Core.Path.{_≡_};
+ghost use mathlib.Core.Option.{Option, some};
+ghost use mathlib.Core.List.{List, [], _∷_};
+ghost use Prim.Native.Nat.{ℕ};
+ghost use lib.IntN.{ℤ};
+ghost use Rattle.semantics.specs.Editions.{edition1};
+ghost use Rattle.semantics.specs.Events.{eventIn};
+ghost use Rattle.semantics.specs.Run.{judge};
+ghost use Rattle.schedules.specs.Trees.{Tree};
+ghost use Rattle.schedules.specs.Residuals.{Residual, move};
+ghost use Rattle.schedules.specs.Files.{Schedule, ruleControl};
+ghost use Rattle.nodeset.specs.Sets.{members};
+ghost use Rattle.moves.specs.Contracts.{Standing};
+ghost use Rattle.effects.specs.Told.{Left};
+ghost use Rattle.execution.specs.Ready.{lent, Fits};
+ghost use Rattle.rule_step.specs.Situations.{goingOn, ended, Here, Arrives, Movable, StandsFor, ScheduleLent, Promised, Steps};
+
+// Where a run stands: the nodes that act, none once it is over.
+pub struct Situation {
+    pub over: bool,
+    pub acting: NodeSet,
+}
+
+// The answer to an event, and where the run stands after it.
+pub struct Answered {
+    pub answer: u8,
+    pub situation: Situation,
+}
+
+fn go_on(n: u8, acting: NodeSet) -> Answered
+    ensures { λ r. ⌜ r ≡ goingOn n acting ⌝ }
+{
+    let situation = Situation {
+        over: false,
+        acting: acting,
+    };
+    Answered {
+        answer: n,
+        situation: situation,
+    }
+}
+
+fn end(n: u8) -> Answered
+    ensures { λ r. ⌜ r ≡ ended n ⌝ }
+{
+    let acting = NodeSet { words: [0; 4] };
+    let situation = Situation {
+        over: true,
+        acting: acting,
+    };
+    Answered {
+        answer: n,
+        situation: situation,
+    }
+}
+
+// A taken event with the move of node n.
+fn moved<'a>(
+    kinds: &'a [u8],
+    subtrees: &'a [usize],
+    acting: NodeSet,
+    n: usize,
+    truth: bool,
+) -> Answered
+    requires { ⌜ Standing (now kinds) (now subtrees) (acting .words) n ⌝ }
+    ensures { λ r. ⌜ ((t : Tree) (x : Residual) → Here (now (kinds .entry)) (now (subtrees .entry)) t (acting .words) x → Arrives t (move x n truth) r) ⌝ }
+{
+    let m = moves::advance(kinds, subtrees, acting, n, truth);
+    let how = m.how;
+    let set = m.set;
+    match how {
+        How::To => go_on(200, set),
+        How::Finished => end(201),
+        How::Halted => end(202),
+    }
+}
+
+// What a judged event makes of the acting nodes.
+fn settled<'a>(kinds: &'a [u8], subtrees: &'a [usize], acting: NodeSet, v: Verdict) -> Answered
+    requires { ⌜ Movable (now kinds) (now subtrees) (acting .words) v ⌝ }
+    ensures { λ r. ⌜ ((s : Schedule) (x : Residual) → Here (now (kinds .entry)) (now (subtrees .entry)) (s .root) (acting .words) x → (vs : List ℤ) (ms e : List ℕ) (vs' : List ℤ) (ms' : List ℕ) → Left (judge edition1 (s .plant) (ruleControl s .action) (members (acting .words)) vs ms (eventIn edition1 e)) vs ms v vs' ms' → Steps s (some x) vs ms e r vs' ms') ⌝ }
+{
+    match v {
+        Verdict::Away(n) => go_on(n, acting),
+        Verdict::Above => end(203),
+        Verdict::Below => end(203),
+        Verdict::Stay => go_on(200, acting),
+        Verdict::Move(n, truth) => moved(kinds, subtrees, acting, n, truth),
+    }
+}
+
+// The event of the three bytes a, b, c. Values and modes are those that it leaves.
+pub fn step<'a>(
+    es: &[u8],
+    places: &[usize],
+    steady: [i32; 32],
+    lows: &[i32],
+    highs: &[i32],
+    ops: &[u8],
+    acts: &[u8],
+    starts: &[usize],
+    ends: &[usize],
+    kinds: &'a [u8],
+    subtrees: &'a [usize],
+    at: Situation,
+    a: u8,
+    b: u8,
+    c: u8,
+    values: &mut [i32],
+    modes: &mut [u8],
+) -> Answered
+    requires { ⌜ Promised (lent (now es) (now places) steady (now lows) (now highs) (now ops) (now acts) (now starts) (now ends)) (now kinds) (now subtrees) at (now values) (now modes) ⌝ }
+    ensures { λ r. ⌜ ((s : Schedule) (o : Option Residual) → ScheduleLent s (lent (now (es .entry)) (now (places .entry)) steady (now (lows .entry)) (now (highs .entry)) (now (ops .entry)) (now (acts .entry)) (now (starts .entry)) (now (ends .entry))) (now (kinds .entry)) (now (subtrees .entry)) → StandsFor (s .root) at o → Fits (s .plant) (now (values .entry)) (now (modes .entry)) → Steps s o (now (values .entry)) (now (modes .entry)) (a ∷ b ∷ c ∷ []) r (now (values .exit)) (now (modes .exit)) × Fits (s .plant) (now (values .exit)) (now (modes .exit))) ⌝ }
+{
+    if at.over {
+        return Answered {
+            answer: 23,
+            situation: at,
+        };
+    }
+    let acting = at.acting;
+    let v = execution::judge(
+        es,
+        places,
+        steady,
+        lows,
+        highs,
+        ops,
+        acts,
+        starts,
+        ends,
+        acting,
+        a,
+        b,
+        c,
+        values,
+        modes,
+    );
+    settled(kinds, subtrees, acting, v)
+}

@@ -1,0 +1,2 @@
+pub mod EntryTurns
+pub mod Settling

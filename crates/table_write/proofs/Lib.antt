@@ -1,0 +1,5 @@
+-- the action section
+pub mod ActionLoop
+-- all sections
+pub mod TableBytes
+pub mod Room

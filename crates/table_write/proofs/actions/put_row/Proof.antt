@@ -1,0 +1,60 @@
+use Prim.Native.Nat.{_≤_}
+use native.Mathlib.Omega.{arith}
+use lib.ListN.{length}
+use Rattle.codec.proofs.Writing.{put-more, wrote-as}
+use Rattle.table_write.proofs.ActionLoop.{row-some, row-length}
+use borrow.Author.Needs.{needs}
+use Rattle.table_write.proofs.actions.put_row.Statement.{statement}
+use Rattle.table_write.proofs.actions.put_row.Tie as tie
+
+add-byte : tie.Need-add-byte
+add-byte c = search needs
+
+byte-requires : tie.Need-byte-requires
+byte-requires c κs = search needs
+
+put1-requires : tie.Need-put1-requires
+put1-requires c κs = search needs
+
+byte-requires-2 : tie.Need-byte-requires-2
+byte-requires-2 c κs = search needs
+
+put1-requires-2 : tie.Need-put1-requires-2
+put1-requires-2 c κs = search needs
+
+put1-requires-3 : tie.Need-put1-requires-3
+put1-requires-3 c κs = search needs
+
+put-slice-requires : tie.Need-put-slice-requires
+put-slice-requires c κs = search needs
+
+same-length : tie.Need-same-length
+same-length c = search needs
+
+returns : tie.Need-returns
+returns c =
+    let s = c .before .before .before .before .before .before .before .before .before .before .before .before .before .before .before .before .before .before .before .before in
+    let a = s .args in
+    let p = c .before .before .before .before .before .before .before .before .before .before .before .before .before .before .before .put1 .ensures in
+    let q = c .before .before .before .before .before .before .before .before .before .before .put12 .ensures in
+    let r = c .before .before .before .before .before .before .put13 .ensures in
+    let t = c .before .before .put-slice .ensures in
+    let h : a .at ≤ length (a .body .now) = omega (arith, s .pre .3) in
+    let two = put-more (p .1) (q .1) h (p .0) in
+    let three = put-more two (r .1) h (omega (arith, p .0, q .0)) in
+    let four = put-more three (t .1) h (omega (arith, p .0, q .0, r .0)) in
+    (omega (arith, p .0, q .0, r .0, t .0, row-length (a .n) (a .k) (a .operand .now) (s .pre .0)), wrote-as (row-some (a .n) (a .k) (a .operand .now) (s .pre .0) (c .before .before .before .before .before .before .before .before .before .before .before .before .before .before .before .before .byte .ensures) (c .before .before .before .before .before .before .before .before .before .before .before .byte2 .ensures)) four)
+
+pub put-row-spec : {M : Type 1} → statement M
+put-row-spec =
+    tie.close
+    (tie.spec
+    add-byte
+    byte-requires
+    put1-requires
+    byte-requires-2
+    put1-requires-2
+    put1-requires-3
+    put-slice-requires
+    same-length
+    returns)
