@@ -1,0 +1,232 @@
+//! The product against a plain and a fast implementation.
+//! bench [--rounds N] [--case NAME --who product|plain|fast]
+//! With --case only the calls of one are made, for a count of instructions; without, all are held to each other and timed.
+mod cases;
+mod fast;
+#[allow(dead_code)]
+#[path = "../../differential/src/plain.rs"]
+mod plain;
+mod product;
+
+use cases::{Random, Runs};
+use fast::Ran;
+use std::hint::black_box;
+use std::time::Instant;
+
+#[derive(Clone, Copy, PartialEq)]
+enum Who {
+    Product,
+    Plain,
+    Fast,
+}
+
+const ALL: [Who; 3] = [Who::Product, Who::Plain, Who::Fast];
+
+enum Work {
+    Compile(Vec<u8>),
+    Rules(Runs),
+    Table(Vec<u8>, Runs),
+}
+
+const ROOM: usize = 400_000;
+
+fn by_table(r: Runs) -> Work {
+    let table = plain::whole_table(&r.file).expect("a schedule that compiles");
+    Work::Table(table, r)
+}
+
+const NAMES: [&str; 11] = [
+    "compile-k8",
+    "compile-mixed",
+    "compile-widest",
+    "rules-filling",
+    "rules-vessels",
+    "rules-batch",
+    "rules-wide",
+    "table-filling",
+    "table-vessels",
+    "table-batch",
+    "table-wide",
+];
+
+fn work(name: &str) -> Work {
+    match name {
+        "compile-k8" => Work::Compile(cases::ten_resets()),
+        "compile-mixed" => Work::Compile(cases::mixed()),
+        "compile-widest" => Work::Compile(cases::widest()),
+        "rules-filling" => Work::Rules(cases::filling()),
+        "rules-vessels" => Work::Rules(cases::vessels()),
+        "rules-batch" => Work::Rules(cases::batch()),
+        "rules-wide" => Work::Rules(cases::broad()),
+        "table-filling" => by_table(cases::filling()),
+        "table-vessels" => by_table(cases::vessels()),
+        "table-batch" => by_table(cases::batch()),
+        "table-wide" => by_table(cases::broad()),
+        _ => panic!("no case {name}; there are {NAMES:?}"),
+    }
+}
+
+/// A call's number, and what it gave: the table's length or the counts.
+fn compiled(who: Who, file: &[u8], out: &mut [u8]) -> Result<usize, u8> {
+    match who {
+        Who::Product => product::compile(file, out),
+        Who::Fast => fast::compile(file, out),
+        Who::Plain => plain::compile(&plain::whole_table(file), out.len()).map(|t| {
+            out[..t.len()].copy_from_slice(t);
+            t.len()
+        }),
+    }
+}
+
+fn ran(who: Who, table: bool, program: &[u8], r: &Runs, out: &mut [u8]) -> Result<Ran, u8> {
+    match (who, table) {
+        (Who::Product, false) => product::rule_run(program, &r.start, &r.events, out),
+        (Who::Product, true) => product::table_run(program, &r.start, &r.events, out),
+        (Who::Fast, false) => fast::rule_run(program, &r.start, &r.events, out),
+        (Who::Fast, true) => fast::table_run(program, &r.start, &r.events, out),
+        (Who::Plain, _) => {
+            let call = if table { plain::table_run } else { plain::rule_run };
+            call(program, &r.start, &r.events, out.len()).map(|x| {
+                out[..x.records.len()].copy_from_slice(&x.records);
+                Ran { taken: x.taken, turned_away: x.turned_away, faulted: x.faulted }
+            })
+        }
+    }
+}
+
+/// One call; what it gave, as numbers. Instructions are counted inside this function.
+#[inline(never)]
+fn perform(who: Who, w: &Work, out: &mut [u8]) -> [u64; 4] {
+    let told = |r: Result<Ran, u8>| match r {
+        Ok(x) => [0, x.taken, x.turned_away, x.faulted],
+        Err(n) => [n as u64, 0, 0, 0],
+    };
+    match w {
+        Work::Compile(f) => match compiled(who, f, out) {
+            Ok(n) => [0, n as u64, 0, 0],
+            Err(n) => [n as u64, 0, 0, 0],
+        },
+        Work::Rules(r) => told(ran(who, false, &r.file, r, out)),
+        Work::Table(t, r) => told(ran(who, true, t, r, out)),
+    }
+}
+
+fn room(w: &Work) -> usize {
+    match w {
+        Work::Compile(_) => ROOM,
+        Work::Rules(r) | Work::Table(_, r) => r.events.len() / 3 * (9 + r.start.len()),
+    }
+}
+
+/// The same from all three, buffers included.
+fn agree(name: &str, w: &Work, room: usize) -> [u64; 4] {
+    let gave: Vec<_> = ALL
+        .iter()
+        .map(|who| {
+            let mut out = vec![0xA5; room];
+            (perform(*who, w, &mut out), out)
+        })
+        .collect();
+    for (i, g) in gave.iter().enumerate() {
+        assert!(g.0 == gave[1].0, "{name}: {:?} by the plain one, {:?} by number {i}", gave[1].0, g.0);
+        assert!(g.1 == gave[1].1, "{name}: the bytes of number {i} differ from the plain one's");
+    }
+    gave[1].0
+}
+
+/// The examples with any events, and damaged files and tables.
+fn agree_beside() {
+    for (i, f) in cases::EXAMPLES.iter().enumerate() {
+        for seed in 0..50 {
+            let runs = cases::example(f, 100 * i as u64 + seed, 300);
+            let name = format!("example {i} seed {seed}");
+            let room = 300 * (9 + runs.start.len());
+            let table = plain::whole_table(f).unwrap();
+            agree(&name, &Work::Compile(f.to_vec()), ROOM);
+            agree(&name, &Work::Rules(cases::example(f, 100 * i as u64 + seed, 300)), room);
+            agree(&name, &Work::Table(table.clone(), runs), room);
+            damaged(f, &table, &name, seed);
+        }
+    }
+}
+
+/// A byte changed here and there: the same refusals.
+fn damaged(file: &[u8], table: &[u8], name: &str, seed: u64) {
+    let mut r = Random(seed + 7);
+    for _ in 0..40 {
+        let mut f = file.to_vec();
+        let mut t = table.to_vec();
+        for _ in 0..1 + r.below(2) {
+            let (a, b) = (r.below(f.len()), r.below(t.len()));
+            f[a] = f[a].wrapping_add([1, 255, 2, r.below(256) as u8][r.below(4)]);
+            t[b] = t[b].wrapping_add([1, 255, 2, r.below(256) as u8][r.below(4)]);
+        }
+        let runs = || cases::example(file, seed, 20);
+        let room = 20 * (9 + runs().start.len());
+        agree(name, &Work::Compile(f.clone()), 2_000);
+        agree(name, &Work::Rules(Runs { file: f, ..runs() }), room);
+        agree(name, &Work::Table(t, runs()), room);
+    }
+}
+
+/// Nanoseconds of one call.
+fn clock(who: Who, w: &Work, out: &mut [u8]) -> u64 {
+    let from = Instant::now();
+    black_box(perform(who, black_box(w), black_box(out)));
+    from.elapsed().as_nanos() as u64
+}
+
+/// Least and middle time of each, the three taking turns.
+fn timed(w: &Work, rounds: usize) -> [(u64, u64); 3] {
+    let mut out = vec![0u8; room(w)];
+    let mut times = [const { Vec::new() }; 3];
+    for _ in 0..rounds {
+        for (who, t) in ALL.iter().zip(&mut times) {
+            t.push(clock(*who, w, &mut out));
+        }
+    }
+    times.map(|mut t| {
+        t.sort();
+        (t[0], t[t.len() / 2])
+    })
+}
+
+fn all(rounds: usize, only: Option<&str>) {
+    agree_beside();
+    println!("{:16} {:>10} {:>10} {:>10} {:>8} {:>8}   (least of {rounds} rounds, in microseconds; then middle ratios)", "case", "product", "plain", "fast", "/ plain", "/ fast");
+    for name in NAMES.iter().filter(|n| only.is_none_or(|o| o == **n)) {
+        let w = work(name);
+        let gave = agree(name, &w, room(&w));
+        let [p, a, b] = timed(&w, rounds);
+        let us = |n: u64| n as f64 / 1000.0;
+        let ratio = |x: u64, y: u64| x as f64 / y as f64;
+        println!(
+            "{name:16} {:10.1} {:10.1} {:10.1} {:8.3} {:8.2}   {:.3} {:.2}   {gave:?}",
+            us(p.0),
+            us(a.0),
+            us(b.0),
+            ratio(p.0, a.0),
+            ratio(p.0, b.0),
+            ratio(p.1, a.1),
+            ratio(p.1, b.1)
+        );
+    }
+}
+
+fn main() {
+    let words: Vec<String> = std::env::args().collect();
+    let after = |name: &str| words.iter().position(|w| w == name).map(|i| words[i + 1].as_str());
+    let rounds = after("--rounds").map_or(50, |n| n.parse().expect("a number of rounds"));
+    let who = match after("--who") {
+        Some("product") => Who::Product,
+        Some("plain") => Who::Plain,
+        Some("fast") => Who::Fast,
+        Some(w) => panic!("--who {w}"),
+        None => return all(rounds, after("--case")),
+    };
+    let w = work(after("--case").expect("--case"));
+    let mut out = vec![0u8; room(&w)];
+    for _ in 0..rounds {
+        black_box(perform(who, black_box(&w), black_box(&mut out)));
+    }
+}

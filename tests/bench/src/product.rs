@@ -1,0 +1,82 @@
+//! The product's calls, of libcapi.a.
+use crate::fast::Ran;
+
+type Run = unsafe extern "C" fn(
+    *const u8,
+    usize,
+    *const u8,
+    usize,
+    *const u8,
+    usize,
+    *mut u8,
+    usize,
+    *mut u64,
+    *mut u64,
+    *mut u64,
+) -> u8;
+
+extern "C" {
+    fn zimtleiter_compile(file: *const u8, file_len: usize, table: *mut u8, room: usize, length: *mut u64) -> u8;
+    fn zimtleiter_rule_run(
+        file: *const u8,
+        file_len: usize,
+        start: *const u8,
+        start_len: usize,
+        events: *const u8,
+        events_len: usize,
+        records: *mut u8,
+        room: usize,
+        taken: *mut u64,
+        turned_away: *mut u64,
+        faulted: *mut u64,
+    ) -> u8;
+    fn zimtleiter_table_run(
+        table: *const u8,
+        table_len: usize,
+        start: *const u8,
+        start_len: usize,
+        events: *const u8,
+        events_len: usize,
+        records: *mut u8,
+        room: usize,
+        taken: *mut u64,
+        turned_away: *mut u64,
+        faulted: *mut u64,
+    ) -> u8;
+}
+
+pub fn compile(file: &[u8], table: &mut [u8]) -> Result<usize, u8> {
+    let mut length = 0;
+    // SAFETY: each pointer is lent with its length.
+    let refusal = unsafe { zimtleiter_compile(file.as_ptr(), file.len(), table.as_mut_ptr(), table.len(), &mut length) };
+    if refusal == 0 { Ok(length as usize) } else { Err(refusal) }
+}
+
+fn run(call: Run, program: &[u8], start: &[u8], events: &[u8], records: &mut [u8]) -> Result<Ran, u8> {
+    let mut r = Ran::default();
+    // SAFETY: as above
+    let refusal = unsafe {
+        call(
+            program.as_ptr(),
+            program.len(),
+            start.as_ptr(),
+            start.len(),
+            events.as_ptr(),
+            events.len(),
+            records.as_mut_ptr(),
+            records.len(),
+            &mut r.taken,
+            &mut r.turned_away,
+            &mut r.faulted,
+        )
+    };
+    if refusal == 0 { Ok(r) } else { Err(refusal) }
+}
+
+pub fn rule_run(file: &[u8], start: &[u8], events: &[u8], records: &mut [u8]) -> Result<Ran, u8> {
+    run(zimtleiter_rule_run, file, start, events, records)
+}
+
+pub fn table_run(table: &[u8], start: &[u8], events: &[u8], records: &mut [u8]) -> Result<Ran, u8> {
+    run(zimtleiter_table_run, table, start, events, records)
+}
