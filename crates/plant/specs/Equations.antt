@@ -11,7 +11,6 @@ use Rattle.semantics.specs.Refusals.{Judged, refused, accepted, refusalOf, need
 use Rattle.semantics.specs.Sections.{Rate, Switch, Mode, Selector, Equation, steady, choice, readMode, equationsIn}
 use Rattle.semantics.specs.Plant.{equationNamed, selectorsOf, noMode}
 use Rattle.plant.specs.declared.equations.Equations.{Equations}
-use Rattle.plant.specs.declared.equations.SwitchAt.{SwitchAt}
 use Rattle.plant.specs.declared.equations.Cases.{Cases}
 use Rattle.plant.specs.declared.equations.Step.{Step}
 use Rattle.plant.specs.declared.equations.Step.the-variants.{At, Broken}
@@ -110,18 +109,6 @@ pub record Stands {A : Type 0} (r : Reader A) (s : List ℕ) (p : ℕ) : Type 0 
 -- the mode that stands at place q
 unfoldable pub modeAt : List ℕ → ℕ → Mode
 modeAt s q = elim (readMode (drop q s)) [ broken ↦ noMode | read m rest ↦ m ]
-
--- where switch k of it starts: after the rates, the switch count and the switches before it
-unfoldable pub switchPlace : ℕ → Mode → ℕ → ℕ
-switchPlace q m k = q + 2 + 5 * length (m .rates) + sizes switchSize (take k (m .switches))
-
--- a switch that starts at p: its truth stands after its length and target
-unfoldable pub switchFrom : ℕ → Option Switch → SwitchAt
-switchFrom p none = record { there = false; target = 0; from = 0; to = 0 }
-switchFrom p (some w) = record { there = true; target = w .target; from = p + 2; to = p + 2 + length (w .truth) }
-
-unfoldable pub switchOf : List ℕ → ℕ → ℕ → SwitchAt
-switchOf s q k = switchFrom (switchPlace q (modeAt s q) k) (getElem? (modeAt s q .switches) k)
 
 -- ---- what the code's own functions say
 -- a section whose layout is right

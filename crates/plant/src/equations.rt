@@ -10,7 +10,7 @@ ghost use Rattle.semantics.specs.Bytes.{times, every};
 ghost use Rattle.semantics.specs.Sections as sections;
 ghost use Rattle.semantics.specs.Plant as names;
 ghost use Rattle.codec.specs.Reading.{Reads};
-ghost use Rattle.plant.specs.Equations.{Says, view, seen, refusalIn, Stands, SectionStands, sizes, switchSize, modeSize, startsFrom, steadyRates, putRates, CasesOf, equationsOf, refusedEquations, modeAt, switchOf};
+ghost use Rattle.plant.specs.Equations.{Says, view, seen, refusalIn, Stands, SectionStands, sizes, switchSize, modeSize, startsFrom, steadyRates, putRates, CasesOf, equationsOf, refusedEquations};
 
 // refusal 6, 7 or 0; of selector j its modes, and at entry 8 * j + m where mode m of it stands; of each variable its rate of kind 1
 pub struct Equations {
@@ -19,14 +19,6 @@ pub struct Equations {
     pub modes: [usize; 16],
     pub places: [usize; 128],
     pub steady: [i32; 32],
-}
-
-// a switch of a mode: its target, and where its truth stands
-pub struct SwitchAt {
-    pub there: bool,
-    pub target: u8,
-    pub from: usize,
-    pub to: usize,
 }
 
 // the selectors: how many, of each its modes, and where these stand
@@ -431,52 +423,5 @@ pub fn read(s: &[u8], variables: usize) -> Equations
         modes,
         places,
         steady,
-    }
-}
-
-// the rates with those of the mode at q put in; of two for one variable the first stays
-pub fn rates_at(s: &[u8], q: usize, rates: [i32; 32]) -> [i32; 32]
-    requires { ⌜ Stands sections.readMode (now s) q ⌝ }
-    ensures { λ r. ⌜ r ≡ putRates (modeAt (now (s .entry)) q .rates) rates ⌝ }
-{
-    let mut put = rates;
-    let mut left = s[q] as usize;
-    while 0 < left {
-        left -= 1;
-        let p = q + 1 + 5 * left;
-        put_rate(&mut put, s[p] as usize, codec::int4(s, p + 1));
-    }
-    put
-}
-
-// how many switches the mode at q has
-pub fn switch_count(s: &[u8], q: usize) -> usize
-    requires { ⌜ Stands sections.readMode (now s) q ⌝ }
-    ensures { λ r. ⌜ r ≡ length (modeAt (now (s .entry)) q .switches) ⌝ }
-{
-    let c = q + 1 + 5 * (s[q] as usize);
-    s[c] as usize
-}
-
-// switch k of the mode at q
-pub fn switch_at(s: &[u8], q: usize, k: usize) -> SwitchAt
-    requires { ⌜ Stands sections.readMode (now s) q ⌝ }
-    ensures { λ r. ⌜ r ≡ switchOf (now (s .entry)) q k ⌝ }
-{
-    let c = q + 1 + 5 * (s[q] as usize);
-    if s[c] as usize <= k {
-        return SwitchAt {
-            there: false,
-            target: 0,
-            from: 0,
-            to: 0,
-        };
-    }
-    let p = switches_end(s, c + 1, k as u8);
-    SwitchAt {
-        there: true,
-        target: s[p + 1],
-        from: p + 2,
-        to: p + 1 + s[p] as usize,
     }
 }
