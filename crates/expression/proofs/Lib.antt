@@ -2,6 +2,7 @@ mod Cases
 mod Codes
 mod Ends
 mod Steps
+mod TwoLeaves
 pub mod Values
 mod Wholes
 pub mod Widths

@@ -67,6 +67,11 @@ abbrev pub variableAt : List ℤ → List ℕ → ℕ → Found
 variableAt vs s p =
     cond (ltb p (length s) && ltb (getD s p 0) (length vs)) (numberAt (p + 1) (result (getD vs (getD s p 0) (pos 0)))) Broken
 
+-- a constant or a variable at the position of its code
+abbrev pub leafAt : List ℤ → List ℕ → ℕ → Found
+leafAt vs s p =
+    cond (ltb p (length s)) (cond (eqb (getD s p 0) 0x01) (constantAt s (p + 1)) (cond (eqb (getD s p 0) 0x02) (variableAt vs s (p + 1)) Broken)) Broken
+
 -- ---- the forms, from what their operands gave; the left operand's fault comes first
 -- two numbers, with what is made of them
 abbrev pub of-two : (ℤ → ℤ → ℕ → Found) → (Bool → ℕ → Found) → Found → Found → Found

@@ -7,7 +7,7 @@ ghost use Rattle.semantics.specs.Bytes.{be4, signed as signedOf, isSome};
 ghost use Rattle.semantics.specs.Editions.{edition1};
 ghost use Rattle.semantics.specs.Expressions.{ok, fault, applied, compared, connected, result, numberIn, truthIn};
 ghost use Rattle.expression.specs.Answers.{numberOf, truthOf, numberAnswer, truthAnswer};
-ghost use Rattle.expression.specs.Founds.{sideOf, found, wordAt, numberAt, nextOf, operationOf, comparisonOf, connectiveOf, constantAt, variableAt, operated, related, joined, negated, opposed};
+ghost use Rattle.expression.specs.Founds.{sideOf, found, wordAt, numberAt, nextOf, operationOf, comparisonOf, connectiveOf, constantAt, variableAt, leafAt, operated, related, joined, negated, opposed};
 
 // "Depth is at most 16"
 const DEPTH: usize = 16;
@@ -41,7 +41,7 @@ enum Found {
 pub fn number_value(s: &[u8], vars: &[i32]) -> Number
     ensures { λ r. ⌜ r ≡ numberAnswer (now (vars .entry)) (numberIn edition1 (length (now (vars .entry))) (now (s .entry))) ⌝ }
 {
-    match eval(s, vars, 0, DEPTH) {
+    match whole(s, vars) {
         Found::ANumber(z, n) => {
             if n == s.len() {
                 Number::Is(z)
@@ -64,7 +64,7 @@ pub fn number_value(s: &[u8], vars: &[i32]) -> Number
 pub fn truth_value(s: &[u8], vars: &[i32]) -> Truth
     ensures { λ r. ⌜ r ≡ truthAnswer (now (vars .entry)) (truthIn edition1 (length (now (vars .entry))) (now (s .entry))) ⌝ }
 {
-    match eval(s, vars, 0, DEPTH) {
+    match whole(s, vars) {
         Found::ATruth(b, n) => {
             if n == s.len() {
                 plain_truth(b)
@@ -105,6 +105,46 @@ pub fn truth_reads(s: &[u8], variables: usize) -> bool
         Truth::Malformed => false,
         _ => true,
     }
+}
+
+// What stands at the front of the bytes. Most numbers and truths are one form of two leaves: these take no recursion.
+fn whole(s: &[u8], vars: &[i32]) -> Found
+    ensures { λ r. ⌜ r ≡ found (now (vars .entry)) (now (s .entry)) 0 16 ⌝ }
+{
+    if s.len() == 0 {
+        return Found::Broken;
+    }
+    let code = s[0];
+    let Found::ANumber(a, m) = leaf(s, vars, 1) else {
+        return eval(s, vars, 0, DEPTH);
+    };
+    let Found::ANumber(b, n) = leaf(s, vars, m) else {
+        return eval(s, vars, 0, DEPTH);
+    };
+    if 0x20 <= code && code < 0x24 {
+        return Found::ATruth(comparison(code, a, b), n);
+    }
+    if 0x10 <= code && code < 0x13 {
+        return arithmetic(code, a, b, n);
+    }
+    eval(s, vars, 0, DEPTH)
+}
+
+// A constant or a variable at a position.
+fn leaf(s: &[u8], vars: &[i32], at: usize) -> Found
+    ensures { λ r. ⌜ r ≡ leafAt (now (vars .entry)) (now (s .entry)) at ⌝ }
+{
+    if s.len() <= at {
+        return Found::Broken;
+    }
+    let code = s[at];
+    if code == 0x01 {
+        return constant(s, at + 1);
+    }
+    if code == 0x02 {
+        return variable(s, vars, at + 1);
+    }
+    Found::Broken
 }
 
 // What stands at a position, of at most this depth. Both operands are evaluated, whatever the first one gives.

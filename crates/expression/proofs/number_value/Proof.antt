@@ -12,8 +12,8 @@ use Rattle.expression.proofs.Wholes.{numberSaid, number-said, not-numbe
 use Rattle.expression.proofs.number_value.Statement.{statement}
 use Rattle.expression.proofs.number_value.Tie as tie
 
-eval-requires : tie.Need-eval-requires
-eval-requires c κs = search needs
+whole-requires : tie.Need-whole-requires
+whole-requires c κs = search needs
 
 enum-known-z : tie.Need-enum-known-z
 enum-known-z c = search needs
@@ -28,7 +28,7 @@ returns : tie.Need-returns
 unfolding numberOf
 returns c =
     let s = c .before .before .before .before .before .before in
-    let e = c .before .before .before .before .eval in
+    let e = c .before .before .before .before .whole in
     let n = length (s .args .s .now) in
     let F = c .before .before .z .given in
     let k : Is (F .0 .0) ≡ numberSaid n (ANumber (F .0 .0) (F .0 .1 .0)) = rw (eq-eqb (F .0 .1 .0) n (c .if1 .taken)) refl in
@@ -37,7 +37,7 @@ returns c =
 returns-2 : tie.Need-returns-2
 returns-2 c =
     let s = c .before .before .before .before .before .before in
-    let e = c .before .before .before .before .eval in
+    let e = c .before .before .before .before .whole in
     let n = length (s .args .s .now) in
     let F = c .before .before .z .given in
     let k : Malformed ≡ numberSaid n (ANumber (F .0 .0) (F .0 .1 .0)) = rw (ne-eqb (F .0 .1 .0) n (c .if1 .left)) refl in
@@ -46,7 +46,7 @@ returns-2 c =
 returns-3 : tie.Need-returns-3
 returns-3 c =
     let s = c .before .before .before .before .before .before .before in
-    let e = c .before .before .before .before .before .eval in
+    let e = c .before .before .before .before .before .whole in
     let n = length (s .args .s .now) in
     let F = c .before .before .before .above .given in
     let k : c .number-side .result ≡ numberSaid n (NumberFault (F .0 .0) (F .0 .1 .0)) = rw (eq-eqb (F .0 .1 .0) n (c .before .if2 .taken)) (c .number-side .ensures) in
@@ -55,7 +55,7 @@ returns-3 c =
 returns-4 : tie.Need-returns-4
 returns-4 c =
     let s = c .before .before .before .before .before .before in
-    let e = c .before .before .before .before .eval in
+    let e = c .before .before .before .before .whole in
     let n = length (s .args .s .now) in
     let F = c .before .before .above .given in
     let k : Malformed ≡ numberSaid n (NumberFault (F .0 .0) (F .0 .1 .0)) = rw (ne-eqb (F .0 .1 .0) n (c .if2 .left)) refl in
@@ -64,7 +64,7 @@ returns-4 c =
 returns-5 : tie.Need-returns-5
 returns-5 c =
     let s = c .before .before .before in
-    let e = c .before .eval in
+    let e = c .before .whole in
     not-number-said (length (s .args .s .now)) (e .result) (not-number (e .result) (c .match .keys3))
     ∙ number-said (s .args .vars .now) (s .args .s .now) (e .result) (e .ensures)
 
@@ -72,7 +72,7 @@ pub number-value-spec : {M : Type 1} → statement M
 number-value-spec =
     tie.close
     (tie.spec
-    eval-requires
+    whole-requires
     enum-known-z
     enum-known-above
     number-side-requires

@@ -9,8 +9,8 @@ use Rattle.expression.proofs.Wholes.{truthSaid, truth-said, not-truth-s
 use Rattle.expression.proofs.truth_value.Statement.{statement}
 use Rattle.expression.proofs.truth_value.Tie as tie
 
-eval-requires : tie.Need-eval-requires
-eval-requires c κs = search needs
+whole-requires : tie.Need-whole-requires
+whole-requires c κs = search needs
 
 enum-known-b : tie.Need-enum-known-b
 enum-known-b c = search needs
@@ -27,7 +27,7 @@ truth-side-requires c κs = search needs
 returns : tie.Need-returns
 returns c =
     let s = c .before .before .before .before .before .before .before in
-    let e = c .before .before .before .before .before .eval in
+    let e = c .before .before .before .before .before .whole in
     let n = length (s .args .s .now) in
     let F = c .before .before .before .b .given in
     let k : c .plain-truth .result ≡ truthSaid n (ATruth (F .0 .0) (F .0 .1 .0)) = rw (eq-eqb (F .0 .1 .0) n (c .before .if1 .taken)) (c .plain-truth .ensures) in
@@ -36,7 +36,7 @@ returns c =
 returns-2 : tie.Need-returns-2
 returns-2 c =
     let s = c .before .before .before .before .before .before in
-    let e = c .before .before .before .before .eval in
+    let e = c .before .before .before .before .whole in
     let n = length (s .args .s .now) in
     let F = c .before .before .b .given in
     let k : Malformed ≡ truthSaid n (ATruth (F .0 .0) (F .0 .1 .0)) = rw (ne-eqb (F .0 .1 .0) n (c .if1 .left)) refl in
@@ -45,7 +45,7 @@ returns-2 c =
 returns-3 : tie.Need-returns-3
 returns-3 c =
     let s = c .before .before .before .before .before .before .before in
-    let e = c .before .before .before .before .before .eval in
+    let e = c .before .before .before .before .before .whole in
     let n = length (s .args .s .now) in
     let F = c .before .before .before .above .given in
     let k : c .truth-side .result ≡ truthSaid n (TruthFault (F .0 .0) (F .0 .1 .0)) = rw (eq-eqb (F .0 .1 .0) n (c .before .if2 .taken)) (c .truth-side .ensures) in
@@ -54,7 +54,7 @@ returns-3 c =
 returns-4 : tie.Need-returns-4
 returns-4 c =
     let s = c .before .before .before .before .before .before in
-    let e = c .before .before .before .before .eval in
+    let e = c .before .before .before .before .whole in
     let n = length (s .args .s .now) in
     let F = c .before .before .above .given in
     let k : Malformed ≡ truthSaid n (TruthFault (F .0 .0) (F .0 .1 .0)) = rw (ne-eqb (F .0 .1 .0) n (c .if2 .left)) refl in
@@ -63,7 +63,7 @@ returns-4 c =
 returns-5 : tie.Need-returns-5
 returns-5 c =
     let s = c .before .before .before in
-    let e = c .before .eval in
+    let e = c .before .whole in
     not-truth-said (length (s .args .s .now)) (e .result) (not-truth (e .result) (c .match .keys3))
     ∙ truth-said (s .args .vars .now) (s .args .s .now) (e .result) (e .ensures)
 
@@ -71,7 +71,7 @@ pub truth-value-spec : {M : Type 1} → statement M
 truth-value-spec =
     tie.close
     (tie.spec
-    eval-requires
+    whole-requires
     enum-known-b
     plain-truth-requires
     enum-known-above
