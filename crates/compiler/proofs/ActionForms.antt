@@ -20,9 +20,9 @@ use Rattle.schedules.specs.Nodes.{Node, sequence, parallel, Kind, a-sequence, a
 use Rattle.schedules.specs.Compiling.{testsOf}
 use Rattle.schedules.proofs.NodesRead.{nodes-counted}
 use Rattle.schedules.proofs.Places.{flat-append, take-next}
-use Rattle.schedule_read.specs.Index.{pad}
+use Rattle.tree_read.specs.Index.{pad}
 use Rattle.schedule_read.specs.Indexed.{NodesAt}
-use Rattle.schedule_read.proofs.Pads.{map-length}
+use Rattle.tree_read.proofs.Pads.{map-length}
 use Rattle.schedule_read.specs.Actions.{actionNumber, actionNumbers}
 use Rattle.schedule_read.proofs.NodeActions.{kind-number, numbers-long, action-of-node, action-beyond}
 use Rattle.numbering.specs.Meeting.{testsIn}

@@ -5,10 +5,10 @@ use mathlib.Core.Option.{some}
 use Prim.Native.Nat.{ℕ}
 use Rattle.semantics.specs.Editions.{edition1}
 use Rattle.schedules.specs.Nodes.{Node, nodesIn}
-use Rattle.schedule_read.specs.Index.{nodesOf, IndexOf}
+use Rattle.tree_read.specs.Index.{nodesOf, IndexOf}
 use Rattle.schedule_read.specs.Indexed.{NodesAt, Indexed}
-use Rattle.schedule_read.specs.declared.nodes.Nodes.{Nodes}
-use Rattle.schedule_read.proofs.NodeIndex.{indexed}
+use Rattle.tree_read.specs.declared.nodes.Nodes.{Nodes}
+use Rattle.tree_read.proofs.NodeIndex.{indexed}
 
 pub nodes-at : {s : List ℕ} {r : Nodes} {ns : List Node} → IndexOf s r ns → NodesAt s (r .kinds) (r .starts) (r .ends) (r .count) ns
 nodes-at d = record {

@@ -23,10 +23,10 @@ use Rattle.schedules.specs.Residuals.{Residual, acting}
 use Rattle.schedules.proofs.ActingDetermines.{Of}
 use Rattle.schedules.proofs.MovesFit.{move-fits}
 use Rattle.schedules.proofs.ReadShapes.{root-shapes}
-use Rattle.schedule_read.specs.Index.{pad}
+use Rattle.tree_read.specs.Index.{pad}
 use Rattle.schedule_read.specs.Indexed.{NodesAt}
 use Rattle.schedule_read.specs.Actions.{actionNumber, actionNumbers}
-use Rattle.schedule_read.proofs.Pads.{pad-none, length-pad, pad-map, pad-map-snoc, map-length}
+use Rattle.tree_read.proofs.Pads.{pad-none, length-pad, pad-map, pad-map-snoc, map-length}
 use Rattle.schedule_read.proofs.Payloads.{by-kind}
 
 -- ---- the list of actions, by number

@@ -21,14 +21,14 @@ use Rattle.schedules.proofs.FirstNumber.{passed, file-first}
 use Rattle.plant.specs.PlantRead.{plantOf}
 use Rattle.schedule_read.specs.FileParts.{partsIn, partsRead, partsOf, sectionsAt}
 use Rattle.schedule_read.specs.Indexed.{NodesAt}
-use Rattle.schedule_read.specs.Index.{nodesOf}
-use Rattle.schedule_read.specs.Ends.{treeSize, treeIn}
+use Rattle.tree_read.specs.Index.{nodesOf}
+use Rattle.tree_read.specs.Ends.{treeSize, treeIn}
 use Rattle.schedule_read.specs.ScheduleFile.{indexAt, scheduleIndex}
 use Rattle.schedule_read.specs.declared.call.ScheduleIndex.{ScheduleIndex}
 use Rattle.schedule_read.specs.declared.parts.Parts.{Parts}
-use Rattle.schedule_read.specs.declared.nodes.Nodes.{Nodes}
+use Rattle.tree_read.specs.declared.nodes.Nodes.{Nodes}
 use Rattle.schedule_read.proofs.FoundNodes.{found-nodes}
-use Rattle.schedule_read.proofs.LaidTree.{laid, lies, tree-size, ends-long}
+use Rattle.tree_read.proofs.LaidTree.{laid, lies, tree-size, ends-long}
 use Rattle.schedule_read.proofs.PartsStand.{Inside, accepted-parts}
 
 -- a section of the file is what stands between two places

@@ -27,19 +27,19 @@ use Rattle.plant.proofs.EquationLaws.{few-selectors}
 use Rattle.plant.proofs.PlantLaws.{passed-all, passes, variables-of, variables-high, selectors-of, modes-of}
 use Rattle.schedule_read.specs.FileParts.{noParts, partsIn, partsRead, partsOf, sectionsAt}
 use Rattle.schedule_read.specs.Indexed.{NodesAt, Indexed, ModesAt, Selected, Passes}
-use Rattle.schedule_read.specs.Index.{notNodes, nodesOf}
-use Rattle.schedule_read.specs.Ends.{noTree, subtreesOf, treeIn}
+use Rattle.tree_read.specs.Index.{notNodes, nodesOf}
+use Rattle.tree_read.specs.Ends.{noTree, subtreesOf, treeIn}
 use Rattle.schedule_read.specs.ScheduleFile.{numbers, noSchedule, indexAt, scheduleIndex, judgeSections, sectionsIndex, judgeNodes, PlantAt, Planted}
 use Rattle.schedule_read.specs.declared.call.FileRead.{FileRead}
 use Rattle.schedule_read.specs.declared.call.ScheduleIndex.{ScheduleIndex}
 use Rattle.schedule_read.specs.declared.parts.Parts.{Parts}
-use Rattle.schedule_read.specs.declared.nodes.Nodes.{Nodes}
-use Rattle.schedule_read.specs.declared.tree.Subtrees.{Subtrees}
+use Rattle.tree_read.specs.declared.nodes.Nodes.{Nodes}
+use Rattle.tree_read.specs.declared.tree.Subtrees.{Subtrees}
 use Rattle.schedule_read.proofs.PartsStand.{Opened, Accepted, refused-1, refused-2, refused-3, accepted-parts}
 use Rattle.schedule_read.proofs.ModeCounts.{padded}
-use Rattle.schedule_read.proofs.NodeIndex.{nodes-accepted, nodes-refused, indexed}
+use Rattle.tree_read.proofs.NodeIndex.{nodes-accepted, nodes-refused, indexed}
 use Rattle.schedule_read.proofs.FoundNodes.{found-nodes}
-use Rattle.schedule_read.proofs.WholeTree.{of-nodes}
+use Rattle.tree_read.proofs.WholeTree.{of-nodes}
 
 answer-refused : (q : Parts) {j : Judged Schedule} {n : ℕ} → j ≡ refused n → noSchedule n ≡ indexAt q j
 unfolding indexAt

@@ -17,8 +17,8 @@ use Rattle.schedules.specs.Files.{Schedule, judgeFile}
 use Rattle.schedules.specs.Calls.{ScheduleRead}
 use Rattle.plant.specs.PlantRead.{refusedPlant, plantOf}
 use Rattle.schedule_read.specs.FileParts.{noParts, partsOf}
-use Rattle.schedule_read.specs.Index.{notNodes, nodesOf}
-use Rattle.schedule_read.specs.Ends.{noTree, treeIn}
+use Rattle.tree_read.specs.Index.{notNodes, nodesOf}
+use Rattle.tree_read.specs.Ends.{noTree, treeIn}
 use Rattle.schedule_read.specs.Indexed.{ModesAt}
 use Rattle.schedule_read.specs.declared.call.FileRead.{FileRead}
 use Rattle.schedule_read.specs.declared.call.ScheduleIndex.{ScheduleIndex}

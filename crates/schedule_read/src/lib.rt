@@ -2,8 +2,6 @@
 pub mod actions;
 pub mod call;
 pub mod names;
-pub mod nodes;
 pub mod operands;
 pub mod parts;
 mod reader;
-pub mod tree;

@@ -1,0 +1,181 @@
+-- What a step of the walk makes of what its calls said.
+use mathlib.Core.Path.{_≡_, refl, sym, ap, ap₂, _∙_, subst}
+use mathlib.Core.List.{List, [], _∷_, _++_, map}
+use mathlib.Core.Option.{some}
+use Prim.Native.Nat.{ℕ, zero, suc, _+_, _-_, _≤_, _<_}
+use native.Mathlib.Nat.{add-zero}
+use native.Mathlib.Numerals.{add-one, sub-one}
+use native.Mathlib.Omega.{arith}
+use lib.ListN.{length, getD, take, drop, set, getElem?, drop-of-length-le}
+use lib.Seq.{length-take-le, set-append-left, take-set-lt, take-suc-set, append-snoc}
+use Rattle.semantics.proofs.Facts.{none-not-some, some-is, at-exists}
+use Rattle.schedules.specs.Nodes.{Node}
+use Rattle.schedules.specs.Trees.{Tree, Forest, cons, children, treeFrom, Walked, lost, walked, onward, found, readForest, readTree}
+use Rattle.schedules.proofs.OneTree.{forest-sound, read-written}
+use Rattle.codec.specs.Writing.{put, Wrote}
+use Rattle.codec.proofs.Writing.{put-none, put-more}
+use Rattle.tree_read.specs.Ends.{treeSize, forestSize, treeEnds, forestEnds}
+use Rattle.tree_read.specs.Walks.{Parent, Counts, Bound, Passed, TreeWalked, ForestWalked}
+use Rattle.tree_read.specs.declared.tree.Walk.{Walk}
+use Rattle.tree_read.specs.declared.tree.Walk.the-variants.{Next, Lost}
+use Rattle.tree_read.proofs.Pads.{map-length}
+use Rattle.tree_read.proofs.TreeEnds.{length-tree-ends, rooted}
+
+pub never : {C : Type 0} {r : Walk} {m : ℕ} → r ≡ Next m → r ≡ Lost → C
+never p q = let z : _≡_ {A = ℕ} 0 1 = cc in absurd (omega arith)
+
+pub next-same : {r : Walk} {m n : ℕ} → r ≡ Next m → r ≡ Next n → m ≡ n
+next-same p q = cc
+
+-- ---- bounds
+pub bound-lost : {low high : ℕ} → Bound low high Lost
+bound-lost = record { within = λ m e. never e refl }
+
+pub bound-next : {low high m : ℕ} → low ≤ m → m ≤ high → Bound low high (Next m)
+bound-next a b = record { within = λ k e. let q = next-same refl e in omega arith }
+
+pub bound-wider : {low low′ high : ℕ} {r : Walk} → low′ ≤ low → Bound low high r → Bound low′ high r
+bound-wider h b = record { within = λ k e. omega (arith, b .within k e) }
+
+-- ---- a node and the nodes after it
+pub record Head (ks : List ℕ) (ns : List Node) (n : ℕ) : Type 0 where
+  pub node : Node
+  pub is : drop n ns ≡ node ∷ drop (n + 1) ns
+  pub counts : children node ≡ getD ks n 0
+  pub parent : Parent node
+
+drop-next : {A : Type 0} (l : List A) (i : ℕ) {x : A} → getElem? l i ≡ some x → drop i l ≡ x ∷ drop (suc i) l
+drop-next [] i e = none-not-some e
+drop-next (y ∷ l) zero e = ap (λ z. z ∷ l) (some-is e)
+drop-next (y ∷ l) (suc i) e = drop-next l i e
+
+map-at : {A : Type 0} (f : A → ℕ) (l : List A) (i : ℕ) {x : A} → getElem? l i ≡ some x → getD (map f l) i 0 ≡ f x
+map-at f [] i e = none-not-some e
+map-at f (y ∷ l) zero e = ap f (some-is e)
+map-at f (y ∷ l) (suc i) e = map-at f l i e
+
+counts-length : {ks : List ℕ} {ns : List Node} → Counts ks ns → length ks ≡ length ns
+counts-length {ns = ns} c = ap length (c .is) ∙ map-length children ns
+
+head : {ks : List ℕ} {ns : List Node} (n : ℕ) → Counts ks ns → n < length ks → Head ks ns n
+head {ks} {ns} n c h =
+    let x = at-exists ns n (omega (arith, counts-length c)) in
+    record {
+      node = x .0;
+      is = drop-next ns n (x .1) ∙ ap (λ k. x .0 ∷ drop k ns) (sym (add-one n));
+      counts = sym (ap (λ l. getD l n 0) (c .is) ∙ map-at children ns n (x .1));
+      parent = c .parents n (x .1);
+    }
+
+-- ---- children
+module _ (ns : List Node) (r : ℕ → List Node → Walked Tree) where
+  pub forest-none : (d : List ℕ) (k n : ℕ) → k ≡ 0 → ForestWalked ns n d d (readForest r k n (drop n ns)) (Next n)
+  unfolding readForest forestSize forestEnds
+  forest-none d k n e = rw e (record { answer = refl; here = sym (add-zero n); rest = refl; wrote = record { is = put-none d n } })
+
+  pub forest-lost : (d e e′ : List ℕ) (k n : ℕ) {w : Walk} → (k ≡ 0 → ⊥) → TreeWalked ns n d e (r n (drop n ns)) w → w ≡ Lost → ForestWalked ns n d e′ (readForest r k n (drop n ns)) Lost
+  unfolding readForest onward
+  forest-lost d e e′ zero n z p q = absurd (z refl)
+  forest-lost d e e′ (suc k) n {w} z p q = go (r n (drop n ns)) p
+    where
+      go : (o : Walked Tree) → TreeWalked ns n d e o w → ForestWalked ns n d e′ (onward o (λ t m ms. onward (readForest r k m ms) (λ ts l ls. walked (cons t ts) l ls))) Lost
+      go lost p = refl
+      go (walked t m ms) p = never (p .answer) q
+
+-- a tree, and then the others
+forest-cons : (ns : List Node) (d e e′ : List ℕ) (t : Tree) (n m : ℕ) (z : Walk) (o : Walked Forest) → n ≤ length d → m ≡ n + treeSize t → Wrote d n (treeEnds t n) e → ForestWalked ns m e e′ o z →
+    ForestWalked ns n d e′ (onward o (λ ts l ls. walked (cons t ts) l ls)) z
+unfolding onward forestSize forestEnds
+forest-cons ns d e e′ t n m z lost l h w p = p
+forest-cons ns d e e′ t n m z (walked ts k ms) l h w p = record {
+  answer = p .answer;
+  here = omega (arith, p .here);
+  rest = p .rest;
+  wrote = put-more w (rw (← h) (p .wrote)) l (h ∙ ap (λ (k : ℕ). n + k) (sym (length-tree-ends t n)));
+}
+
+module _ (ns : List Node) (r : ℕ → List Node → Walked Tree) where
+  pub forest-more : (d e e′ : List ℕ) (k n m : ℕ) {w : Walk} (z : Walk) → (k ≡ 0 → ⊥) → n ≤ length d → TreeWalked ns n d e (r n (drop n ns)) w → w ≡ Next m →
+      ForestWalked ns m e e′ (readForest r (k - 1) m (drop m ns)) z → ForestWalked ns n d e′ (readForest r k n (drop n ns)) z
+  unfolding readForest onward
+  forest-more d e e′ zero n m z f l p q s = absurd (f refl)
+  forest-more d e e′ (suc k) n m {w} z f l p q s = go (r n (drop n ns)) p
+    where
+      go : (o : Walked Tree) → TreeWalked ns n d e o w → ForestWalked ns n d e′ (onward o (λ t m ms. onward (readForest r k m ms) (λ ts l ls. walked (cons t ts) l ls))) z
+      go lost p = never q p
+      go (walked t j ms) p =
+          let same : m ≡ j = next-same q (p .answer) in
+          let g : ForestWalked ns j e e′ (readForest r k j ms) z = subst (λ i. ForestWalked ns j e e′ (readForest r k j i) z) (sym (p .rest)) (subst (λ i. ForestWalked ns i e e′ (readForest r k i (drop i ns)) z) same (subst (λ i. ForestWalked ns m e e′ (readForest r i m (drop m ns)) z) (sub-one (suc k)) s)) in
+          forest-cons ns d e e′ t n j z (readForest r k j ms) l (p .here) (p .wrote) g
+
+-- ---- a node
+-- a write before what is written already
+put-before : (d : List ℕ) (n v : ℕ) (xs : List ℕ) → n < length d → set (put d (n + 1) xs) n v ≡ put d n (v ∷ xs)
+unfolding put
+put-before d n v xs h =
+    let r = xs ++ drop (n + 1 + length xs) d in
+    let l : n < length (take (n + 1) d) = omega (arith, length-take-le (n + 1) d (omega arith)) in
+    let last : n + 1 + length xs ≡ n + suc (length xs) = omega arith in
+    set-append-left (take (n + 1) d) r n v l
+    ∙ ap (λ (z : List ℕ). z ++ r) (sym (take-set-lt (n + 1) d n v (omega arith)) ∙ ap (λ (k : ℕ). take k (set d n v)) (add-one n) ∙ take-suc-set d n v h)
+    ∙ append-snoc (take n d) v r
+    ∙ ap (λ (k : ℕ). take n d ++ v ∷ (xs ++ drop k d)) last
+
+-- what the walk over the children of node n says
+abbrev Below : List ℕ → List Node → ℕ → List ℕ → List ℕ → Walk → Type 0
+Below ks ns n d e w = (f : ℕ) → length ks ≤ n + 1 + f → ForestWalked ns (n + 1) d e (readForest (readTree f) (getD ks n 0) (n + 1) (drop (n + 1) ns)) w
+
+module _ (ks : List ℕ) (ns : List Node) (n : ℕ) (c : Counts ks ns) where
+  pub tree-out : (d e : List ℕ) (f : ℕ) → length ks ≤ n → TreeWalked ns n d e (readTree f n (drop n ns)) Lost
+  unfolding readTree
+  tree-out d e f h =
+      let k : length ns ≤ n = omega (arith, counts-length c) in
+      rw (drop-of-length-le ns k) (go f)
+    where
+      go : (f : ℕ) → TreeWalked ns n d e (readTree f n []) Lost
+      go zero = refl
+      go (suc f) = refl
+
+  -- the walk over the children, where the node is read
+  below : (d e : List ℕ) (w : Walk) (h : n < length ks) → Below ks ns n d e w → (f : ℕ) → length ks ≤ n + suc f →
+      ForestWalked ns (n + 1) d e (readForest (readTree f) (children (head n c h .node)) (suc n) (drop (n + 1) ns)) w
+  below d e w h s f l = rw (head n c h .counts, ← add-one n) (s f (omega arith))
+
+  pub tree-lost : (d e e′ : List ℕ) {w : Walk} → n < length ks → Below ks ns n d e w → w ≡ Lost → (f : ℕ) → length ks ≤ n + f → TreeWalked ns n d e′ (readTree f n (drop n ns)) Lost
+  unfolding readTree onward
+  tree-lost d e e′ {w} h s q zero l = absurd (omega arith)
+  tree-lost d e e′ {w} h s q (suc f) l = rw (head n c h .is) (go (readForest (readTree f) (children (head n c h .node)) (suc n) (drop (n + 1) ns)) (below d e w h s f l))
+    where
+      go : (o : Walked Forest) → ForestWalked ns (n + 1) d e o w → TreeWalked ns n d e′ (onward o (λ ts m ms. found (treeFrom n (head n c h .node) ts) m ms)) Lost
+      go lost p = refl
+      go (walked ts m ms) p = never (p .answer) q
+
+  pub tree-read : (d e : List ℕ) (m : ℕ) {w : Walk} → n < length ks → n < length d → Below ks ns n d e w → w ≡ Next m → (f : ℕ) → length ks ≤ n + f →
+      TreeWalked ns n d (set e n m) (readTree f n (drop n ns)) (Next m)
+  unfolding readTree onward found
+  tree-read d e m {w} h b s q zero l = absurd (omega arith)
+  tree-read d e m {w} h b s q (suc f) l = rw (head n c h .is) (go _ refl (below d e w h s f l))
+    where
+      x : Node
+      x = head n c h .node
+
+      made : (ts : Forest) (j : ℕ) (ms : List Node) {t : Tree} → treeFrom n x ts ≡ some t → Passed ns (n + 1) j (forestSize ts) ms (forestEnds ts (n + 1)) d e w →
+          Passed ns n j (treeSize t) ms (treeEnds t n) d (set e n m) (Next m)
+      made ts j ms {t} g p =
+          let r = rooted n x ts g in
+          let same : m ≡ j = next-same q (p .answer) in
+          let here : j ≡ n + suc (forestSize ts) = omega (arith, p .here) in
+          let ends : m ∷ forestEnds ts (n + 1) ≡ treeEnds t n = ap₂ (λ (a k : ℕ). a ∷ forestEnds ts k) (same ∙ here) (add-one n) ∙ sym (r .ends n) in
+          record {
+            answer = ap Next same;
+            here = omega (arith, r .size);
+            rest = p .rest;
+            wrote = record { is = ap (λ (z : List ℕ). set z n m) (p .wrote .is) ∙ put-before d n m (forestEnds ts (n + 1)) b ∙ ap (put d n) ends };
+          }
+
+      go : (o : Walked Forest) → readForest (readTree f) (children x) (suc n) (drop (n + 1) ns) ≡ o → ForestWalked ns (n + 1) d e o w →
+          TreeWalked ns n d (set e n m) (onward o (λ ts m ms. found (treeFrom n x ts) m ms)) (Next m)
+      go lost k p = never q p
+      go (walked ts j ms) k p =
+          let t = head n c h .parent n ts (forest-sound (readTree f) (read-written f) (children x) (suc n) (drop (n + 1) ns) k .0) in
+          rw (t .1) (made ts j ms (t .1) p)

@@ -1,0 +1,78 @@
+-- Condition 9, and the nodes by number: the kind of each, and where its payload starts and ends in the schedule section.
+use mathlib.Core.Path.{_≡_}
+use mathlib.Core.Bool.{Bool, true, false}
+use mathlib.Core.List.{List, [], _∷_, _++_, map}
+use mathlib.Core.Option.{none, some}
+use Prim.Native.Nat.{ℕ, _+_, _-_, _≤_, _<_}
+use lib.Dec.{leb}
+use lib.ListN.{length, getD, take, drop, replicate, getElem?}
+use Rattle.semantics.specs.Bytes.{Read, broken, read}
+use Rattle.semantics.specs.Editions.{edition1}
+use Rattle.schedules.specs.Nodes.{Node, kindOf, nodeOf, readNode, nodesIn}
+use Rattle.codec.specs.Places.{placesFrom}
+use Rattle.tree_read.specs.declared.nodes.Nodes.{Nodes}
+
+-- an array that holds a list and, behind it, the same number everywhere
+unfoldable pub pad : ℕ → ℕ → List ℕ → List ℕ
+pad n d l = l ++ replicate (n - length l) d
+
+-- ---- what stands at a place where a node stands: its length, its kind and its payload
+unfoldable pub kindAt : List ℕ → ℕ → ℕ
+kindAt s p = getD s (p + 1) 0
+
+unfoldable pub startAt : ℕ → ℕ
+startAt p = p + 2
+
+unfoldable pub endAt : List ℕ → ℕ → ℕ
+endAt s p = p + 1 + getD s p 0
+
+-- the places of n nodes; the node count stands before them
+unfoldable pub nodePlaces : List ℕ → ℕ → List ℕ
+nodePlaces s n = placesFrom (length s) (readNode edition1) n (drop 1 s)
+
+-- ---- the answer
+abbrev pub notNodes : Nodes
+notNodes = record { refusal = 9; count = 0; kinds = replicate 64 0; starts = replicate 64 0; ends = replicate 64 0 }
+
+unfoldable pub index : List ℕ → ℕ → Nodes
+index s n = record {
+  refusal = 0;
+  count = n;
+  kinds = pad 64 0 (map (kindAt s) (nodePlaces s n));
+  starts = pad 64 0 (map startAt (nodePlaces s n));
+  ends = pad 64 0 (map (endAt s) (nodePlaces s n));
+}
+
+unfoldable pub nodesOf : List ℕ → Nodes
+nodesOf s = elim (nodesIn edition1 s) [ none ↦ notNodes | some ns ↦ index s (length ns) ]
+
+-- ---- what the index says of the nodes
+abbrev pub payloadOf : List ℕ → Nodes → ℕ → List ℕ
+payloadOf s r i = take (getD (r .ends) i 0 - getD (r .starts) i 0) (drop (getD (r .starts) i 0) s)
+
+-- entry i is node i
+pub record Entry (s : List ℕ) (r : Nodes) (ns : List Node) (i : ℕ) : Type 0 where
+  pub node : nodeOf (kindOf (getD (r .kinds) i 0)) (payloadOf s r i) ≡ getElem? ns i
+  pub ordered : getD (r .starts) i 0 ≤ getD (r .ends) i 0
+  pub inside : getD (r .ends) i 0 ≤ length s
+
+pub record IndexOf (s : List ℕ) (r : Nodes) (ns : List Node) : Type 0 where
+  pub accepted : r .refusal ≡ 0
+  pub counted : length ns ≡ r .count
+  pub some-nodes : 1 ≤ r .count
+  pub few-nodes : r .count ≤ 64
+  pub kinds-full : length (r .kinds) ≡ 64
+  pub starts-full : length (r .starts) ≡ 64
+  pub ends-full : length (r .ends) ≡ 64
+  pub entries : (i : ℕ) → i < r .count → Entry s r ns i
+
+-- ---- for the code's own contracts
+-- a child count, at least 1, and nothing else
+unfoldable pub oneCount : List ℕ → Bool
+oneCount [] = false
+oneCount (a ∷ []) = leb 1 a
+oneCount (a ∷ b ∷ l) = false
+
+unfoldable pub isRead : {A : Type 0} → Read A → Bool
+isRead broken = false
+isRead (read a s) = true

@@ -1,0 +1,47 @@
+-- What the walk of a node and the walk over its children say, for the code's own contracts.
+use mathlib.Core.Path.{_≡_}
+use mathlib.Core.Bool.{cond}
+use mathlib.Core.List.{List, map}
+use mathlib.Core.Option.{some}
+use Prim.Native.Nat.{ℕ, _+_, _≤_}
+use lib.Dec.{leb, eqb}
+use lib.ListN.{drop, getElem?}
+use Rattle.schedules.specs.Nodes.{Node}
+use Rattle.schedules.specs.Trees.{Tree, Forest, children, treeFrom, Walked, lost, walked}
+use Rattle.schedules.specs.Preorder.{howMany}
+use Rattle.codec.specs.Writing.{Wrote}
+use Rattle.tree_read.specs.Ends.{treeSize, forestSize, treeEnds, forestEnds}
+use Rattle.tree_read.specs.declared.tree.Walk.{Walk}
+use Rattle.tree_read.specs.declared.tree.Walk.the-variants.{Next, Lost}
+
+-- the children of a node of kind k whose payload begins with c
+unfoldable pub childrenOf : ℕ → ℕ → ℕ
+childrenOf k c = cond (leb k 2) c (cond (eqb k 3) 1 (cond (eqb k 4) 2 0))
+
+-- a node of whose children a tree can be made: no SEQUENCE and no PARALLEL without children
+abbrev pub Parent : Node → Type 0
+Parent x = (n : ℕ) (ts : Forest) → howMany ts ≡ children x → (t : Tree) × (treeFrom n x ts ≡ some t)
+
+-- the child counts of these nodes
+pub record Counts (ks : List ℕ) (ns : List Node) : Type 0 where
+  pub is : ks ≡ map children ns
+  pub parents : (i : ℕ) {x : Node} → getElem? ns i ≡ some x → Parent x
+
+-- the number of the next node, where something was read, has these bounds
+pub record Bound (low high : ℕ) (r : Walk) : Type 0 where
+  pub within : (m : ℕ) → r ≡ Next m → (low ≤ m) × (m ≤ high)
+
+-- something of so many nodes was read from node n on, and where the nodes end was written
+pub record Passed (ns : List Node) (n m size : ℕ) (ms : List Node) (bs d e : List ℕ) (r : Walk) : Type 0 where
+  pub answer : r ≡ Next m
+  pub here : m ≡ n + size
+  pub rest : ms ≡ drop m ns
+  pub wrote : Wrote d n bs e
+
+abbrev pub TreeWalked : List Node → ℕ → List ℕ → List ℕ → Walked Tree → Walk → Type 0
+TreeWalked ns n d e lost r = r ≡ Lost
+TreeWalked ns n d e (walked t m ms) r = Passed ns n m (treeSize t) ms (treeEnds t n) d e r
+
+abbrev pub ForestWalked : List Node → ℕ → List ℕ → List ℕ → Walked Forest → Walk → Type 0
+ForestWalked ns n d e lost r = r ≡ Lost
+ForestWalked ns n d e (walked ts m ms) r = Passed ns n m (forestSize ts) ms (forestEnds ts n) d e r

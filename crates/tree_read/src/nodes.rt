@@ -1,0 +1,118 @@
+// The layout of the schedule section (9), and its nodes by number.
+ghost use mathlib.Core.Path.{_≡_};
+ghost use lib.ListN.{drop};
+ghost use Rattle.semantics.specs.Bytes.{isSome};
+ghost use Rattle.semantics.specs.Editions.{edition1};
+ghost use Rattle.schedules.specs.Nodes.{kindOf, nodeOf, readNode};
+ghost use Rattle.tree_read.specs.Index.{oneCount, isRead, notNodes, nodesOf};
+
+pub struct Nodes {
+    pub refusal: u8,
+    pub count: usize,
+    pub kinds: [u8; 64],
+    pub starts: [usize; 64],
+    pub ends: [usize; 64],
+}
+
+pub fn refused() -> Nodes
+    ensures { λ r. ⌜ r ≡ notNodes ⌝ }
+{
+    let kinds = [0u8; 64];
+    let places = [0usize; 64];
+    Nodes {
+        refusal: 9,
+        count: 0,
+        kinds: kinds,
+        starts: places,
+        ends: places,
+    }
+}
+
+fn one_count(b: &[u8]) -> bool
+    ensures { λ r. ⌜ r ≡ oneCount (now (b .entry)) ⌝ }
+{
+    if b.len() != 1 {
+        return false;
+    }
+    b[0] >= 1
+}
+
+fn payload(k: u8, b: &[u8]) -> bool
+    ensures { λ r. ⌜ r ≡ isSome (nodeOf (kindOf k) (now (b .entry))) ⌝ }
+{
+    match k {
+        1 => one_count(b),
+        2 => one_count(b),
+        3 => true,
+        4 => true,
+        5 => true,
+        6 => b.len() >= 1,
+        7 => b.len() >= 1,
+        8 => b.len() == 2,
+        9 => b.len() == 0,
+        _ => false,
+    }
+}
+
+// a node stands at this place
+fn node(s: &[u8], at: usize) -> bool
+    ensures { λ r. ⌜ r ≡ isRead (readNode edition1 (drop at (now (s .entry)))) ⌝ }
+{
+    if s.len() <= at {
+        return false;
+    }
+    let l = s[at] as usize;
+    if l < 1 {
+        return false;
+    }
+    if l > 200 {
+        return false;
+    }
+    if s.len() - at - 1 < l {
+        return false;
+    }
+    let b = at + 2;
+    let e = at + 1 + l;
+    payload(s[at + 1], &s[b..e])
+}
+
+pub fn read(s: &[u8]) -> Nodes
+    ensures { λ r. ⌜ r ≡ nodesOf (now (s .entry)) ⌝ }
+{
+    if s.len() < 1 {
+        return refused();
+    }
+    let n = s[0] as usize;
+    if n < 1 {
+        return refused();
+    }
+    if n > 64 {
+        return refused();
+    }
+    let mut kinds = [0u8; 64];
+    let mut starts = [0usize; 64];
+    let mut ends = [0usize; 64];
+    let mut p = 1;
+    let mut i = 0;
+    while i < n {
+        if !node(s, p) {
+            return refused();
+        }
+        let e = p + 1 + s[p] as usize;
+        kinds[i] = s[p + 1];
+        starts[i] = p + 2;
+        ends[i] = e;
+        p = e;
+        i += 1;
+    }
+    if p < s.len() {
+        return refused();
+    }
+    Nodes {
+        refusal: 0,
+        count: n,
+        kinds: kinds,
+        starts: starts,
+        ends: ends,
+    }
+}

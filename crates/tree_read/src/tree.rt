@@ -1,0 +1,125 @@
+// The tree that the nodes of a schedule make (10): where the subtree of each node ends.
+use super::nodes::Nodes;
+ghost use mathlib.Core.Path.{_≡_};
+ghost use mathlib.Core.List.{List, map};
+ghost use mathlib.Core.Option.{some};
+ghost use Prim.Native.Nat.{ℕ, _+_, _≤_, _<_};
+ghost use lib.ListN.{length, getD, drop};
+ghost use Rattle.semantics.specs.Editions.{edition1};
+ghost use Rattle.schedules.specs.Nodes.{Node, nodesIn};
+ghost use Rattle.schedules.specs.Trees.{children, readTree, readForest};
+ghost use Rattle.tree_read.specs.Index.{pad, nodesOf};
+ghost use Rattle.tree_read.specs.Ends.{noTree, treeIn};
+ghost use Rattle.tree_read.specs.Walks.{childrenOf, Counts, Bound, TreeWalked, ForestWalked};
+
+pub struct Subtrees {
+    pub ok: bool,
+    pub ends: [usize; 64],
+}
+
+enum Walk {
+    // read, and the number of the next node
+    Next(usize),
+    Lost,
+}
+
+pub fn no_tree() -> Subtrees
+    ensures { λ r. ⌜ r ≡ noTree ⌝ }
+{
+    let ends = [0usize; 64];
+    Subtrees {
+        ok: false,
+        ends: ends,
+    }
+}
+
+// the children of a node of kind k whose payload starts here
+fn children_of(s: &[u8], k: u8, start: usize) -> u8
+    requires { ⌜ (k ≤ 2 → start < length (now s)) ⌝ }
+    ensures { λ r. ⌜ r ≡ childrenOf k (getD (now (s .entry)) start 0) ⌝ }
+{
+    if k <= 2 {
+        return s[start];
+    }
+    if k == 3 {
+        return 1;
+    }
+    if k == 4 {
+        return 2;
+    }
+    0
+}
+
+// the child counts of the nodes
+fn child_counts(s: &[u8], n: Nodes) -> [u8; 64]
+    requires { ⌜ n ≡ nodesOf (now s) ⌝ }
+    ensures { λ r. ⌜ ((ns : List Node) → nodesIn edition1 (now (s .entry)) ≡ some ns → r ≡ pad 64 0 (map children ns)) ⌝ }
+{
+    let m = n.count;
+    let kinds = n.kinds;
+    let starts = n.starts;
+    let mut counts = [0u8; 64];
+    let mut i = 0;
+    while i < m {
+        counts[i] = children_of(s, kinds[i], starts[i]);
+        i += 1;
+    }
+    counts
+}
+
+// node n, and the nodes below it: where it ends goes to ends[n]
+fn node(counts: &[u8], ends: &mut [usize], n: usize) -> Walk
+    requires { ⌜ length (now counts) ≤ length (now ends) ⌝ }
+    ensures { λ r. ⌜ Bound (n + 1) (length (now (counts .entry))) r × ((ns : List Node) → Counts (now (counts .entry)) ns → (f : ℕ) → length (now (counts .entry)) ≤ n + f → TreeWalked ns n (now (ends .entry)) (now (ends .exit)) (readTree f n (drop n ns)) r) ⌝ }
+{
+    if n >= counts.len() {
+        return Walk::Lost;
+    }
+    let w = forest(counts, ends, n + 1, counts[n]);
+    match w {
+        Walk::Next(e) => {
+            ends[n] = e;
+            Walk::Next(e)
+        }
+        Walk::Lost => Walk::Lost,
+    }
+}
+
+// k trees from node n on
+fn forest(counts: &[u8], ends: &mut [usize], n: usize, k: u8) -> Walk
+    requires { ⌜ (length (now counts) ≤ length (now ends)) × (n ≤ length (now counts)) ⌝ }
+    ensures { λ r. ⌜ Bound n (length (now (counts .entry))) r × ((ns : List Node) → Counts (now (counts .entry)) ns → (f : ℕ) → length (now (counts .entry)) ≤ n + f → ForestWalked ns n (now (ends .entry)) (now (ends .exit)) (readForest (readTree f) k n (drop n ns)) r) ⌝ }
+{
+    if k == 0 {
+        return Walk::Next(n);
+    }
+    let w = node(counts, ends, n);
+    match w {
+        Walk::Next(m) => forest(counts, ends, m, k - 1),
+        Walk::Lost => Walk::Lost,
+    }
+}
+
+// n is the index of the nodes of s
+pub fn read(s: &[u8], n: Nodes) -> Subtrees
+    requires { ⌜ n ≡ nodesOf (now s) ⌝ }
+    ensures { λ r. ⌜ r ≡ treeIn (now (s .entry)) ⌝ }
+{
+    let m = n.count;
+    let counts = child_counts(s, n);
+    let mut ends = [0usize; 64];
+    let w = node(&counts[..m], &mut ends, 0);
+    match w {
+        Walk::Next(e) => {
+            if e == m {
+                Subtrees {
+                    ok: true,
+                    ends: ends,
+                }
+            } else {
+                no_tree()
+            }
+        }
+        Walk::Lost => no_tree(),
+    }
+}
