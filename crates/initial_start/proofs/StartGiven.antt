@@ -4,7 +4,7 @@ use mathlib.Core.List.{List, [], _++_, flatMap}
 use Prim.Native.Nat.{ℕ, _+_, _-_, _*_, _≤_}
 use native.Mathlib.Nat.{zero-add}
 use native.Mathlib.Omega.{arith}
-use lib.ListN.{length, take, drop, length-append}
+use lib.ListN.{length, take, drop, replicate, length-append}
 use lib.Seq.{length-take-le}
 use Rattle.semantics.specs.Bytes.{overwrite}
 use Rattle.semantics.specs.Editions.{edition1}
@@ -33,18 +33,18 @@ use Rattle.table_read.specs.declared.call.TableIndex.{TableIndex}
 use Rattle.table_read.specs.declared.parts.Parts.{Parts}
 use Rattle.table_read.proofs.Promises.{table-of, refused-table, opened, parts-read}
 use Rattle.initial_start.specs.Initial.{initialValues, initialModes, initialStart, startBytes, startOf, sectionsStart, startOfFile, scheduleStart, startOfTable, tableStart}
+use Rattle.initial_start.specs.Held.{held}
+use Rattle.initial_start.specs.declared.Start.{Start}
 use Rattle.initial_start.proofs.Values.{values-length}
 
--- ---- what the functions say of a start
-abbrev pub PutFront : List ℕ → List ℕ → ℕ → List ℕ → Type 0
-PutFront s d r e = (r ≡ length s) × (e ≡ overwrite s d)
+-- ---- the code's answer
+pub held-as : (s : List ℕ) {r : ℕ} {d : List ℕ} → r ≡ length s → d ≡ overwrite s (replicate 144 0) → _≡_ {A = Start} (record { length = r; bytes = d }) (held s)
+unfolding held
+held-as s h k = cc
 
-pub put-nothing : (s d : List ℕ) → s ≡ [] → PutFront s d 0 d
-unfolding overwrite
-put-nothing s d h = (ap length (sym h), rw h refl)
-
-pub put-as : (d : List ℕ) {s s' e : List ℕ} {r : ℕ} → s ≡ s' → PutFront s d r e → PutFront s' d r e
-put-as d h k = (k .0 ∙ ap length h, k .1 ∙ ap (λ x. overwrite x d) h)
+pub none-held : _≡_ {A = Start} (record { length = 0; bytes = replicate 144 0 }) (held [])
+unfolding held overwrite
+none-held = refl
 
 -- ---- the two sections
 module _ (vs es : List ℕ) {q : PlantRead} (e : q ≡ plantOf vs es) where
@@ -93,13 +93,14 @@ module _ (vs es : List ℕ) {q : PlantRead} (e : q ≡ plantOf vs es) where
       pub given : {d g h : List ℕ} {at r : ℕ}
           → (at ≡ 4 * length (take (v .count) (v .initials))) × Wrote d 0 (flatMap valueBytes (take (v .count) (v .initials))) g
           → ((t : SectionStands es) → (r ≡ at + length (initialModes (t .equations))) × Wrote g at (initialModes (t .equations)) h)
-          → PutFront (sectionsStart vs es) d r h
-      given {d = d} {at = at} {r = r} a b =
+          → d ≡ replicate 144 0
+          → _≡_ {A = Start} (record { length = r; bytes = h }) (held (sectionsStart vs es))
+      given {at = at} {r = r} a b e =
           let xs = flatMap valueBytes (take (v .count) (v .initials)) in
           let n = values-length (take (v .count) (v .initials)) in
           let k : at ≡ 0 + length xs = omega (arith, a .0) in
           let w = b stands in
-          put-as d is-start (length-of xs (initialModes (stands .equations)) k (w .0), wrote-front (put-more (a .1) (w .1) (omega arith) k))
+          held-as (xs ++ initialModes (stands .equations)) (length-of xs (initialModes (stands .equations)) k (w .0)) (wrote-front (put-more (a .1) (w .1) (omega arith) k) ∙ ap (overwrite (xs ++ initialModes (stands .equations))) e) ∙ ap held is-start
         where
           length-of : (xs ms : List ℕ) → at ≡ 0 + length xs → r ≡ at + length ms → r ≡ length (xs ++ ms)
           length-of xs ms i j = omega (arith, length-append xs ms)

@@ -3,14 +3,14 @@ pub mod schedule; // schedule.rt: of a schedule file
 pub mod table; // table.rt: of a table
 
 ghost use mathlib.Core.Path.{_≡_};
-ghost use mathlib.Core.List.{flatMap};
+ghost use mathlib.Core.List.{[], flatMap};
 ghost use Prim.Native.Nat.{_+_, _*_, _≤_};
 ghost use lib.ListN.{length};
-ghost use Rattle.semantics.specs.Bytes.{overwrite};
 ghost use Rattle.semantics.specs.Run.{valueBytes};
 ghost use Rattle.plant.specs.Equations.{SectionStands};
 ghost use Rattle.codec.specs.Writing.{Wrote};
 ghost use Rattle.initial_start.specs.Initial.{initialModes, sectionsStart};
+ghost use Rattle.initial_start.specs.Held.{held};
 
 // the values, four bytes each, at the front; the next place
 fn put_values(d: &mut [u8], values: &[i32]) -> usize
@@ -45,18 +45,34 @@ fn put_modes(d: &mut [u8], i: usize, es: &[u8]) -> usize
     at
 }
 
-// The start of a plant's two sections at the front of a buffer, and its length; nothing and 0 where 4 to 8 refuse them.
-pub fn put(vs: &[u8], es: &[u8], start: &mut [u8; 144]) -> usize
-    ensures { λ r. ⌜ r ≡ length (sectionsStart (now (vs .entry)) (now (es .entry))) ⌝ }
-    ensures { λ _. ⌜ now (start .exit) ≡ overwrite (sectionsStart (now (vs .entry)) (now (es .entry))) (now (start .entry)) ⌝ }
+// a start's bytes at the front, and how many they are
+pub struct Start {
+    pub length: usize,
+    pub bytes: [u8; 144],
+}
+
+fn none() -> Start
+    ensures { λ r. ⌜ r ≡ held [] ⌝ }
+{
+    Start {
+        length: 0,
+        bytes: [0; 144],
+    }
+}
+
+// of a plant's two sections; none where 4 to 8 refuse them
+pub fn of(vs: &[u8], es: &[u8]) -> Start
+    ensures { λ r. ⌜ r ≡ held (sectionsStart (now (vs .entry)) (now (es .entry))) ⌝ }
 {
     let p = plant::sections::read(vs, es);
     if p.refusal != 0 {
-        return 0;
+        return none();
     }
     let v = plant::variables::read(vs);
     let n = v.count;
     let initials = v.initials;
-    let at = put_values(start, &initials[..n]);
-    put_modes(start, at, es)
+    let mut bytes = [0u8; 144];
+    let at = put_values(&mut bytes, &initials[..n]);
+    let length = put_modes(&mut bytes, at, es);
+    Start { length, bytes }
 }
