@@ -40,16 +40,20 @@ pub fn operand(t: &[u8], k: u8, p: usize, by: &[u8], d: &mut [u8], o: usize) -> 
     }
 }
 
+fn action_text(t: &[u8], p: usize, d: &mut [u8]) -> usize {
+    let k = bytes::at(t, bytes::on(p, 2));
+    let a = text::bytes(d, 0, b"  node ");
+    let b = text::decimal(d, a, bytes::number(t, bytes::on(p, 1)));
+    let c = text::bytes(d, b, b": ");
+    let e = kind(d, c, k);
+    operand(t, k, bytes::on(p, 3), b" ", d, e)
+}
+
 // the action at p
 fn action(t: &[u8], p: usize) -> bool {
-    let k = bytes::at(t, bytes::on(p, 2));
     let mut d = line::buffer();
-    let a = text::bytes(&mut d, 0, b"  node ");
-    let b = text::decimal(&mut d, a, bytes::number(t, bytes::on(p, 1)));
-    let c = text::bytes(&mut d, b, b": ");
-    let e = kind(&mut d, c, k);
-    let f = operand(t, k, bytes::on(p, 3), b" ", &mut d, e);
-    line::write(&d, f)
+    let k = action_text(t, p, &mut d);
+    line::write(&d, k)
 }
 
 // the place after the action at p

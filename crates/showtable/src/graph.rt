@@ -5,22 +5,34 @@ use super::bytes;
 use super::line;
 use super::locations;
 
+fn ends(n: usize, to: usize, d: &mut [u8]) -> usize {
+    let a = text::bytes(d, 0, b"    ");
+    let b = text::decimal(d, a, n);
+    let c = text::bytes(d, b, b" -> ");
+    locations::target(d, c, to)
+}
+
+fn label(t: &[u8], a: usize, branch: &[u8], d: &mut [u8], o: usize) -> usize {
+    let k = bytes::at(t, bytes::on(a, 2));
+    let b = text::decimal(d, o, bytes::number(t, bytes::on(a, 1)));
+    let c = text::byte(d, b, b' ');
+    let e = actions::kind(d, c, k);
+    let f = text::bytes(d, e, branch);
+    actions::operand(t, k, bytes::on(a, 3), b"\\n", d, f)
+}
+
+fn arrow_text(t: &[u8], n: usize, a: usize, to: usize, branch: &[u8], d: &mut [u8]) -> usize {
+    let b = ends(n, to, d);
+    let c = text::bytes(d, b, b" [label=\"");
+    let e = label(t, a, branch, d, c);
+    text::bytes(d, e, b"\"];")
+}
+
 // one arrow from location n by the action at a to a target
 fn arrow(t: &[u8], n: usize, a: usize, to: usize, branch: &[u8]) -> bool {
-    let k = bytes::at(t, bytes::on(a, 2));
     let mut d = line::buffer();
-    let b = text::bytes(&mut d, 0, b"    ");
-    let c = text::decimal(&mut d, b, n);
-    let e = text::bytes(&mut d, c, b" -> ");
-    let f = locations::target(&mut d, e, to);
-    let g = text::bytes(&mut d, f, b" [label=\"");
-    let h = text::decimal(&mut d, g, bytes::number(t, bytes::on(a, 1)));
-    let i = text::byte(&mut d, h, b' ');
-    let j = actions::kind(&mut d, i, k);
-    let l = text::bytes(&mut d, j, branch);
-    let m = actions::operand(t, k, bytes::on(a, 3), b"\\n", &mut d, l);
-    let o = text::bytes(&mut d, m, b"\"];");
-    line::write(&d, o)
+    let k = arrow_text(t, n, a, to, branch, &mut d);
+    line::write(&d, k)
 }
 
 // the entry at p of location n

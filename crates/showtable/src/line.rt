@@ -20,6 +20,18 @@ pub fn write(d: &[u8], n: usize) -> bool {
     io::write_all(1, b"\n")
 }
 
+fn numbered_text(words: &[u8], n: usize, d: &mut [u8]) -> usize {
+    let k = text::bytes(d, 0, words);
+    text::decimal(d, k, n)
+}
+
+// a line of some words and a number
+pub fn numbered(words: &[u8], n: usize) -> bool {
+    let mut d = buffer();
+    let k = numbered_text(words, n, &mut d);
+    write(&d, k)
+}
+
 // v and the number of a variable
 pub fn variable(d: &mut [u8], o: usize, n: usize) -> usize {
     let k = text::byte(d, o, b'v');

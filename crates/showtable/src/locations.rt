@@ -28,18 +28,22 @@ fn targets(t: &[u8], k: u8, p: usize, d: &mut [u8], o: usize) -> usize {
     target(d, c, bytes::two(t, bytes::on(p, 2)))
 }
 
+fn entry_text(t: &[u8], node: usize, k: u8, p: usize, d: &mut [u8]) -> usize {
+    let a = text::bytes(d, 0, b"    node ");
+    let b = text::decimal(d, a, node);
+    let c = text::byte(d, b, b' ');
+    let e = actions::kind(d, c, k);
+    let f = text::bytes(d, e, b" -> ");
+    targets(t, k, p, d, f)
+}
+
 // the entry at p
 fn entry(t: &[u8], acts: usize, p: usize) -> bool {
     let node = bytes::number(t, p);
     let k = bytes::at(t, bytes::on(actions::of_node(t, acts, node), 2));
     let mut d = line::buffer();
-    let a = text::bytes(&mut d, 0, b"    node ");
-    let b = text::decimal(&mut d, a, node);
-    let c = text::byte(&mut d, b, b' ');
-    let e = actions::kind(&mut d, c, k);
-    let f = text::bytes(&mut d, e, b" -> ");
-    let g = targets(t, k, bytes::on(p, 1), &mut d, f);
-    line::write(&d, g)
+    let n = entry_text(t, node, k, bytes::on(p, 1), &mut d);
+    line::write(&d, n)
 }
 
 // the place after n entries, or 0 where the output fails
@@ -58,10 +62,7 @@ fn entries(t: &[u8], acts: usize, first: usize, n: usize) -> usize {
 
 // location n at p; the place after it, or 0
 fn location(t: &[u8], acts: usize, n: usize, p: usize) -> usize {
-    let mut d = line::buffer();
-    let a = text::bytes(&mut d, 0, b"  location ");
-    let b = text::decimal(&mut d, a, n);
-    if !line::write(&d, b) {
+    if !line::numbered(b"  location ", n) {
         return 0;
     }
     entries(t, acts, bytes::on(p, 1), bytes::number(t, p))

@@ -10,18 +10,27 @@ fn heading(words: &[u8]) -> bool {
     io::write_all(1, b"\n")
 }
 
+// minimum and maximum, from p on
+fn range(t: &[u8], p: usize, d: &mut [u8], o: usize) -> usize {
+    let a = text::signed(d, o, bytes::four(t, p));
+    let b = text::bytes(d, a, b"..");
+    text::signed(d, b, bytes::four(t, bytes::on(p, 4)))
+}
+
+fn variable_text(t: &[u8], n: usize, p: usize, d: &mut [u8]) -> usize {
+    let a = text::bytes(d, 0, b"  ");
+    let b = line::variable(d, a, n);
+    let c = text::bytes(d, b, b": ");
+    let e = range(t, p, d, c);
+    let f = text::bytes(d, e, b", initially ");
+    text::signed(d, f, bytes::four(t, bytes::on(p, 8)))
+}
+
 // variable n, whose minimum stands at p
 fn variable(t: &[u8], n: usize, p: usize) -> bool {
     let mut d = line::buffer();
-    let a = text::bytes(&mut d, 0, b"  ");
-    let b = line::variable(&mut d, a, n);
-    let c = text::bytes(&mut d, b, b": ");
-    let e = text::signed(&mut d, c, bytes::four(t, p));
-    let f = text::bytes(&mut d, e, b"..");
-    let g = text::signed(&mut d, f, bytes::four(t, bytes::on(p, 4)));
-    let h = text::bytes(&mut d, g, b", initially ");
-    let i = text::signed(&mut d, h, bytes::four(t, bytes::on(p, 8)));
-    line::write(&d, i)
+    let k = variable_text(t, n, p, &mut d);
+    line::write(&d, k)
 }
 
 fn some_variables(t: &[u8], first: usize, count: usize) -> bool {
@@ -47,15 +56,19 @@ pub fn variables(t: &[u8], p: usize) -> bool {
     some_variables(t, bytes::on(p, 1), bytes::number(t, p))
 }
 
+fn rate_text(t: &[u8], p: usize, indent: &[u8], d: &mut [u8]) -> usize {
+    let a = text::bytes(d, 0, indent);
+    let b = line::variable(d, a, bytes::number(t, p));
+    let c = text::bytes(d, b, b" changes by ");
+    let e = text::signed(d, c, bytes::four(t, bytes::on(p, 1)));
+    text::bytes(d, e, b" at a tick")
+}
+
 // the rate at p: variable, rate
 fn rate(t: &[u8], p: usize, indent: &[u8]) -> bool {
     let mut d = line::buffer();
-    let a = text::bytes(&mut d, 0, indent);
-    let b = line::variable(&mut d, a, bytes::number(t, p));
-    let c = text::bytes(&mut d, b, b" changes by ");
-    let e = text::signed(&mut d, c, bytes::four(t, bytes::on(p, 1)));
-    let f = text::bytes(&mut d, e, b" at a tick");
-    line::write(&d, f)
+    let k = rate_text(t, p, indent, &mut d);
+    line::write(&d, k)
 }
 
 // the place after n rates, or 0 where the output fails
@@ -72,14 +85,18 @@ fn rates(t: &[u8], first: usize, n: usize) -> usize {
     p
 }
 
+fn switch_text(t: &[u8], p: usize, d: &mut [u8]) -> usize {
+    let a = text::bytes(d, 0, b"      to mode ");
+    let b = text::decimal(d, a, bytes::number(t, bytes::on(p, 1)));
+    let c = text::bytes(d, b, b" where ");
+    formula::put(t, bytes::on(p, 2), d, c)
+}
+
 // the switch at p: length, target, truth
 fn switch(t: &[u8], p: usize) -> bool {
     let mut d = line::buffer();
-    let a = text::bytes(&mut d, 0, b"      to mode ");
-    let b = text::decimal(&mut d, a, bytes::number(t, bytes::on(p, 1)));
-    let c = text::bytes(&mut d, b, b" where ");
-    let e = formula::put(t, bytes::on(p, 2), &mut d, c);
-    line::write(&d, e)
+    let k = switch_text(t, p, &mut d);
+    line::write(&d, k)
 }
 
 // the place after n switches, or 0
@@ -98,10 +115,7 @@ fn switches(t: &[u8], first: usize, n: usize) -> usize {
 
 // mode n at p; the place after it, or 0
 fn mode(t: &[u8], n: usize, p: usize) -> usize {
-    let mut d = line::buffer();
-    let a = text::bytes(&mut d, 0, b"    mode ");
-    let b = text::decimal(&mut d, a, n);
-    if !line::write(&d, b) {
+    if !line::numbered(b"    mode ", n) {
         return 0;
     }
     let q = rates(t, bytes::on(p, 1), bytes::number(t, p));
@@ -126,14 +140,22 @@ fn modes(t: &[u8], first: usize, count: usize) -> bool {
     true
 }
 
+fn case_text(n: usize, first: usize, d: &mut [u8]) -> usize {
+    let a = text::bytes(d, 0, b"  selector ");
+    let b = text::decimal(d, a, n);
+    let c = text::bytes(d, b, b", initially mode ");
+    text::decimal(d, c, first)
+}
+
+fn case_line(n: usize, first: usize) -> bool {
+    let mut d = line::buffer();
+    let k = case_text(n, first, &mut d);
+    line::write(&d, k)
+}
+
 // the CASE of selector n, whose initial mode stands at p
 fn case(t: &[u8], n: usize, p: usize) -> bool {
-    let mut d = line::buffer();
-    let a = text::bytes(&mut d, 0, b"  selector ");
-    let b = text::decimal(&mut d, a, n);
-    let c = text::bytes(&mut d, b, b", initially mode ");
-    let e = text::decimal(&mut d, c, bytes::number(t, p));
-    if !line::write(&d, e) {
+    if !case_line(n, bytes::number(t, p)) {
         return false;
     }
     modes(t, bytes::on(p, 2), bytes::number(t, bytes::on(p, 1)))
