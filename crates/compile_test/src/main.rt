@@ -7,7 +7,8 @@ fn show(file: &[u8], table: &mut [u8]) {
         io::write_all(1, &refusal);
         return;
     }
-    output::front(1, table, r.length);
+    let k = output::front(r.length, table);
+    io::write_all(1, &table[..k]);
 }
 
 // K1

@@ -1,9 +1,8 @@
 // K1's program: a schedule on standard input, its table on standard output, or the refusal as one byte.
 // Of a longer input the first 65,536 bytes are read: no schedule has as many, so it is refused with 1 or 2 either way.
 
-// The first n bytes.
-fn write(bytes: &[u8], n: usize) {
-    if !output::front(1, bytes, n) {
+fn noticed(is_written: bool) {
+    if !is_written {
         io::write_all(2, b"mktable: the output could not be written\n");
     }
 }
@@ -15,8 +14,9 @@ fn main() {
     let r = compiler::call::compile(&input[..n], &mut table);
     if r.refusal != 0 {
         let refusal = [r.refusal];
-        write(&refusal, 1);
+        noticed(io::write_all(1, &refusal));
         return;
     }
-    write(&table, r.length);
+    let k = output::front(r.length, &table);
+    noticed(io::write_all(1, &table[..k]));
 }

@@ -1,8 +1,15 @@
-// Bytes to a file descriptor, for the programs.
+// What the programs share: how much of a buffer to write.
+ghost use mathlib.Core.Path.{_≡_};
+ghost use mathlib.Core.Bool.{cond};
+ghost use lib.Dec.{leb};
+ghost use lib.ListN.{length};
 ghost use Rattle.io.specs.Counts.{Counts};
+ghost use Rattle.output.specs.Written.{recordsLength};
 
-fn counted(n: usize, bytes: &[u8]) -> usize
+// n, or 0 where there are fewer bytes
+pub fn front(n: usize, bytes: &[u8]) -> usize
     ensures { λ r. ⌜ Counts r (now (bytes .entry)) ⌝ }
+    ensures { λ r. ⌜ r ≡ cond (leb n (length (now (bytes .entry)))) n 0 ⌝ }
 {
     if n <= bytes.len() {
         return n;
@@ -10,8 +17,18 @@ fn counted(n: usize, bytes: &[u8]) -> usize
     0
 }
 
-// The first n bytes, or none where there are fewer; false where they could not be written.
-pub fn front(fd: i32, bytes: &[u8], n: usize) -> bool {
-    let k = counted(n, bytes);
-    io::write_all(fd, &bytes[..k])
+// the bytes of the records of so many event bytes
+pub fn records_length(events: usize, variables: usize, selectors: usize) -> usize
+    ensures { λ r. ⌜ r ≡ recordsLength events variables selectors ⌝ }
+{
+    if events > 30000 {
+        return 0;
+    }
+    if variables > 32 {
+        return 0;
+    }
+    if selectors > 16 {
+        return 0;
+    }
+    (events / 3) * (9 + 4 * variables + selectors)
 }

@@ -1,0 +1,4 @@
+mod Values
+mod Modes
+mod StartGiven
+pub mod OwnStart

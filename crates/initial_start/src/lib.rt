@@ -1,0 +1,78 @@
+// The start that a file itself gives: the initial value of each variable, then the initial mode of each CASE.
+pub mod schedule; // schedule.rt: of a schedule file
+pub mod table; // table.rt: of a table
+
+ghost use mathlib.Core.Path.{_≡_};
+ghost use mathlib.Core.List.{[], flatMap};
+ghost use Prim.Native.Nat.{_+_, _*_, _≤_};
+ghost use lib.ListN.{length};
+ghost use Rattle.semantics.specs.Run.{valueBytes};
+ghost use Rattle.plant.specs.Equations.{SectionStands};
+ghost use Rattle.codec.specs.Writing.{Wrote};
+ghost use Rattle.initial_start.specs.Initial.{initialModes, sectionsStart};
+ghost use Rattle.initial_start.specs.Held.{held};
+
+// the values, four bytes each, at the front; the next place
+fn put_values(d: &mut [u8], values: &[i32]) -> usize
+    requires { ⌜ 4 * length (now values) ≤ length (now d) ⌝ }
+    ensures { λ r. ⌜ (r ≡ 4 * length (now (values .entry))) × Wrote (now (d .entry)) 0 (flatMap valueBytes (now (values .entry))) (now (d .exit)) ⌝ }
+{
+    let mut at = 0;
+    let mut j = 0;
+    while j < values.len() {
+        at = codec::put_signed(d, at, values[j]);
+        j += 1;
+    }
+    at
+}
+
+// the initial mode of each CASE of a section whose layout is right, at a place; the next place
+fn put_modes(d: &mut [u8], i: usize, es: &[u8]) -> usize
+    requires { ⌜ (i + 16 ≤ length (now d)) × SectionStands (now es) ⌝ }
+    ensures { λ r. ⌜ ((t : SectionStands (now (es .entry))) → (r ≡ i + length (initialModes (t .equations))) × Wrote (now (d .entry)) i (initialModes (t .equations)) (now (d .exit))) ⌝ }
+{
+    let mut at = i;
+    let mut p = 1;
+    let mut left = es[0];
+    while 0 < left {
+        let k = p + 2;
+        if es[k] != 1 {
+            at = codec::put1(d, at, es[k + 1]);
+        }
+        p = k + codec::nat2(es, p);
+        left -= 1;
+    }
+    at
+}
+
+// a start's bytes at the front, and how many they are
+pub struct Start {
+    pub length: usize,
+    pub bytes: [u8; 144],
+}
+
+fn none() -> Start
+    ensures { λ r. ⌜ r ≡ held [] ⌝ }
+{
+    Start {
+        length: 0,
+        bytes: [0; 144],
+    }
+}
+
+// of a plant's two sections; none where 4 to 8 refuse them
+pub fn of(vs: &[u8], es: &[u8]) -> Start
+    ensures { λ r. ⌜ r ≡ held (sectionsStart (now (vs .entry)) (now (es .entry))) ⌝ }
+{
+    let p = plant::sections::read(vs, es);
+    if p.refusal != 0 {
+        return none();
+    }
+    let v = plant::variables::read(vs);
+    let n = v.count;
+    let initials = v.initials;
+    let mut bytes = [0u8; 144];
+    let at = put_values(&mut bytes, &initials[..n]);
+    let length = put_modes(&mut bytes, at, es);
+    Start { length, bytes }
+}

@@ -1,0 +1,2 @@
+-- What the contracts of the programs' helpers cite.
+pub mod Written

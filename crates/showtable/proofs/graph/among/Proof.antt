@@ -1,0 +1,64 @@
+use native.Mathlib.Omega.{arith}
+use Rattle.showtable.proofs.graph.among.Statement.{statement}
+use Rattle.showtable.proofs.graph.among.Tie as tie
+
+abbrev Inv-loop : tie.InvT-loop
+Inv-loop t first count to p₀ left₀ p left = Unit {0}
+
+abbrev μ-loop : tie.MeasureT-loop
+μ-loop t first count to p₀ left₀ p left = left
+
+loop-holds : tie.Need-loop-holds Inv-loop μ-loop
+loop-holds c = tt
+
+on-requires : tie.Need-on-requires Inv-loop μ-loop
+on-requires c κs = tt
+
+two-requires : tie.Need-two-requires Inv-loop μ-loop
+two-requires c κs = tt
+
+returns : tie.Need-returns Inv-loop μ-loop
+returns c = tt
+
+on-requires-2 : tie.Need-on-requires-2 Inv-loop μ-loop
+on-requires-2 c κs = tt
+
+two-requires-2 : tie.Need-two-requires-2 Inv-loop μ-loop
+two-requires-2 c κs = tt
+
+returns-2 : tie.Need-returns-2 Inv-loop μ-loop
+returns-2 c = tt
+
+on-requires-3 : tie.Need-on-requires-3 Inv-loop μ-loop
+on-requires-3 c κs = tt
+
+sub-left : tie.Need-sub-left Inv-loop μ-loop
+sub-left c = omega arith
+
+loop-less : tie.Need-loop-less Inv-loop μ-loop
+loop-less c = omega arith
+
+loop-again : tie.Need-loop-again Inv-loop μ-loop
+loop-again c = tt
+
+returns-3 : tie.Need-returns-3 Inv-loop μ-loop
+returns-3 c = tt
+
+pub among-spec : {M : Type 1} → statement M
+among-spec =
+    tie.close
+    (tie.spec
+    Inv-loop
+    μ-loop
+    loop-holds
+    on-requires
+    two-requires
+    returns
+    on-requires-2
+    two-requires-2
+    returns-2
+    on-requires-3
+    sub-left
+    loop-less
+    loop-again
+    returns-3)

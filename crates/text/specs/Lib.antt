@@ -1,0 +1,2 @@
+-- What the contracts of text in a buffer cite.
+pub mod Texts
