@@ -1,0 +1,83 @@
+// What reading a file finds, as one row of 1,680 words: counts, and where things stand in the file. Each name is a first word; a list follows it.
+use super::bytes;
+
+pub const VARIABLES: usize = 0;
+
+pub const SELECTORS: usize = 1;
+
+pub const NODES: usize = 2;
+
+pub const LOCATIONS: usize = 3;
+
+pub const EQUATIONS: usize = 4;
+// where the sections begin and end; of a table the third has the actions
+pub const VARIABLES_FROM: usize = 5;
+
+pub const VARIABLES_TO: usize = 6;
+
+pub const EQUATIONS_FROM: usize = 7;
+
+pub const EQUATIONS_TO: usize = 8;
+
+pub const THIRD_FROM: usize = 9;
+
+pub const THIRD_TO: usize = 10;
+
+pub const LOCATIONS_FROM: usize = 11;
+
+pub const LOCATIONS_TO: usize = 12;
+// of each equation: where its kind stands, and its selector
+pub const EQUATION_AT: usize = 16;
+
+pub const SELECTOR_OF: usize = 32;
+// of each selector: how many modes, where the first mode's byte stands; of each mode, at 8 times the selector: where its rates begin
+pub const MODES: usize = 48;
+
+pub const CASE_AT: usize = 64;
+
+pub const MODE_AT: usize = 80;
+// of each node: its kind in the schedule, its kind as an action, where its operand begins and ends
+pub const NODE_KIND: usize = 208;
+
+pub const ACTION: usize = 272;
+
+pub const OPERAND: usize = 336;
+
+pub const OPERAND_TO: usize = 400;
+// of each node: how many children, one more than its parent or 0, the node after its last descendant
+pub const CHILDREN: usize = 464;
+
+pub const PARENT: usize = 528;
+
+pub const AFTER: usize = 592;
+// of each location: where its entries begin
+pub const PLACE: usize = 656;
+
+pub fn get(x: &[usize; 1680], list: usize, i: usize) -> usize {
+    let k = bytes::plus(list, i);
+    if k < 1680 {
+        return x[k];
+    }
+    0
+}
+
+pub fn set(x: &mut [usize; 1680], list: usize, i: usize, v: usize) {
+    let k = bytes::plus(list, i);
+    if k < 1680 {
+        x[k] = v;
+    }
+}
+
+// the modes of the selectors
+pub fn mode(m: &[usize; 16], selector: usize) -> usize {
+    if selector < 16 {
+        return m[selector];
+    }
+    0
+}
+
+pub fn set_mode(m: &mut [usize; 16], selector: usize, a: usize) {
+    if selector < 16 {
+        m[selector] = a;
+    }
+}

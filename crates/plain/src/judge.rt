@@ -1,0 +1,335 @@
+// One event of a run that is not over: what it is answered, and what it does to values and modes. An event turned away or a fault does nothing.
+use super::bytes;
+use super::equations;
+use super::forms;
+use super::index;
+use super::nodes;
+use super::numbers;
+use super::sets;
+use super::variables;
+
+pub const TAKEN: usize = 200;
+
+pub const FAULT: usize = 203;
+
+// the answer before it is known where the pick leads, and the truth of a test
+pub struct Judged {
+    pub answer: usize,
+    pub truth: bool,
+}
+
+fn says(answer: usize) -> Judged {
+    Judged {
+        answer: answer,
+        truth: true,
+    }
+}
+
+// what a truth makes of a walk that stops at a true one or a fault: 0 goes on, 1 is true, else the fault
+fn stops(s: &[u8], from: usize, to: usize, v: &[u64; 32]) -> usize {
+    let a = forms::value(s, from, to, v);
+    if a.fault {
+        return FAULT;
+    }
+    if a.value == 1 {
+        return 1;
+    }
+    0
+}
+
+// the switches of a mode as listed, up to the first that stops the walk
+fn mode_stops(s: &[u8], mode: usize, v: &[u64; 32]) -> usize {
+    let at = equations::switches_at(s, mode);
+    let n = bytes::at(s, at);
+    let mut q = bytes::plus(at, 1);
+    let mut i = 0;
+    while i < n {
+        let end = bytes::plus(bytes::plus(q, 1), bytes::at(s, q));
+        let stop = stops(s, bytes::plus(q, 2), end, v);
+        if stop != 0 {
+            return stop;
+        }
+        q = end;
+        i += 1;
+    }
+    0
+}
+
+// 0, 28 or 203
+fn switch_check(s: &[u8], x: &[usize; 1680], v: &[u64; 32], m: &[usize; 16]) -> usize {
+    let n = index::get(x, index::SELECTORS, 0);
+    let mut k = 0;
+    while k < n {
+        let mode = equations::mode_at(x, k, index::mode(m, k));
+        let stop = mode_stops(s, mode, v);
+        if stop == 1 {
+            return 28;
+        }
+        if stop != 0 {
+            return stop;
+        }
+        k += 1;
+    }
+    0
+}
+
+fn assign(s: &[u8], x: &[usize; 1680], from: usize, to: usize, v: &mut [u64; 32]) -> Judged {
+    let variable = bytes::at(s, from);
+    let a = forms::value(s, bytes::plus(from, 1), to, v);
+    if a.fault {
+        return says(FAULT);
+    }
+    if !variables::holds(s, x, variable, a.value) {
+        return says(FAULT);
+    }
+    numbers::set_value(v, variable, a.value);
+    says(TAKEN)
+}
+
+fn test(s: &[u8], from: usize, to: usize, v: &[u64; 32]) -> Judged {
+    let stop = stops(s, from, to, v);
+    if stop == FAULT {
+        return says(FAULT);
+    }
+    Judged {
+        answer: TAKEN,
+        truth: stop == 1,
+    }
+}
+
+fn wait(s: &[u8], from: usize, to: usize, v: &[u64; 32]) -> Judged {
+    let stop = stops(s, from, to, v);
+    if stop == FAULT {
+        return says(FAULT);
+    }
+    if stop == 0 {
+        return says(29);
+    }
+    says(TAKEN)
+}
+
+// the picked node's own truth or assignment
+fn act(s: &[u8], x: &[usize; 1680], n: usize, v: &mut [u64; 32], m: &mut [usize; 16]) -> Judged {
+    let action = index::get(x, index::ACTION, n);
+    let from = index::get(x, index::OPERAND, n);
+    let to = index::get(x, index::OPERAND_TO, n);
+    if action == nodes::TEST {
+        return test(s, from, to, v);
+    }
+    if action == nodes::WAIT {
+        return wait(s, from, to, v);
+    }
+    if action == nodes::ASSIGN {
+        return assign(s, x, from, to, v);
+    }
+    if action == nodes::SWITCH {
+        index::set_mode(m, bytes::at(s, from), bytes::at(s, bytes::plus(from, 1)));
+    }
+    says(TAKEN)
+}
+
+fn pick(
+    s: &[u8],
+    x: &[usize; 1680],
+    acting: u64,
+    n: usize,
+    v: &mut [u64; 32],
+    m: &mut [usize; 16],
+) -> Judged {
+    if !sets::has(acting, n) {
+        return says(25);
+    }
+    let check = switch_check(s, x, v, m);
+    if check != 0 {
+        return says(check);
+    }
+    act(s, x, n, v, m)
+}
+
+// the place of switch k after the count of a mode's switches
+fn switch_place(s: &[u8], at: usize, k: usize) -> usize {
+    let mut q = bytes::plus(at, 1);
+    let mut i = 0;
+    while i < k {
+        q = bytes::plus(bytes::plus(q, 1), bytes::at(s, q));
+        i += 1;
+    }
+    q
+}
+
+fn switch(
+    s: &[u8],
+    x: &[usize; 1680],
+    selector: usize,
+    k: usize,
+    v: &[u64; 32],
+    m: &mut [usize; 16],
+) -> Judged {
+    if selector >= index::get(x, index::SELECTORS, 0) {
+        return says(26);
+    }
+    let mode = equations::mode_at(x, selector, index::mode(m, selector));
+    let at = equations::switches_at(s, mode);
+    if k >= bytes::at(s, at) {
+        return says(26);
+    }
+    let q = switch_place(s, at, k);
+    let end = bytes::plus(bytes::plus(q, 1), bytes::at(s, q));
+    let stop = stops(s, bytes::plus(q, 2), end, v);
+    if stop == FAULT {
+        return says(FAULT);
+    }
+    if stop == 0 {
+        return says(30);
+    }
+    index::set_mode(m, selector, bytes::at(s, bytes::plus(q, 1)));
+    says(TAKEN)
+}
+
+fn all_wait(x: &[usize; 1680], acting: u64) -> bool {
+    let mut all = true;
+    let mut n = 0;
+    while n < 64 {
+        if sets::has(acting, n) {
+            if index::get(x, index::ACTION, n) != nodes::WAIT {
+                all = false;
+            }
+        }
+        n += 1;
+    }
+    all
+}
+
+// the acting nodes' truths in node order, up to the first that stops the walk
+fn waits_stop(s: &[u8], x: &[usize; 1680], acting: u64, v: &[u64; 32]) -> usize {
+    let mut n = 0;
+    while n < 64 {
+        if sets::has(acting, n) {
+            let from = index::get(x, index::OPERAND, n);
+            let stop = stops(s, from, index::get(x, index::OPERAND_TO, n), v);
+            if stop != 0 {
+                return stop;
+            }
+        }
+        n += 1;
+    }
+    0
+}
+
+// the rate that a mode gives a variable, 0 for none
+fn mode_rate(s: &[u8], mode: usize, variable: usize) -> u64 {
+    let n = bytes::at(s, mode);
+    let mut i = 0;
+    while i < n {
+        let p = bytes::plus(bytes::plus(mode, 1), (i % 256) * 5);
+        if bytes::at(s, p) == variable {
+            return numbers::signed4(s, bytes::plus(p, 1));
+        }
+        i += 1;
+    }
+    0
+}
+
+// the rate that equation k gives it now
+fn equation_rate(s: &[u8], x: &[usize; 1680], k: usize, variable: usize, m: &[usize; 16]) -> u64 {
+    let p = index::get(x, index::EQUATION_AT, k);
+    if bytes::at(s, p) == 2 {
+        let selector = index::get(x, index::SELECTOR_OF, k);
+        let mode = equations::mode_at(x, selector, index::mode(m, selector));
+        return mode_rate(s, mode, variable);
+    }
+    if bytes::at(s, bytes::plus(p, 1)) == variable {
+        return numbers::signed4(s, bytes::plus(p, 2));
+    }
+    0
+}
+
+// at most one equation has the variable
+fn rate(s: &[u8], x: &[usize; 1680], variable: usize, m: &[usize; 16]) -> u64 {
+    let n = index::get(x, index::EQUATIONS, 0);
+    let mut sum: u64 = 0;
+    let mut k = 0;
+    while k < n {
+        sum = numbers::add(sum, equation_rate(s, x, k, variable, m));
+        k += 1;
+    }
+    sum
+}
+
+// all sums from the old values; whether all lie in their ranges
+fn sums(s: &[u8], x: &[usize; 1680], v: &[u64; 32], m: &[usize; 16], new: &mut [u64; 32]) -> bool {
+    let n = index::get(x, index::VARIABLES, 0);
+    let mut all = true;
+    let mut i = 0;
+    while i < n {
+        let a = numbers::add(numbers::value(v, i), rate(s, x, i, m));
+        numbers::set_value(new, i, a);
+        if !variables::holds(s, x, i, a) {
+            all = false;
+        }
+        i += 1;
+    }
+    all
+}
+
+fn take_over(new: &[u64; 32], v: &mut [u64; 32]) {
+    let mut i = 0;
+    while i < 32 {
+        numbers::set_value(v, i, numbers::value(new, i));
+        i += 1;
+    }
+}
+
+fn tick(s: &[u8], x: &[usize; 1680], acting: u64, v: &mut [u64; 32], m: &[usize; 16]) -> Judged {
+    if !all_wait(x, acting) {
+        return says(27);
+    }
+    let check = switch_check(s, x, v, m);
+    if check != 0 {
+        return says(check);
+    }
+    let stop = waits_stop(s, x, acting, v);
+    if stop == FAULT {
+        return says(FAULT);
+    }
+    if stop != 0 {
+        return says(31);
+    }
+    let mut new = [0u64; 32];
+    if !sums(s, x, v, m, &mut new) {
+        return says(FAULT);
+    }
+    take_over(&new, v);
+    says(TAKEN)
+}
+
+// the event at p, with these nodes acting
+pub fn event(
+    s: &[u8],
+    x: &[usize; 1680],
+    acting: u64,
+    events: &[u8],
+    p: usize,
+    v: &mut [u64; 32],
+    m: &mut [usize; 16],
+) -> Judged {
+    let kind = bytes::at(events, p);
+    let first = bytes::at(events, bytes::plus(p, 1));
+    let second = bytes::at(events, bytes::plus(p, 2));
+    if kind == 2 {
+        return switch(s, x, first, second, v, m);
+    }
+    if second != 0 {
+        return says(24);
+    }
+    if kind == 1 {
+        return pick(s, x, acting, first, v, m);
+    }
+    if kind != 0 {
+        return says(24);
+    }
+    if first != 0 {
+        return says(24);
+    }
+    tick(s, x, acting, v, m)
+}
