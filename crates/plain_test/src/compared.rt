@@ -10,7 +10,7 @@ fn same<'a>(a: &'a [u8], b: &'a [u8], room: usize) -> bool {
     if room > b.len() {
         return false;
     }
-    check::same(&a[..room], &b[..room])
+    check::same(&a[0..room], &b[0..room])
 }
 
 fn both(a: bool, b: bool) -> bool {
@@ -90,8 +90,8 @@ fn run_rules(
     if room > b.len() {
         return false;
     }
-    let p = plain::run::by_rules(file, start, events, &mut a[..room]);
-    let r = rule_run::call::run(file, start, events, &mut b[..room]);
+    let p = plain::run::by_rules(file, start, events, &mut a[0..room]);
+    let r = rule_run::call::run(file, start, events, &mut b[0..room]);
     line::text(b"; rules");
     show_run(p, a, start.len() + 9, events.len() / 3);
     let numbers = equal_runs(p, r.refusal, r.taken, r.turned_away, r.faulted);
@@ -114,8 +114,8 @@ fn run_table(
     if room > b.len() {
         return false;
     }
-    let p = plain::run::by_table(table, start, events, &mut a[..room]);
-    let r = table_run::call::run(table, start, events, &mut b[..room]);
+    let p = plain::run::by_table(table, start, events, &mut a[0..room]);
+    let r = table_run::call::run(table, start, events, &mut b[0..room]);
     line::text(b"; by table");
     show_run(p, a, start.len() + 9, shown);
     let numbers = equal_runs(p, r.refusal, r.taken, r.turned_away, r.faulted);
@@ -123,32 +123,38 @@ fn run_table(
 }
 
 // the length of the table in a, or 0 where compiling was refused, or where b differs
-struct Table {
+struct Written {
     length: usize,
     agree: bool,
 }
 
-fn compile(file: &[u8], room: usize, work: &mut [u8; 400000], a: &mut [u8], b: &mut [u8]) -> Table {
+fn compile(
+    file: &[u8],
+    room: usize,
+    work: &mut [u8; 400000],
+    a: &mut [u8],
+    b: &mut [u8],
+) -> Written {
     if room > a.len() {
-        return Table {
+        return Written {
             length: 0,
             agree: false,
         };
     }
     if room > b.len() {
-        return Table {
+        return Written {
             length: 0,
             agree: false,
         };
     }
-    let p = plain::numbering::compile(file, work, &mut a[..room]);
-    let r = compiler::call::compile(file, &mut b[..room]);
+    let p = plain::numbering::compile(file, work, &mut a[0..room]);
+    let r = compiler::call::compile(file, &mut b[0..room]);
     line::text(b"; compiled");
     line::number(p.refusal);
     line::text(b",");
     line::number(p.length);
     let numbers = equal4(p.refusal, r.refusal as usize, p.length, r.length);
-    Table {
+    Written {
         length: p.length,
         agree: both(numbers, same(a, b, room)),
     }
@@ -175,7 +181,7 @@ fn written_too(
     if length > table.len() {
         return false;
     }
-    table_too(&table[..length], start, events, room, rules)
+    table_too(&table[0..length], start, events, room, rules)
 }
 
 // compiling, and what becomes of the table

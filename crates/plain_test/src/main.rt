@@ -58,7 +58,7 @@ fn tried(s: &[u8], kind: usize, c: Case) -> bool {
 }
 
 // the case at p: kind, name, head, bytes; the place of the next
-fn case(s: &[u8], p: usize) -> usize {
+fn one(s: &[u8], p: usize) -> usize {
     let name = bytes::plus(p, 2);
     let after = bytes::plus(name, bytes::at(s, bytes::plus(p, 1)));
     line::part(s, name, after);
@@ -76,7 +76,7 @@ fn all(s: &[u8]) {
     let mut p = 2;
     let mut i = 0;
     while i < n {
-        p = case(s, p);
+        p = one(s, p);
         i += 1;
     }
 }
