@@ -5,7 +5,9 @@ The input: how many cases (2 bytes); of each its kind (1 a schedule, 0 a table),
 the rooms lent for table and records, the lengths of file, start and events (4 bytes each), and these bytes.
 A case says parts of its line, split by ';'. The line must have each of them."""
 import os
+import sys
 
+sys.dont_write_bytecode = True
 from cases import CASES
 from forms import n2, n4
 

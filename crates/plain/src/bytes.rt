@@ -23,6 +23,11 @@ pub fn at(s: &[u8], i: usize) -> usize {
     0
 }
 
+// the byte so many after p
+pub fn past(s: &[u8], p: usize, n: usize) -> usize {
+    at(s, plus(p, n))
+}
+
 // 256 times, for what is below 2^24
 pub fn shifted(a: usize) -> usize {
     (a % 16777216) * 256

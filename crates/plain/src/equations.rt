@@ -50,8 +50,8 @@ fn mode_end(s: &[u8], p: usize, end: usize) -> usize {
 }
 
 // whether the modes of the CASE whose kind stands at p fill it up to its end
-fn modes_fill(s: &[u8], x: &mut [usize; 1680], selector: usize, p: usize, end: usize) -> bool {
-    let n = bytes::at(s, bytes::plus(p, 2));
+fn modes_fill(s: &[u8], x: &mut [usize; 1728], selector: usize, p: usize, end: usize) -> bool {
+    let n = bytes::past(s, p, 2);
     let first = (selector % 16) * 8;
     let mut q = bytes::plus(p, 3);
     let mut m = 0;
@@ -64,11 +64,11 @@ fn modes_fill(s: &[u8], x: &mut [usize; 1680], selector: usize, p: usize, end: u
 }
 
 // kind, initial mode, mode count, modes
-fn is_case(s: &[u8], x: &mut [usize; 1680], p: usize, end: usize) -> bool {
+fn is_case(s: &[u8], x: &mut [usize; 1728], p: usize, end: usize) -> bool {
     if bytes::plus(p, 3) > end {
         return false;
     }
-    let n = bytes::at(s, bytes::plus(p, 2));
+    let n = bytes::past(s, p, 2);
     if n == 0 {
         return false;
     }
@@ -83,7 +83,7 @@ fn is_case(s: &[u8], x: &mut [usize; 1680], p: usize, end: usize) -> bool {
 }
 
 // an equation's kind and what follows, up to its end
-fn is_equation(s: &[u8], x: &mut [usize; 1680], p: usize, end: usize) -> bool {
+fn is_equation(s: &[u8], x: &mut [usize; 1728], p: usize, end: usize) -> bool {
     if p >= end {
         return false;
     }
@@ -97,7 +97,7 @@ fn is_equation(s: &[u8], x: &mut [usize; 1680], p: usize, end: usize) -> bool {
 }
 
 // where equation k at p ends
-fn equation_end(s: &[u8], x: &mut [usize; 1680], k: usize, p: usize, end: usize) -> usize {
+fn equation_end(s: &[u8], x: &mut [usize; 1728], k: usize, p: usize, end: usize) -> usize {
     if p == 0 {
         return 0;
     }
@@ -118,7 +118,7 @@ fn equation_end(s: &[u8], x: &mut [usize; 1680], k: usize, p: usize, end: usize)
 }
 
 // 6
-fn laid_out(s: &[u8], x: &mut [usize; 1680]) -> bool {
+fn laid_out(s: &[u8], x: &mut [usize; 1728]) -> bool {
     let from = index::get(x, index::EQUATIONS_FROM, 0);
     let end = index::get(x, index::EQUATIONS_TO, 0);
     if from >= end {
@@ -159,7 +159,7 @@ fn targets_named(s: &[u8], mode: usize, modes: usize) -> bool {
     let mut q = bytes::plus(at, 1);
     let mut i = 0;
     while i < n {
-        if bytes::at(s, bytes::plus(q, 1)) >= modes {
+        if bytes::past(s, q, 1) >= modes {
             well = false;
         }
         q = bytes::plus(bytes::plus(q, 1), bytes::at(s, q));
@@ -169,15 +169,15 @@ fn targets_named(s: &[u8], mode: usize, modes: usize) -> bool {
 }
 
 // the place of a selector's mode
-pub fn mode_at(x: &[usize; 1680], selector: usize, mode: usize) -> usize {
+pub fn mode_at(x: &[usize; 1728], selector: usize, mode: usize) -> usize {
     index::get(x, index::MODE_AT, bytes::plus((selector % 16) * 8, mode))
 }
 
-fn case_named(s: &[u8], x: &[usize; 1680], selector: usize) -> bool {
+fn case_named(s: &[u8], x: &[usize; 1728], selector: usize) -> bool {
     let n = index::get(x, index::MODES, selector);
     let variables = index::get(x, index::VARIABLES, 0);
     let p = index::get(x, index::CASE_AT, selector);
-    let mut well = bytes::at(s, bytes::plus(p, 1)) < n;
+    let mut well = bytes::past(s, p, 1) < n;
     let mut m = 0;
     while m < n {
         let at = mode_at(x, selector, m);
@@ -192,16 +192,16 @@ fn case_named(s: &[u8], x: &[usize; 1680], selector: usize) -> bool {
     well
 }
 
-fn equation_named(s: &[u8], x: &[usize; 1680], k: usize) -> bool {
+fn equation_named(s: &[u8], x: &[usize; 1728], k: usize) -> bool {
     let p = index::get(x, index::EQUATION_AT, k);
     if bytes::at(s, p) == 1 {
-        return bytes::at(s, bytes::plus(p, 1)) < index::get(x, index::VARIABLES, 0);
+        return bytes::past(s, p, 1) < index::get(x, index::VARIABLES, 0);
     }
     case_named(s, x, index::get(x, index::SELECTOR_OF, k))
 }
 
 // 7
-fn named(s: &[u8], x: &[usize; 1680]) -> bool {
+fn named(s: &[u8], x: &[usize; 1728]) -> bool {
     let n = index::get(x, index::EQUATIONS, 0);
     let mut well = true;
     let mut k = 0;
@@ -230,7 +230,7 @@ fn times_in_mode(s: &[u8], mode: usize, v: usize) -> usize {
 }
 
 // the most often that a mode of the CASE gives this variable a rate: 0, 1 or 2 for more
-fn times_in_case(s: &[u8], x: &[usize; 1680], selector: usize, v: usize) -> usize {
+fn times_in_case(s: &[u8], x: &[usize; 1728], selector: usize, v: usize) -> usize {
     let n = index::get(x, index::MODES, selector);
     let mut most = 0;
     let mut m = 0;
@@ -244,19 +244,19 @@ fn times_in_case(s: &[u8], x: &[usize; 1680], selector: usize, v: usize) -> usiz
     most
 }
 
-fn times_in_equation(s: &[u8], x: &[usize; 1680], k: usize, v: usize) -> usize {
+fn times_in_equation(s: &[u8], x: &[usize; 1728], k: usize, v: usize) -> usize {
     let p = index::get(x, index::EQUATION_AT, k);
     if bytes::at(s, p) == 2 {
         return times_in_case(s, x, index::get(x, index::SELECTOR_OF, k), v);
     }
-    if bytes::at(s, bytes::plus(p, 1)) == v {
+    if bytes::past(s, p, 1) == v {
         return 1;
     }
     0
 }
 
 // more than 1 where the variable is in two equations or twice in one mode
-fn times(s: &[u8], x: &[usize; 1680], v: usize) -> usize {
+fn times(s: &[u8], x: &[usize; 1728], v: usize) -> usize {
     let n = index::get(x, index::EQUATIONS, 0);
     let mut sum = 0;
     let mut k = 0;
@@ -268,7 +268,7 @@ fn times(s: &[u8], x: &[usize; 1680], v: usize) -> usize {
 }
 
 // 8
-fn once(s: &[u8], x: &[usize; 1680]) -> bool {
+fn once(s: &[u8], x: &[usize; 1728]) -> bool {
     let n = index::get(x, index::VARIABLES, 0);
     let mut well = true;
     let mut v = 0;
@@ -282,7 +282,7 @@ fn once(s: &[u8], x: &[usize; 1680]) -> bool {
 }
 
 // 6, 7, 8 or 0
-pub fn read(s: &[u8], x: &mut [usize; 1680]) -> usize {
+pub fn read(s: &[u8], x: &mut [usize; 1728]) -> usize {
     if !laid_out(s, x) {
         return 6;
     }
@@ -312,7 +312,7 @@ fn mode_truths(s: &[u8], mode: usize, variables: usize) -> bool {
     well
 }
 
-fn case_truths(s: &[u8], x: &[usize; 1680], selector: usize) -> bool {
+fn case_truths(s: &[u8], x: &[usize; 1728], selector: usize) -> bool {
     let n = index::get(x, index::MODES, selector);
     let variables = index::get(x, index::VARIABLES, 0);
     let mut well = true;
@@ -327,7 +327,7 @@ fn case_truths(s: &[u8], x: &[usize; 1680], selector: usize) -> bool {
 }
 
 // 12 of the switches
-pub fn truths(s: &[u8], x: &[usize; 1680]) -> bool {
+pub fn truths(s: &[u8], x: &[usize; 1728]) -> bool {
     let n = index::get(x, index::SELECTORS, 0);
     let mut well = true;
     let mut k = 0;

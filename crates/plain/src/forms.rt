@@ -71,7 +71,7 @@ fn broken() -> Scan {
 
 fn names_missing(s: &[u8], p: usize, code: usize, variables: usize) -> bool {
     if code == 2 {
-        return bytes::at(s, bytes::plus(p, 1)) >= variables;
+        return bytes::past(s, p, 1) >= variables;
     }
     false
 }
@@ -174,18 +174,25 @@ fn applied(code: usize, a: u64, b: u64) -> u64 {
     }
 }
 
+fn value_at(row: &[u64; 256], i: usize) -> u64 {
+    if i < 256 {
+        return row[i];
+    }
+    0
+}
+
 // the form at p, its operands' values standing last in the row, the left one on top
-fn result(s: &[u8], p: usize, variables: &[u64; 32], row: &[u64; 256], size: usize) -> u64 {
+fn result(s: &[u8], p: usize, x: &[usize; 1728], row: &[u64; 256], size: usize) -> u64 {
     let code = bytes::at(s, p);
     let next = bytes::plus(p, 1);
     if code == 1 {
         return numbers::signed4(s, next);
     }
     if code == 2 {
-        return numbers::value(variables, bytes::at(s, next));
+        return numbers::value(x, bytes::at(s, next));
     }
-    let a = numbers::get(row, bytes::minus(size, 1));
-    let b = numbers::get(row, bytes::minus(size, 2));
+    let a = value_at(row, bytes::minus(size, 1));
+    let b = value_at(row, bytes::minus(size, 2));
     applied(code, a, b)
 }
 
@@ -232,7 +239,7 @@ fn put_value(s: &[u8], p: usize, row: &mut [u64; 256], size: usize, a: u64) -> u
 }
 
 // The last form first, so that operands have their values before the form that they belong to. Every form is evaluated.
-pub fn value(s: &[u8], from: usize, to: usize, variables: &[u64; 32]) -> Outcome {
+pub fn value(s: &[u8], from: usize, to: usize, x: &[usize; 1728]) -> Outcome {
     let mut places = [0usize; 256];
     let n = all_places(s, from, to, &mut places);
     let mut row = [0u64; 256];
@@ -241,7 +248,7 @@ pub fn value(s: &[u8], from: usize, to: usize, variables: &[u64; 32]) -> Outcome
     let mut i = 0;
     while i < n {
         let p = form_at(&places, bytes::minus(n, bytes::plus(i, 1)));
-        let a = result(s, p, variables, &row, size);
+        let a = result(s, p, x, &row, size);
         if !numbers::fits(a) {
             fault = true;
         }

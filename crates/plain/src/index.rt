@@ -1,4 +1,4 @@
-// What reading a file finds, as one row of 1,680 words: counts, and where things stand in the file. Each name is a first word; a list follows it.
+// What reading a file finds, as one row of 1,728 words: counts, and where things stand in the file. Each name is a first word; a list follows it.
 use super::bytes;
 
 pub const VARIABLES: usize = 0;
@@ -52,32 +52,22 @@ pub const PARENT: usize = 528;
 pub const AFTER: usize = 592;
 // of each location: where its entries begin
 pub const PLACE: usize = 656;
+// of a run: the values of the variables, the modes of the selectors
+pub const VALUE: usize = 1680;
 
-pub fn get(x: &[usize; 1680], list: usize, i: usize) -> usize {
+pub const MODE: usize = 1712;
+
+pub fn get(x: &[usize; 1728], list: usize, i: usize) -> usize {
     let k = bytes::plus(list, i);
-    if k < 1680 {
+    if k < 1728 {
         return x[k];
     }
     0
 }
 
-pub fn set(x: &mut [usize; 1680], list: usize, i: usize, v: usize) {
+pub fn set(x: &mut [usize; 1728], list: usize, i: usize, v: usize) {
     let k = bytes::plus(list, i);
-    if k < 1680 {
+    if k < 1728 {
         x[k] = v;
-    }
-}
-
-// the modes of the selectors
-pub fn mode(m: &[usize; 16], selector: usize) -> usize {
-    if selector < 16 {
-        return m[selector];
-    }
-    0
-}
-
-pub fn set_mode(m: &mut [usize; 16], selector: usize, a: usize) {
-    if selector < 16 {
-        m[selector] = a;
     }
 }

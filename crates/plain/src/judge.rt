@@ -26,8 +26,8 @@ fn says(answer: usize) -> Judged {
 }
 
 // what a truth makes of a walk that stops at a true one or a fault: 0 goes on, 1 is true, else the fault
-fn stops(s: &[u8], from: usize, to: usize, v: &[u64; 32]) -> usize {
-    let a = forms::value(s, from, to, v);
+fn stops(s: &[u8], x: &[usize; 1728], from: usize, to: usize) -> usize {
+    let a = forms::value(s, from, to, x);
     if a.fault {
         return FAULT;
     }
@@ -38,14 +38,14 @@ fn stops(s: &[u8], from: usize, to: usize, v: &[u64; 32]) -> usize {
 }
 
 // the switches of a mode as listed, up to the first that stops the walk
-fn mode_stops(s: &[u8], mode: usize, v: &[u64; 32]) -> usize {
+fn mode_stops(s: &[u8], x: &[usize; 1728], mode: usize) -> usize {
     let at = equations::switches_at(s, mode);
     let n = bytes::at(s, at);
     let mut q = bytes::plus(at, 1);
     let mut i = 0;
     while i < n {
         let end = bytes::plus(bytes::plus(q, 1), bytes::at(s, q));
-        let stop = stops(s, bytes::plus(q, 2), end, v);
+        let stop = stops(s, x, bytes::plus(q, 2), end);
         if stop != 0 {
             return stop;
         }
@@ -56,12 +56,12 @@ fn mode_stops(s: &[u8], mode: usize, v: &[u64; 32]) -> usize {
 }
 
 // 0, 28 or 203
-fn switch_check(s: &[u8], x: &[usize; 1680], v: &[u64; 32], m: &[usize; 16]) -> usize {
+fn switch_check(s: &[u8], x: &[usize; 1728]) -> usize {
     let n = index::get(x, index::SELECTORS, 0);
     let mut k = 0;
     while k < n {
-        let mode = equations::mode_at(x, k, index::mode(m, k));
-        let stop = mode_stops(s, mode, v);
+        let mode = equations::mode_at(x, k, index::get(x, index::MODE, k));
+        let stop = mode_stops(s, x, mode);
         if stop == 1 {
             return 28;
         }
@@ -73,21 +73,21 @@ fn switch_check(s: &[u8], x: &[usize; 1680], v: &[u64; 32], m: &[usize; 16]) -> 
     0
 }
 
-fn assign(s: &[u8], x: &[usize; 1680], from: usize, to: usize, v: &mut [u64; 32]) -> Judged {
+fn assign(s: &[u8], x: &mut [usize; 1728], from: usize, to: usize) -> Judged {
     let variable = bytes::at(s, from);
-    let a = forms::value(s, bytes::plus(from, 1), to, v);
+    let a = forms::value(s, bytes::plus(from, 1), to, x);
     if a.fault {
         return says(FAULT);
     }
     if !variables::holds(s, x, variable, a.value) {
         return says(FAULT);
     }
-    numbers::set_value(v, variable, a.value);
+    numbers::set_value(x, variable, a.value);
     says(TAKEN)
 }
 
-fn test(s: &[u8], from: usize, to: usize, v: &[u64; 32]) -> Judged {
-    let stop = stops(s, from, to, v);
+fn test(s: &[u8], x: &[usize; 1728], from: usize, to: usize) -> Judged {
+    let stop = stops(s, x, from, to);
     if stop == FAULT {
         return says(FAULT);
     }
@@ -97,8 +97,8 @@ fn test(s: &[u8], from: usize, to: usize, v: &[u64; 32]) -> Judged {
     }
 }
 
-fn wait(s: &[u8], from: usize, to: usize, v: &[u64; 32]) -> Judged {
-    let stop = stops(s, from, to, v);
+fn wait(s: &[u8], x: &[usize; 1728], from: usize, to: usize) -> Judged {
+    let stop = stops(s, x, from, to);
     if stop == FAULT {
         return says(FAULT);
     }
@@ -109,41 +109,34 @@ fn wait(s: &[u8], from: usize, to: usize, v: &[u64; 32]) -> Judged {
 }
 
 // the picked node's own truth or assignment
-fn act(s: &[u8], x: &[usize; 1680], n: usize, v: &mut [u64; 32], m: &mut [usize; 16]) -> Judged {
+fn act(s: &[u8], x: &mut [usize; 1728], n: usize) -> Judged {
     let action = index::get(x, index::ACTION, n);
     let from = index::get(x, index::OPERAND, n);
     let to = index::get(x, index::OPERAND_TO, n);
     if action == nodes::TEST {
-        return test(s, from, to, v);
+        return test(s, x, from, to);
     }
     if action == nodes::WAIT {
-        return wait(s, from, to, v);
+        return wait(s, x, from, to);
     }
     if action == nodes::ASSIGN {
-        return assign(s, x, from, to, v);
+        return assign(s, x, from, to);
     }
     if action == nodes::SWITCH {
-        index::set_mode(m, bytes::at(s, from), bytes::at(s, bytes::plus(from, 1)));
+        index::set(x, index::MODE, bytes::at(s, from), bytes::past(s, from, 1));
     }
     says(TAKEN)
 }
 
-fn pick(
-    s: &[u8],
-    x: &[usize; 1680],
-    acting: u64,
-    n: usize,
-    v: &mut [u64; 32],
-    m: &mut [usize; 16],
-) -> Judged {
+fn pick(s: &[u8], x: &mut [usize; 1728], acting: u64, n: usize) -> Judged {
     if !sets::has(acting, n) {
         return says(25);
     }
-    let check = switch_check(s, x, v, m);
+    let check = switch_check(s, x);
     if check != 0 {
         return says(check);
     }
-    act(s, x, n, v, m)
+    act(s, x, n)
 }
 
 // the place of switch k after the count of a mode's switches
@@ -157,36 +150,29 @@ fn switch_place(s: &[u8], at: usize, k: usize) -> usize {
     q
 }
 
-fn switch(
-    s: &[u8],
-    x: &[usize; 1680],
-    selector: usize,
-    k: usize,
-    v: &[u64; 32],
-    m: &mut [usize; 16],
-) -> Judged {
+fn switch(s: &[u8], x: &mut [usize; 1728], selector: usize, k: usize) -> Judged {
     if selector >= index::get(x, index::SELECTORS, 0) {
         return says(26);
     }
-    let mode = equations::mode_at(x, selector, index::mode(m, selector));
+    let mode = equations::mode_at(x, selector, index::get(x, index::MODE, selector));
     let at = equations::switches_at(s, mode);
     if k >= bytes::at(s, at) {
         return says(26);
     }
     let q = switch_place(s, at, k);
     let end = bytes::plus(bytes::plus(q, 1), bytes::at(s, q));
-    let stop = stops(s, bytes::plus(q, 2), end, v);
+    let stop = stops(s, x, bytes::plus(q, 2), end);
     if stop == FAULT {
         return says(FAULT);
     }
     if stop == 0 {
         return says(30);
     }
-    index::set_mode(m, selector, bytes::at(s, bytes::plus(q, 1)));
+    index::set(x, index::MODE, selector, bytes::past(s, q, 1));
     says(TAKEN)
 }
 
-fn all_wait(x: &[usize; 1680], acting: u64) -> bool {
+fn all_wait(x: &[usize; 1728], acting: u64) -> bool {
     let mut all = true;
     let mut n = 0;
     while n < 64 {
@@ -201,12 +187,12 @@ fn all_wait(x: &[usize; 1680], acting: u64) -> bool {
 }
 
 // the acting nodes' truths in node order, up to the first that stops the walk
-fn waits_stop(s: &[u8], x: &[usize; 1680], acting: u64, v: &[u64; 32]) -> usize {
+fn waits_stop(s: &[u8], x: &[usize; 1728], acting: u64) -> usize {
     let mut n = 0;
     while n < 64 {
         if sets::has(acting, n) {
             let from = index::get(x, index::OPERAND, n);
-            let stop = stops(s, from, index::get(x, index::OPERAND_TO, n), v);
+            let stop = stops(s, x, from, index::get(x, index::OPERAND_TO, n));
             if stop != 0 {
                 return stop;
             }
@@ -231,39 +217,45 @@ fn mode_rate(s: &[u8], mode: usize, variable: usize) -> u64 {
 }
 
 // the rate that equation k gives it now
-fn equation_rate(s: &[u8], x: &[usize; 1680], k: usize, variable: usize, m: &[usize; 16]) -> u64 {
+fn equation_rate(s: &[u8], x: &[usize; 1728], k: usize, variable: usize) -> u64 {
     let p = index::get(x, index::EQUATION_AT, k);
     if bytes::at(s, p) == 2 {
         let selector = index::get(x, index::SELECTOR_OF, k);
-        let mode = equations::mode_at(x, selector, index::mode(m, selector));
+        let mode = equations::mode_at(x, selector, index::get(x, index::MODE, selector));
         return mode_rate(s, mode, variable);
     }
-    if bytes::at(s, bytes::plus(p, 1)) == variable {
+    if bytes::past(s, p, 1) == variable {
         return numbers::signed4(s, bytes::plus(p, 2));
     }
     0
 }
 
 // at most one equation has the variable
-fn rate(s: &[u8], x: &[usize; 1680], variable: usize, m: &[usize; 16]) -> u64 {
+fn rate(s: &[u8], x: &[usize; 1728], variable: usize) -> u64 {
     let n = index::get(x, index::EQUATIONS, 0);
     let mut sum: u64 = 0;
     let mut k = 0;
     while k < n {
-        sum = numbers::add(sum, equation_rate(s, x, k, variable, m));
+        sum = numbers::add(sum, equation_rate(s, x, k, variable));
         k += 1;
     }
     sum
 }
 
+fn put_new(new: &mut [u64; 32], i: usize, a: u64) {
+    if i < 32 {
+        new[i] = a;
+    }
+}
+
 // all sums from the old values; whether all lie in their ranges
-fn sums(s: &[u8], x: &[usize; 1680], v: &[u64; 32], m: &[usize; 16], new: &mut [u64; 32]) -> bool {
+fn sums(s: &[u8], x: &[usize; 1728], new: &mut [u64; 32]) -> bool {
     let n = index::get(x, index::VARIABLES, 0);
     let mut all = true;
     let mut i = 0;
     while i < n {
-        let a = numbers::add(numbers::value(v, i), rate(s, x, i, m));
-        numbers::set_value(new, i, a);
+        let a = numbers::add(numbers::value(x, i), rate(s, x, i));
+        put_new(new, i, a);
         if !variables::holds(s, x, i, a) {
             all = false;
         }
@@ -272,23 +264,30 @@ fn sums(s: &[u8], x: &[usize; 1680], v: &[u64; 32], m: &[usize; 16], new: &mut [
     all
 }
 
-fn take_over(new: &[u64; 32], v: &mut [u64; 32]) {
+fn new_value(new: &[u64; 32], i: usize) -> u64 {
+    if i < 32 {
+        return new[i];
+    }
+    0
+}
+
+fn take_over(new: &[u64; 32], x: &mut [usize; 1728]) {
     let mut i = 0;
     while i < 32 {
-        numbers::set_value(v, i, numbers::value(new, i));
+        numbers::set_value(x, i, new_value(new, i));
         i += 1;
     }
 }
 
-fn tick(s: &[u8], x: &[usize; 1680], acting: u64, v: &mut [u64; 32], m: &[usize; 16]) -> Judged {
+fn tick(s: &[u8], x: &mut [usize; 1728], acting: u64) -> Judged {
     if !all_wait(x, acting) {
         return says(27);
     }
-    let check = switch_check(s, x, v, m);
+    let check = switch_check(s, x);
     if check != 0 {
         return says(check);
     }
-    let stop = waits_stop(s, x, acting, v);
+    let stop = waits_stop(s, x, acting);
     if stop == FAULT {
         return says(FAULT);
     }
@@ -296,34 +295,26 @@ fn tick(s: &[u8], x: &[usize; 1680], acting: u64, v: &mut [u64; 32], m: &[usize;
         return says(31);
     }
     let mut new = [0u64; 32];
-    if !sums(s, x, v, m, &mut new) {
+    if !sums(s, x, &mut new) {
         return says(FAULT);
     }
-    take_over(&new, v);
+    take_over(&new, x);
     says(TAKEN)
 }
 
 // the event at p, with these nodes acting
-pub fn event(
-    s: &[u8],
-    x: &[usize; 1680],
-    acting: u64,
-    events: &[u8],
-    p: usize,
-    v: &mut [u64; 32],
-    m: &mut [usize; 16],
-) -> Judged {
+pub fn event(s: &[u8], x: &mut [usize; 1728], acting: u64, events: &[u8], p: usize) -> Judged {
     let kind = bytes::at(events, p);
-    let first = bytes::at(events, bytes::plus(p, 1));
-    let second = bytes::at(events, bytes::plus(p, 2));
+    let first = bytes::past(events, p, 1);
+    let second = bytes::past(events, p, 2);
     if kind == 2 {
-        return switch(s, x, first, second, v, m);
+        return switch(s, x, first, second);
     }
     if second != 0 {
         return says(24);
     }
     if kind == 1 {
-        return pick(s, x, acting, first, v, m);
+        return pick(s, x, acting, first);
     }
     if kind != 0 {
         return says(24);
@@ -331,5 +322,5 @@ pub fn event(
     if first != 0 {
         return says(24);
     }
-    tick(s, x, acting, v, m)
+    tick(s, x, acting)
 }

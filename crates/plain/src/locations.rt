@@ -40,7 +40,7 @@ fn fit(action: usize, first: usize, second: usize, count: usize) -> bool {
 }
 
 // whether the entry at p is sound, whose node must not be below this one
-fn entry_sound(s: &[u8], x: &[usize; 1680], p: usize, lowest: usize, count: usize) -> bool {
+fn entry_sound(s: &[u8], x: &[usize; 1728], p: usize, lowest: usize, count: usize) -> bool {
     let n = bytes::at(s, p);
     if n < lowest {
         return false;
@@ -57,7 +57,7 @@ fn entry_sound(s: &[u8], x: &[usize; 1680], p: usize, lowest: usize, count: usiz
     fit(action, first, second, count)
 }
 
-fn entries_sound(s: &[u8], x: &[usize; 1680], place: usize, count: usize) -> bool {
+fn entries_sound(s: &[u8], x: &[usize; 1728], place: usize, count: usize) -> bool {
     let n = bytes::at(s, place);
     let mut well = true;
     let mut lowest = 0;
@@ -92,7 +92,7 @@ fn location_end(s: &[u8], p: usize, end: usize) -> usize {
     q
 }
 
-fn laid_out(s: &[u8], x: &mut [usize; 1680], from: usize, end: usize, count: usize) -> bool {
+fn laid_out(s: &[u8], x: &mut [usize; 1728], from: usize, end: usize, count: usize) -> bool {
     let mut p = from;
     let mut l = 0;
     while l < count {
@@ -103,7 +103,7 @@ fn laid_out(s: &[u8], x: &mut [usize; 1680], from: usize, end: usize, count: usi
     p == end
 }
 
-fn all_sound(s: &[u8], x: &[usize; 1680], count: usize) -> bool {
+fn all_sound(s: &[u8], x: &[usize; 1728], count: usize) -> bool {
     let mut well = true;
     let mut l = 0;
     while l < count {
@@ -116,7 +116,7 @@ fn all_sound(s: &[u8], x: &[usize; 1680], count: usize) -> bool {
 }
 
 // whether 19 does not apply
-pub fn read(s: &[u8], x: &mut [usize; 1680]) -> bool {
+pub fn read(s: &[u8], x: &mut [usize; 1728]) -> bool {
     let from = index::get(x, index::LOCATIONS_FROM, 0);
     let end = index::get(x, index::LOCATIONS_TO, 0);
     let first = bytes::plus(from, 2);
@@ -138,7 +138,7 @@ pub fn read(s: &[u8], x: &mut [usize; 1680]) -> bool {
 }
 
 // the nodes of a location's entries
-pub fn acting(s: &[u8], x: &[usize; 1680], l: usize) -> u64 {
+pub fn acting(s: &[u8], x: &[usize; 1728], l: usize) -> u64 {
     let place = index::get(x, index::PLACE, l);
     let n = bytes::at(s, place);
     let mut w: u64 = 0;
@@ -151,7 +151,7 @@ pub fn acting(s: &[u8], x: &[usize; 1680], l: usize) -> u64 {
 }
 
 // where the pick of node n leads from location l
-pub fn target(s: &[u8], x: &[usize; 1680], l: usize, n: usize, truth: bool) -> usize {
+pub fn target(s: &[u8], x: &[usize; 1728], l: usize, n: usize, truth: bool) -> usize {
     let place = index::get(x, index::PLACE, l);
     let entries = bytes::at(s, place);
     let mut to = NONE;

@@ -58,7 +58,7 @@ fn children(s: &[u8], kind: usize, payload: usize) -> usize {
 }
 
 // where node n at p ends, 0 where its layout is broken
-fn node_end(s: &[u8], x: &mut [usize; 1680], n: usize, p: usize, end: usize) -> usize {
+fn node_end(s: &[u8], x: &mut [usize; 1728], n: usize, p: usize, end: usize) -> usize {
     if p == 0 {
         return 0;
     }
@@ -92,7 +92,7 @@ fn node_end(s: &[u8], x: &mut [usize; 1680], n: usize, p: usize, end: usize) -> 
     q
 }
 
-fn keep(x: &mut [usize; 1680], n: usize, kind: usize, payload: usize, end: usize) {
+fn keep(x: &mut [usize; 1728], n: usize, kind: usize, payload: usize, end: usize) {
     index::set(x, index::NODE_KIND, n, kind);
     index::set(x, index::ACTION, n, action(kind));
     index::set(x, index::OPERAND, n, payload);
@@ -100,7 +100,7 @@ fn keep(x: &mut [usize; 1680], n: usize, kind: usize, payload: usize, end: usize
 }
 
 // 9
-fn laid_out(s: &[u8], x: &mut [usize; 1680]) -> bool {
+fn laid_out(s: &[u8], x: &mut [usize; 1728]) -> bool {
     let from = index::get(x, index::THIRD_FROM, 0);
     let end = index::get(x, index::THIRD_TO, 0);
     if from >= end {
@@ -124,7 +124,7 @@ fn laid_out(s: &[u8], x: &mut [usize; 1680]) -> bool {
 }
 
 // the node after the last descendant of n, or 65 where nodes are missing
-fn after(x: &[usize; 1680], n: usize) -> usize {
+fn after(x: &[usize; 1728], n: usize) -> usize {
     let count = index::get(x, index::NODES, 0);
     let mut missing = 1;
     let mut k = n;
@@ -146,7 +146,7 @@ fn after(x: &[usize; 1680], n: usize) -> usize {
 }
 
 // one more than the last node before n that has n among its descendants; 0 for none
-fn parent(x: &[usize; 1680], n: usize) -> usize {
+fn parent(x: &[usize; 1728], n: usize) -> usize {
     let mut p = 0;
     let mut i = 0;
     while i < n {
@@ -159,7 +159,7 @@ fn parent(x: &[usize; 1680], n: usize) -> usize {
 }
 
 // 10, and where the subtrees end
-fn one_tree(x: &mut [usize; 1680]) -> bool {
+fn one_tree(x: &mut [usize; 1728]) -> bool {
     let count = index::get(x, index::NODES, 0);
     if after(x, 0) != count {
         return false;
@@ -176,7 +176,7 @@ fn one_tree(x: &mut [usize; 1680]) -> bool {
 }
 
 // whether an action's variable, selector or mode is there: 11, truths and numbers left aside
-pub fn named(s: &[u8], x: &[usize; 1680], action: usize, p: usize) -> bool {
+pub fn named(s: &[u8], x: &[usize; 1728], action: usize, p: usize) -> bool {
     if action == ASSIGN {
         return bytes::at(s, p) < index::get(x, index::VARIABLES, 0);
     }
@@ -185,13 +185,13 @@ pub fn named(s: &[u8], x: &[usize; 1680], action: usize, p: usize) -> bool {
         if selector >= index::get(x, index::SELECTORS, 0) {
             return false;
         }
-        return bytes::at(s, bytes::plus(p, 1)) < index::get(x, index::MODES, selector);
+        return bytes::past(s, p, 1) < index::get(x, index::MODES, selector);
     }
     true
 }
 
 // whether an action's truth or number is one: 12
-pub fn formed(s: &[u8], x: &[usize; 1680], action: usize, p: usize, end: usize) -> bool {
+pub fn formed(s: &[u8], x: &[usize; 1728], action: usize, p: usize, end: usize) -> bool {
     let variables = index::get(x, index::VARIABLES, 0);
     if action == ASSIGN {
         return forms::is_number(s, bytes::plus(p, 1), end, variables);
@@ -205,7 +205,7 @@ pub fn formed(s: &[u8], x: &[usize; 1680], action: usize, p: usize, end: usize) 
     true
 }
 
-fn all_named(s: &[u8], x: &[usize; 1680]) -> bool {
+fn all_named(s: &[u8], x: &[usize; 1728]) -> bool {
     let count = index::get(x, index::NODES, 0);
     let mut well = true;
     let mut n = 0;
@@ -219,7 +219,7 @@ fn all_named(s: &[u8], x: &[usize; 1680]) -> bool {
     well
 }
 
-fn all_formed(s: &[u8], x: &[usize; 1680]) -> bool {
+fn all_formed(s: &[u8], x: &[usize; 1728]) -> bool {
     let count = index::get(x, index::NODES, 0);
     let mut well = true;
     let mut n = 0;
@@ -236,7 +236,7 @@ fn all_formed(s: &[u8], x: &[usize; 1680]) -> bool {
 }
 
 // 9 to 12, or 0; 12 without the switches
-pub fn read(s: &[u8], x: &mut [usize; 1680]) -> usize {
+pub fn read(s: &[u8], x: &mut [usize; 1728]) -> usize {
     if !laid_out(s, x) {
         return 9;
     }

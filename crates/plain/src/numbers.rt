@@ -1,32 +1,15 @@
 // Signed numbers, as their two's complement in 64 bits: sums, differences and products of 32-bit numbers are exact there.
 use super::bytes;
+use super::index;
 use super::sets;
 
-pub fn get(v: &[u64], i: usize) -> u64 {
-    if i < v.len() {
-        return v[i];
-    }
-    0
-}
-
-pub fn set(v: &mut [u64], i: usize, a: u64) {
-    if i < v.len() {
-        v[i] = a;
-    }
-}
-
 // the values of the variables
-pub fn value(v: &[u64; 32], i: usize) -> u64 {
-    if i < 32 {
-        return v[i];
-    }
-    0
+pub fn value(x: &[usize; 1728], i: usize) -> u64 {
+    index::get(x, index::VALUE, i) as u64
 }
 
-pub fn set_value(v: &mut [u64; 32], i: usize, a: u64) {
-    if i < 32 {
-        v[i] = a;
-    }
+pub fn set_value(x: &mut [usize; 1728], i: usize, a: u64) {
+    index::set(x, index::VALUE, i, a as usize);
 }
 
 pub fn add(a: u64, b: u64) -> u64 {

@@ -21,18 +21,18 @@ pub fn refused(n: usize) -> Ran {
 }
 
 // the bytes of a record: answer, acting nodes, values, modes
-pub fn size(x: &[usize; 1680]) -> usize {
+pub fn size(x: &[usize; 1728]) -> usize {
     let values = (index::get(x, index::VARIABLES, 0) % 256) * 4;
     bytes::plus(9, bytes::plus(values, index::get(x, index::SELECTORS, 0)))
 }
 
-fn values_start(s: &[u8], x: &[usize; 1680], start: &[u8], v: &mut [u64; 32]) -> bool {
+fn values_start(s: &[u8], x: &mut [usize; 1728], start: &[u8]) -> bool {
     let n = index::get(x, index::VARIABLES, 0);
     let mut well = true;
     let mut i = 0;
     while i < n {
         let a = numbers::signed4(start, (i % 256) * 4);
-        numbers::set_value(v, i, a);
+        numbers::set_value(x, i, a);
         if !variables::holds(s, x, i, a) {
             well = false;
         }
@@ -41,14 +41,14 @@ fn values_start(s: &[u8], x: &[usize; 1680], start: &[u8], v: &mut [u64; 32]) ->
     well
 }
 
-fn modes_start(x: &[usize; 1680], start: &[u8], m: &mut [usize; 16]) -> bool {
+fn modes_start(x: &mut [usize; 1728], start: &[u8]) -> bool {
     let n = index::get(x, index::SELECTORS, 0);
     let from = (index::get(x, index::VARIABLES, 0) % 256) * 4;
     let mut well = true;
     let mut i = 0;
     while i < n {
-        let a = bytes::at(start, bytes::plus(from, i));
-        index::set_mode(m, i, a);
+        let a = bytes::past(start, from, i);
+        index::set(x, index::MODE, i, a);
         if a >= index::get(x, index::MODES, i) {
             well = false;
         }
@@ -58,22 +58,14 @@ fn modes_start(x: &[usize; 1680], start: &[u8], m: &mut [usize; 16]) -> bool {
 }
 
 // 20, 21, 22 or 0; values and modes are set
-pub fn admit(
-    s: &[u8],
-    x: &[usize; 1680],
-    start: &[u8],
-    events: usize,
-    room: usize,
-    v: &mut [u64; 32],
-    m: &mut [usize; 16],
-) -> usize {
+pub fn admit(s: &[u8], x: &mut [usize; 1728], start: &[u8], events: usize, room: usize) -> usize {
     if start.len() != bytes::minus(size(x), 9) {
         return 20;
     }
-    if !values_start(s, x, start, v) {
+    if !values_start(s, x, start) {
         return 20;
     }
-    if !modes_start(x, start, m) {
+    if !modes_start(x, start) {
         return 20;
     }
     if events % 3 != 0 {
@@ -86,7 +78,7 @@ pub fn admit(
 }
 
 // the place of record i
-pub fn record_at(x: &[usize; 1680], i: usize) -> usize {
+pub fn record_at(x: &[usize; 1728], i: usize) -> usize {
     numbers::product(size(x) as u64, i as u64) as usize
 }
 
@@ -95,43 +87,35 @@ fn put_set(d: &mut [u8], i: usize, w: u64) {
     bytes::put4(d, bytes::plus(i, 4), (w % 4294967296) as usize);
 }
 
-fn put_values(d: &mut [u8], at: usize, n: usize, v: &[u64; 32]) {
+fn put_values(d: &mut [u8], at: usize, n: usize, x: &[usize; 1728]) {
     let mut i = 0;
     while i < n {
-        numbers::put_signed4(d, bytes::plus(at, (i % 256) * 4), numbers::value(v, i));
+        numbers::put_signed4(d, bytes::plus(at, (i % 256) * 4), numbers::value(x, i));
         i += 1;
     }
 }
 
-fn put_modes(d: &mut [u8], at: usize, n: usize, m: &[usize; 16]) {
+fn put_modes(d: &mut [u8], at: usize, n: usize, x: &[usize; 1728]) {
     let mut i = 0;
     while i < n {
-        bytes::put1(d, bytes::plus(at, i), index::mode(m, i));
+        bytes::put1(d, bytes::plus(at, i), index::get(x, index::MODE, i));
         i += 1;
     }
 }
 
-pub fn put(
-    x: &[usize; 1680],
-    d: &mut [u8],
-    i: usize,
-    answer: usize,
-    acting: u64,
-    v: &[u64; 32],
-    m: &[usize; 16],
-) {
+pub fn put(x: &[usize; 1728], d: &mut [u8], i: usize, answer: usize, acting: u64) {
     let variables = index::get(x, index::VARIABLES, 0);
     let at = record_at(x, i);
     let values = bytes::plus(at, 9);
     let modes = bytes::plus(values, (variables % 256) * 4);
     bytes::put1(d, at, answer);
     put_set(d, bytes::plus(at, 1), acting);
-    put_values(d, values, variables, v);
-    put_modes(d, modes, index::get(x, index::SELECTORS, 0), m);
+    put_values(d, values, variables, x);
+    put_modes(d, modes, index::get(x, index::SELECTORS, 0), x);
 }
 
 // how many of n records have an answer from one number to another
-pub fn answered(x: &[usize; 1680], d: &[u8], n: usize, from: usize, to: usize) -> usize {
+pub fn answered(x: &[usize; 1728], d: &[u8], n: usize, from: usize, to: usize) -> usize {
     let mut count = 0;
     let mut i = 0;
     while i < n {
@@ -146,7 +130,7 @@ pub fn answered(x: &[usize; 1680], d: &[u8], n: usize, from: usize, to: usize) -
     count
 }
 
-pub fn counts(x: &[usize; 1680], d: &[u8], n: usize) -> Ran {
+pub fn counts(x: &[usize; 1728], d: &[u8], n: usize) -> Ran {
     Ran {
         refusal: 0,
         taken: answered(x, d, n, 200, 202),

@@ -12,12 +12,23 @@ use super::table;
 
 const FAULTED: usize = 4;
 
-// what the move of an event taken leaves: only a pick moves
-fn settled(x: &[usize; 1680], r: Residual, events: &[u8], p: usize, truth: bool) -> Residual {
-    if bytes::at(events, p) == 1 {
-        return residuals::moved(x, r, bytes::at(events, bytes::plus(p, 1)), truth);
+// an event's answer, and the residual that it leaves
+struct Left {
+    answer: usize,
+    acting: u64,
+    inside: u64,
+    finished: u64,
+    end: usize,
+}
+
+fn leaves(r: Residual, answer: usize) -> Left {
+    Left {
+        answer: answer,
+        acting: r.acting,
+        inside: r.inside,
+        finished: r.finished,
+        end: r.end,
     }
-    r
 }
 
 // 201 and 202 where the move ends the run
@@ -31,171 +42,160 @@ fn answer_of(end: usize) -> usize {
     judge::TAKEN
 }
 
+// what an event taken leaves: only a pick moves
+fn taken(x: &[usize; 1728], r: Residual, events: &[u8], p: usize, truth: bool) -> Left {
+    if bytes::at(events, p) != 1 {
+        return leaves(r, judge::TAKEN);
+    }
+    let q = residuals::moved(x, r, bytes::past(events, p, 1), truth);
+    leaves(q, answer_of(q.end))
+}
+
+// the event at p by the rules
+fn rule_step(s: &[u8], x: &mut [usize; 1728], r: Residual, events: &[u8], p: usize) -> Left {
+    if r.end != residuals::GOES_ON {
+        return leaves(r, 23);
+    }
+    let j = judge::event(s, x, r.acting, events, p);
+    if j.answer == judge::FAULT {
+        return leaves(residuals::nothing(FAULTED), judge::FAULT);
+    }
+    if j.answer != judge::TAKEN {
+        return leaves(r, j.answer);
+    }
+    taken(x, r, events, p, j.truth)
+}
+
 // event i by the rules, its record, and what is left
 fn rule_event(
     s: &[u8],
-    x: &[usize; 1680],
+    x: &mut [usize; 1728],
     r: Residual,
     events: &[u8],
     i: usize,
-    v: &mut [u64; 32],
-    m: &mut [usize; 16],
     d: &mut [u8],
 ) -> Residual {
-    if r.end != residuals::GOES_ON {
-        records::put(x, d, i, 23, 0, v, m);
-        return residuals::nothing(r.end);
+    let q = rule_step(s, x, r, events, (i % 65536) * 3);
+    records::put(x, d, i, q.answer, q.acting);
+    Residual {
+        acting: q.acting,
+        inside: q.inside,
+        finished: q.finished,
+        end: q.end,
     }
-    let p = (i % 65536) * 3;
-    let j = judge::event(s, x, r.acting, events, p, v, m);
-    if j.answer == judge::FAULT {
-        records::put(x, d, i, judge::FAULT, 0, v, m);
-        return residuals::nothing(FAULTED);
-    }
-    if j.answer != judge::TAKEN {
-        records::put(x, d, i, j.answer, r.acting, v, m);
-        return r;
-    }
-    let q = settled(x, r, events, p, j.truth);
-    records::put(x, d, i, answer_of(q.end), q.acting, v, m);
-    q
 }
 
-fn rule_events(
-    s: &[u8],
-    x: &[usize; 1680],
-    events: &[u8],
-    v: &mut [u64; 32],
-    m: &mut [usize; 16],
-    d: &mut [u8],
-) -> Ran {
+fn rule_events(s: &[u8], x: &mut [usize; 1728], events: &[u8], d: &mut [u8]) -> Ran {
     let mut r = residuals::fresh(x, residuals::nothing(residuals::GOES_ON), 0);
     let n = events.len() / 3;
     let mut i = 0;
     while i < n {
-        r = rule_event(s, x, r, events, i, v, m, d);
+        r = rule_event(s, x, r, events, i, d);
         i += 1;
     }
     records::counts(x, d, n)
 }
 
 pub fn by_rules(s: &[u8], start: &[u8], events: &[u8], d: &mut [u8]) -> Ran {
-    let mut x = [0usize; 1680];
+    let mut x = [0usize; 1728];
     let a = schedule::refusal(s, &mut x);
     if a != 0 {
         return records::refused(a);
     }
-    let mut v = [0u64; 32];
-    let mut m = [0usize; 16];
-    let b = records::admit(s, &x, start, events.len(), d.len(), &mut v, &mut m);
+    let b = records::admit(s, &mut x, start, events.len(), d.len());
     if b != 0 {
         return records::refused(b);
     }
-    rule_events(s, &x, events, &mut v, &mut m, d)
+    rule_events(s, &mut x, events, d)
 }
 
-// where a run of a table stands: at a location, or at its end
+// where a run of a table stands: at a location, or at its end; and the last answer
 struct Spot {
+    answer: usize,
     location: usize,
     end: usize,
 }
 
-fn over(end: usize) -> Spot {
+fn stands(answer: usize, location: usize, end: usize) -> Spot {
     Spot {
-        location: 0,
+        answer: answer,
+        location: location,
         end: end,
     }
 }
 
-// where the pick at p leads
-fn led(s: &[u8], x: &[usize; 1680], t: Spot, events: &[u8], p: usize, truth: bool) -> Spot {
+// where the pick at p leads from a location
+fn led(s: &[u8], x: &[usize; 1728], l: usize, events: &[u8], p: usize, truth: bool) -> Spot {
     if bytes::at(events, p) != 1 {
-        return t;
+        return stands(judge::TAKEN, l, residuals::GOES_ON);
     }
-    let n = bytes::at(events, bytes::plus(p, 1));
-    let to = locations::target(s, x, t.location, n, truth);
+    let n = bytes::past(events, p, 1);
+    let to = locations::target(s, x, l, n, truth);
     if to == locations::FINISHED {
-        return over(residuals::FINISHED);
+        return stands(201, 0, residuals::FINISHED);
     }
     if to == locations::HALTED {
-        return over(residuals::HALTED);
+        return stands(202, 0, residuals::HALTED);
     }
-    Spot {
-        location: to,
-        end: residuals::GOES_ON,
-    }
+    stands(judge::TAKEN, to, residuals::GOES_ON)
 }
 
-fn acting(s: &[u8], x: &[usize; 1680], t: Spot) -> u64 {
+fn acting(s: &[u8], x: &[usize; 1728], t: Spot) -> u64 {
     if t.end != residuals::GOES_ON {
         return 0;
     }
     locations::acting(s, x, t.location)
 }
 
+// the event at p by the table
+fn table_step(s: &[u8], x: &mut [usize; 1728], t: Spot, events: &[u8], p: usize) -> Spot {
+    if t.end != residuals::GOES_ON {
+        return stands(23, 0, t.end);
+    }
+    let j = judge::event(s, x, acting(s, x, t), events, p);
+    if j.answer == judge::FAULT {
+        return stands(judge::FAULT, 0, FAULTED);
+    }
+    if j.answer != judge::TAKEN {
+        return stands(j.answer, t.location, residuals::GOES_ON);
+    }
+    led(s, x, t.location, events, p, j.truth)
+}
+
 // event i by the table, its record, and where it leaves the run
 fn table_event(
     s: &[u8],
-    x: &[usize; 1680],
+    x: &mut [usize; 1728],
     t: Spot,
     events: &[u8],
     i: usize,
-    v: &mut [u64; 32],
-    m: &mut [usize; 16],
     d: &mut [u8],
 ) -> Spot {
-    if t.end != residuals::GOES_ON {
-        records::put(x, d, i, 23, 0, v, m);
-        return t;
-    }
-    let p = (i % 65536) * 3;
-    let now = acting(s, x, t);
-    let j = judge::event(s, x, now, events, p, v, m);
-    if j.answer == judge::FAULT {
-        records::put(x, d, i, judge::FAULT, 0, v, m);
-        return over(FAULTED);
-    }
-    if j.answer != judge::TAKEN {
-        records::put(x, d, i, j.answer, now, v, m);
-        return t;
-    }
-    let q = led(s, x, t, events, p, j.truth);
-    records::put(x, d, i, answer_of(q.end), acting(s, x, q), v, m);
+    let q = table_step(s, x, t, events, (i % 65536) * 3);
+    records::put(x, d, i, q.answer, acting(s, x, q));
     q
 }
 
-fn table_events(
-    s: &[u8],
-    x: &[usize; 1680],
-    events: &[u8],
-    v: &mut [u64; 32],
-    m: &mut [usize; 16],
-    d: &mut [u8],
-) -> Ran {
-    let mut t = Spot {
-        location: 0,
-        end: residuals::GOES_ON,
-    };
+fn table_events(s: &[u8], x: &mut [usize; 1728], events: &[u8], d: &mut [u8]) -> Ran {
+    let mut t = stands(0, 0, residuals::GOES_ON);
     let n = events.len() / 3;
     let mut i = 0;
     while i < n {
-        t = table_event(s, x, t, events, i, v, m, d);
+        t = table_event(s, x, t, events, i, d);
         i += 1;
     }
     records::counts(x, d, n)
 }
 
 pub fn by_table(s: &[u8], start: &[u8], events: &[u8], d: &mut [u8]) -> Ran {
-    let mut x = [0usize; 1680];
+    let mut x = [0usize; 1728];
     let a = table::refusal(s, &mut x);
     if a != 0 {
         return records::refused(a);
     }
-    let mut v = [0u64; 32];
-    let mut m = [0usize; 16];
-    let b = records::admit(s, &x, start, events.len(), d.len(), &mut v, &mut m);
+    let b = records::admit(s, &mut x, start, events.len(), d.len());
     if b != 0 {
         return records::refused(b);
     }
-    table_events(s, &x, events, &mut v, &mut m, d)
+    table_events(s, &mut x, events, d)
 }

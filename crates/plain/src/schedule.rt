@@ -13,7 +13,7 @@ pub struct FileRead {
 }
 
 // 1, 2, 3 or 0, and where the sections stand
-fn sections(s: &[u8], x: &mut [usize; 1680]) -> usize {
+fn sections(s: &[u8], x: &mut [usize; 1728]) -> usize {
     if s.len() < 3 {
         return 1;
     }
@@ -39,7 +39,7 @@ fn sections(s: &[u8], x: &mut [usize; 1680]) -> usize {
 }
 
 // the first number of 1 to 12 that applies, or 0; x is filled
-pub fn refusal(s: &[u8], x: &mut [usize; 1680]) -> usize {
+pub fn refusal(s: &[u8], x: &mut [usize; 1728]) -> usize {
     let a = sections(s, x);
     if a != 0 {
         return a;
@@ -63,7 +63,7 @@ pub fn refusal(s: &[u8], x: &mut [usize; 1680]) -> usize {
 }
 
 pub fn read(s: &[u8]) -> FileRead {
-    let mut x = [0usize; 1680];
+    let mut x = [0usize; 1728];
     let r = refusal(s, &mut x);
     if r != 0 {
         return FileRead {

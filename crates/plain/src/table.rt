@@ -15,14 +15,14 @@ pub struct TableRead {
 }
 
 // the ends of the first two sections, and of the others
-fn keep_plant(x: &mut [usize; 1680], a: usize, b: usize) {
+fn keep_plant(x: &mut [usize; 1728], a: usize, b: usize) {
     index::set(x, index::VARIABLES_FROM, 0, 7);
     index::set(x, index::VARIABLES_TO, 0, a);
     index::set(x, index::EQUATIONS_FROM, 0, bytes::plus(a, 2));
     index::set(x, index::EQUATIONS_TO, 0, b);
 }
 
-fn keep_rest(x: &mut [usize; 1680], b: usize, c: usize, d: usize) {
+fn keep_rest(x: &mut [usize; 1728], b: usize, c: usize, d: usize) {
     index::set(x, index::THIRD_FROM, 0, bytes::plus(b, 2));
     index::set(x, index::THIRD_TO, 0, c);
     index::set(x, index::LOCATIONS_FROM, 0, bytes::plus(c, 4));
@@ -30,7 +30,7 @@ fn keep_rest(x: &mut [usize; 1680], b: usize, c: usize, d: usize) {
 }
 
 // 15, 16 or 0, and where the sections stand
-fn sections(s: &[u8], x: &mut [usize; 1680]) -> usize {
+fn sections(s: &[u8], x: &mut [usize; 1728]) -> usize {
     if s.len() < 5 {
         return 15;
     }
@@ -64,7 +64,7 @@ fn operand_fits(kind: usize, n: usize) -> bool {
 }
 
 // whether the action of this kind has a sound operand
-fn sound(s: &[u8], x: &[usize; 1680], kind: usize, from: usize, to: usize) -> bool {
+fn sound(s: &[u8], x: &[usize; 1728], kind: usize, from: usize, to: usize) -> bool {
     if !operand_fits(kind, bytes::minus(to, from)) {
         return false;
     }
@@ -75,7 +75,7 @@ fn sound(s: &[u8], x: &[usize; 1680], kind: usize, from: usize, to: usize) -> bo
 }
 
 // where the action at p ends; 0 where it is not sound, or its node is below this one
-fn action_end(s: &[u8], x: &mut [usize; 1680], p: usize, end: usize, lowest: usize) -> usize {
+fn action_end(s: &[u8], x: &mut [usize; 1728], p: usize, end: usize, lowest: usize) -> usize {
     if p == 0 {
         return 0;
     }
@@ -93,14 +93,14 @@ fn action_end(s: &[u8], x: &mut [usize; 1680], p: usize, end: usize, lowest: usi
     if q > end {
         return 0;
     }
-    let n = bytes::at(s, bytes::plus(p, 1));
+    let n = bytes::past(s, p, 1);
     if n < lowest {
         return 0;
     }
     if n > 63 {
         return 0;
     }
-    let kind = bytes::at(s, bytes::plus(p, 2));
+    let kind = bytes::past(s, p, 2);
     if !sound(s, x, kind, bytes::plus(p, 3), q) {
         return 0;
     }
@@ -111,7 +111,7 @@ fn action_end(s: &[u8], x: &mut [usize; 1680], p: usize, end: usize, lowest: usi
 }
 
 // whether 18 does not apply
-fn actions(s: &[u8], x: &mut [usize; 1680]) -> bool {
+fn actions(s: &[u8], x: &mut [usize; 1728]) -> bool {
     let from = index::get(x, index::THIRD_FROM, 0);
     let end = index::get(x, index::THIRD_TO, 0);
     if from >= end {
@@ -129,7 +129,7 @@ fn actions(s: &[u8], x: &mut [usize; 1680]) -> bool {
     let mut lowest = 0;
     let mut i = 0;
     while i < count {
-        let n = bytes::at(s, bytes::plus(p, 1));
+        let n = bytes::past(s, p, 1);
         p = action_end(s, x, p, end, lowest);
         lowest = bytes::plus(n, 1);
         i += 1;
@@ -138,7 +138,7 @@ fn actions(s: &[u8], x: &mut [usize; 1680]) -> bool {
 }
 
 // the first number of 15 to 19 that applies, or 0; x is filled
-pub fn refusal(s: &[u8], x: &mut [usize; 1680]) -> usize {
+pub fn refusal(s: &[u8], x: &mut [usize; 1728]) -> usize {
     let a = sections(s, x);
     if a != 0 {
         return a;
@@ -162,7 +162,7 @@ pub fn refusal(s: &[u8], x: &mut [usize; 1680]) -> usize {
 }
 
 pub fn read(s: &[u8]) -> TableRead {
-    let mut x = [0usize; 1680];
+    let mut x = [0usize; 1728];
     let r = refusal(s, &mut x);
     if r != 0 {
         return TableRead {

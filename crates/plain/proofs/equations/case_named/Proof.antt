@@ -18,11 +18,8 @@ get-requires-2 c κs = tt
 get-requires-3 : tie.Need-get-requires-3 Inv-loop μ-loop
 get-requires-3 c κs = tt
 
-plus-requires : tie.Need-plus-requires Inv-loop μ-loop
-plus-requires c κs = tt
-
-at-requires : tie.Need-at-requires Inv-loop μ-loop
-at-requires c κs = tt
+past-requires : tie.Need-past-requires Inv-loop μ-loop
+past-requires c κs = tt
 
 loop-holds : tie.Need-loop-holds Inv-loop μ-loop
 loop-holds c = tt
@@ -57,8 +54,7 @@ case-named-spec =
     get-requires
     get-requires-2
     get-requires-3
-    plus-requires
-    at-requires
+    past-requires
     loop-holds
     mode-at-requires
     rates-named-requires

@@ -10,23 +10,20 @@ Inv-loop s x₀ selector p end n first q₀ m₀ x q m = Unit {0}
 abbrev μ-loop : tie.MeasureT-loop
 μ-loop s x₀ selector p end n first q₀ m₀ x q m = n - m
 
-plus-requires : tie.Need-plus-requires Inv-loop μ-loop
-plus-requires c κs = tt
-
-at-requires : tie.Need-at-requires Inv-loop μ-loop
-at-requires c κs = tt
+past-requires : tie.Need-past-requires Inv-loop μ-loop
+past-requires c κs = tt
 
 mul-first : tie.Need-mul-first Inv-loop μ-loop
 mul-first c = search needs
 
-plus-requires-2 : tie.Need-plus-requires-2 Inv-loop μ-loop
-plus-requires-2 c κs = tt
+plus-requires : tie.Need-plus-requires Inv-loop μ-loop
+plus-requires c κs = tt
 
 loop-holds : tie.Need-loop-holds Inv-loop μ-loop
 loop-holds c = tt
 
-plus-requires-3 : tie.Need-plus-requires-3 Inv-loop μ-loop
-plus-requires-3 c κs = tt
+plus-requires-2 : tie.Need-plus-requires-2 Inv-loop μ-loop
+plus-requires-2 c κs = tt
 
 set-requires : tie.Need-set-requires Inv-loop μ-loop
 set-requires c κs = tt
@@ -52,12 +49,11 @@ modes-fill-spec =
     (tie.spec
     Inv-loop
     μ-loop
-    plus-requires
-    at-requires
+    past-requires
     mul-first
-    plus-requires-2
+    plus-requires
     loop-holds
-    plus-requires-3
+    plus-requires-2
     set-requires
     mode-end-requires
     add-m

@@ -21,6 +21,9 @@ plus-requires c κs = tt
 loop-holds : tie.Need-loop-holds Inv-loop μ-loop
 loop-holds c = tt
 
+past-requires : tie.Need-past-requires Inv-loop μ-loop
+past-requires c κs = tt
+
 plus-requires-2 : tie.Need-plus-requires-2 Inv-loop μ-loop
 plus-requires-2 c κs = tt
 
@@ -29,12 +32,6 @@ at-requires-2 c κs = tt
 
 plus-requires-3 : tie.Need-plus-requires-3 Inv-loop μ-loop
 plus-requires-3 c κs = tt
-
-at-requires-3 : tie.Need-at-requires-3 Inv-loop μ-loop
-at-requires-3 c κs = tt
-
-plus-requires-4 : tie.Need-plus-requires-4 Inv-loop μ-loop
-plus-requires-4 c κs = tt
 
 add-i : tie.Need-add-i Inv-loop μ-loop
 add-i c = omega arith
@@ -58,11 +55,10 @@ targets-named-spec =
     at-requires
     plus-requires
     loop-holds
+    past-requires
     plus-requires-2
     at-requires-2
     plus-requires-3
-    at-requires-3
-    plus-requires-4
     add-i
     loop-less
     loop-again

@@ -5,10 +5,10 @@ use Rattle.plain.proofs.forms.value.Statement.{statement}
 use Rattle.plain.proofs.forms.value.Tie as tie
 
 abbrev Inv-loop : tie.InvT-loop
-Inv-loop s from to variables places n row₀ size₀ fault₀ i₀ row size fault i = Unit {0}
+Inv-loop s from to x places n row₀ size₀ fault₀ i₀ row size fault i = Unit {0}
 
 abbrev μ-loop : tie.MeasureT-loop
-μ-loop s from to variables places n row₀ size₀ fault₀ i₀ row size fault i = n - i
+μ-loop s from to x places n row₀ size₀ fault₀ i₀ row size fault i = n - i
 
 all-places-requires : tie.Need-all-places-requires Inv-loop μ-loop
 all-places-requires c κs = tt

@@ -4,10 +4,10 @@ use Rattle.plain.proofs.judge.mode_stops.Statement.{statement}
 use Rattle.plain.proofs.judge.mode_stops.Tie as tie
 
 abbrev Inv-loop : tie.InvT-loop
-Inv-loop s mode v at n q₀ i₀ q i = Unit {0}
+Inv-loop s x mode at n q₀ i₀ q i = Unit {0}
 
 abbrev μ-loop : tie.MeasureT-loop
-μ-loop s mode v at n q₀ i₀ q i = n - i
+μ-loop s x mode at n q₀ i₀ q i = n - i
 
 switches-at-requires : tie.Need-switches-at-requires Inv-loop μ-loop
 switches-at-requires c κs = tt

@@ -4,10 +4,10 @@ use Rattle.plain.proofs.judge.rate.Statement.{statement}
 use Rattle.plain.proofs.judge.rate.Tie as tie
 
 abbrev Inv-loop : tie.InvT-loop
-Inv-loop s x variable m n sum₀ k₀ sum k = Unit {0}
+Inv-loop s x variable n sum₀ k₀ sum k = Unit {0}
 
 abbrev μ-loop : tie.MeasureT-loop
-μ-loop s x variable m n sum₀ k₀ sum k = n - k
+μ-loop s x variable n sum₀ k₀ sum k = n - k
 
 get-requires : tie.Need-get-requires Inv-loop μ-loop
 get-requires c κs = tt

@@ -4,10 +4,10 @@ use Rattle.plain.proofs.judge.sums.Statement.{statement}
 use Rattle.plain.proofs.judge.sums.Tie as tie
 
 abbrev Inv-loop : tie.InvT-loop
-Inv-loop s x v m new₀ n all₀ i₀ new all i = Unit {0}
+Inv-loop s x new₀ n all₀ i₀ new all i = Unit {0}
 
 abbrev μ-loop : tie.MeasureT-loop
-μ-loop s x v m new₀ n all₀ i₀ new all i = n - i
+μ-loop s x new₀ n all₀ i₀ new all i = n - i
 
 get-requires : tie.Need-get-requires Inv-loop μ-loop
 get-requires c κs = tt
@@ -24,8 +24,8 @@ rate-requires c κs = tt
 add-requires : tie.Need-add-requires Inv-loop μ-loop
 add-requires c κs = tt
 
-set-value-requires : tie.Need-set-value-requires Inv-loop μ-loop
-set-value-requires c κs = tt
+put-new-requires : tie.Need-put-new-requires Inv-loop μ-loop
+put-new-requires c κs = tt
 
 holds-requires : tie.Need-holds-requires Inv-loop μ-loop
 holds-requires c κs = tt
@@ -53,7 +53,7 @@ sums-spec =
     value-requires
     rate-requires
     add-requires
-    set-value-requires
+    put-new-requires
     holds-requires
     add-i
     loop-less

@@ -4,10 +4,10 @@ use Rattle.plain.proofs.judge.switch_check.Statement.{statement}
 use Rattle.plain.proofs.judge.switch_check.Tie as tie
 
 abbrev Inv-loop : tie.InvT-loop
-Inv-loop s x v m n k₀ k = Unit {0}
+Inv-loop s x n k₀ k = Unit {0}
 
 abbrev μ-loop : tie.MeasureT-loop
-μ-loop s x v m n k₀ k = n - k
+μ-loop s x n k₀ k = n - k
 
 get-requires : tie.Need-get-requires Inv-loop μ-loop
 get-requires c κs = tt
@@ -15,8 +15,8 @@ get-requires c κs = tt
 loop-holds : tie.Need-loop-holds Inv-loop μ-loop
 loop-holds c = tt
 
-mode-requires : tie.Need-mode-requires Inv-loop μ-loop
-mode-requires c κs = tt
+get-requires-2 : tie.Need-get-requires-2 Inv-loop μ-loop
+get-requires-2 c κs = tt
 
 mode-at-requires : tie.Need-mode-at-requires Inv-loop μ-loop
 mode-at-requires c κs = tt
@@ -50,7 +50,7 @@ switch-check-spec =
     μ-loop
     get-requires
     loop-holds
-    mode-requires
+    get-requires-2
     mode-at-requires
     mode-stops-requires
     returns

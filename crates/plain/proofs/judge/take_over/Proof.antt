@@ -4,16 +4,16 @@ use Rattle.plain.proofs.judge.take_over.Statement.{statement}
 use Rattle.plain.proofs.judge.take_over.Tie as tie
 
 abbrev Inv-loop : tie.InvT-loop
-Inv-loop new v₀ i₀ v i = Unit {0}
+Inv-loop new x₀ i₀ x i = Unit {0}
 
 abbrev μ-loop : tie.MeasureT-loop
-μ-loop new v₀ i₀ v i = 32 - i
+μ-loop new x₀ i₀ x i = 32 - i
 
 loop-holds : tie.Need-loop-holds Inv-loop μ-loop
 loop-holds c = tt
 
-value-requires : tie.Need-value-requires Inv-loop μ-loop
-value-requires c κs = tt
+new-value-requires : tie.Need-new-value-requires Inv-loop μ-loop
+new-value-requires c κs = tt
 
 set-value-requires : tie.Need-set-value-requires Inv-loop μ-loop
 set-value-requires c κs = tt
@@ -37,7 +37,7 @@ take-over-spec =
     Inv-loop
     μ-loop
     loop-holds
-    value-requires
+    new-value-requires
     set-value-requires
     add-i
     loop-less

@@ -4,10 +4,10 @@ use Rattle.plain.proofs.judge.waits_stop.Statement.{statement}
 use Rattle.plain.proofs.judge.waits_stop.Tie as tie
 
 abbrev Inv-loop : tie.InvT-loop
-Inv-loop s x acting v n₀ n = Unit {0}
+Inv-loop s x acting n₀ n = Unit {0}
 
 abbrev μ-loop : tie.MeasureT-loop
-μ-loop s x acting v n₀ n = 64 - n
+μ-loop s x acting n₀ n = 64 - n
 
 loop-holds : tie.Need-loop-holds Inv-loop μ-loop
 loop-holds c = tt

@@ -5,10 +5,10 @@ use Rattle.plain.proofs.records.modes_start.Statement.{statement}
 use Rattle.plain.proofs.records.modes_start.Tie as tie
 
 abbrev Inv-loop : tie.InvT-loop
-Inv-loop x start m₀ n from well₀ i₀ m well i = Unit {0}
+Inv-loop x₀ start n from well₀ i₀ x well i = Unit {0}
 
 abbrev μ-loop : tie.MeasureT-loop
-μ-loop x start m₀ n from well₀ i₀ m well i = n - i
+μ-loop x₀ start n from well₀ i₀ x well i = n - i
 
 get-requires : tie.Need-get-requires Inv-loop μ-loop
 get-requires c κs = tt
@@ -22,14 +22,11 @@ mul-from c = search needs
 loop-holds : tie.Need-loop-holds Inv-loop μ-loop
 loop-holds c = tt
 
-plus-requires : tie.Need-plus-requires Inv-loop μ-loop
-plus-requires c κs = tt
+past-requires : tie.Need-past-requires Inv-loop μ-loop
+past-requires c κs = tt
 
-at-requires : tie.Need-at-requires Inv-loop μ-loop
-at-requires c κs = tt
-
-set-mode-requires : tie.Need-set-mode-requires Inv-loop μ-loop
-set-mode-requires c κs = tt
+set-requires : tie.Need-set-requires Inv-loop μ-loop
+set-requires c κs = tt
 
 get-requires-3 : tie.Need-get-requires-3 Inv-loop μ-loop
 get-requires-3 c κs = tt
@@ -56,9 +53,8 @@ modes-start-spec =
     get-requires-2
     mul-from
     loop-holds
-    plus-requires
-    at-requires
-    set-mode-requires
+    past-requires
+    set-requires
     get-requires-3
     add-i
     loop-less

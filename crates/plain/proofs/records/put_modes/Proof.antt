@@ -7,10 +7,10 @@ use Rattle.plain.proofs.records.put_modes.Statement.{statement}
 use Rattle.plain.proofs.records.put_modes.Tie as tie
 
 abbrev Inv-loop : tie.InvT-loop
-Inv-loop d₀ at n m i₀ d i = (length d ≡ length d₀)
+Inv-loop d₀ at n x i₀ d i = (length d ≡ length d₀)
 
 abbrev μ-loop : tie.MeasureT-loop
-μ-loop d₀ at n m i₀ d i = n - i
+μ-loop d₀ at n x i₀ d i = n - i
 
 loop-holds : tie.Need-loop-holds Inv-loop μ-loop
 loop-holds c = search needs
@@ -18,8 +18,8 @@ loop-holds c = search needs
 plus-requires : tie.Need-plus-requires Inv-loop μ-loop
 plus-requires c κs = tt
 
-mode-requires : tie.Need-mode-requires Inv-loop μ-loop
-mode-requires c κs = tt
+get-requires : tie.Need-get-requires Inv-loop μ-loop
+get-requires c κs = tt
 
 put1-requires : tie.Need-put1-requires Inv-loop μ-loop
 put1-requires c κs = tt
@@ -47,7 +47,7 @@ put-modes-spec =
     μ-loop
     loop-holds
     plus-requires
-    mode-requires
+    get-requires
     put1-requires
     add-i
     loop-less

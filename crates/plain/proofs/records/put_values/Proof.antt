@@ -7,10 +7,10 @@ use Rattle.plain.proofs.records.put_values.Statement.{statement}
 use Rattle.plain.proofs.records.put_values.Tie as tie
 
 abbrev Inv-loop : tie.InvT-loop
-Inv-loop d₀ at n v i₀ d i = (length d ≡ length d₀)
+Inv-loop d₀ at n x i₀ d i = (length d ≡ length d₀)
 
 abbrev μ-loop : tie.MeasureT-loop
-μ-loop d₀ at n v i₀ d i = n - i
+μ-loop d₀ at n x i₀ d i = n - i
 
 loop-holds : tie.Need-loop-holds Inv-loop μ-loop
 loop-holds c = search needs

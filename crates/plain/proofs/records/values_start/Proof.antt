@@ -5,10 +5,10 @@ use Rattle.plain.proofs.records.values_start.Statement.{statement}
 use Rattle.plain.proofs.records.values_start.Tie as tie
 
 abbrev Inv-loop : tie.InvT-loop
-Inv-loop s x start v₀ n well₀ i₀ v well i = Unit {0}
+Inv-loop s x₀ start n well₀ i₀ x well i = Unit {0}
 
 abbrev μ-loop : tie.MeasureT-loop
-μ-loop s x start v₀ n well₀ i₀ v well i = n - i
+μ-loop s x₀ start n well₀ i₀ x well i = n - i
 
 get-requires : tie.Need-get-requires Inv-loop μ-loop
 get-requires c κs = tt

@@ -7,10 +7,10 @@ use Rattle.plain.proofs.run.rule_events.Statement.{statement}
 use Rattle.plain.proofs.run.rule_events.Tie as tie
 
 abbrev Inv-loop : tie.InvT-loop
-Inv-loop s x events v₀ m₀ d₀ r₀ n i₀ v m d r i = (length d ≡ length d₀)
+Inv-loop s x₀ events d₀ r₀ n i₀ x d r i = (length d ≡ length d₀)
 
 abbrev μ-loop : tie.MeasureT-loop
-μ-loop s x events v₀ m₀ d₀ r₀ n i₀ v m d r i = n - i
+μ-loop s x₀ events d₀ r₀ n i₀ x d r i = n - i
 
 nothing-requires : tie.Need-nothing-requires Inv-loop μ-loop
 nothing-requires c κs = tt

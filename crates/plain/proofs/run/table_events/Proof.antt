@@ -7,10 +7,13 @@ use Rattle.plain.proofs.run.table_events.Statement.{statement}
 use Rattle.plain.proofs.run.table_events.Tie as tie
 
 abbrev Inv-loop : tie.InvT-loop
-Inv-loop s x events v₀ m₀ d₀ t₀ n i₀ v m d t i = (length d ≡ length d₀)
+Inv-loop s x₀ events d₀ t₀ n i₀ x d t i = (length d ≡ length d₀)
 
 abbrev μ-loop : tie.MeasureT-loop
-μ-loop s x events v₀ m₀ d₀ t₀ n i₀ v m d t i = n - i
+μ-loop s x₀ events d₀ t₀ n i₀ x d t i = n - i
+
+stands-requires : tie.Need-stands-requires Inv-loop μ-loop
+stands-requires c κs = tt
 
 loop-holds : tie.Need-loop-holds Inv-loop μ-loop
 loop-holds c = search needs
@@ -42,6 +45,7 @@ table-events-spec =
     (tie.spec
     Inv-loop
     μ-loop
+    stands-requires
     loop-holds
     table-event-requires
     add-i

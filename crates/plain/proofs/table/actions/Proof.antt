@@ -36,17 +36,14 @@ plus-requires c κs = tt
 loop-holds : tie.Need-loop-holds Inv-loop μ-loop
 loop-holds c = tt
 
-plus-requires-2 : tie.Need-plus-requires-2 Inv-loop μ-loop
-plus-requires-2 c κs = tt
-
-at-requires-2 : tie.Need-at-requires-2 Inv-loop μ-loop
-at-requires-2 c κs = tt
+past-requires : tie.Need-past-requires Inv-loop μ-loop
+past-requires c κs = tt
 
 action-end-requires : tie.Need-action-end-requires Inv-loop μ-loop
 action-end-requires c κs = tt
 
-plus-requires-3 : tie.Need-plus-requires-3 Inv-loop μ-loop
-plus-requires-3 c κs = tt
+plus-requires-2 : tie.Need-plus-requires-2 Inv-loop μ-loop
+plus-requires-2 c κs = tt
 
 add-i : tie.Need-add-i Inv-loop μ-loop
 add-i c = omega arith
@@ -75,10 +72,9 @@ actions-spec =
     set-requires
     plus-requires
     loop-holds
-    plus-requires-2
-    at-requires-2
+    past-requires
     action-end-requires
-    plus-requires-3
+    plus-requires-2
     add-i
     loop-less
     loop-again
