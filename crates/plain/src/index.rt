@@ -1,4 +1,5 @@
-// What reading a file finds, as one row of 1,728 words: counts, and where things stand in the file. Each name is a first word; a list follows it.
+// What reading a file finds and what a run changes, as one row of 1,728 words: counts, where things stand in the file, values and modes.
+// Each name is the first word of a list.
 use super::bytes;
 
 pub const VARIABLES: usize = 0;
@@ -30,7 +31,7 @@ pub const LOCATIONS_TO: usize = 12;
 pub const EQUATION_AT: usize = 16;
 
 pub const SELECTOR_OF: usize = 32;
-// of each selector: how many modes, where the first mode's byte stands; of each mode, at 8 times the selector: where its rates begin
+// of each selector: how many modes, where its CASE's kind stands; of each mode, from 8 times its selector on: where its count of rates stands
 pub const MODES: usize = 48;
 
 pub const CASE_AT: usize = 64;
