@@ -369,7 +369,7 @@ of_schedule("28 and 30: the valve", FILL, start([1, 9], [0]), "p1 s0.0 s0.0 s0.1
 of_schedule("filled, closed, drained", FILL, start([5, 9], [0]), "p1 p2 t t p2 s0.0 s0.1 p2 t p3 t", "rules 0, 6 5 0: 200 29 200 28 x2 200 26 200 27 200 x2")
 # a batch of nine ticks, thirty times: 390 events
 BATCHES = schedule(V, equations(rate(0, 1)), loop(TRUE, sequence(reset(0, const(0)), until(le(const(9), var(0))))))
-of_schedule("thirty batches", BATCHES, Z, " ".join(["p0 p2 t t t t t t t t t t p3"] * 30), "rules 0, 360 30 0: 200 x11 31 200 x12 31", record_room=6000)
+of_schedule("thirty batches", BATCHES, Z, " ".join(["p0 p2 t t t t t t t t t t p3"] * 30), "rules 0, 360 30 0: 200 x11 31" + " 200 x12 31" * 29 + " 200", record_room=6000)
 DRAIN = schedule(TANK, equations(VALVE), until(FALSE))
 of_schedule("drained to a fault", DRAIN, start([5, 9], [2]), "t t t t", "rules 0, 2 1 1: 200 x2 203 23")
 of_schedule("a switch taken, then a fault", DRAIN, start([0, 4], [1]), "s0.0 s0.1 t", "rules 0, 1 1 1: 30 200 203")
