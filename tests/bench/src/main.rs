@@ -193,7 +193,8 @@ fn timed(w: &Work, rounds: usize) -> [(u64, u64); 3] {
 
 fn all(rounds: usize, only: Option<&str>) {
     agree_beside();
-    println!("{:16} {:>10} {:>10} {:>10} {:>8} {:>8}   (least of {rounds} rounds, in microseconds; then middle ratios)", "case", "product", "plain", "fast", "/ plain", "/ fast");
+    println!("Least times of {rounds} rounds in microseconds and their ratios, then the ratios of the middle times, then what the call gave.");
+    println!("{:16} {:>10} {:>10} {:>10} {:>8} {:>8}", "case", "product", "plain", "fast", "/ plain", "/ fast");
     for name in NAMES.iter().filter(|n| only.is_none_or(|o| o == **n)) {
         let w = work(name);
         let gave = agree(name, &w, room(&w));
