@@ -158,20 +158,7 @@ impl<'a, C: Control> Runner<'a, C> {
             record: [0; 160],
             size: 9 + 4 * variables + selectors,
         };
-        for v in 0..variables {
-            let z = int4(start, 4 * v);
-            if z < p.lows[v] || p.highs[v] < z {
-                return Err(20);
-            }
-            x.slots[v] = z;
-        }
-        for j in 0..selectors {
-            let m = start[4 * variables + j];
-            if m >= p.modes[j] {
-                return Err(20);
-            }
-            x.modes[j] = m;
-        }
+        x.begin(start)?;
         if events % 3 != 0 {
             return Err(21);
         }
@@ -181,6 +168,26 @@ impl<'a, C: Control> Runner<'a, C> {
         x.record[9..9 + start.len()].copy_from_slice(start);
         x.note();
         Ok(x)
+    }
+
+    /// The starting values and modes, or 20.
+    fn begin(&mut self, start: &[u8]) -> Result<(), u8> {
+        let p = &self.machine.plant;
+        for v in 0..p.variables {
+            let z = int4(start, 4 * v);
+            if z < p.lows[v] || p.highs[v] < z {
+                return Err(20);
+            }
+            self.slots[v] = z;
+        }
+        for j in 0..p.selectors {
+            let m = start[4 * p.variables + j];
+            if m >= p.modes[j] {
+                return Err(20);
+            }
+            self.modes[j] = m;
+        }
+        Ok(())
     }
 
     /// What is worked out once.
