@@ -5,7 +5,7 @@
 mod compared;
 mod line;
 
-use plain::bytes;
+use plain_bytes::bytes;
 
 // where a case's bytes begin and end, and the rooms that are lent for it
 struct Case {
