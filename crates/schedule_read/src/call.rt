@@ -10,14 +10,14 @@ ghost use Rattle.schedules.specs.Calls.{readSchedule};
 ghost use Rattle.schedule_read.specs.Indexed.{NodesAt, Indexed};
 ghost use Rattle.schedule_read.specs.ScheduleFile.{numbers, noSchedule, sectionsIndex, scheduleIndex, judgeNodes, PlantAt, Planted};
 use super::names;
-use tree_read::nodes;
-use tree_read::nodes::Nodes;
 use super::operands;
 use super::parts;
 use super::parts::Parts;
+use plant::sections::PlantRead;
+use tree_read::nodes;
+use tree_read::nodes::Nodes;
 use tree_read::tree;
 use tree_read::tree::Subtrees;
-use plant::sections::PlantRead;
 
 // 0, or the number of the first condition that is broken; all counts are 0 then
 pub struct FileRead {
