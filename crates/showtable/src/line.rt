@@ -1,39 +1,58 @@
-// One line of the output, put together in a buffer. An operand of 200 bytes takes at most about 1,200 bytes of text.
-ghost use mathlib.Core.Path.{_≡_};
-ghost use lib.ListN.{length};
+// Lines by a pattern. Each byte of the pattern shows the next field of the table, or stands for itself:
+//   #  a byte                  %  a signed number of four bytes    ^  a target of two bytes
+//   $  a number or a truth     ~  a byte that is left out          !  the number n of the record
+use super::bytes;
+use super::formula;
+use super::out;
 
-pub fn buffer() -> [u8; 4096]
-    ensures { λ r. ⌜ 4096 ≡ length r ⌝ }
-{
-    [0; 4096]
-}
-
-// the first n bytes and the end of the line; false where they cannot be written, or where the line was too long
-pub fn write(d: &[u8], n: usize) -> bool {
-    if n >= d.len() {
-        return false;
+// the place after the field
+fn field(t: &[u8], p: usize, n: usize, c: u8) -> usize {
+    match c {
+        b'#' => {
+            out::decimal(bytes::at(t, p));
+            bytes::on(p, 1)
+        }
+        b'%' => {
+            out::signed(bytes::four(t, p));
+            bytes::on(p, 4)
+        }
+        b'^' => {
+            out::target(bytes::two(t, p));
+            bytes::on(p, 2)
+        }
+        // no depth is above 16
+        b'$' => formula::form(t, p, 16),
+        b'~' => bytes::on(p, 1),
+        b'!' => {
+            out::decimal(n);
+            p
+        }
+        _ => {
+            out::byte(c);
+            p
+        }
     }
-    let k = output::front(n, d);
-    if !io::write_all(1, &d[..k]) {
-        return false;
+}
+
+// the place after the fields
+pub fn show(t: &[u8], p: usize, n: usize, pattern: &[u8]) -> usize {
+    let mut q = p;
+    let mut i = 0;
+    while i < pattern.len() {
+        q = field(t, q, n, pattern[i]);
+        i += 1;
     }
-    io::write_all(1, b"\n")
+    q
 }
 
-fn numbered_text(words: &[u8], n: usize, d: &mut [u8]) -> usize {
-    let k = text::bytes(d, 0, words);
-    text::decimal(d, k, n)
-}
-
-// a line of some words and a number
-pub fn numbered(words: &[u8], n: usize) -> bool {
-    let mut d = buffer();
-    let k = numbered_text(words, n, &mut d);
-    write(&d, k)
-}
-
-// v and the number of a variable
-pub fn variable(d: &mut [u8], o: usize, n: usize) -> usize {
-    let k = text::byte(d, o, b'v');
-    text::decimal(d, k, n)
+// the records of one pattern whose count stands at p; the place after them
+pub fn each(t: &[u8], p: usize, pattern: &[u8]) -> usize {
+    let count = bytes::at(t, p);
+    let mut q = bytes::on(p, 1);
+    let mut n = 0;
+    while n < count {
+        q = show(t, q, n, pattern);
+        n += 1;
+    }
+    q
 }

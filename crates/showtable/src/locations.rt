@@ -1,92 +1,51 @@
 // The locations of a table: which nodes act, and where their moves lead. An entry is a node, its target and its target on false.
 use super::actions;
 use super::bytes;
+use super::graph;
 use super::line;
 
-// a location, or how the run ends
-pub fn target(d: &mut [u8], o: usize, n: usize) -> usize {
-    if n == 0xFFFE {
-        return text::bytes(d, o, b"finished");
+// the entry at p, whose action is of kind k
+fn entry_line(t: &[u8], p: usize, k: usize) {
+    match k {
+        1 => line::show(t, p, 0, b"\n    node # test -> true ^, false ^"),
+        2 => line::show(t, p, 0, b"\n    node # wait -> ^"),
+        3 => line::show(t, p, 0, b"\n    node # assign -> ^"),
+        4 => line::show(t, p, 0, b"\n    node # switch -> ^"),
+        _ => line::show(t, p, 0, b"\n    node # stop -> ^"),
     }
-    if n == 0xFFFD {
-        return text::bytes(d, o, b"halted");
-    }
-    if n == 0xFFFF {
-        return text::bytes(d, o, b"none");
-    }
-    text::decimal(d, o, n)
+    ;
 }
 
-// both targets of a test, or the one of any other kind
-fn targets(t: &[u8], k: u8, p: usize, d: &mut [u8], o: usize) -> usize {
-    if k != 1 {
-        return target(d, o, bytes::two(t, p));
+// the entry at p of location n, as a line or as arrows
+fn entry(t: &[u8], acts: usize, p: usize, n: usize) {
+    let a = actions::of_node(t, acts, bytes::at(t, p));
+    if graph::is_asked() {
+        graph::arrows(t, a, p, n);
+        return;
     }
-    let a = text::bytes(d, o, b"true ");
-    let b = target(d, a, bytes::two(t, p));
-    let c = text::bytes(d, b, b", false ");
-    target(d, c, bytes::two(t, bytes::on(p, 2)))
+    entry_line(t, p, bytes::at(t, bytes::on(a, 2)));
 }
 
-fn entry_text(t: &[u8], node: usize, k: u8, p: usize, d: &mut [u8]) -> usize {
-    let a = text::bytes(d, 0, b"    node ");
-    let b = text::decimal(d, a, node);
-    let c = text::byte(d, b, b' ');
-    let e = actions::kind(d, c, k);
-    let f = text::bytes(d, e, b" -> ");
-    targets(t, k, p, d, f)
-}
-
-// the entry at p
-fn entry(t: &[u8], acts: usize, p: usize) -> bool {
-    let node = bytes::number(t, p);
-    let k = bytes::at(t, bytes::on(actions::of_node(t, acts, node), 2));
-    let mut d = line::buffer();
-    let n = entry_text(t, node, k, bytes::on(p, 1), &mut d);
-    line::write(&d, n)
-}
-
-// the place after n entries, or 0 where the output fails
-fn entries(t: &[u8], acts: usize, first: usize, n: usize) -> usize {
-    let mut p = first;
-    let mut left = n;
+// location n at p; the place after it
+fn location(t: &[u8], acts: usize, p: usize, n: usize) -> usize {
+    let mut q = bytes::on(p, 1);
+    let mut left = bytes::at(t, p);
     while left > 0 {
-        if !entry(t, acts, p) {
-            return 0;
-        }
-        p = bytes::on(p, 5);
+        entry(t, acts, q, n);
+        q = bytes::on(q, 5);
         left -= 1;
     }
-    p
-}
-
-// location n at p; the place after it, or 0
-fn location(t: &[u8], acts: usize, n: usize, p: usize) -> usize {
-    if !line::numbered(b"  location ", n) {
-        return 0;
-    }
-    entries(t, acts, bytes::on(p, 1), bytes::number(t, p))
-}
-
-fn some(t: &[u8], acts: usize, first: usize, count: usize) -> bool {
-    let mut p = first;
-    let mut n = 0;
-    let mut left = count;
-    while left > 0 {
-        p = location(t, acts, n, p);
-        if p == 0 {
-            return false;
-        }
-        n = bytes::on(n, 1);
-        left -= 1;
-    }
-    true
+    q
 }
 
 // the section at a place
-pub fn show(t: &[u8], acts: usize, p: usize) -> bool {
-    if !io::write_all(1, b"locations\n") {
-        return false;
+pub fn show(t: &[u8], acts: usize, p: usize) {
+    let count = bytes::two(t, p);
+    let mut q = bytes::on(p, 2);
+    let mut n = 0;
+    while n < count {
+        graph::or_heading(t, n);
+        q = location(t, acts, q, n);
+        n += 1;
     }
-    some(t, acts, bytes::on(p, 2), bytes::two(t, p))
 }

@@ -2,9 +2,10 @@
 mod actions; // actions.rt: what each node does
 mod bytes; // bytes.rt: the table's bytes by place
 mod formula; // formula.rt: numbers and truths
-mod graph; // graph.rt: locations and moves for Graphviz
-mod line; // line.rt: one line of the output
-mod locations; // locations.rt: locations and moves as text
+mod graph; // graph.rt: moves for Graphviz
+mod line; // line.rt: a line by its pattern
+mod locations; // locations.rt: locations and moves
+mod out; // out.rt: pieces of text
 mod plant; // plant.rt: variables and equations
 
 ghost use mathlib.Core.Path.{_≡_};
@@ -23,23 +24,11 @@ fn refused(n: u8) {
     io::write_all(2, b"\n");
 }
 
-fn noticed(is_written: bool) {
-    if !is_written {
+// the last piece of the output
+fn end(s: &[u8]) {
+    if !io::write_all(1, s) {
         io::write_all(2, b"showtable: the output could not be written\n");
     }
-}
-
-fn as_text(t: &[u8], variables: usize, equations: usize, acts: usize, locs: usize) -> bool {
-    if !plant::variables(t, variables) {
-        return false;
-    }
-    if !plant::equations(t, equations) {
-        return false;
-    }
-    if !actions::show(t, acts) {
-        return false;
-    }
-    locations::show(t, acts, locs)
 }
 
 fn show(t: &[u8]) {
@@ -49,29 +38,32 @@ fn show(t: &[u8]) {
         return;
     }
     let p = table_read::parts::read(t);
-    if os::arg_count() < 2 {
-        noticed(as_text(t, p.variables, p.equations, p.actions, p.locations));
+    if graph::is_asked() {
+        graph::start(t, p.locations);
+        locations::show(t, p.actions, p.locations);
+        end(b"\n}\n");
         return;
     }
-    noticed(graph::show(t, p.actions, p.locations));
+    plant::show(t, p.variables, p.equations);
+    actions::show(t, p.actions);
+    out::words(b"\nlocations");
+    locations::show(t, p.actions, p.locations);
+    end(b"\n");
 }
 
 // no argument, or the word dot
-fn asked() -> bool {
+fn is_usage() -> bool {
     let n = os::arg_count();
     if n < 2 {
         return true;
     }
-    if n > 2 {
-        return false;
-    }
     let mut word = [0u8; 4];
-    let k = os::arg(1, &mut word);
-    bytes::is_dot(&word[..k])
+    os::arg(1, &mut word);
+    n == 2 && bytes::four(&word, 0) == 0x646F7400
 }
 
 fn main() {
-    if !asked() {
+    if !is_usage() {
         io::write_all(2, b"showtable: usage: showtable [dot]\n");
         return;
     }

@@ -3,16 +3,16 @@ use Rattle.showtable.proofs.actions.of_node.Statement.{statement}
 use Rattle.showtable.proofs.actions.of_node.Tie as tie
 
 abbrev Inv-loop : tie.InvT-loop
-Inv-loop t section node p₀ left₀ p left = Unit {0}
+Inv-loop t p node q₀ left₀ q left = Unit {0}
 
 abbrev μ-loop : tie.MeasureT-loop
-μ-loop t section node p₀ left₀ p left = left
+μ-loop t p node q₀ left₀ q left = left
 
 on-requires : tie.Need-on-requires Inv-loop μ-loop
 on-requires c κs = tt
 
-number-requires : tie.Need-number-requires Inv-loop μ-loop
-number-requires c κs = tt
+at-requires : tie.Need-at-requires Inv-loop μ-loop
+at-requires c κs = tt
 
 loop-holds : tie.Need-loop-holds Inv-loop μ-loop
 loop-holds c = tt
@@ -20,14 +20,20 @@ loop-holds c = tt
 on-requires-2 : tie.Need-on-requires-2 Inv-loop μ-loop
 on-requires-2 c κs = tt
 
-number-requires-2 : tie.Need-number-requires-2 Inv-loop μ-loop
-number-requires-2 c κs = tt
+at-requires-2 : tie.Need-at-requires-2 Inv-loop μ-loop
+at-requires-2 c κs = tt
 
 returns : tie.Need-returns Inv-loop μ-loop
 returns c = tt
 
-past-requires : tie.Need-past-requires Inv-loop μ-loop
-past-requires c κs = tt
+on-requires-3 : tie.Need-on-requires-3 Inv-loop μ-loop
+on-requires-3 c κs = tt
+
+at-requires-3 : tie.Need-at-requires-3 Inv-loop μ-loop
+at-requires-3 c κs = tt
+
+on-requires-4 : tie.Need-on-requires-4 Inv-loop μ-loop
+on-requires-4 c κs = tt
 
 sub-left : tie.Need-sub-left Inv-loop μ-loop
 sub-left c = omega arith
@@ -48,12 +54,14 @@ of-node-spec =
     Inv-loop
     μ-loop
     on-requires
-    number-requires
+    at-requires
     loop-holds
     on-requires-2
-    number-requires-2
+    at-requires-2
     returns
-    past-requires
+    on-requires-3
+    at-requires-3
+    on-requires-4
     sub-left
     loop-less
     loop-again

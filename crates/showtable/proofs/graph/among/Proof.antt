@@ -3,16 +3,22 @@ use Rattle.showtable.proofs.graph.among.Statement.{statement}
 use Rattle.showtable.proofs.graph.among.Tie as tie
 
 abbrev Inv-loop : tie.InvT-loop
-Inv-loop t first count to p₀ left₀ p left = Unit {0}
+Inv-loop t p to q₀ left₀ q left = Unit {0}
 
 abbrev μ-loop : tie.MeasureT-loop
-μ-loop t first count to p₀ left₀ p left = left
+μ-loop t p to q₀ left₀ q left = left
+
+on-requires : tie.Need-on-requires Inv-loop μ-loop
+on-requires c κs = tt
+
+at-requires : tie.Need-at-requires Inv-loop μ-loop
+at-requires c κs = tt
 
 loop-holds : tie.Need-loop-holds Inv-loop μ-loop
 loop-holds c = tt
 
-on-requires : tie.Need-on-requires Inv-loop μ-loop
-on-requires c κs = tt
+on-requires-2 : tie.Need-on-requires-2 Inv-loop μ-loop
+on-requires-2 c κs = tt
 
 two-requires : tie.Need-two-requires Inv-loop μ-loop
 two-requires c κs = tt
@@ -20,8 +26,8 @@ two-requires c κs = tt
 returns : tie.Need-returns Inv-loop μ-loop
 returns c = tt
 
-on-requires-2 : tie.Need-on-requires-2 Inv-loop μ-loop
-on-requires-2 c κs = tt
+on-requires-3 : tie.Need-on-requires-3 Inv-loop μ-loop
+on-requires-3 c κs = tt
 
 two-requires-2 : tie.Need-two-requires-2 Inv-loop μ-loop
 two-requires-2 c κs = tt
@@ -29,8 +35,8 @@ two-requires-2 c κs = tt
 returns-2 : tie.Need-returns-2 Inv-loop μ-loop
 returns-2 c = tt
 
-on-requires-3 : tie.Need-on-requires-3 Inv-loop μ-loop
-on-requires-3 c κs = tt
+on-requires-4 : tie.Need-on-requires-4 Inv-loop μ-loop
+on-requires-4 c κs = tt
 
 sub-left : tie.Need-sub-left Inv-loop μ-loop
 sub-left c = omega arith
@@ -50,14 +56,16 @@ among-spec =
     (tie.spec
     Inv-loop
     μ-loop
-    loop-holds
     on-requires
+    at-requires
+    loop-holds
+    on-requires-2
     two-requires
     returns
-    on-requires-2
+    on-requires-3
     two-requires-2
     returns-2
-    on-requires-3
+    on-requires-4
     sub-left
     loop-less
     loop-again

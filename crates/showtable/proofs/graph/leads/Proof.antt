@@ -3,10 +3,10 @@ use Rattle.showtable.proofs.graph.leads.Statement.{statement}
 use Rattle.showtable.proofs.graph.leads.Tie as tie
 
 abbrev Inv-loop : tie.InvT-loop
-Inv-loop t section to p₀ left₀ p left = Unit {0}
+Inv-loop t p to q₀ left₀ q left = Unit {0}
 
 abbrev μ-loop : tie.MeasureT-loop
-μ-loop t section to p₀ left₀ p left = left
+μ-loop t p to q₀ left₀ q left = left
 
 on-requires : tie.Need-on-requires Inv-loop μ-loop
 on-requires c κs = tt
@@ -17,26 +17,23 @@ two-requires c κs = tt
 loop-holds : tie.Need-loop-holds Inv-loop μ-loop
 loop-holds c = tt
 
-at-requires : tie.Need-at-requires Inv-loop μ-loop
-at-requires c κs = tt
-
-on-requires-2 : tie.Need-on-requires-2 Inv-loop μ-loop
-on-requires-2 c κs = tt
-
-wide-requires : tie.Need-wide-requires Inv-loop μ-loop
-wide-requires c κs = tt
-
 among-requires : tie.Need-among-requires Inv-loop μ-loop
 among-requires c κs = tt
 
 returns : tie.Need-returns Inv-loop μ-loop
 returns c = tt
 
-five-times-requires : tie.Need-five-times-requires Inv-loop μ-loop
-five-times-requires c κs = tt
+at-requires : tie.Need-at-requires Inv-loop μ-loop
+at-requires c κs = tt
+
+on-requires-2 : tie.Need-on-requires-2 Inv-loop μ-loop
+on-requires-2 c κs = tt
 
 on-requires-3 : tie.Need-on-requires-3 Inv-loop μ-loop
 on-requires-3 c κs = tt
+
+on-requires-4 : tie.Need-on-requires-4 Inv-loop μ-loop
+on-requires-4 c κs = tt
 
 sub-left : tie.Need-sub-left Inv-loop μ-loop
 sub-left c = omega arith
@@ -59,13 +56,12 @@ leads-spec =
     on-requires
     two-requires
     loop-holds
-    at-requires
-    on-requires-2
-    wide-requires
     among-requires
     returns
-    five-times-requires
+    at-requires
+    on-requires-2
     on-requires-3
+    on-requires-4
     sub-left
     loop-less
     loop-again
