@@ -1,6 +1,6 @@
 // Each call by the interpreter and by the product: the numbers are shown, and the results and every lent byte compared.
 use super::line;
-use plain_run::records::Ran;
+use super::record_bytes::Ran;
 
 // bytes that were lent, the whole room of each
 fn same<'a>(a: &'a [u8], b: &'a [u8], room: usize) -> bool {
@@ -36,7 +36,7 @@ fn equal4(a: usize, b: usize, c: usize, d: usize) -> bool {
 }
 
 fn read(file: &[u8]) -> bool {
-    let p = plain_read::schedule::read(file);
+    let p = super::schedule::read(file);
     let r = schedule_read::call::read(file);
     line::text(b": read");
     show4(p.refusal, p.variables, p.selectors, p.nodes);
@@ -45,7 +45,7 @@ fn read(file: &[u8]) -> bool {
 }
 
 fn read_table(table: &[u8]) -> bool {
-    let p = plain_read::table::read(table);
+    let p = super::table::read(table);
     let r = table_read::call::read(table);
     line::text(b"; table");
     show4(p.refusal, p.variables, p.selectors, p.actions);
@@ -90,7 +90,7 @@ fn run_rules(
     if room > b.len() {
         return false;
     }
-    let p = plain_run::run::by_rules(file, start, events, &mut a[0..room]);
+    let p = super::run::by_rules(file, start, events, &mut a[0..room]);
     let r = rule_run::call::run(file, start, events, &mut b[0..room]);
     line::text(b"; rules");
     show_run(p, a, start.len() + 9, events.len() / 3);
@@ -114,7 +114,7 @@ fn run_table(
     if room > b.len() {
         return false;
     }
-    let p = plain_run::run::by_table(table, start, events, &mut a[0..room]);
+    let p = super::run::by_table(table, start, events, &mut a[0..room]);
     let r = table_run::call::run(table, start, events, &mut b[0..room]);
     line::text(b"; by table");
     show_run(p, a, start.len() + 9, shown);
@@ -147,7 +147,7 @@ fn compile(
             agree: false,
         };
     }
-    let p = plain_run::numbering::compile(file, work, &mut a[0..room]);
+    let p = super::location_numbers::compile(file, work, &mut a[0..room]);
     let r = compiler::call::compile(file, &mut b[0..room]);
     line::text(b"; compiled");
     line::number(p.refusal);

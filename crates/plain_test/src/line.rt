@@ -1,5 +1,5 @@
 // Words and numbers of a line.
-use plain_bytes::bytes;
+use super::bytes;
 
 pub fn text(s: &[u8]) {
     io::write_all(1, s);
@@ -35,7 +35,7 @@ fn repeated(records: &[u8], size: usize, i: usize, n: usize) -> usize {
 }
 
 fn answer(records: &[u8], size: usize, i: usize) -> usize {
-    let p = plain_bytes::numbers::product(size as u64, i as u64);
+    let p = super::numbers::product(size as u64, i as u64);
     bytes::at(records, p as usize)
 }
 

@@ -1,11 +1,26 @@
-// The product's five calls beside the plain interpreter's, on the cases of standard input; tests/cases says what they are.
+// The product's five calls beside those of a plain interpreter, on the cases of standard input; tests/cases says what they are.
+// The interpreter (all modules but `compared` and `line`) is written from document 01 with no function of the product. Its functions promise nothing but to end and to be safe.
 // A line for each case: its name and the interpreter's numbers, and at its end whether the product returned and wrote the same.
 // Of a schedule: reading it (refusal; variables, selectors, nodes), compiling (refusal; bytes), reading the table (refusal; actions, locations),
 // the run by the rules and the run of the table (refusal; taken, turned away, faulted), and the answers in order.
+mod bytes;
 mod compared;
+mod equations;
+mod forms;
+mod index;
+mod judge;
 mod line;
-
-use plain_bytes::bytes;
+mod location_numbers;
+mod locations;
+mod nodes;
+mod numbers;
+mod record_bytes;
+mod residuals;
+mod run;
+mod schedule;
+mod sets;
+mod table;
+mod variables;
 
 // where a case's bytes begin and end, and the rooms that are lent for it
 struct Case {
