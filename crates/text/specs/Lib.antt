@@ -1,2 +1,0 @@
--- What the contracts of text in a buffer cite.
-pub mod Texts
