@@ -1,4 +1,4 @@
-// Pieces of text on standard output. A piece that cannot be written closes it: then all later pieces fail too, and main looks at the last one.
+// Pieces of text on standard output. A piece that cannot be written closes it: then all later pieces fail too, and only the last one is looked at (main.rt, end).
 use super::bytes;
 
 fn after(is_written: bool) {
