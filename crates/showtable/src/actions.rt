@@ -2,26 +2,18 @@
 use super::bytes;
 use super::line;
 
-// the action at p; the place after it
-fn action(t: &[u8], p: usize) -> usize {
-    match bytes::at(t, bytes::on(p, 2)) {
-        1 => line::show(t, p, 0, b"~\n  node #: ~test $"),
-        2 => line::show(t, p, 0, b"~\n  node #: ~wait $"),
-        3 => line::show(t, p, 0, b"~\n  node #: ~assign v# := $"),
-        4 => line::show(t, p, 0, b"~\n  node #: ~switch selector # to mode #"),
-        _ => line::show(t, p, 0, b"~\n  node #: ~stop"),
-    }
+// the kind of the action at p: a test is 1
+pub fn kind(t: &[u8], p: usize) -> usize {
+    bytes::at(t, bytes::on(p, 2))
 }
 
-// the section at a place
+// the section at p
 pub fn show(t: &[u8], p: usize) {
-    line::show(t, p, 0, b"\nactions");
-    let mut q = bytes::on(p, 1);
-    let mut left = bytes::at(t, p);
-    while left > 0 {
-        q = action(t, q);
-        left -= 1;
-    }
+    line::each(
+        t,
+        p,
+        b"~\n  node #: ?|test $|wait $|assign v# := $|switch selector # to mode #|stop",
+    );
 }
 
 // where the action of a node stands in the section at p, or 0
@@ -29,10 +21,11 @@ pub fn of_node(t: &[u8], p: usize, node: usize) -> usize {
     let mut q = bytes::on(p, 1);
     let mut left = bytes::at(t, p);
     while left > 0 {
-        if bytes::at(t, bytes::on(q, 1)) == node {
+        let k = bytes::on(q, 1);
+        if bytes::at(t, k) == node {
             return q;
         }
-        q = bytes::on(bytes::on(q, 1), bytes::at(t, q));
+        q = bytes::on(k, bytes::at(t, q));
         left -= 1;
     }
     0

@@ -4,63 +4,63 @@ use super::out;
 
 // how many operands follow a code
 fn operands(code: usize) -> usize {
-    match code {
-        0x10..=0x12 => 2,
-        0x20..=0x23 => 2,
-        0x28 | 0x29 => 2,
-        0x14 | 0x2A => 1,
-        _ => 0,
+    if code < 0x10 {
+        return 0;
     }
+    if code == 0x2F {
+        return 0;
+    }
+    if code == 0x14 {
+        return 1;
+    }
+    if code == 0x2A {
+        return 1;
+    }
+    2
 }
 
-fn leaf(t: &[u8], p: usize) -> usize {
+// a constant, a variable or true; the place after it
+fn leaf(t: &[u8], p: usize, code: usize) -> usize {
     let q = bytes::on(p, 1);
-    match bytes::at(t, p) {
-        1 => {
-            out::signed(bytes::four(t, q));
-            bytes::on(p, 5)
-        }
-        2 => {
-            out::words(b"v");
-            out::decimal(bytes::at(t, q));
-            bytes::on(p, 2)
-        }
-        _ => {
-            out::words(b"true");
-            q
-        }
+    if code == 1 {
+        out::signed(bytes::four(t, q));
+        return bytes::on(p, 5);
     }
+    if code == 2 {
+        out::byte(b'v');
+        out::decimal(bytes::at(t, q));
+        return bytes::on(p, 2);
+    }
+    out::text(0, b"true");
+    q
 }
 
 // a parenthesis, but not around the whole
-fn bracket(levels: usize, s: &[u8]) {
+fn bracket(levels: usize, b: u8) {
     if levels < 16 {
-        out::words(s);
+        out::byte(b);
     }
 }
 
 // what stands before the first operand
 fn before(code: usize, levels: usize) {
-    match code {
-        0x14 => out::words(b"-"),
-        0x2A => out::words(b"not "),
-        _ => bracket(levels, b"("),
+    if code == 0x14 {
+        out::byte(b'-');
+        return;
     }
+    if code == 0x2A {
+        out::text(0, b"not ");
+        return;
+    }
+    bracket(levels, b'(');
 }
 
-// what stands between two operands
+// what stands between two operands; the codes begin at 0x10
 fn between(code: usize) {
-    match code {
-        0x10 => out::words(b" + "),
-        0x11 => out::words(b" - "),
-        0x12 => out::words(b" * "),
-        0x20 => out::words(b" <= "),
-        0x21 => out::words(b" < "),
-        0x22 => out::words(b" = "),
-        0x23 => out::words(b" != "),
-        0x28 => out::words(b" and "),
-        _ => out::words(b" or "),
-    }
+    out::text(
+        std::num::wrapping_sub_usize(code, 15),
+        b"| + | - | * |||||||||||||| <= | < | = | != ||||| and | or ",
+    );
 }
 
 // the form at a place, of at most so many levels; the place after it
@@ -71,7 +71,7 @@ pub fn form(t: &[u8], p: usize, levels: usize) -> usize {
     let code = bytes::at(t, p);
     let n = operands(code);
     if n == 0 {
-        return leaf(t, p);
+        return leaf(t, p, code);
     }
     before(code, levels);
     let q = form(t, bytes::on(p, 1), levels - 1);
@@ -80,6 +80,6 @@ pub fn form(t: &[u8], p: usize, levels: usize) -> usize {
     }
     between(code);
     let r = form(t, q, levels - 1);
-    bracket(levels, b")");
+    bracket(levels, b')');
     r
 }

@@ -1,5 +1,6 @@
 // A table as a graph: a circle for each location, an arrow for each target. The arrow has its node and kind, true or false of a test, and below them
 // what the action does.
+use super::actions;
 use super::bytes;
 use super::line;
 use super::out;
@@ -9,83 +10,62 @@ pub fn is_asked() -> bool {
     os::arg_count() > 1
 }
 
-// the lines of a location begin with its number, unless they are arrows
-pub fn or_heading(t: &[u8], n: usize) {
-    if !is_asked() {
-        line::show(t, 0, n, b"\n  location !");
-    }
-}
-
-// by the action at a of kind k; 0 is a test that is false
-fn label(t: &[u8], a: usize, k: usize) {
-    match k {
-        0 => line::show(t, a, 0, b"~# ~test false\\n$\"];"),
-        1 => line::show(t, a, 0, b"~# ~test true\\n$\"];"),
-        2 => line::show(t, a, 0, b"~# ~wait\\n$\"];"),
-        3 => line::show(t, a, 0, b"~# ~assign\\nv# := $\"];"),
-        4 => line::show(t, a, 0, b"~# ~switch\\nselector # to mode #\"];"),
-        _ => line::show(t, a, 0, b"~# ~stop\"];"),
-    }
-    ;
-}
-
-// one arrow from location n to the target at p
-fn arrow(t: &[u8], a: usize, k: usize, p: usize, n: usize) {
+// one arrow from location n to the target at p, by the action at a; its kind, or 6 of a test that is false
+fn arrow(t: &[u8], a: usize, kind: usize, p: usize, n: usize) {
     line::show(t, p, n, b"\n    ! -> ^ [label=\"");
-    label(t, a, k);
+    line::show(
+        t,
+        a,
+        kind,
+        b"~# ~|test true\\n$|wait\\n$|assign\\nv# := $|switch\\nselector # to mode #|stop|test false\\n$",
+    );
+    out::text(0, b"\"];");
 }
 
 // the entry at p of location n, by the action at a
 pub fn arrows(t: &[u8], a: usize, p: usize, n: usize) {
-    let k = bytes::at(t, bytes::on(a, 2));
+    let k = actions::kind(t, a);
     arrow(t, a, k, bytes::on(p, 1), n);
     if k == 1 {
-        arrow(t, a, 0, bytes::on(p, 3), n);
+        arrow(t, a, 6, bytes::on(p, 3), n);
     }
 }
 
-// whether one of the entries of the location at p leads there
-fn among(t: &[u8], p: usize, to: usize) -> bool {
-    let mut q = bytes::on(p, 1);
-    let mut left = bytes::at(t, p);
-    while left > 0 {
-        if bytes::two(t, bytes::on(q, 1)) == to {
-            return true;
-        }
-        if bytes::two(t, bytes::on(q, 3)) == to {
-            return true;
-        }
-        q = bytes::on(q, 5);
-        left -= 1;
+// whether the entry at p leads there
+fn is_to(t: &[u8], p: usize, to: usize) -> bool {
+    if bytes::two(t, bytes::on(p, 1)) == to {
+        return true;
     }
-    false
+    bytes::two(t, bytes::on(p, 3)) == to
 }
 
-// whether an entry of the section at p leads there
-fn leads(t: &[u8], p: usize, to: usize) -> bool {
+// 1 where an entry of the section at p leads there, or 0: what is left of a location's entries is counted down
+fn leads(t: &[u8], p: usize, to: usize) -> usize {
     let mut q = bytes::on(p, 2);
-    let mut left = bytes::two(t, p);
-    while left > 0 {
-        if among(t, q, to) {
-            return true;
+    let mut left = 0;
+    let mut steps = t.len();
+    while steps > 0 {
+        steps -= 1;
+        if left == 0 {
+            left = bytes::at(t, q);
+            q = bytes::on(q, 1);
+        } else {
+            if is_to(t, q, to) {
+                return 1;
+            }
+            q = bytes::on(q, 5);
+            left -= 1;
         }
-        let c = bytes::at(t, q);
-        q = bytes::on(bytes::on(q, 1), bytes::on(c << 2, c));
-        left -= 1;
     }
-    false
+    0
 }
 
 // what stands before the arrows of the section at p; an end of the run is drawn where it is reached
 pub fn start(t: &[u8], p: usize) {
-    out::words(
-        b"digraph table {\n    rankdir=LR;\n    node [shape=circle];\n    start [shape=point];",
+    out::text(
+        leads(t, p, 0xFFFE),
+        b"digraph table {\n    rankdir=LR;\n    node [shape=circle];\n    start [shape=point];|\n    finished [shape=doublecircle];",
     );
-    if leads(t, p, 0xFFFE) {
-        out::words(b"\n    finished [shape=doublecircle];");
-    }
-    if leads(t, p, 0xFFFD) {
-        out::words(b"\n    halted [shape=octagon];");
-    }
-    out::words(b"\n    start -> 0;");
+    out::text(leads(t, p, 0xFFFD), b"|\n    halted [shape=octagon];");
+    out::text(0, b"\n    start -> 0;");
 }

@@ -1,6 +1,8 @@
-// Lines by a pattern. Each byte of the pattern shows the next field of the table, or stands for itself:
+// Lines by a pattern, with a number n. Each byte of the pattern shows the next field of the table, or stands for itself:
 //   #  a byte                  %  a signed number of four bytes    ^  a target of two bytes
-//   $  a number or a truth     ~  a byte that is left out          !  the number n of the record
+//   $  a number or a truth     ~  a byte that is left out          !  the number n
+//   ?  a byte that is left out and becomes the number of the bar, which is n before
+// After the first bar only what follows the bar of this number is shown.
 use super::bytes;
 use super::formula;
 use super::out;
@@ -37,10 +39,20 @@ fn field(t: &[u8], p: usize, n: usize, c: u8) -> usize {
 // the place after the fields
 pub fn show(t: &[u8], p: usize, n: usize, pattern: &[u8]) -> usize {
     let mut q = p;
+    let mut number = n;
+    let mut bars = 0;
     let mut i = 0;
     while i < pattern.len() {
-        q = field(t, q, n, pattern[i]);
+        let c = pattern[i];
         i += 1;
+        if c == b'|' {
+            bars = bytes::on(bars, 1);
+        } else if c == b'?' {
+            number = bytes::at(t, q);
+            q = bytes::on(q, 1);
+        } else if out::is_shown(number, bars) {
+            q = field(t, q, n, c);
+        }
     }
     q
 }

@@ -4,18 +4,6 @@ use super::bytes;
 use super::graph;
 use super::line;
 
-// the entry at p, whose action is of kind k
-fn entry_line(t: &[u8], p: usize, k: usize) {
-    match k {
-        1 => line::show(t, p, 0, b"\n    node # test -> true ^, false ^"),
-        2 => line::show(t, p, 0, b"\n    node # wait -> ^"),
-        3 => line::show(t, p, 0, b"\n    node # assign -> ^"),
-        4 => line::show(t, p, 0, b"\n    node # switch -> ^"),
-        _ => line::show(t, p, 0, b"\n    node # stop -> ^"),
-    }
-    ;
-}
-
 // the entry at p of location n, as a line or as arrows
 fn entry(t: &[u8], acts: usize, p: usize, n: usize) {
     let a = actions::of_node(t, acts, bytes::at(t, p));
@@ -23,11 +11,23 @@ fn entry(t: &[u8], acts: usize, p: usize, n: usize) {
         graph::arrows(t, a, p, n);
         return;
     }
-    entry_line(t, p, bytes::at(t, bytes::on(a, 2)));
+    line::show(
+        t,
+        p,
+        actions::kind(t, a),
+        b"\n    node # |test -> true ^, false ^|wait -> ^|assign -> ^|switch -> ^|stop -> ^",
+    );
+}
+
+fn heading(t: &[u8], n: usize) {
+    if !graph::is_asked() {
+        line::show(t, 0, n, b"\n  location !");
+    }
 }
 
 // location n at p; the place after it
 fn location(t: &[u8], acts: usize, p: usize, n: usize) -> usize {
+    heading(t, n);
     let mut q = bytes::on(p, 1);
     let mut left = bytes::at(t, p);
     while left > 0 {
@@ -38,13 +38,12 @@ fn location(t: &[u8], acts: usize, p: usize, n: usize) -> usize {
     q
 }
 
-// the section at a place
+// the section at p
 pub fn show(t: &[u8], acts: usize, p: usize) {
     let count = bytes::two(t, p);
     let mut q = bytes::on(p, 2);
     let mut n = 0;
     while n < count {
-        graph::or_heading(t, n);
         q = location(t, acts, q, n);
         n += 1;
     }

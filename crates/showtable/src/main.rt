@@ -11,11 +11,66 @@ mod plant; // plant.rt: variables and equations
 ghost use mathlib.Core.Path.{_≡_};
 ghost use lib.ListN.{length};
 
-// no accepted table has more bytes
-fn table_buffer() -> [u8; 407570]
-    ensures { λ r. ⌜ 407570 ≡ length r ⌝ }
+// one byte more than any accepted table has
+fn table_buffer() -> [u8; 407571]
+    ensures { λ r. ⌜ 407571 ≡ length r ⌝ }
 {
-    [0; 407570]
+    [0; 407571]
+}
+
+// the last piece of the output
+fn end() {
+    if !io::write_all(1, b"\n") {
+        io::write_all(2, b"showtable: the output could not be written\n");
+    }
+}
+
+fn heading(number: usize) {
+    out::text(number, b"|variables|\nequations|\nactions|\nlocations");
+}
+
+fn as_text(t: &[u8], equations: usize, acts: usize) {
+    heading(1);
+    plant::variables(t, 7);
+    heading(2);
+    plant::equations(t, equations);
+    heading(3);
+    actions::show(t, acts);
+    heading(4);
+}
+
+fn as_graph(t: &[u8], acts: usize, locs: usize) {
+    graph::start(t, locs);
+    locations::show(t, acts, locs);
+    out::byte(b'\n');
+    out::byte(b'}');
+}
+
+// where the section after the one at p begins; a length of two bytes stands before it
+fn past(t: &[u8], p: usize) -> usize {
+    bytes::on(
+        p,
+        bytes::on(bytes::two(t, std::num::wrapping_sub_usize(p, 2)), 2),
+    )
+}
+
+// an accepted table
+fn show(t: &[u8]) {
+    let e = past(t, 7);
+    let a = past(t, e);
+    // the length of the locations has four bytes
+    let l = bytes::on(past(t, a), 2);
+    if graph::is_asked() {
+        as_graph(t, a, l);
+        return;
+    }
+    as_text(t, e, a);
+    locations::show(t, a, l);
+}
+
+fn refusal(t: &[u8]) -> u8 {
+    let r = table_read::call::read(t);
+    r.refusal
 }
 
 fn refused(n: u8) {
@@ -24,42 +79,29 @@ fn refused(n: u8) {
     io::write_all(2, b"\n");
 }
 
-// the last piece of the output
-fn end(s: &[u8]) {
-    if !io::write_all(1, s) {
-        io::write_all(2, b"showtable: the output could not be written\n");
+fn show_accepted(t: &[u8]) {
+    let n = refusal(t);
+    if n == 0 {
+        show(t);
+        end();
+        return;
     }
+    refused(n);
 }
 
-fn show(t: &[u8]) {
-    let r = table_read::call::read(t);
-    if r.refusal != 0 {
-        refused(r.refusal);
-        return;
-    }
-    let p = table_read::parts::read(t);
-    if graph::is_asked() {
-        graph::start(t, p.locations);
-        locations::show(t, p.actions, p.locations);
-        end(b"\n}\n");
-        return;
-    }
-    plant::show(t, p.variables, p.equations);
-    actions::show(t, p.actions);
-    out::words(b"\nlocations");
-    locations::show(t, p.actions, p.locations);
-    end(b"\n");
+fn is_dot() -> bool {
+    let mut word = [0u8; 4];
+    os::arg(1, &mut word);
+    bytes::four(&word, 0) == 0x646F7400
 }
 
 // no argument, or the word dot
 fn is_usage() -> bool {
     let n = os::arg_count();
-    if n < 2 {
-        return true;
+    if n == 2 {
+        return is_dot();
     }
-    let mut word = [0u8; 4];
-    os::arg(1, &mut word);
-    n == 2 && bytes::four(&word, 0) == 0x646F7400
+    n < 2
 }
 
 fn main() {
@@ -69,10 +111,9 @@ fn main() {
     }
     let mut table = table_buffer();
     let n = io::read_full(0, &mut table);
-    let mut more = [0u8; 1];
-    if libc::read(0, &mut more) > 0 {
+    if n > 407570 {
         io::write_all(2, b"showtable: longer than any table\n");
         return;
     }
-    show(&table[..n]);
+    show_accepted(&table[..n]);
 }

@@ -1,4 +1,5 @@
-// Pieces of text on standard output. A piece that cannot be written closes it: then all later pieces fail too, and main looks at the last one.
+// Pieces of text on standard output. A piece that cannot be written closes it: then all later pieces fail too, and only the last one is looked at (main.rt, end).
+use super::bytes;
 
 fn after(is_written: bool) {
     if !is_written {
@@ -6,13 +7,37 @@ fn after(is_written: bool) {
     }
 }
 
-pub fn words(s: &[u8]) {
-    after(io::write_all(1, s));
-}
-
 pub fn byte(b: u8) {
     let s = [b];
-    words(&s);
+    after(io::write_all(1, &s));
+}
+
+// the bytes before the first bar, and those after the bar of this number
+pub fn text(number: usize, s: &[u8]) {
+    let mut bars = 0;
+    let mut i = 0;
+    while i < s.len() {
+        bars = letter(number, bars, s[i]);
+        i += 1;
+    }
+}
+
+// the bars that were met
+fn letter(number: usize, bars: usize, b: u8) -> usize {
+    if b == b'|' {
+        return bytes::on(bars, 1);
+    }
+    if is_shown(number, bars) {
+        byte(b);
+    }
+    bars
+}
+
+pub fn is_shown(number: usize, bars: usize) -> bool {
+    if bars == 0 {
+        return true;
+    }
+    bars == number
 }
 
 pub fn decimal(n: usize) {
@@ -25,16 +50,15 @@ pub fn signed(u: usize) {
         decimal(u);
         return;
     }
-    words(b"-");
+    byte(b'-');
     decimal(std::num::wrapping_sub_usize(4294967296, u));
 }
 
 // a location, or how the run ends
 pub fn target(n: usize) {
-    match n {
-        0xFFFE => words(b"finished"),
-        0xFFFD => words(b"halted"),
-        0xFFFF => words(b"none"),
-        _ => decimal(n),
+    if n < 0xFFFD {
+        decimal(n);
+        return;
     }
+    text(n - 0xFFFC, b"|halted|finished|none");
 }

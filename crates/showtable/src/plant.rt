@@ -22,19 +22,21 @@ fn modes(t: &[u8], p: usize) {
 
 // the equation whose kind stands at p; the number of the next selector
 fn equation(t: &[u8], p: usize, selector: usize) -> usize {
-    let q = bytes::on(p, 1);
+    let q = line::show(
+        t,
+        p,
+        selector,
+        b"?|\n  v# changes by % at a tick|\n  selector !, initially mode #",
+    );
     if bytes::at(t, p) == 1 {
-        line::show(t, q, 0, b"\n  v# changes by % at a tick");
         return selector;
     }
-    modes(
-        t,
-        line::show(t, q, selector, b"\n  selector !, initially mode #"),
-    );
+    modes(t, q);
     bytes::on(selector, 1)
 }
 
-fn equations(t: &[u8], p: usize) {
+// the section at p
+pub fn equations(t: &[u8], p: usize) {
     let mut q = bytes::on(p, 1);
     let mut n = 0;
     let mut left = bytes::at(t, p);
@@ -46,10 +48,7 @@ fn equations(t: &[u8], p: usize) {
     }
 }
 
-// the two sections at their places
-pub fn show(t: &[u8], variables: usize, p: usize) {
-    line::show(t, p, 0, b"variables");
-    line::each(t, variables, b"\n  v!: %..%, initially %");
-    line::show(t, p, 0, b"\nequations");
-    equations(t, p);
+// the section at p
+pub fn variables(t: &[u8], p: usize) {
+    line::each(t, p, b"\n  v!: %..%, initially %");
 }

@@ -26,14 +26,11 @@ at-requires-2 c κs = tt
 returns : tie.Need-returns Inv-loop μ-loop
 returns c = tt
 
-on-requires-3 : tie.Need-on-requires-3 Inv-loop μ-loop
-on-requires-3 c κs = tt
-
 at-requires-3 : tie.Need-at-requires-3 Inv-loop μ-loop
 at-requires-3 c κs = tt
 
-on-requires-4 : tie.Need-on-requires-4 Inv-loop μ-loop
-on-requires-4 c κs = tt
+on-requires-3 : tie.Need-on-requires-3 Inv-loop μ-loop
+on-requires-3 c κs = tt
 
 sub-left : tie.Need-sub-left Inv-loop μ-loop
 sub-left c = omega arith
@@ -59,9 +56,8 @@ of-node-spec =
     on-requires-2
     at-requires-2
     returns
-    on-requires-3
     at-requires-3
-    on-requires-4
+    on-requires-3
     sub-left
     loop-less
     loop-again

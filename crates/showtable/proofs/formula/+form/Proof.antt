@@ -68,9 +68,6 @@ form-sub-form-2 t c = omega arith
 form-form-requires-2 : (t : ℕ) → form-lts.Need-form-requires-2 (calls t) (form-at t) form.Post
 form-form-requires-2 t c κs = (let e : c .before .before .before .before .before .before .before .before .before .before .args .levels ≡ t = c .before .before .before .before .before .before .before .before .before .before .pre .0 in omega arith, tt)
 
-form-slice-aggregate-bracket : (t : ℕ) → form-lts.Need-slice-aggregate-bracket (calls t) (form-at t) form.Post
-form-slice-aggregate-bracket t c = refl
-
 form-bracket-requires : (t : ℕ) → form-lts.Need-bracket-requires (calls t) (form-at t) form.Post
 form-bracket-requires t c κs = tt
 
@@ -94,6 +91,5 @@ pub +form-spec : {M : Type 1} → statement M
     (form-between-requires t)
     (form-sub-form-2 t)
     (form-form-requires-2 t)
-    (form-slice-aggregate-bracket t)
     (form-bracket-requires t)
     (form-returns-4 t)

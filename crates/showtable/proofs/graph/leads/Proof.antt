@@ -3,25 +3,19 @@ use Rattle.showtable.proofs.graph.leads.Statement.{statement}
 use Rattle.showtable.proofs.graph.leads.Tie as tie
 
 abbrev Inv-loop : tie.InvT-loop
-Inv-loop t p to q₀ left₀ q left = Unit {0}
+Inv-loop t p to q₀ left₀ steps₀ q left steps = Unit {0}
 
 abbrev μ-loop : tie.MeasureT-loop
-μ-loop t p to q₀ left₀ q left = left
+μ-loop t p to q₀ left₀ steps₀ q left steps = steps
 
 on-requires : tie.Need-on-requires Inv-loop μ-loop
 on-requires c κs = tt
 
-two-requires : tie.Need-two-requires Inv-loop μ-loop
-two-requires c κs = tt
-
 loop-holds : tie.Need-loop-holds Inv-loop μ-loop
 loop-holds c = tt
 
-among-requires : tie.Need-among-requires Inv-loop μ-loop
-among-requires c κs = tt
-
-returns : tie.Need-returns Inv-loop μ-loop
-returns c = tt
+sub-steps : tie.Need-sub-steps Inv-loop μ-loop
+sub-steps c = omega arith
 
 at-requires : tie.Need-at-requires Inv-loop μ-loop
 at-requires c κs = tt
@@ -29,20 +23,29 @@ at-requires c κs = tt
 on-requires-2 : tie.Need-on-requires-2 Inv-loop μ-loop
 on-requires-2 c κs = tt
 
-on-requires-3 : tie.Need-on-requires-3 Inv-loop μ-loop
-on-requires-3 c κs = tt
-
-on-requires-4 : tie.Need-on-requires-4 Inv-loop μ-loop
-on-requires-4 c κs = tt
-
-sub-left : tie.Need-sub-left Inv-loop μ-loop
-sub-left c = omega arith
-
 loop-less : tie.Need-loop-less Inv-loop μ-loop
 loop-less c = omega arith
 
 loop-again : tie.Need-loop-again Inv-loop μ-loop
 loop-again c = tt
+
+is-to-requires : tie.Need-is-to-requires Inv-loop μ-loop
+is-to-requires c κs = tt
+
+returns : tie.Need-returns Inv-loop μ-loop
+returns c = tt
+
+on-requires-3 : tie.Need-on-requires-3 Inv-loop μ-loop
+on-requires-3 c κs = tt
+
+sub-left : tie.Need-sub-left Inv-loop μ-loop
+sub-left c = omega arith
+
+loop-less-2 : tie.Need-loop-less-2 Inv-loop μ-loop
+loop-less-2 c = omega arith
+
+loop-again-2 : tie.Need-loop-again-2 Inv-loop μ-loop
+loop-again-2 c = tt
 
 returns-2 : tie.Need-returns-2 Inv-loop μ-loop
 returns-2 c = tt
@@ -54,15 +57,16 @@ leads-spec =
     Inv-loop
     μ-loop
     on-requires
-    two-requires
     loop-holds
-    among-requires
-    returns
+    sub-steps
     at-requires
     on-requires-2
-    on-requires-3
-    on-requires-4
-    sub-left
     loop-less
     loop-again
+    is-to-requires
+    returns
+    on-requires-3
+    sub-left
+    loop-less-2
+    loop-again-2
     returns-2)

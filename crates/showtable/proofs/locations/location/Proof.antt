@@ -8,6 +8,9 @@ Inv-loop t acts p n q₀ left₀ q left = Unit {0}
 abbrev μ-loop : tie.MeasureT-loop
 μ-loop t acts p n q₀ left₀ q left = left
 
+heading-requires : tie.Need-heading-requires Inv-loop μ-loop
+heading-requires c κs = tt
+
 on-requires : tie.Need-on-requires Inv-loop μ-loop
 on-requires c κs = tt
 
@@ -41,6 +44,7 @@ location-spec =
     (tie.spec
     Inv-loop
     μ-loop
+    heading-requires
     on-requires
     at-requires
     loop-holds

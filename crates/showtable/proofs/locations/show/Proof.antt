@@ -18,9 +18,6 @@ on-requires c κs = tt
 loop-holds : tie.Need-loop-holds Inv-loop μ-loop
 loop-holds c = tt
 
-or-heading-requires : tie.Need-or-heading-requires Inv-loop μ-loop
-or-heading-requires c κs = tt
-
 location-requires : tie.Need-location-requires Inv-loop μ-loop
 location-requires c κs = tt
 
@@ -45,7 +42,6 @@ show-spec =
     two-requires
     on-requires
     loop-holds
-    or-heading-requires
     location-requires
     add-n
     loop-less
