@@ -1,11 +1,11 @@
 // One event of a run that is not over: what it is answered, and what it does to values and modes. An event turned away or a fault does nothing.
 use super::bytes;
+use super::equations;
 use super::forms;
 use super::index;
+use super::nodes;
 use super::numbers;
 use super::sets;
-use super::equations;
-use super::nodes;
 use super::variables;
 
 pub const TAKEN: usize = 200;

@@ -1,7 +1,7 @@
 // The location section of a table: 19, and what a run looks up there.
-use super::nodes;
 use super::bytes;
 use super::index;
+use super::nodes;
 use super::sets;
 
 pub const FINISHED: usize = 0xFFFE;

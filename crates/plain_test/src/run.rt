@@ -1,12 +1,12 @@
 // The run of a schedule by the rules, and the run of a table.
+use super::bytes;
+use super::index;
 use super::judge;
+use super::locations;
 use super::record_bytes;
 use super::record_bytes::Ran;
 use super::residuals;
 use super::residuals::Residual;
-use super::bytes;
-use super::index;
-use super::locations;
 use super::schedule;
 use super::table;
 

@@ -1,9 +1,9 @@
 // Reading a schedule: 1 to 12.
+use super::bytes;
 use super::equations;
+use super::index;
 use super::nodes;
 use super::variables;
-use super::bytes;
-use super::index;
 
 pub struct FileRead {
     pub refusal: usize,

@@ -1,10 +1,10 @@
 // Reading a table: 15 to 19.
+use super::bytes;
 use super::equations;
+use super::index;
 use super::locations;
 use super::nodes;
 use super::variables;
-use super::bytes;
-use super::index;
 
 pub struct TableRead {
     pub refusal: usize,
