@@ -28,6 +28,7 @@ pub fn all<'a>(
     ensures { λ r. ⌜ ((s : Schedule) → Asked s (lent (now (es .entry)) (now (places .entry)) steady (now (lows .entry)) (now (highs .entry)) (now (ops .entry)) (now (acts .entry)) (now (starts .entry)) (now (ends .entry))) (now (kinds .entry)) (now (subtrees .entry)) (now (values .entry)) (now (modes .entry)) (now (events .entry)) (now (records .entry)) → Whole s (now (values .entry)) (now (modes .entry)) (now (events .entry)) (now (records .entry)) r (now (records .exit))) ⌝ }
 {
     let first = moves::fresh(kinds, subtrees);
+    let parents = moves::parents(subtrees);
     let mut at = Situation {
         over: false,
         acting: first,
@@ -53,6 +54,7 @@ pub fn all<'a>(
             ends,
             kinds,
             subtrees,
+            &parents,
             at,
             events[3 * k],
             events[3 * k + 1],

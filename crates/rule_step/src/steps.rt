@@ -14,7 +14,7 @@ ghost use Rattle.schedules.specs.Trees.{Tree};
 ghost use Rattle.schedules.specs.Residuals.{Residual, move};
 ghost use Rattle.schedules.specs.Files.{Schedule, ruleControl};
 ghost use Rattle.nodeset.specs.Sets.{members};
-ghost use Rattle.moves.specs.Contracts.{Standing};
+ghost use Rattle.moves.specs.Contracts.{Upward, Standing};
 ghost use Rattle.effects.specs.Told.{Left};
 ghost use Rattle.execution.specs.Ready.{lent, Fits};
 ghost use Rattle.rule_step.specs.Situations.{goingOn, ended, Here, Arrives, Movable, StandsFor, ScheduleLent, Promised, Steps};
@@ -62,14 +62,15 @@ fn end(n: u8) -> Answered
 fn moved<'a>(
     kinds: &'a [u8],
     subtrees: &'a [usize],
+    parents: &'a [usize],
     acting: NodeSet,
     n: usize,
     truth: bool,
 ) -> Answered
-    requires { ⌜ Standing (now kinds) (now subtrees) (acting .words) n ⌝ }
+    requires { ⌜ Standing (now kinds) (now subtrees) (acting .words) n × Upward (now subtrees) (now parents) ⌝ }
     ensures { λ r. ⌜ ((t : Tree) (x : Residual) → Here (now (kinds .entry)) (now (subtrees .entry)) t (acting .words) x → Arrives t (move x n truth) r) ⌝ }
 {
-    let m = moves::advance(kinds, subtrees, acting, n, truth);
+    let m = moves::advance(kinds, subtrees, parents, acting, n, truth);
     let how = m.how;
     let set = m.set;
     match how {
@@ -80,8 +81,14 @@ fn moved<'a>(
 }
 
 // What a judged event makes of the acting nodes.
-fn settled<'a>(kinds: &'a [u8], subtrees: &'a [usize], acting: NodeSet, v: Verdict) -> Answered
-    requires { ⌜ Movable (now kinds) (now subtrees) (acting .words) v ⌝ }
+fn settled<'a>(
+    kinds: &'a [u8],
+    subtrees: &'a [usize],
+    parents: &'a [usize],
+    acting: NodeSet,
+    v: Verdict,
+) -> Answered
+    requires { ⌜ Movable (now kinds) (now subtrees) (acting .words) v × Upward (now subtrees) (now parents) ⌝ }
     ensures { λ r. ⌜ ((s : Schedule) (x : Residual) → Here (now (kinds .entry)) (now (subtrees .entry)) (s .root) (acting .words) x → (vs : List ℤ) (ms e : List ℕ) (vs' : List ℤ) (ms' : List ℕ) → Left (judge edition1 (s .plant) (ruleControl s .action) (members (acting .words)) vs ms (eventIn edition1 e)) vs ms v vs' ms' → Steps s (some x) vs ms e r vs' ms') ⌝ }
 {
     match v {
@@ -89,7 +96,7 @@ fn settled<'a>(kinds: &'a [u8], subtrees: &'a [usize], acting: NodeSet, v: Verdi
         Verdict::Above => end(203),
         Verdict::Below => end(203),
         Verdict::Stay => go_on(200, acting),
-        Verdict::Move(n, truth) => moved(kinds, subtrees, acting, n, truth),
+        Verdict::Move(n, truth) => moved(kinds, subtrees, parents, acting, n, truth),
     }
 }
 
@@ -106,6 +113,7 @@ pub fn step<'a>(
     ends: &[usize],
     kinds: &'a [u8],
     subtrees: &'a [usize],
+    parents: &'a [usize],
     at: Situation,
     a: u8,
     b: u8,
@@ -113,7 +121,7 @@ pub fn step<'a>(
     values: &mut [i32],
     modes: &mut [u8],
 ) -> Answered
-    requires { ⌜ Promised (lent (now es) (now places) steady (now lows) (now highs) (now ops) (now acts) (now starts) (now ends)) (now kinds) (now subtrees) at (now values) (now modes) ⌝ }
+    requires { ⌜ Promised (lent (now es) (now places) steady (now lows) (now highs) (now ops) (now acts) (now starts) (now ends)) (now kinds) (now subtrees) at (now values) (now modes) × Upward (now subtrees) (now parents) ⌝ }
     ensures { λ r. ⌜ ((s : Schedule) (o : Option Residual) → ScheduleLent s (lent (now (es .entry)) (now (places .entry)) steady (now (lows .entry)) (now (highs .entry)) (now (ops .entry)) (now (acts .entry)) (now (starts .entry)) (now (ends .entry))) (now (kinds .entry)) (now (subtrees .entry)) → StandsFor (s .root) at o → Fits (s .plant) (now (values .entry)) (now (modes .entry)) → Steps s o (now (values .entry)) (now (modes .entry)) (a ∷ b ∷ c ∷ []) r (now (values .exit)) (now (modes .exit)) × Fits (s .plant) (now (values .exit)) (now (modes .exit))) ⌝ }
 {
     if at.over {
@@ -140,5 +148,5 @@ pub fn step<'a>(
         values,
         modes,
     );
-    settled(kinds, subtrees, acting, v)
+    settled(kinds, subtrees, parents, acting, v)
 }

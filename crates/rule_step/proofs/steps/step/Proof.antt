@@ -9,10 +9,13 @@ returns : tie.Need-returns
 returns c = λ s o d g f. step-over s o d g f _ (c .if1 .taken) refl
 
 judge-requires : tie.Need-judge-requires
-judge-requires c κs = judging (c .before .before .before .before .before .before .before .before .before .before .before .before .before .pre) (c .before .before .before .if1 .left)
+judge-requires c κs = judging (c .before .before .before .before .before .before .before .before .before .before .before .before .before .before .pre .0) (c .before .before .before .if1 .left)
 
 settled-requires : tie.Need-settled-requires
-settled-requires c κs = let s = c .before .before .before .before .before .before .before .before .before .before .before .before .before .before .before .before .before .args in movable (s .a ∷ s .b ∷ s .c ∷ []) (c .before .before .before .before .before .before .before .before .before .before .before .before .before .before .before .before .before .pre) (c .before .before .before .before .before .before .before .if1 .left) (c .before .before .before .judge .ensures)
+settled-requires c κs =
+    let s = c .before .before .before .before .before .before .before .before .before .before .before .before .before .before .before .before .before .before in
+    let a = s .args in
+    (movable (a .a ∷ a .b ∷ a .c ∷ []) (s .pre .0) (c .before .before .before .before .before .before .before .if1 .left) (c .before .before .before .judge .ensures), s .pre .1)
 
 same-length : tie.Need-same-length
 same-length c = search needs
