@@ -1,4 +1,3 @@
-mod Values
 mod Modes
 mod StartGiven
 pub mod OwnStart

@@ -35,7 +35,7 @@ use Rattle.table_read.proofs.Promises.{table-of, refused-table, opened, parts-r
 use Rattle.initial_start.specs.Initial.{initialValues, initialModes, initialStart, startBytes, startOf, sectionsStart, startOfFile, scheduleStart, startOfTable, tableStart}
 use Rattle.initial_start.specs.Held.{held}
 use Rattle.initial_start.specs.declared.Start.{Start}
-use Rattle.initial_start.proofs.Values.{values-length}
+use Rattle.records.proofs.Records.{values-length}
 
 -- ---- the code's answer
 pub held-as : (s : List ℕ) {r : ℕ} {d : List ℕ} → r ≡ length s → d ≡ overwrite s (replicate 144 0) → _≡_ {A = Start} (record { length = r; bytes = d }) (held s)
@@ -91,7 +91,7 @@ module _ (vs es : List ℕ) {q : PlantRead} (e : q ≡ plantOf vs es) where
       is-start = ap (λ l. flatMap valueBytes l ++ initialModes (plant .equations)) values-are ∙ ap startOf (sym (passing .is))
 
       pub given : {d g h : List ℕ} {at r : ℕ}
-          → (at ≡ 4 * length (take (v .count) (v .initials))) × Wrote d 0 (flatMap valueBytes (take (v .count) (v .initials))) g
+          → (at ≡ 0 + 4 * length (take (v .count) (v .initials))) × Wrote d 0 (flatMap valueBytes (take (v .count) (v .initials))) g
           → ((t : SectionStands es) → (r ≡ at + length (initialModes (t .equations))) × Wrote g at (initialModes (t .equations)) h)
           → d ≡ replicate 144 0
           → _≡_ {A = Start} (record { length = r; bytes = h }) (held (sectionsStart vs es))

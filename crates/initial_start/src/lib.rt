@@ -3,28 +3,13 @@ pub mod schedule; // schedule.rt: of a schedule file
 pub mod table; // table.rt: of a table
 
 ghost use mathlib.Core.Path.{_≡_};
-ghost use mathlib.Core.List.{[], flatMap};
+ghost use mathlib.Core.List.{[]};
 ghost use Prim.Native.Nat.{_+_, _*_, _≤_};
 ghost use lib.ListN.{length};
-ghost use Rattle.semantics.specs.Run.{valueBytes};
 ghost use Rattle.plant.specs.Equations.{SectionStands};
 ghost use Rattle.codec.specs.Writing.{Wrote};
 ghost use Rattle.initial_start.specs.Initial.{initialModes, sectionsStart};
 ghost use Rattle.initial_start.specs.Held.{held};
-
-// the values, four bytes each, at the front; the next place
-fn put_values(d: &mut [u8], values: &[i32]) -> usize
-    requires { ⌜ 4 * length (now values) ≤ length (now d) ⌝ }
-    ensures { λ r. ⌜ (r ≡ 4 * length (now (values .entry))) × Wrote (now (d .entry)) 0 (flatMap valueBytes (now (values .entry))) (now (d .exit)) ⌝ }
-{
-    let mut at = 0;
-    let mut j = 0;
-    while j < values.len() {
-        at = codec::put_signed(d, at, values[j]);
-        j += 1;
-    }
-    at
-}
 
 // the initial mode of each CASE of a section whose layout is right, at a place; the next place
 fn put_modes(d: &mut [u8], i: usize, es: &[u8]) -> usize
@@ -72,7 +57,7 @@ pub fn of(vs: &[u8], es: &[u8]) -> Start
     let n = v.count;
     let initials = v.initials;
     let mut bytes = [0u8; 144];
-    let at = put_values(&mut bytes, &initials[..n]);
+    let at = records::put_values(&mut bytes, 0, &initials[..n]);
     let length = put_modes(&mut bytes, at, es);
     Start { length, bytes }
 }

@@ -1,3 +1,3 @@
 mod LentCounts
 pub mod Books
-mod Records
+pub mod Records

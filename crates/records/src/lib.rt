@@ -74,7 +74,7 @@ fn put_set(d: &mut [u8], i: usize, acting: NodeSet) -> usize
 }
 
 // The values, four bytes each, at a place; the next place.
-fn put_values(d: &mut [u8], i: usize, values: &[i32]) -> usize
+pub fn put_values(d: &mut [u8], i: usize, values: &[i32]) -> usize
     requires { ⌜ i + 4 * length (now values) ≤ length (now d) ⌝ }
     ensures { λ r. ⌜ (r ≡ i + 4 * length (now (values .entry))) × Wrote (now (d .entry)) i (flatMap valueBytes (now (values .entry))) (now (d .exit)) ⌝ }
 {
