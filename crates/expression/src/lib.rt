@@ -95,8 +95,7 @@ pub fn truth_reads(s: &[u8], variables: usize) -> bool
     }
 }
 
-// The truths of one form: these functions say malformed of any other.
-// A comparison of two leaves. It does not go through `compared_at`, so that LLVM inlines it.
+// A comparison of two leaves; malformed for any other bytes. It does not go through `compared_at`, so that LLVM inlines it.
 fn comparing(s: &[u8], vars: &[i32]) -> Truth
     ensures { λ r. ⌜ ((r ≡ Truth.Malformed → ⊥) → r ≡ truthAnswer (now (vars .entry)) (truthIn edition1 (length (now (vars .entry))) (now (s .entry)))) ⌝ }
 {
@@ -122,7 +121,7 @@ fn comparing(s: &[u8], vars: &[i32]) -> Truth
     plain_truth(comparison(code, a, b))
 }
 
-// Two comparisons of leaves, joined.
+// Two comparisons of leaves, joined; malformed for any other bytes.
 fn joining(s: &[u8], vars: &[i32]) -> Truth
     ensures { λ r. ⌜ ((r ≡ Truth.Malformed → ⊥) → r ≡ truthAnswer (now (vars .entry)) (truthIn edition1 (length (now (vars .entry))) (now (s .entry)))) ⌝ }
 {
@@ -148,7 +147,7 @@ fn joining(s: &[u8], vars: &[i32]) -> Truth
     plain_truth(connective(code, a, b))
 }
 
-// A comparison of two leaves at a position, or nothing.
+// A comparison of two leaves at a position; broken for any other bytes.
 fn compared_at(s: &[u8], vars: &[i32], at: usize) -> Found
     ensures { λ r. ⌜ ((r ≡ Found.Broken → ⊥) → r ≡ found (now (vars .entry)) (now (s .entry)) at 15) ⌝ }
 {
@@ -166,7 +165,7 @@ fn compared_at(s: &[u8], vars: &[i32], at: usize) -> Found
     relate(code, l, leaf(s, vars, next_of(l)))
 }
 
-// The other truths.
+// A truth of any form: where it is no comparison of two leaves, `truth_value` asks here.
 fn no_comparison(s: &[u8], vars: &[i32]) -> Truth
     ensures { λ r. ⌜ r ≡ truthAnswer (now (vars .entry)) (truthIn edition1 (length (now (vars .entry))) (now (s .entry))) ⌝ }
 {
