@@ -104,3 +104,16 @@ pub not-truth-said : (n : ℕ) (f : Found) → NotTruth f → Truths.Malformed �
 not-truth-said n _ number-found = refl
 not-truth-said n _ number-fault = refl
 not-truth-said n _ no-truth = refl
+
+-- a truth found that ends where the bytes do is the answer
+pub truth-whole : (vs : List ℤ) (s : List ℕ) (b : Bool) (n : ℕ) → n ≡ length s → ATruth b n ≡ found vs s 0 16 → truthOf (ok b) ≡ truthAnswer vs (truthIn edition1 (length vs) s)
+truth-whole vs s b n e k =
+    let t : truthOf (ok b) ≡ truthSaid (length s) (ATruth b n) = rw (eq-eqb n (length s) e) refl in
+    t ∙ truth-said vs s (ATruth b n) k
+
+-- ---- an answer is not malformed
+pub yes-said : {t : Truth} → t ≡ Truths.Yes → t ≡ Truths.Malformed → ⊥
+yes-said e h = let z : _≡_ {A = ℕ} 0 1 = cc in omega arith
+
+pub no-said : {t : Truth} → t ≡ Truths.No → t ≡ Truths.Malformed → ⊥
+no-said e h = let z : _≡_ {A = ℕ} 0 1 = cc in omega arith

@@ -60,26 +60,14 @@ pub fn number_value(s: &[u8], vars: &[i32]) -> Number
     }
 }
 
-// The value of the bytes, which are one whole truth.
+// The value of the bytes, which are one whole truth. Most are a comparison of two leaves, or two of them joined: these take no recursion.
 pub fn truth_value(s: &[u8], vars: &[i32]) -> Truth
     ensures { λ r. ⌜ r ≡ truthAnswer (now (vars .entry)) (truthIn edition1 (length (now (vars .entry))) (now (s .entry))) ⌝ }
 {
-    match whole(s, vars) {
-        Found::ATruth(b, n) => {
-            if n == s.len() {
-                plain_truth(b)
-            } else {
-                Truth::Malformed
-            }
-        }
-        Found::TruthFault(above, n) => {
-            if n == s.len() {
-                truth_side(above)
-            } else {
-                Truth::Malformed
-            }
-        }
-        _ => Truth::Malformed,
+    match comparing(s, vars) {
+        Truth::Yes => Truth::Yes,
+        Truth::No => Truth::No,
+        _ => no_comparison(s, vars),
     }
 }
 
@@ -107,7 +95,109 @@ pub fn truth_reads(s: &[u8], variables: usize) -> bool
     }
 }
 
-// What stands at the front of the bytes. Most numbers and truths are one form of two leaves: these take no recursion.
+// A comparison of two leaves; malformed for any other bytes. It does not go through `compared_at`, so that LLVM inlines it.
+fn comparing(s: &[u8], vars: &[i32]) -> Truth
+    ensures { λ r. ⌜ ((r ≡ Truth.Malformed → ⊥) → r ≡ truthAnswer (now (vars .entry)) (truthIn edition1 (length (now (vars .entry))) (now (s .entry)))) ⌝ }
+{
+    if s.len() == 0 {
+        return Truth::Malformed;
+    }
+    let code = s[0];
+    if code < 0x20 {
+        return Truth::Malformed;
+    }
+    if 0x24 <= code {
+        return Truth::Malformed;
+    }
+    let Found::ANumber(a, m) = leaf(s, vars, 1) else {
+        return Truth::Malformed;
+    };
+    let Found::ANumber(b, n) = leaf(s, vars, m) else {
+        return Truth::Malformed;
+    };
+    if n != s.len() {
+        return Truth::Malformed;
+    }
+    plain_truth(comparison(code, a, b))
+}
+
+// Two comparisons of leaves, joined; malformed for any other bytes.
+fn joining(s: &[u8], vars: &[i32]) -> Truth
+    ensures { λ r. ⌜ ((r ≡ Truth.Malformed → ⊥) → r ≡ truthAnswer (now (vars .entry)) (truthIn edition1 (length (now (vars .entry))) (now (s .entry)))) ⌝ }
+{
+    if s.len() == 0 {
+        return Truth::Malformed;
+    }
+    let code = s[0];
+    if code < 0x28 {
+        return Truth::Malformed;
+    }
+    if 0x2a <= code {
+        return Truth::Malformed;
+    }
+    let Found::ATruth(a, m) = compared_at(s, vars, 1) else {
+        return Truth::Malformed;
+    };
+    let Found::ATruth(b, n) = compared_at(s, vars, m) else {
+        return Truth::Malformed;
+    };
+    if n != s.len() {
+        return Truth::Malformed;
+    }
+    plain_truth(connective(code, a, b))
+}
+
+// A comparison of two leaves at a position; broken for any other bytes.
+fn compared_at(s: &[u8], vars: &[i32], at: usize) -> Found
+    ensures { λ r. ⌜ ((r ≡ Found.Broken → ⊥) → r ≡ found (now (vars .entry)) (now (s .entry)) at 15) ⌝ }
+{
+    if s.len() <= at {
+        return Found::Broken;
+    }
+    let code = s[at];
+    if code < 0x20 {
+        return Found::Broken;
+    }
+    if 0x24 <= code {
+        return Found::Broken;
+    }
+    let l = leaf(s, vars, at + 1);
+    relate(code, l, leaf(s, vars, next_of(l)))
+}
+
+// A truth of any form: where it is no comparison of two leaves, `truth_value` asks here.
+fn no_comparison(s: &[u8], vars: &[i32]) -> Truth
+    ensures { λ r. ⌜ r ≡ truthAnswer (now (vars .entry)) (truthIn edition1 (length (now (vars .entry))) (now (s .entry))) ⌝ }
+{
+    match joining(s, vars) {
+        Truth::Yes => {
+            return Truth::Yes;
+        }
+        Truth::No => {
+            return Truth::No;
+        }
+        _ => {}
+    }
+    match eval(s, vars, 0, DEPTH) {
+        Found::ATruth(b, n) => {
+            if n == s.len() {
+                plain_truth(b)
+            } else {
+                Truth::Malformed
+            }
+        }
+        Found::TruthFault(above, n) => {
+            if n == s.len() {
+                truth_side(above)
+            } else {
+                Truth::Malformed
+            }
+        }
+        _ => Truth::Malformed,
+    }
+}
+
+// What stands at the front of the bytes. An operation on two leaves takes no recursion.
 fn whole(s: &[u8], vars: &[i32]) -> Found
     ensures { λ r. ⌜ r ≡ found (now (vars .entry)) (now (s .entry)) 0 16 ⌝ }
 {
@@ -121,9 +211,6 @@ fn whole(s: &[u8], vars: &[i32]) -> Found
     let Found::ANumber(b, n) = leaf(s, vars, m) else {
         return eval(s, vars, 0, DEPTH);
     };
-    if 0x20 <= code && code < 0x24 {
-        return Found::ATruth(comparison(code, a, b), n);
-    }
     if 0x10 <= code && code < 0x13 {
         return arithmetic(code, a, b, n);
     }

@@ -1,83 +1,38 @@
-use mathlib.Core.Path.{_≡_, refl, sym, ap, _∙_}
-use borrow.Author.Tests.{eq-eqb, ne-eqb}
-use lib.ListN.{length}
+use mathlib.Core.Path.{sym, _∙_}
 use borrow.Author.Needs.{needs}
-use Rattle.expression.specs.declared.Found.the-variants.{ATruth, TruthFault}
-use Rattle.expression.specs.declared.Truth.the-variants.{Malformed}
-use Rattle.expression.proofs.Cases.{not-truth}
-use Rattle.expression.proofs.Wholes.{truthSaid, truth-said, not-truth-said}
+use Rattle.expression.proofs.Wholes.{yes-said, no-said}
 use Rattle.expression.proofs.truth_value.Statement.{statement}
 use Rattle.expression.proofs.truth_value.Tie as tie
 
-whole-requires : tie.Need-whole-requires
-whole-requires c κs = search needs
+comparing-requires : tie.Need-comparing-requires
+comparing-requires c κs = search needs
 
-enum-known-b : tie.Need-enum-known-b
-enum-known-b c = search needs
+enum-told : tie.Need-enum-told
+enum-told c = search needs
 
-plain-truth-requires : tie.Need-plain-truth-requires
-plain-truth-requires c κs = search needs
+enum-told-2 : tie.Need-enum-told-2
+enum-told-2 c = search needs
 
-enum-known-above : tie.Need-enum-known-above
-enum-known-above c = search needs
-
-truth-side-requires : tie.Need-truth-side-requires
-truth-side-requires c κs = search needs
+no-comparison-requires : tie.Need-no-comparison-requires
+no-comparison-requires c κs = search needs
 
 returns : tie.Need-returns
-returns c =
-    let s = c .before .before .before .before .before .before .before in
-    let e = c .before .before .before .before .before .whole in
-    let n = length (s .args .s .now) in
-    let F = c .before .before .before .b .given in
-    let k : c .plain-truth .result ≡ truthSaid n (ATruth (F .0 .0) (F .0 .1 .0)) = rw (eq-eqb (F .0 .1 .0) n (c .before .if1 .taken)) (c .plain-truth .ensures) in
-    k ∙ sym (ap (truthSaid n) (F .1)) ∙ truth-said (s .args .vars .now) (s .args .s .now) (e .result) (e .ensures)
+returns c = sym (c .enum-told .given .1) ∙ c .before .before .comparing .ensures (yes-said (c .enum-told .given .1))
 
 returns-2 : tie.Need-returns-2
-returns-2 c =
-    let s = c .before .before .before .before .before .before in
-    let e = c .before .before .before .before .whole in
-    let n = length (s .args .s .now) in
-    let F = c .before .before .b .given in
-    let k : Malformed ≡ truthSaid n (ATruth (F .0 .0) (F .0 .1 .0)) = rw (ne-eqb (F .0 .1 .0) n (c .if1 .left)) refl in
-    k ∙ sym (ap (truthSaid n) (F .1)) ∙ truth-said (s .args .vars .now) (s .args .s .now) (e .result) (e .ensures)
+returns-2 c = sym (c .enum-told2 .given .1) ∙ c .before .before .comparing .ensures (no-said (c .enum-told2 .given .1))
 
 returns-3 : tie.Need-returns-3
-returns-3 c =
-    let s = c .before .before .before .before .before .before .before in
-    let e = c .before .before .before .before .before .whole in
-    let n = length (s .args .s .now) in
-    let F = c .before .before .before .above .given in
-    let k : c .truth-side .result ≡ truthSaid n (TruthFault (F .0 .0) (F .0 .1 .0)) = rw (eq-eqb (F .0 .1 .0) n (c .before .if2 .taken)) (c .truth-side .ensures) in
-    k ∙ sym (ap (truthSaid n) (F .1)) ∙ truth-said (s .args .vars .now) (s .args .s .now) (e .result) (e .ensures)
-
-returns-4 : tie.Need-returns-4
-returns-4 c =
-    let s = c .before .before .before .before .before .before in
-    let e = c .before .before .before .before .whole in
-    let n = length (s .args .s .now) in
-    let F = c .before .before .above .given in
-    let k : Malformed ≡ truthSaid n (TruthFault (F .0 .0) (F .0 .1 .0)) = rw (ne-eqb (F .0 .1 .0) n (c .if2 .left)) refl in
-    k ∙ sym (ap (truthSaid n) (F .1)) ∙ truth-said (s .args .vars .now) (s .args .s .now) (e .result) (e .ensures)
-
-returns-5 : tie.Need-returns-5
-returns-5 c =
-    let s = c .before .before .before in
-    let e = c .before .whole in
-    not-truth-said (length (s .args .s .now)) (e .result) (not-truth (e .result) (c .match .keys3))
-    ∙ truth-said (s .args .vars .now) (s .args .s .now) (e .result) (e .ensures)
+returns-3 c = search needs
 
 pub truth-value-spec : {M : Type 1} → statement M
 truth-value-spec =
     tie.close
     (tie.spec
-    whole-requires
-    enum-known-b
-    plain-truth-requires
-    enum-known-above
-    truth-side-requires
+    comparing-requires
+    enum-told
+    enum-told-2
+    no-comparison-requires
     returns
     returns-2
-    returns-3
-    returns-4
-    returns-5)
+    returns-3)

@@ -1,17 +1,15 @@
-use mathlib.Core.Path.{sym, ap, ap₂, _∙_}
-use mathlib.Core.Bool.{Bool}
+use mathlib.Core.Path.{sym, ap₂, _∙_}
 use native.Mathlib.Omega.{arith}
 use lib.IntN.{ℤ}
 use lib.ListN.{getD}
 use mir.Syntax.{w32}
 use mir.ValLaws.{toZ-ofZ}
-use borrow.Author.Needs.{needs}
 use borrow.Author.Tests.{ltb-true}
-use Rattle.semantics.specs.Expressions.{applied, compared, result}
-use Rattle.expression.specs.Founds.{numberAt, operationOf, comparisonOf}
-use Rattle.expression.specs.declared.Found.the-variants.{ATruth}
+use borrow.Author.Needs.{needs}
+use Rattle.semantics.specs.Expressions.{applied, result}
+use Rattle.expression.specs.Founds.{numberAt, operationOf}
 use Rattle.expression.proofs.Steps.{past}
-use Rattle.expression.proofs.TwoLeaves.{two-related, two-operated}
+use Rattle.expression.proofs.TwoLeaves.{two-operated}
 use Rattle.expression.proofs.whole.Statement.{statement}
 use Rattle.expression.proofs.whole.Tie as tie
 
@@ -47,8 +45,8 @@ eval-requires-2 c κs = search needs
 returns-3 : tie.Need-returns-3
 returns-3 c = search needs
 
-comparison-requires : tie.Need-comparison-requires
-comparison-requires c κs = search needs
+arithmetic-requires : tie.Need-arithmetic-requires
+arithmetic-requires c κs = search needs
 
 returns-4 : tie.Need-returns-4
 returns-4 c =
@@ -59,29 +57,14 @@ returns-4 c =
     let r = sym (c .before .before .before .before .before .before .leaf2 .ensures) ∙ D .1 in
     let x = toZ-ofZ w32 (A .0 .0) (record { sfits = c .before .before .before .before .before .before .before .known-told .given .0 .1 }) in
     let y = toZ-ofZ w32 (D .0 .0) (record { sfits = c .before .before .before .known-told2 .given .0 .1 }) in
-    ap (λ (t : Bool). ATruth t (D .0 .1 .0)) (c .comparison .ensures ∙ ap₂ (compared (comparisonOf (getD (s .s .now) 0 0))) x y)
-    ∙ two-related (s .vars .now) (s .s .now) (omega (arith, c .before .before .before .before .before .before .before .before .before .before .before .before .if1 .left)) (A .0 .0) (D .0 .0) (A .0 .1 .0) (D .0 .1 .0) l r (c .before .before .if2 .taken) (ltb-true _ _ (c .before .if3 .taken))
-
-arithmetic-requires : tie.Need-arithmetic-requires
-arithmetic-requires c κs = search needs
-
-returns-5 : tie.Need-returns-5
-returns-5 c =
-    let s = c .before .before .before .before .before .before .before .before .before .before .before .before .before .before .before .args in
-    let A = c .before .before .before .before .before .before .before .before .before .a .given in
-    let D = c .before .before .before .before .before .b .given in
-    let l = sym (c .before .before .before .before .before .before .before .before .before .before .before .leaf .ensures) ∙ A .1 in
-    let r = sym (c .before .before .before .before .before .before .before .leaf2 .ensures) ∙ D .1 in
-    let x = toZ-ofZ w32 (A .0 .0) (record { sfits = c .before .before .before .before .before .before .before .before .known-told .given .0 .1 }) in
-    let y = toZ-ofZ w32 (D .0 .0) (record { sfits = c .before .before .before .before .known-told2 .given .0 .1 }) in
     c .arithmetic .ensures ∙ ap₂ (λ (v w : ℤ). numberAt (D .0 .1 .0) (result (applied (operationOf (getD (s .s .now) 0 0)) v w))) x y
-    ∙ two-operated (s .vars .now) (s .s .now) (omega (arith, c .before .before .before .before .before .before .before .before .before .before .before .before .before .if1 .left)) (A .0 .0) (D .0 .0) (A .0 .1 .0) (D .0 .1 .0) l r (c .before .before .if4 .taken) (ltb-true _ _ (c .before .if5 .taken))
+    ∙ two-operated (s .vars .now) (s .s .now) (omega (arith, c .before .before .before .before .before .before .before .before .before .before .before .before .if1 .left)) (A .0 .0) (D .0 .0) (A .0 .1 .0) (D .0 .1 .0) l r (c .before .before .if2 .taken) (ltb-true _ _ (c .before .if3 .taken))
 
 eval-requires-3 : tie.Need-eval-requires-3
 eval-requires-3 c κs = search needs
 
-returns-6 : tie.Need-returns-6
-returns-6 c = search needs
+returns-5 : tie.Need-returns-5
+returns-5 c = search needs
 
 pub whole-spec : {M : Type 1} → statement M
 whole-spec =
@@ -97,9 +80,7 @@ whole-spec =
     enum-known-b
     eval-requires-2
     returns-3
-    comparison-requires
-    returns-4
     arithmetic-requires
-    returns-5
+    returns-4
     eval-requires-3
-    returns-6)
+    returns-5)
