@@ -5,6 +5,7 @@ use mathlib.Core.List.{List, [], _∷_, _++_, append-assoc, append-nil}
 use Prim.Native.Nat.{ℕ, zero, suc, _+_, _≤_, _<_}
 use native.Mathlib.Numerals.{add-one}
 use native.Mathlib.Omega.{arith}
+use native.Mathlib.Decide.{decLt}
 use borrow.Author.Tests.{ltb-false}
 use lib.IntN.{ℤ, pos, negsuc, _+ℤ_}
 use lib.Signed.{ltZ}
@@ -19,7 +20,7 @@ use Rattle.semantics.specs.Plant.{declared, allDeclared, added}
 use Rattle.semantics.specs.Run.{valued}
 use Rattle.semantics.proofs.Facts.{true-not-false}
 use Rattle.effects.specs.Told.{doneTold, stepTold, goesOn, orElse}
-use Rattle.effects.specs.Ranges.{rangesOf, rateIn, sums, advanced, Sized}
+use Rattle.effects.specs.Ranges.{rangesOf, rateIn, sums, advanced, Sized, firstSums, staysIn, FirstStay, Until}
 use Rattle.effects.specs.declared.Verdict.{Verdict}
 use Rattle.effects.specs.declared.Verdict.the-variants.{Stay}
 
@@ -33,7 +34,7 @@ module _ {A : Type 0} (t v : List A) (i : ℕ) (d : A) (e : length t ≡ length 
       rw (drop-cons v i d h, add-one i, take-suc t i d (omega arith))
       (set-at (take i t) (getD v i d) (drop (suc i) v) (getD t i d) i (length-take-le i t (omega arith)) ∙ sym (append-assoc (take i t) (getD t i d ∷ []) (drop (suc i) v)))
 
-pub fill-all : {A : Type 0} (t v : List A) (i : ℕ) → length t ≡ length v → length v ≡ i → take i t ++ drop i v ≡ t
+fill-all : {A : Type 0} (t v : List A) (i : ℕ) → length t ≡ length v → length v ≡ i → take i t ++ drop i v ≡ t
 fill-all t v i e h = ap₂ _++_ (ap (λ (n : ℕ). take n t) (sym h ∙ sym e) ∙ take-length t) (drop-of-length-le v {i = i} (omega arith)) ∙ append-nil t
 
 -- ---- sums
@@ -86,7 +87,7 @@ pub ranged-fits : (l h z : ℤ) → SFits w32 l → SFits w32 h → Passes (rang
 ranged-fits l h z fl fh e = let k = inside l h z e in fits-between l h z fl fh (k .low) (k .high)
 
 -- ---- the values from the i-th on
-abbrev pub from : List ℤ → List ℤ → List ℤ → List ℤ → ℕ → Value (List ℤ)
+abbrev from : List ℤ → List ℤ → List ℤ → List ℤ → ℕ → Value (List ℤ)
 from ls hs rs vs i = allDeclared (rangesOf (drop i ls) (drop i hs)) (added (rateIn rs) i (drop i vs))
 
 first-in : (x : Variable) (xs : List Variable) (z : ℤ) (zs : List ℤ) → Passes (declared x z) → stepTold (valued (allDeclared (x ∷ xs) (z ∷ zs))) ≡ stepTold (valued (allDeclared xs zs))
@@ -127,15 +128,15 @@ module _ (ls hs rs vs : List ℤ) (i : ℕ) (z : Sized ls hs rs vs) where
       let b = z .highs in
       rw (drop-cons ls i (pos 0) (omega arith), drop-cons hs i (pos 0) (omega arith), drop-cons vs i (pos 0) h, add-one i) refl
 
-  pub out : i < length vs → (r : Verdict) → r ≡ stepTold (valued (ranged (getD ls i (pos 0)) (getD hs i (pos 0)) s)) → goesOn r ≡ false → r ≡ stepTold (valued (from ls hs rs vs i))
+  out : i < length vs → (r : Verdict) → r ≡ stepTold (valued (ranged (getD ls i (pos 0)) (getD hs i (pos 0)) s)) → goesOn r ≡ false → r ≡ stepTold (valued (from ls hs rs vs i))
   unfolding declared
   out h r e f = e ∙ sym (ap (λ v. stepTold (valued v)) (step h) ∙ first-out x (later (i + 1)) s (added (rateIn rs) (i + 1) (drop (i + 1) vs)) (ap goesOn (sym e) ∙ f))
 
-  pub on : i < length vs → (r : Verdict) → r ≡ stepTold (valued (ranged (getD ls i (pos 0)) (getD hs i (pos 0)) s)) → goesOn r ≡ true → stepTold (valued (from ls hs rs vs i)) ≡ stepTold (valued (from ls hs rs vs (i + 1)))
+  on : i < length vs → (r : Verdict) → r ≡ stepTold (valued (ranged (getD ls i (pos 0)) (getD hs i (pos 0)) s)) → goesOn r ≡ true → stepTold (valued (from ls hs rs vs i)) ≡ stepTold (valued (from ls hs rs vs (i + 1)))
   unfolding declared
   on h r e f = ap (λ v. stepTold (valued v)) (step h) ∙ first-in x (later (i + 1)) s (added (rateIn rs) (i + 1) (drop (i + 1) vs)) (ap goesOn (sym e) ∙ f)
 
-  pub end : length vs ≤ i → Stay ≡ stepTold (valued (from ls hs rs vs i))
+  end : length vs ≤ i → Stay ≡ stepTold (valued (from ls hs rs vs i))
   unfolding allDeclared rangesOf valued doneTold
   end h = rw (drop-of-length-le ls {i = i} (omega (arith, z .lows))) refl
 
@@ -150,32 +151,54 @@ all-same (x ∷ xs) (z ∷ zs) e = go (goesOn (stepTold (valued (declared x z)))
     go true k ih = rw (inside (x .minimum) (x .maximum) z k .same, ih (ap goesOn (sym (first-in x xs z zs k)) ∙ e)) refl
     go false k ih = true-not-false (sym e ∙ ap goesOn (first-out x xs z zs k) ∙ k)
 
-pub advanced-in : (ls hs rs vs : List ℤ) → Passes (advanced ls hs rs vs) → sums rs vs ≡ orElse vs (advanced ls hs rs vs)
+advanced-in : (ls hs rs vs : List ℤ) → Passes (advanced ls hs rs vs) → sums rs vs ≡ orElse vs (advanced ls hs rs vs)
 unfolding orElse
 advanced-in ls hs rs vs e = sym (ap (orElse vs) (all-same (rangesOf ls hs) (sums rs vs) e))
 
-pub advanced-out : {A : Type 0} (a : A) (v : Value A) → goesOn (stepTold (valued v)) ≡ false → a ≡ orElse a v
+advanced-out : {A : Type 0} (a : A) (v : Value A) → goesOn (stepTold (valued v)) ≡ false → a ≡ orElse a v
 unfolding orElse goesOn doneTold valued
 advanced-out a (ok b) e = true-not-false e
 advanced-out a (fault s) e = refl
 
--- each of them lies in its range
-pub each-in : (ls hs zs : List ℤ) (i : ℕ) → length ls ≡ length zs → length hs ≡ length zs → Passes (allDeclared (rangesOf ls hs) zs) → i < length zs → Passes (ranged (getD ls i (pos 0)) (getD hs i (pos 0)) (getD zs i (pos 0)))
-unfolding rangesOf declared
-each-in ls hs [] i a b e h = absurd (omega arith)
-each-in [] hs (z ∷ zs) i a b e h = absurd (omega arith)
-each-in (l ∷ ls) [] (z ∷ zs) i a b e h = absurd (omega arith)
-each-in (l ∷ ls) (k ∷ hs) (z ∷ zs) i a b e h = go (goesOn (stepTold (valued (ranged l k z)))) refl i h (λ j p q. each-in ls hs zs j (omega arith) (omega arith) p q)
-  where
-    x : Variable
-    x = record { minimum = l; maximum = k; initial = l }
+-- ---- the first k of them
+module _ (ls hs rs vs : List ℤ) where
+  pub none-yet : FirstStay ls hs rs vs 0
+  none-yet = record { count = omega arith; each = λ v h. absurd (omega arith) }
 
-    go : (t : Bool) → goesOn (stepTold (valued (ranged l k z))) ≡ t → (i : ℕ) → i < length (z ∷ zs)
-        → ((j : ℕ) → Passes (allDeclared (rangesOf ls hs) zs) → j < length zs → Passes (ranged (getD ls j (pos 0)) (getD hs j (pos 0)) (getD zs j (pos 0))))
-        → Passes (ranged (getD (l ∷ ls) i (pos 0)) (getD (k ∷ hs) i (pos 0)) (getD (z ∷ zs) i (pos 0)))
-    go true p zero h f = p
-    go true p (suc i) h f = f i (ap goesOn (sym (first-in x (rangesOf ls hs) z zs p)) ∙ e) (omega arith)
-    go false p i h f = true-not-false (sym e ∙ ap goesOn (first-out x (rangesOf ls hs) z zs p) ∙ p)
+  fewer : (k : ℕ) → FirstStay ls hs rs vs (suc k) → FirstStay ls hs rs vs k
+  fewer k f = let c = f .count in record { count = omega arith; each = λ v h. f .each v (omega arith) }
+
+  pub one-more : (k : ℕ) → k < length vs → FirstStay ls hs rs vs k → staysIn ls hs rs vs k ≡ true → FirstStay ls hs rs vs (k + 1)
+  one-more k h f e = record { count = omega arith; each = λ v p. go v p (decLt v k) }
+    where
+      go : (v : ℕ) → v < k + 1 → Dec (v < k) → staysIn ls hs rs vs v ≡ true
+      go v p (yes q) = f .each v q
+      go v p (no q) = let same : v ≡ k = omega arith in ap (staysIn ls hs rs vs) same ∙ e
+
+module _ (ls hs rs vs : List ℤ) (z : Sized ls hs rs vs) where
+  told-from : (k : ℕ) → FirstStay ls hs rs vs k → stepTold (valued (advanced ls hs rs vs)) ≡ stepTold (valued (from ls hs rs vs k))
+  told-from zero f = refl
+  told-from (suc k) f =
+      let c = f .count in
+      let e : k + 1 ≡ suc k = add-one k in
+      told-from k (fewer ls hs rs vs k f) ∙ on ls hs rs vs k z (omega arith) _ refl (f .each k (omega arith)) ∙ ap (λ (n : ℕ). stepTold (valued (from ls hs rs vs n))) e
+
+  -- variable k leaves its range: its side is the answer, and nothing is added
+  pub leaves-told : (k : ℕ) → Until ls hs rs vs k → k < length vs → (r : Verdict) → r ≡ stepTold (valued (ranged (getD ls k (pos 0)) (getD hs k (pos 0)) (getD vs k (pos 0) +ℤ getD rs k (pos 0)))) → r ≡ stepTold (valued (advanced ls hs rs vs))
+  leaves-told k u h r e = out ls hs rs vs k z h r e (ap goesOn e ∙ u .leaves h) ∙ sym (told-from k (u .first))
+
+  pub leaves-values : (k : ℕ) → Until ls hs rs vs k → k < length vs → vs ≡ orElse vs (advanced ls hs rs vs)
+  leaves-values k u h = advanced-out vs (advanced ls hs rs vs) (sym (ap goesOn (leaves-told k u h _ refl)) ∙ u .leaves h)
+
+  -- all stay in their ranges: all add
+  pub all-told : (k : ℕ) → FirstStay ls hs rs vs k → length vs ≤ k → Stay ≡ stepTold (valued (advanced ls hs rs vs))
+  all-told k f h = end ls hs rs vs k z h ∙ sym (told-from k f)
+
+  pub all-values : (k : ℕ) → FirstStay ls hs rs vs k → length vs ≤ k → firstSums rs vs k ≡ orElse vs (advanced ls hs rs vs)
+  unfolding goesOn
+  all-values k f h =
+      let c = f .count in
+      fill-all (sums rs vs) vs k (length-sums rs vs) (omega arith) ∙ advanced-in ls hs rs vs (sym (ap goesOn (all-told k f h)))
 
 -- ---- numbers as they are read back from their bits
 abbrev pub Held : ℤ → ℤ

@@ -1,13 +1,16 @@
 -- Declared ranges and rates as lists of numbers.
 use mathlib.Core.Path.{_≡_}
-use mathlib.Core.List.{List, [], _∷_}
-use Prim.Native.Nat.{ℕ, _≤_}
-use lib.IntN.{ℤ, pos}
-use lib.ListN.{length, getD, set}
+use mathlib.Core.Bool.{Bool, true, false}
+use mathlib.Core.List.{List, [], _∷_, _++_}
+use Prim.Native.Nat.{ℕ, _≤_, _<_}
+use lib.IntN.{ℤ, pos, _+ℤ_}
+use lib.ListN.{length, getD, set, take, drop}
 use Rattle.semantics.specs.Editions.{edition1}
-use Rattle.semantics.specs.Expressions.{Value, ok, thenValue, numberValue}
+use Rattle.semantics.specs.Expressions.{Value, ok, ranged, thenValue, numberValue}
 use Rattle.semantics.specs.Sections.{Variable}
 use Rattle.semantics.specs.Plant.{Plant, declaredAt, allDeclared, added}
+use Rattle.semantics.specs.Run.{valued}
+use Rattle.effects.specs.Told.{stepTold, goesOn}
 
 -- variables with these ranges; an initial value plays no part in a run
 unfoldable pub rangesOf : List ℤ → List ℤ → List Variable
@@ -43,3 +46,21 @@ pub record Sized (ls hs rs vs : List ℤ) : Type 0 where
   pub lows : length ls ≡ length vs
   pub highs : length hs ≡ length vs
   pub rates : length vs ≤ length rs
+
+-- the first k values with their rates added, the others as they are
+abbrev pub firstSums : List ℤ → List ℤ → ℕ → List ℤ
+firstSums rs vs k = take k (sums rs vs) ++ drop k vs
+
+-- does variable v, with its rate added, stay in its range?
+abbrev pub staysIn : List ℤ → List ℤ → List ℤ → List ℤ → ℕ → Bool
+staysIn ls hs rs vs v = goesOn (stepTold (valued (ranged (getD ls v (pos 0)) (getD hs v (pos 0)) (getD vs v (pos 0) +ℤ getD rs v (pos 0)))))
+
+-- the first k variables stay in their ranges
+pub record FirstStay (ls hs rs vs : List ℤ) (k : ℕ) : Type 0 where
+  pub count : k ≤ length vs
+  pub each : (v : ℕ) → v < k → staysIn ls hs rs vs v ≡ true
+
+-- the first k variables stay in their ranges, and the next one, if there is one, does not
+pub record Until (ls hs rs vs : List ℤ) (k : ℕ) : Type 0 where
+  pub first : FirstStay ls hs rs vs k
+  pub leaves : k < length vs → staysIn ls hs rs vs k ≡ false

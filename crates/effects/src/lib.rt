@@ -10,7 +10,7 @@ ghost use Rattle.semantics.specs.Editions.{edition1};
 ghost use Rattle.semantics.specs.Expressions.{ranged as rangedOf, truthValue};
 ghost use Rattle.semantics.specs.Run.{valued, act};
 ghost use Rattle.effects.specs.Told.{doneTold, stepTold, goesOn, truthTold, orElse, Left};
-ghost use Rattle.effects.specs.Ranges.{Sized, sums, advanced, stored, assigned, rangesOnly};
+ghost use Rattle.effects.specs.Ranges.{Sized, Until, FirstStay, firstSums, advanced, stored, assigned, rangesOnly};
 ghost use Rattle.effects.specs.Deeds.{kindOf, form, Fit};
 
 // How an event is answered: turned away with a number, a fault on a side of its range, or taken, with nobody's move or with
@@ -73,28 +73,40 @@ fn sum(low: i32, high: i32, x: i32, rate: i32) -> i32
     x + rate
 }
 
-// Do all sums lie in their ranges? Else the side of the first that does not.
-fn all_stay(lows: &[i32], highs: &[i32], rates: &[i32], values: &[i32]) -> Verdict
+// How many variables, from the first on, stay in their ranges before one leaves its range.
+fn staying(lows: &[i32], highs: &[i32], rates: &[i32], values: &[i32]) -> usize
     requires { ⌜ Sized (now lows) (now highs) (now rates) (now values) ⌝ }
-    ensures { λ r. ⌜ r ≡ stepTold (valued (advanced (now (lows .entry)) (now (highs .entry)) (now (rates .entry)) (now (values .entry)))) ⌝ }
+    ensures { λ k. ⌜ Until (now (lows .entry)) (now (highs .entry)) (now (rates .entry)) (now (values .entry)) k ⌝ }
 {
     let mut i = 0;
     while i < values.len() {
         let r = stays(lows[i], highs[i], values[i], rates[i]);
         if !goes_on(r) {
-            return r;
+            return i;
         }
         i += 1;
+    }
+    i
+}
+
+// The side on which variable k leaves its range; Stay where all variables stay.
+fn side(lows: &[i32], highs: &[i32], rates: &[i32], values: &[i32], k: usize) -> Verdict
+    requires { ⌜ Sized (now lows) (now highs) (now rates) (now values) × Until (now lows) (now highs) (now rates) (now values) k ⌝ }
+    ensures { λ r. ⌜ r ≡ stepTold (valued (advanced (now (lows .entry)) (now (highs .entry)) (now (rates .entry)) (now (values .entry)))) ⌝ }
+{
+    if k < values.len() {
+        return stays(lows[k], highs[k], values[k], rates[k]);
     }
     Verdict::Stay
 }
 
-fn add_all(lows: &[i32], highs: &[i32], rates: &[i32], values: &mut [i32])
-    requires { ⌜ Sized (now lows) (now highs) (now rates) (now values) × (goesOn (stepTold (valued (advanced (now lows) (now highs) (now rates) (now values)))) ≡ true) ⌝ }
-    ensures { λ _. ⌜ now (values .exit) ≡ sums (now (rates .entry)) (now (values .entry)) ⌝ }
+// Each of the first k values adds its rate.
+fn add_first(lows: &[i32], highs: &[i32], rates: &[i32], values: &mut [i32], k: usize)
+    requires { ⌜ Sized (now lows) (now highs) (now rates) (now values) × FirstStay (now lows) (now highs) (now rates) (now values) k ⌝ }
+    ensures { λ _. ⌜ now (values .exit) ≡ firstSums (now (rates .entry)) (now (values .entry)) k ⌝ }
 {
     let mut v = 0;
-    while v < values.len() {
+    while v < k {
         values[v] = sum(lows[v], highs[v], values[v], rates[v]);
         v += 1;
     }
@@ -105,9 +117,11 @@ pub fn advance(lows: &[i32], highs: &[i32], rates: &[i32], values: &mut [i32]) -
     requires { ⌜ Sized (now lows) (now highs) (now rates) (now values) ⌝ }
     ensures { λ r. ⌜ (r ≡ stepTold (valued (advanced (now (lows .entry)) (now (highs .entry)) (now (rates .entry)) (now (values .entry))))) × (now (values .exit) ≡ orElse (now (values .entry)) (advanced (now (lows .entry)) (now (highs .entry)) (now (rates .entry)) (now (values .entry)))) ⌝ }
 {
-    let fit = all_stay(lows, highs, rates, values);
-    if goes_on(fit) {
-        add_all(lows, highs, rates, values);
+    let k = staying(lows, highs, rates, values);
+    let fit = side(lows, highs, rates, values, k);
+    if k == values.len() {
+        add_first(lows, highs, rates, values, k);
+        return Verdict::Stay;
     }
     fit
 }

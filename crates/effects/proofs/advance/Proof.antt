@@ -1,42 +1,43 @@
-use mathlib.Core.Path.{sym, ap, _∙_}
-use Rattle.effects.proofs.Adds.{advanced-in, advanced-out}
-use Rattle.effects.specs.Ranges.{advanced}
-use Rattle.effects.specs.Told.{goesOn}
+use mathlib.Core.Path.{_∙_}
+use Prim.Native.Nat.{_≤_, _<_}
+use lib.ListN.{length}
+use Rattle.effects.proofs.Adds.{leaves-values, all-told, all-values}
 use borrow.Author.Needs.{needs}
+use native.Mathlib.Omega.{arith}
 use Rattle.effects.proofs.advance.Statement.{statement}
 use Rattle.effects.proofs.advance.Tie as tie
 
-all-stay-requires : tie.Need-all-stay-requires
-all-stay-requires c κs = search needs
+staying-requires : tie.Need-staying-requires
+staying-requires c κs = search needs
 
-goes-on-requires : tie.Need-goes-on-requires
-goes-on-requires c κs = search needs
+side-requires : tie.Need-side-requires
+side-requires c κs = search needs
 
-add-all-requires : tie.Need-add-all-requires
-add-all-requires c κs = (c .before .before .before .before .before .pre, ap goesOn (sym (c .before .before .before .all-stay .ensures)) ∙ sym (c .before .before .goes-on .ensures) ∙ c .before .if1 .taken)
+add-first-requires : tie.Need-add-first-requires
+add-first-requires c κs = search needs
 
 same-length : tie.Need-same-length
 same-length c = search needs
 
 returns : tie.Need-returns
-returns c = let a = c .before .before .before .before .before .before .before .args in
-    (c .before .before .before .before .before .all-stay .ensures, c .before .add-all .ensures ∙ advanced-in (a .lows .now) (a .highs .now) (a .rates .now) (a .values .now) (ap goesOn (sym (c .before .before .before .before .before .all-stay .ensures)) ∙ sym (c .before .before .before .before .goes-on .ensures) ∙ c .before .before .before .if1 .taken))
+returns c = let a = c .before .before .before .before .before .before in
+    let s = a .before .before in
+    let b = s .args in
+    let t = a .staying in
+    let f = t .ensures .first in
+    let all : length (b .values .now) ≤ t .result = omega arith in
+    (all-told (b .lows .now) (b .highs .now) (b .rates .now) (b .values .now) (s .pre) (t .result) f all, c .before .add-first .ensures ∙ all-values (b .lows .now) (b .highs .now) (b .rates .now) (b .values .now) (s .pre) (t .result) f all)
 
 same-length-2 : tie.Need-same-length-2
 same-length-2 c = search needs
 
 returns-2 : tie.Need-returns-2
-returns-2 c = let a = c .before .before .before .before .args in
-    (c .before .before .all-stay .ensures, advanced-out (a .values .now) (advanced (a .lows .now) (a .highs .now) (a .rates .now) (a .values .now)) (ap goesOn (sym (c .before .before .all-stay .ensures)) ∙ sym (c .before .goes-on .ensures) ∙ c .if1 .left))
+returns-2 c = let s = c .before .before .before .before .before in
+    let b = s .args in
+    let t = c .before .before .before .staying in
+    let u = t .ensures in
+    let leaves : t .result < length (b .values .now) = omega (arith, u .first .count) in
+    (c .before .side .ensures, leaves-values (b .lows .now) (b .highs .now) (b .rates .now) (b .values .now) (s .pre) (t .result) u leaves)
 
 pub advance-spec : {M : Type 1} → statement M
-advance-spec =
-    tie.close
-    (tie.spec
-    all-stay-requires
-    goes-on-requires
-    add-all-requires
-    same-length
-    returns
-    same-length-2
-    returns-2)
+advance-spec = tie.close (tie.spec staying-requires side-requires add-first-requires same-length returns same-length-2 returns-2)

@@ -1,22 +1,22 @@
 use mathlib.Core.Path.{_≡_, refl, sym, ap, ap₂, _∙_}
-use mathlib.Core.List.{List, _++_}
+use mathlib.Core.List.{List}
 use Prim.Native.Nat.{_≤_, _<_, _-_}
 use lib.IntN.{ℤ, pos, _+ℤ_}
-use lib.ListN.{length, take, drop, getD, set, length-set}
+use lib.ListN.{length, getD, set, length-set}
 use Rattle.semantics.specs.Expressions.{ranged}
 use Rattle.semantics.specs.Run.{valued}
 use Rattle.effects.specs.Told.{stepTold, goesOn}
-use Rattle.effects.specs.Ranges.{sums}
-use Rattle.effects.proofs.Adds.{fill-here, fill-more, fill-all, length-sums, sums-at, each-in, Held, held, held-sum, held-ranged}
+use Rattle.effects.specs.Ranges.{sums, firstSums}
+use Rattle.effects.proofs.Adds.{fill-here, fill-more, length-sums, sums-at, Held, held, held-sum, held-ranged}
 use native.Mathlib.Omega.{arith}
-use Rattle.effects.proofs.add_all.Statement.{statement}
-use Rattle.effects.proofs.add_all.Tie as tie
+use Rattle.effects.proofs.add_first.Statement.{statement}
+use Rattle.effects.proofs.add_first.Tie as tie
 
 abbrev Inv-loop : tie.InvT-loop
-Inv-loop lows highs rates values₀ v₀ values v = (v ≤ length values₀) × (length values ≡ length values₀) × (values ≡ take v (sums rates values₀) ++ drop v values₀)
+Inv-loop lows highs rates values₀ k v₀ values v = (v ≤ k) × (length values ≡ length values₀) × (values ≡ firstSums rates values₀ v)
 
 abbrev μ-loop : tie.MeasureT-loop
-μ-loop lows highs rates values₀ v₀ values v = length values₀ - v
+μ-loop lows highs rates values₀ k v₀ values v = k - v
 
 loop-holds : tie.Need-loop-holds Inv-loop μ-loop
 loop-holds c = (omega arith, refl, refl)
@@ -54,17 +54,15 @@ sum-requires c κs = let l = c .before .before .before .before .before in
     let h : i < length v = omega arith in
     let t = sums r v in
     let here : getD (l .loop .values) i (pos 0) ≡ getD v i (pos 0) = ap (λ (x : List ℤ). getD x i (pos 0)) (l .loop .inv .2) ∙ fill-here t v i (pos 0) (length-sums r v) h in
-    let p = l .before .pre .0 in
     let lo = getD (b .lows .now) i (pos 0) in
     let hi = getD (b .highs .now) i (pos 0) in
-    let e : ranged (Held lo) (Held hi) (Held (getD (l .loop .values) i (pos 0)) +ℤ Held (getD r i (pos 0))) ≡ ranged lo hi (getD t i (pos 0)) =
+    let e : ranged (Held lo) (Held hi) (Held (getD (l .loop .values) i (pos 0)) +ℤ Held (getD r i (pos 0))) ≡ ranged lo hi (getD v i (pos 0) +ℤ getD r i (pos 0)) =
     held-ranged lo hi (getD (l .loop .values) i (pos 0)) (getD r i (pos 0)) (c .before .before .before .sum-arg .given) (c .before .before .sum-arg2 .given) (c .before .sum-arg3 .given) (c .sum-arg4 .given)
-    ∙ ap (λ (z : ℤ). ranged lo hi (z +ℤ getD r i (pos 0))) here ∙ ap (ranged lo hi) (sym (sums-at r v i h)) in
-    ap (λ x. goesOn (stepTold (valued x))) e
-    ∙ each-in (b .lows .now) (b .highs .now) t i (p .lows ∙ sym (length-sums r v)) (p .highs ∙ sym (length-sums r v)) (l .before .pre .1) (omega (arith, length-sums r v))
+    ∙ ap (λ (z : ℤ). ranged lo hi (z +ℤ getD r i (pos 0))) here in
+    ap (λ x. goesOn (stepTold (valued x))) e ∙ l .before .pre .1 .each i (omega arith)
 
-mul-t20 : tie.Need-mul-t20 Inv-loop μ-loop
-mul-t20 c = omega arith
+mul-t21 : tie.Need-mul-t21 Inv-loop μ-loop
+mul-t21 c = omega arith
 
 slice-set-from-values : tie.Need-slice-set-from-values Inv-loop μ-loop
 slice-set-from-values c = omega arith
@@ -94,10 +92,11 @@ same-length c = c .before .loop .inv .1
 returns : tie.Need-returns Inv-loop μ-loop
 returns c = let l = c .before in
     let b = l .before .args in
-    l .loop .inv .2 ∙ fill-all (sums (b .rates .now) (b .values .now)) (b .values .now) (l .loop .v) (length-sums (b .rates .now) (b .values .now)) (omega arith)
+    let e : l .loop .v ≡ b .k = omega arith in
+    l .loop .inv .2 ∙ ap (firstSums (b .rates .now) (b .values .now)) e
 
-pub add-all-spec : {M : Type 1} → statement M
-add-all-spec =
+pub add-first-spec : {M : Type 1} → statement M
+add-first-spec =
     tie.close
     (tie.spec
     Inv-loop
@@ -112,7 +111,7 @@ add-all-spec =
     mul-sum-4
     shared-slice-copy-out-sum-3
     sum-requires
-    mul-t20
+    mul-t21
     slice-set-from-values
     add-v
     loop-less

@@ -1,25 +1,25 @@
-use mathlib.Core.Path.{_≡_, refl, sym, ap, _∙_}
-use Prim.Native.Nat.{_≤_, _-_}
+use mathlib.Core.Path.{_≡_, sym, ap, _∙_}
+use Prim.Native.Nat.{_-_}
 use lib.IntN.{pos}
 use lib.ListN.{length, getD}
 use borrow.Author.Tests.{not-true, not-false}
 use Rattle.semantics.specs.Run.{valued}
-use Rattle.effects.specs.Told.{stepTold}
-use Rattle.effects.specs.Ranges.{advanced}
-use Rattle.effects.proofs.Adds.{from, on, out, end, held-ranged}
+use Rattle.effects.specs.Told.{stepTold, goesOn}
+use Rattle.effects.specs.Ranges.{FirstStay, staysIn}
+use Rattle.effects.proofs.Adds.{none-yet, one-more, held-ranged}
 use borrow.Author.Needs.{needs}
 use native.Mathlib.Omega.{arith}
-use Rattle.effects.proofs.all_stay.Statement.{statement}
-use Rattle.effects.proofs.all_stay.Tie as tie
+use Rattle.effects.proofs.staying.Statement.{statement}
+use Rattle.effects.proofs.staying.Tie as tie
 
 abbrev Inv-loop : tie.InvT-loop
-Inv-loop lows highs rates values i₀ i = (i ≤ length values) × (stepTold (valued (advanced lows highs rates values)) ≡ stepTold (valued (from lows highs rates values i)))
+Inv-loop lows highs rates values i₀ i = FirstStay lows highs rates values i
 
 abbrev μ-loop : tie.MeasureT-loop
 μ-loop lows highs rates values i₀ i = length values - i
 
 loop-holds : tie.Need-loop-holds Inv-loop μ-loop
-loop-holds c = (omega arith, refl)
+loop-holds c = none-yet _ _ _ _
 
 mul-stays : tie.Need-mul-stays Inv-loop μ-loop
 mul-stays c = omega arith
@@ -56,8 +56,9 @@ returns c = let a = c .before .before .before in
     let l = a .before .before .before .before .before in
     let b = l .before .args in
     let i = l .loop .i in
-    out (b .lows .now) (b .highs .now) (b .rates .now) (b .values .now) i (l .before .pre) (omega arith) _ (c .before .before .stays .ensures ∙ (ap (λ r. stepTold (valued r)) (held-ranged (getD (b .lows .now) i (pos 0)) (getD (b .highs .now) i (pos 0)) (getD (b .values .now) i (pos 0)) (getD (b .rates .now) i (pos 0)) (a .before .before .before .stays-arg .given) (a .before .before .stays-arg2 .given) (a .before .stays-arg3 .given) (a .stays-arg4 .given)))) (sym (c .before .goes-on .ensures) ∙ not-true _ (c .if1 .taken))
-    ∙ sym (l .loop .inv .1)
+    let told : goesOn (c .before .before .stays .result) ≡ staysIn (b .lows .now) (b .highs .now) (b .rates .now) (b .values .now) i =
+    ap goesOn (c .before .before .stays .ensures) ∙ ap (λ r. goesOn (stepTold (valued r))) (held-ranged (getD (b .lows .now) i (pos 0)) (getD (b .highs .now) i (pos 0)) (getD (b .values .now) i (pos 0)) (getD (b .rates .now) i (pos 0)) (a .before .before .before .stays-arg .given) (a .before .before .stays-arg2 .given) (a .before .stays-arg3 .given) (a .stays-arg4 .given)) in
+    record { first = l .loop .inv; leaves = λ h. sym told ∙ sym (c .before .goes-on .ensures) ∙ not-true _ (c .if1 .taken) }
 
 add-i : tie.Need-add-i Inv-loop μ-loop
 add-i c = omega arith
@@ -70,13 +71,15 @@ loop-again c = let a = c .before .before .before in
     let l = a .before .before .before .before .before in
     let b = l .before .args in
     let i = l .loop .i in
-    (omega arith, l .loop .inv .1 ∙ on (b .lows .now) (b .highs .now) (b .rates .now) (b .values .now) i (l .before .pre) (omega arith) _ (c .before .before .stays .ensures ∙ (ap (λ r. stepTold (valued r)) (held-ranged (getD (b .lows .now) i (pos 0)) (getD (b .highs .now) i (pos 0)) (getD (b .values .now) i (pos 0)) (getD (b .rates .now) i (pos 0)) (a .before .before .before .stays-arg .given) (a .before .before .stays-arg2 .given) (a .before .stays-arg3 .given) (a .stays-arg4 .given)))) (sym (c .before .goes-on .ensures) ∙ not-false _ (c .if1 .left)))
+    let told : goesOn (c .before .before .stays .result) ≡ staysIn (b .lows .now) (b .highs .now) (b .rates .now) (b .values .now) i =
+    ap goesOn (c .before .before .stays .ensures) ∙ ap (λ r. goesOn (stepTold (valued r))) (held-ranged (getD (b .lows .now) i (pos 0)) (getD (b .highs .now) i (pos 0)) (getD (b .values .now) i (pos 0)) (getD (b .rates .now) i (pos 0)) (a .before .before .before .stays-arg .given) (a .before .before .stays-arg2 .given) (a .before .stays-arg3 .given) (a .stays-arg4 .given)) in
+    one-more _ _ _ _ i (omega arith) (l .loop .inv) (sym told ∙ sym (c .before .goes-on .ensures) ∙ not-false _ (c .if1 .left))
 
 returns-2 : tie.Need-returns-2 Inv-loop μ-loop
-returns-2 c = let l = c .before in let b = l .before .args in end (b .lows .now) (b .highs .now) (b .rates .now) (b .values .now) (l .loop .i) (l .before .pre) (c .loop-test .left) ∙ sym (l .loop .inv .1)
+returns-2 c = record { first = c .before .loop .inv; leaves = λ h. absurd (omega arith) }
 
-pub all-stay-spec : {M : Type 1} → statement M
-all-stay-spec =
+pub staying-spec : {M : Type 1} → statement M
+staying-spec =
     tie.close
     (tie.spec
     Inv-loop
