@@ -145,6 +145,27 @@ pub fn widest() -> Vec<u8> {
     plain_plant(nodes).bytes()
 }
 
+/// Nests of all 64 nodes: of SEQUENCEs, PARALLELs, WHILEs and IFs, with truths and a number of depth 16.
+pub fn deep() -> Vec<Vec<u8>> {
+    let truth = [vec![0x2A; 15], vec![0x2F]].concat();
+    let last = reset(0, &[vec![0x14; 15], constant(0)].concat());
+    let nest = |kind: u8| {
+        let mut nodes = match kind {
+            1 | 2 => vec![vec![kind, 1]; 63],
+            3 => vec![node(3, &truth); 63],
+            _ => [vec![vec![1, 1]], vec![node(4, &truth); 31]].concat(),
+        };
+        nodes.resize(64, last.clone());
+        plain_plant(nodes).bytes()
+    };
+    (1..5).map(nest).collect()
+}
+
+/// Each node picked, over and over.
+pub fn picks() -> Vec<u8> {
+    (0..640).flat_map(|i| [1, (i % 64) as u8, 0]).collect()
+}
+
 /// A branch of eight nodes that moves among five places: WHILE over SEQUENCE of CONTINUE, IF and RESET.
 fn branch(v: u8) -> Vec<Vec<u8>> {
     vec![

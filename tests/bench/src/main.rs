@@ -1,5 +1,5 @@
 //! The product against a plain and a fast implementation.
-//! bench [--rounds N] [--case NAME --who product|plain|fast]
+//! bench [--rounds N] [--case NAME --who product|plain|fast] | --stack
 //! With --case only the calls of one are made, for a count of instructions; without, all are held to each other and timed.
 mod cases;
 mod fast;
@@ -7,6 +7,7 @@ mod fast;
 #[path = "../../differential/src/plain.rs"]
 mod plain;
 mod product;
+mod stack;
 
 use cases::{Random, Runs};
 use fast::Ran;
@@ -235,6 +236,9 @@ fn all(rounds: usize, only: Option<&str>) {
 fn main() {
     let words: Vec<String> = std::env::args().collect();
     let after = |name: &str| words.iter().position(|w| w == name).map(|i| words[i + 1].as_str());
+    if words.iter().any(|w| w == "--stack") {
+        return stack::measure();
+    }
     let rounds = after("--rounds").map_or(50, |n| n.parse().expect("a number of rounds"));
     let who = match after("--who") {
         Some("product") => Who::Product,

@@ -1,0 +1,75 @@
+//! What a call of the product takes of its caller's stack: it runs on a painted stack of its own.
+use crate::cases;
+use crate::{perform, room, work, Runs, Who, Work, NAMES};
+use std::ffi::c_void;
+
+const SIZE: usize = 1 << 20;
+const PAINT: u8 = 0xA5;
+
+#[repr(C, align(16))]
+struct Attributes([u8; 64]);
+
+extern "C" {
+    fn pthread_attr_init(a: *mut Attributes) -> i32;
+    fn pthread_attr_setstack(a: *mut Attributes, stack: *mut c_void, size: usize) -> i32;
+    fn pthread_create(id: *mut usize, a: *const Attributes, f: extern "C" fn(*mut c_void) -> *mut c_void, arg: *mut c_void) -> i32;
+    fn pthread_join(id: usize, out: *mut *mut c_void) -> i32;
+}
+
+#[repr(C, align(4096))]
+struct Stack([u8; SIZE]);
+
+/// The call to make, or none, and its buffer.
+struct Task<'a>(Option<&'a Work>, &'a mut [u8]);
+
+extern "C" fn enter(task: *mut c_void) -> *mut c_void {
+    // SAFETY: `taken` hands a task that lives until the thread is joined.
+    let task = unsafe { &mut *(task as *mut Task) };
+    if let Some(w) = task.0 {
+        perform(Who::Product, w, task.1);
+    }
+    std::ptr::null_mut()
+}
+
+/// Bytes of the stack that the thread wrote.
+fn taken(w: Option<&Work>, out: &mut [u8]) -> usize {
+    // SAFETY: a Stack is bytes.
+    let mut stack: Box<Stack> = unsafe { Box::new_uninit().assume_init() };
+    stack.0.fill(PAINT);
+    let mut task = Task(w, out);
+    let (mut a, mut id) = (Attributes([0; 64]), 0);
+    // SAFETY: pthread_attr_t has 56 bytes on x86-64 Linux; stack and task outlive the thread.
+    unsafe {
+        assert_eq!(pthread_attr_init(&mut a), 0);
+        assert_eq!(pthread_attr_setstack(&mut a, stack.0.as_mut_ptr().cast(), SIZE), 0);
+        assert_eq!(pthread_create(&mut id, &a, enter, (&raw mut task).cast()), 0);
+        assert_eq!(pthread_join(id, std::ptr::null_mut()), 0);
+    }
+    SIZE - stack.0.iter().position(|b| *b != PAINT).unwrap_or(SIZE)
+}
+
+/// The most that each kind of call takes: over the cases, nests of 63 of each kind, and expressions of depth 16.
+pub fn measure() {
+    let mut works: Vec<Work> = NAMES.iter().map(|n| work(n)).collect();
+    for file in cases::deep() {
+        let runs = || Runs { file: file.clone(), start: vec![0; 4], events: cases::picks() };
+        works.push(Work::Compile(file.clone()));
+        works.push(Work::Table(crate::plain::whole_table(&file).expect("a table"), runs()));
+        works.push(Work::Rules(runs()));
+    }
+    let own = taken(None, &mut []);
+    let mut most = [0; 3];
+    for w in &works {
+        let kind = match w {
+            Work::Compile(_) => 0,
+            Work::Rules(_) => 1,
+            Work::Table(..) => 2,
+        };
+        let mut out = vec![0; room(w)];
+        assert_eq!(perform(Who::Product, w, &mut out)[0], 0, "a case that is refused");
+        most[kind] = most[kind].max(taken(Some(w), &mut out) - own);
+    }
+    for (name, n) in ["compiling", "a run by the rules", "a run of a table"].iter().zip(most) {
+        println!("{name}: {n} bytes of stack");
+    }
+}
