@@ -20,7 +20,7 @@ use Rattle.semantics.specs.Plant.{declared, allDeclared, added}
 use Rattle.semantics.specs.Run.{valued}
 use Rattle.semantics.proofs.Facts.{true-not-false}
 use Rattle.effects.specs.Told.{doneTold, stepTold, goesOn, orElse}
-use Rattle.effects.specs.Ranges.{rangesOf, rateIn, sums, advanced, Sized, firstSums, staysIn, FirstStay, Until}
+use Rattle.effects.specs.Ranges.{rangesOf, rateIn, sums, advanced, Sized, firstSums, sumTold, staysIn, FirstStay, Until}
 use Rattle.effects.specs.declared.Verdict.{Verdict}
 use Rattle.effects.specs.declared.Verdict.the-variants.{Stay}
 
@@ -184,7 +184,7 @@ module _ (ls hs rs vs : List ℤ) (z : Sized ls hs rs vs) where
       told-from k (fewer ls hs rs vs k f) ∙ on ls hs rs vs k z (omega arith) _ refl (f .each k (omega arith)) ∙ ap (λ (n : ℕ). stepTold (valued (from ls hs rs vs n))) e
 
   -- variable k leaves its range: its side is the answer, and nothing is added
-  pub leaves-told : (k : ℕ) → Until ls hs rs vs k → k < length vs → (r : Verdict) → r ≡ stepTold (valued (ranged (getD ls k (pos 0)) (getD hs k (pos 0)) (getD vs k (pos 0) +ℤ getD rs k (pos 0)))) → r ≡ stepTold (valued (advanced ls hs rs vs))
+  pub leaves-told : (k : ℕ) → Until ls hs rs vs k → k < length vs → (r : Verdict) → r ≡ sumTold ls hs rs vs k → r ≡ stepTold (valued (advanced ls hs rs vs))
   leaves-told k u h r e = out ls hs rs vs k z h r e (ap goesOn e ∙ u .leaves h) ∙ sym (told-from k (u .first))
 
   pub leaves-values : (k : ℕ) → Until ls hs rs vs k → k < length vs → vs ≡ orElse vs (advanced ls hs rs vs)

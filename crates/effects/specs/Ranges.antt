@@ -11,6 +11,8 @@ use Rattle.semantics.specs.Sections.{Variable}
 use Rattle.semantics.specs.Plant.{Plant, declaredAt, allDeclared, added}
 use Rattle.semantics.specs.Run.{valued}
 use Rattle.effects.specs.Told.{stepTold, goesOn}
+use Rattle.effects.specs.declared.Verdict.{Verdict}
+use Rattle.effects.specs.declared.Verdict.the-variants.{Stay}
 
 -- variables with these ranges; an initial value plays no part in a run
 unfoldable pub rangesOf : List ℤ → List ℤ → List Variable
@@ -51,9 +53,18 @@ pub record Sized (ls hs rs vs : List ℤ) : Type 0 where
 abbrev pub firstSums : List ℤ → List ℤ → ℕ → List ℤ
 firstSums rs vs k = take k (sums rs vs) ++ drop k vs
 
+-- variable v with its rate added: Stay, or the side on which it leaves its range
+abbrev pub sumTold : List ℤ → List ℤ → List ℤ → List ℤ → ℕ → Verdict
+sumTold ls hs rs vs v = stepTold (valued (ranged (getD ls v (pos 0)) (getD hs v (pos 0)) (getD vs v (pos 0) +ℤ getD rs v (pos 0))))
+
+-- the same for any number v: Stay where there is no such variable
+pub record Side (ls hs rs vs : List ℤ) (v : ℕ) (r : Verdict) : Type 0 where
+  pub here : v < length vs → r ≡ sumTold ls hs rs vs v
+  pub beyond : length vs ≤ v → r ≡ Stay
+
 -- does variable v, with its rate added, stay in its range?
 abbrev pub staysIn : List ℤ → List ℤ → List ℤ → List ℤ → ℕ → Bool
-staysIn ls hs rs vs v = goesOn (stepTold (valued (ranged (getD ls v (pos 0)) (getD hs v (pos 0)) (getD vs v (pos 0) +ℤ getD rs v (pos 0)))))
+staysIn ls hs rs vs v = goesOn (sumTold ls hs rs vs v)
 
 -- the first k variables stay in their ranges
 pub record FirstStay (ls hs rs vs : List ℤ) (k : ℕ) : Type 0 where

@@ -10,7 +10,7 @@ ghost use Rattle.semantics.specs.Editions.{edition1};
 ghost use Rattle.semantics.specs.Expressions.{ranged as rangedOf, truthValue};
 ghost use Rattle.semantics.specs.Run.{valued, act};
 ghost use Rattle.effects.specs.Told.{doneTold, stepTold, goesOn, truthTold, orElse, Left};
-ghost use Rattle.effects.specs.Ranges.{Sized, Until, FirstStay, firstSums, advanced, stored, assigned, rangesOnly};
+ghost use Rattle.effects.specs.Ranges.{Sized, Side, Until, FirstStay, firstSums, advanced, stored, assigned, rangesOnly};
 ghost use Rattle.effects.specs.Deeds.{kindOf, form, Fit};
 
 // How an event is answered: turned away with a number, a fault on a side of its range, or taken, with nobody's move or with
@@ -73,6 +73,17 @@ fn sum(low: i32, high: i32, x: i32, rate: i32) -> i32
     x + rate
 }
 
+// The side on which variable v, with its rate added, leaves its range; Stay where it stays or there is no such variable.
+fn side(lows: &[i32], highs: &[i32], rates: &[i32], values: &[i32], v: usize) -> Verdict
+    requires { ⌜ Sized (now lows) (now highs) (now rates) (now values) ⌝ }
+    ensures { λ r. ⌜ Side (now (lows .entry)) (now (highs .entry)) (now (rates .entry)) (now (values .entry)) v r ⌝ }
+{
+    if v < values.len() {
+        return stays(lows[v], highs[v], values[v], rates[v]);
+    }
+    Verdict::Stay
+}
+
 // How many variables, from the first on, stay in their ranges before one leaves its range.
 fn staying(lows: &[i32], highs: &[i32], rates: &[i32], values: &[i32]) -> usize
     requires { ⌜ Sized (now lows) (now highs) (now rates) (now values) ⌝ }
@@ -80,24 +91,12 @@ fn staying(lows: &[i32], highs: &[i32], rates: &[i32], values: &[i32]) -> usize
 {
     let mut i = 0;
     while i < values.len() {
-        let r = stays(lows[i], highs[i], values[i], rates[i]);
-        if !goes_on(r) {
+        if !goes_on(side(lows, highs, rates, values, i)) {
             return i;
         }
         i += 1;
     }
     i
-}
-
-// The side on which variable k leaves its range; Stay where all variables stay.
-fn side(lows: &[i32], highs: &[i32], rates: &[i32], values: &[i32], k: usize) -> Verdict
-    requires { ⌜ Sized (now lows) (now highs) (now rates) (now values) × Until (now lows) (now highs) (now rates) (now values) k ⌝ }
-    ensures { λ r. ⌜ r ≡ stepTold (valued (advanced (now (lows .entry)) (now (highs .entry)) (now (rates .entry)) (now (values .entry)))) ⌝ }
-{
-    if k < values.len() {
-        return stays(lows[k], highs[k], values[k], rates[k]);
-    }
-    Verdict::Stay
 }
 
 // Each of the first k values adds its rate.

@@ -1,7 +1,7 @@
 use mathlib.Core.Path.{_∙_}
 use Prim.Native.Nat.{_≤_, _<_}
 use lib.ListN.{length}
-use Rattle.effects.proofs.Adds.{leaves-values, all-told, all-values}
+use Rattle.effects.proofs.Adds.{leaves-told, leaves-values, all-told, all-values}
 use borrow.Author.Needs.{needs}
 use native.Mathlib.Omega.{arith}
 use Rattle.effects.proofs.advance.Statement.{statement}
@@ -37,7 +37,7 @@ returns-2 c = let s = c .before .before .before .before .before in
     let t = c .before .before .before .staying in
     let u = t .ensures in
     let leaves : t .result < length (b .values .now) = omega (arith, u .first .count) in
-    (c .before .side .ensures, leaves-values (b .lows .now) (b .highs .now) (b .rates .now) (b .values .now) (s .pre) (t .result) u leaves)
+    (leaves-told (b .lows .now) (b .highs .now) (b .rates .now) (b .values .now) (s .pre) (t .result) u leaves _ (c .before .side .ensures .here leaves), leaves-values (b .lows .now) (b .highs .now) (b .rates .now) (b .values .now) (s .pre) (t .result) u leaves)
 
 pub advance-spec : {M : Type 1} → statement M
 advance-spec = tie.close (tie.spec staying-requires side-requires add-first-requires same-length returns same-length-2 returns-2)

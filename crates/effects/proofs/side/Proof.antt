@@ -1,10 +1,9 @@
-use mathlib.Core.Path.{ap, _∙_}
-use Prim.Native.Nat.{_<_}
+use mathlib.Core.Path.{refl, ap, _∙_}
 use lib.IntN.{pos}
-use lib.ListN.{length, getD}
+use lib.ListN.{getD}
 use Rattle.semantics.specs.Run.{valued}
 use Rattle.effects.specs.Told.{stepTold}
-use Rattle.effects.proofs.Adds.{leaves-told, all-told, held-ranged}
+use Rattle.effects.proofs.Adds.{held-ranged}
 use borrow.Author.Needs.{needs}
 use native.Mathlib.Omega.{arith}
 use Rattle.effects.proofs.side.Statement.{statement}
@@ -39,16 +38,13 @@ stays-requires c κs = search needs
 
 returns : tie.Need-returns
 returns c = let a = c .before in
-    let s = a .before .before .before .before .before in
-    let b = s .args in
-    let k = b .k in
-    let h : k < length (b .values .now) = omega arith in
-    leaves-told (b .lows .now) (b .highs .now) (b .rates .now) (b .values .now) (s .pre .0) k (s .pre .1) h _ (c .stays .ensures ∙ ap (λ r. stepTold (valued r)) (held-ranged (getD (b .lows .now) k (pos 0)) (getD (b .highs .now) k (pos 0)) (getD (b .values .now) k (pos 0)) (getD (b .rates .now) k (pos 0)) (a .before .before .before .stays-arg .given) (a .before .before .stays-arg2 .given) (a .before .stays-arg3 .given) (a .stays-arg4 .given)))
+    let b = a .before .before .before .before .before .args in
+    let v = b .v in
+    let told = c .stays .ensures ∙ ap (λ r. stepTold (valued r)) (held-ranged (getD (b .lows .now) v (pos 0)) (getD (b .highs .now) v (pos 0)) (getD (b .values .now) v (pos 0)) (getD (b .rates .now) v (pos 0)) (a .before .before .before .stays-arg .given) (a .before .before .stays-arg2 .given) (a .before .stays-arg3 .given) (a .stays-arg4 .given)) in
+    record { here = λ h. told; beyond = λ h. absurd (omega arith) }
 
 returns-2 : tie.Need-returns-2
-returns-2 c = let s = c .before in
-    let b = s .args in
-    all-told (b .lows .now) (b .highs .now) (b .rates .now) (b .values .now) (s .pre .0) (b .k) (s .pre .1 .first) (omega arith)
+returns-2 c = record { here = λ h. absurd (omega arith); beyond = λ h. refl }
 
 pub side-spec : {M : Type 1} → statement M
 side-spec =
