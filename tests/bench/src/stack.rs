@@ -1,6 +1,6 @@
 //! What a call of the product takes of its caller's stack: it runs on a painted stack of its own.
 use crate::cases;
-use crate::{perform, room, work, Runs, Who, Work, NAMES};
+use crate::{perform, product, room, work, Runs, Who, Work, NAMES};
 use std::ffi::c_void;
 
 const SIZE: usize = 1 << 20;
@@ -19,6 +19,16 @@ extern "C" {
 #[repr(C, align(4096))]
 struct Stack([u8; SIZE]);
 
+/// The product's call alone: a function that can make another's too has a larger frame.
+#[inline(never)]
+fn call(w: &Work, out: &mut [u8]) {
+    match w {
+        Work::Compile(f) => product::compile(f, out).is_ok(),
+        Work::Rules(r) => product::rule_run(&r.file, &r.start, &r.events, out).is_ok(),
+        Work::Table(t, r) => product::table_run(t, &r.start, &r.events, out).is_ok(),
+    };
+}
+
 /// The call to make, or none, and its buffer.
 struct Task<'a>(Option<&'a Work>, &'a mut [u8]);
 
@@ -26,7 +36,7 @@ extern "C" fn enter(task: *mut c_void) -> *mut c_void {
     // SAFETY: `taken` hands a task that lives until the thread is joined.
     let task = unsafe { &mut *(task as *mut Task) };
     if let Some(w) = task.0 {
-        perform(Who::Product, w, task.1);
+        call(w, task.1);
     }
     std::ptr::null_mut()
 }
