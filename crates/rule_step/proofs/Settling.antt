@@ -22,7 +22,7 @@ use Rattle.nodeset.specs.Sets.{members, Words}
 use Rattle.nodeset.specs.declared.NodeSet.{NodeSet}
 use Rattle.nodeset.proofs.Members.{among-set, members-empty}
 use Rattle.nodeset.proofs.Membership.{words-empty}
-use Rattle.moves.specs.Contracts.{Advanced}
+use Rattle.moves.specs.Contracts.{Charted, Advanced}
 use Rattle.moves.specs.declared.How.{How}
 use Rattle.moves.specs.declared.How.the-variants.{To, Finished, Halted}
 use Rattle.moves.proofs.Callers.{standing, led-on, led-to-finish, led-to-halt}
@@ -41,7 +41,7 @@ use Rattle.rule_step.specs.declared.steps.Answered.{Answered}
 stands-over : (t : Tree) (n : ℕ) → StandsFor t (ended n .situation) none
 stands-over t n = at-end refl members-empty words-empty
 
-stands-at : {ks es : List ℕ} {t : Tree} {r : Residual} (n : ℕ) (s : NodeSet) → Here ks es t (s .words) r → StandsFor t (goingOn n s .situation) (some r)
+stands-at : {ls fs : List ℕ} {t : Tree} {r : Residual} (n : ℕ) (s : NodeSet) → Here ls fs t (s .words) r → StandsFor t (goingOn n s .situation) (some r)
 stands-at n s h = at-residual refl (h .of) (h .stands) (h .words)
 
 arrives-as : {t : Tree} {x : Next Residual} {a b : Answered} → a ≡ b → Arrives t x b → Arrives t x a
@@ -51,11 +51,11 @@ steps-as : {s : Schedule} {o : Option Residual} {vs vs' : List ℤ} {ms ms' e : 
 steps-as {s} {o} {vs} {vs'} {ms} {ms'} {e} q k = subst (λ (a : Answered). Steps s o vs ms e a vs' ms') (sym q) k
 
 -- ---- a move
-module _ {ks es ws : List ℕ} {n : ℕ} {b : Bool} {how : How} {set : NodeSet} (d : Advanced ks es ws n b how (set .words)) (t : Tree) (r : Residual) (h : Here ks es t ws r) {a : Answered} where
+module _ {ls fs ws : List ℕ} {n : ℕ} {b : Bool} {how : How} {set : NodeSet} (d : Advanced ls fs ws n b how (set .words)) (t : Tree) (r : Residual) (h : Here ls fs t ws r) {a : Answered} where
   pub moved-on : how ≡ To → a ≡ goingOn 200 set → Arrives t (move r n b) a
   unfolding arrive
   moved-on q e =
-      let l = led-on d (h .lies) (h .of) (h .stands) q in
+      let l = led-on d (h .charted) (h .of) (h .stands) q in
       arrives-as e (record {
         place = some (l .residual);
         is = λ s vs ms. ap (λ x. arrive s x vs ms) (l .leads);
@@ -64,14 +64,14 @@ module _ {ks es ws : List ℕ} {n : ℕ} {b : Bool} {how : How} {set : NodeSet} 
 
   pub moved-to-end : how ≡ Finished → a ≡ ended 201 → Arrives t (move r n b) a
   unfolding arrive
-  moved-to-end q e = arrives-as e (record { place = none; is = λ s vs ms. ap (λ x. arrive s x vs ms) (led-to-finish d (h .lies) (h .of) (h .stands) q .0); stands = stands-over t 201 })
+  moved-to-end q e = arrives-as e (record { place = none; is = λ s vs ms. ap (λ x. arrive s x vs ms) (led-to-finish d (h .charted) (h .of) (h .stands) q .0); stands = stands-over t 201 })
 
   pub moved-to-halt : how ≡ Halted → a ≡ ended 202 → Arrives t (move r n b) a
   unfolding arrive
-  moved-to-halt q e = arrives-as e (record { place = none; is = λ s vs ms. ap (λ x. arrive s x vs ms) (led-to-halt d (h .lies) (h .of) (h .stands) q .0); stands = stands-over t 202 })
+  moved-to-halt q e = arrives-as e (record { place = none; is = λ s vs ms. ap (λ x. arrive s x vs ms) (led-to-halt d (h .charted) (h .of) (h .stands) q .0); stands = stands-over t 202 })
 
 -- ---- a judged event
-module _ {ks es : List ℕ} {set : NodeSet} (s : Schedule) (r : Residual) (h : Here ks es (s .root) (set .words) r) (vs : List ℤ) (ms e : List ℕ) (vs' : List ℤ) (ms' : List ℕ) {v : Verdict}
+module _ {ls fs : List ℕ} {set : NodeSet} (s : Schedule) (r : Residual) (h : Here ls fs (s .root) (set .words) r) (vs : List ℤ) (ms e : List ℕ) (vs' : List ℤ) (ms' : List ℕ) {v : Verdict}
     (l : Left (judge edition1 (s .plant) (ruleControl s .action) (members (set .words)) vs ms (eventIn edition1 e)) vs ms v vs' ms') where
   acts : members (set .words) ≡ ruleControl s .acting r
   unfolding ruleControl
@@ -114,49 +114,49 @@ abbrev JudgedAs : Lent → List ℕ → List ℤ → List ℕ → List ℕ → V
 JudgedAs l ws vs ms e v vs' ms' = (p : Plant) (f : ℕ → Run.Action) → Ready p f l ws vs ms → Left (judge edition1 p f (members ws) vs ms (eventIn edition1 e)) vs ms v vs' ms'
 
 abbrev SettledAs : List ℕ → List ℕ → List ℕ → Verdict → Answered → Type 0
-SettledAs ks es ws v a = (s : Schedule) (y : Residual) → Here ks es (s .root) ws y → (vs : List ℤ) (ms e : List ℕ) (vs' : List ℤ) (ms' : List ℕ) →
+SettledAs ls fs ws v a = (s : Schedule) (y : Residual) → Here ls fs (s .root) ws y → (vs : List ℤ) (ms e : List ℕ) (vs' : List ℤ) (ms' : List ℕ) →
     Left (judge edition1 (s .plant) (ruleControl s .action) (members ws) vs ms (eventIn edition1 e)) vs ms v vs' ms' → Steps s (some y) vs ms e a vs' ms'
 
-module _ {l : Lent} {ks es : List ℕ} {vs : List ℤ} {ms : List ℕ} where
+module _ {l : Lent} {vs : List ℤ} {ms : List ℕ} where
   -- what judging asks
-  ready : (s : Schedule) {ws : List ℕ} {o : Option Residual} → ScheduleLent s l ks es → Acting (s .root) ws o → Fits (s .plant) vs ms → Ready (s .plant) (actionOfRule s) l ws vs ms
+  ready : (s : Schedule) {ws : List ℕ} {o : Option Residual} → ScheduleLent s l → Acting (s .root) ws o → Fits (s .plant) vs ms → Ready (s .plant) (actionOfRule s) l ws vs ms
   ready s d q f = record {
     plant = d .plant;
     nodes = λ n m. d .nodes (q .residual) (q .of) n (ap (among n) (sym (q .acts)) ∙ among-set (q .words) n ∙ m);
     fits = f;
   }
 
-  module _ {x : Situation} where
-    pub judging : Promised l ks es x vs ms → x .over ≡ false → Judged.Promised l (x .acting .words) vs ms
+  module _ {ls fs : List ℕ} {x : Situation} where
+    pub judging : Promised l ls fs x vs ms → x .over ≡ false → Judged.Promised l (x .acting .words) vs ms
     judging p f = record { plant = p .schedule .plant; action = actionOfRule (p .schedule); ready = ready (p .schedule) (p .lent) (not-over (p .stands) f) (p .fits) }
 
     -- a node that moves acts
-    pub movable : (e : List ℕ) {v : Verdict} {vs' : List ℤ} {ms' : List ℕ} → Promised l ks es x vs ms → x .over ≡ false → JudgedAs l (x .acting .words) vs ms e v vs' ms' → Movable ks es (x .acting .words) v
+    pub movable : (e : List ℕ) {v : Verdict} {vs' : List ℤ} {ms' : List ℕ} → Promised l ls fs x vs ms → x .over ≡ false → JudgedAs l (x .acting .words) vs ms e v vs' ms' → Movable ls fs (x .acting .words) v
     movable e {v} {vs'} {ms'} p f k =
         let q = not-over (p .stands) f in
         let left = k _ _ (judging p f .ready) in
         record {
           standing = λ n b i.
               let m = judged-possible edition1 _ _ _ _ _ (eventIn edition1 e) _ n b (heard-move _ vs ms vs' ms' left i) refl in
-              standing (q .words) (p .lent .tree) (q .of) (q .acts) (sym (among-set (q .words) n) ∙ mem-among n (members (x .acting .words)) (m .0));
+              standing (q .words) (p .charted) (q .of) (q .acts) (sym (among-set (q .words) n) ∙ mem-among n (members (x .acting .words)) (m .0));
         }
 
     -- the whole event
-    module _ (s : Schedule) (o : Option Residual) (d : ScheduleLent s l ks es) (g : StandsFor (s .root) x o) (f : Fits (s .plant) vs ms) (e : List ℕ) where
+    module _ (s : Schedule) (o : Option Residual) (d : ScheduleLent s l) (i : Charted ls fs (s .root)) (g : StandsFor (s .root) x o) (f : Fits (s .plant) vs ms) (e : List ℕ) where
       pub step-over : {a : Answered} → x .over ≡ true → a ≡ record { answer = 23; situation = x } → Steps s o vs ms e a vs ms × Fits (s .plant) vs ms
-      step-over {a} h i = (go g, f)
+      step-over {a} h k = (go g, f)
         where
           go : {o : Option Residual} → StandsFor (s .root) x o → Steps s o vs ms e a vs ms
           go (at-residual y _ _ _) = true-not-false (sym h ∙ y)
-          go (at-end y m w) = steps-as i (record { place = none; is = stepped-over (s .plant) (ruleControl s) vs ms e; stands = at-end y m w })
+          go (at-end y m w) = steps-as k (record { place = none; is = stepped-over (s .plant) (ruleControl s) vs ms e; stands = at-end y m w })
 
-      pub step-at : {v : Verdict} {vs' : List ℤ} {ms' : List ℕ} {a : Answered} → x .over ≡ false → JudgedAs l (x .acting .words) vs ms e v vs' ms' → SettledAs ks es (x .acting .words) v a → Steps s o vs ms e a vs' ms' × Fits (s .plant) vs' ms'
+      pub step-at : {v : Verdict} {vs' : List ℤ} {ms' : List ℕ} {a : Answered} → x .over ≡ false → JudgedAs l (x .acting .words) vs ms e v vs' ms' → SettledAs ls fs (x .acting .words) v a → Steps s o vs ms e a vs' ms' × Fits (s .plant) vs' ms'
       unfolding ruleControl
       step-at {v} {vs'} {ms'} {a} h k m =
           let q = not-over g h in
           let r = ready s d q f in
           let left = k (s .plant) (actionOfRule s) r in
-          (at-place (q .is) (m s (q .residual) (record { lies = d .tree; of = q .of; stands = q .acts; words = q .words }) vs ms e vs' ms' left), fits-left (s .plant) (actionOfRule s) l (x .acting .words) vs ms r (eventIn edition1 e) left)
+          (at-place (q .is) (m s (q .residual) (record { charted = i; of = q .of; stands = q .acts; words = q .words }) vs ms e vs' ms' left), fits-left (s .plant) (actionOfRule s) l (x .acting .words) vs ms r (eventIn edition1 e) left)
         where
           at-place : {p : Option Residual} → o ≡ p → Steps s p vs ms e a vs' ms' → Steps s o vs ms e a vs' ms'
           at-place i k = rw i k

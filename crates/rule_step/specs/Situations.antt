@@ -14,11 +14,10 @@ use Rattle.schedules.specs.Nodes.{actionsOf}
 use Rattle.schedules.specs.Trees.{Tree}
 use Rattle.schedules.specs.Residuals.{Residual, acting}
 use Rattle.schedules.specs.Files.{Schedule, ruleControl}
-use Rattle.schedules.specs.Laid.{Lies}
 use Rattle.schedules.specs.Reached.{Of}
 use Rattle.nodeset.specs.Sets.{members, emptySet, Words}
 use Rattle.nodeset.specs.declared.NodeSet.{NodeSet}
-use Rattle.moves.specs.Contracts.{Standing}
+use Rattle.moves.specs.Contracts.{Charted, Standing}
 use Rattle.execution.specs.Ready.{Lent, PlantLent, NodeLent, Fits}
 use Rattle.effects.specs.declared.Verdict.{Verdict}
 use Rattle.effects.specs.declared.Verdict.the-variants.{Move}
@@ -40,9 +39,9 @@ pub data StandsFor (t : Tree) (x : Situation) : Option Residual → Type 0 where
   at-residual : {r : Residual} → x .over ≡ false → Of t r → members (x .acting .words) ≡ acting r → Words (x .acting .words) → StandsFor t x (some r)
   at-end : x .over ≡ true → members (x .acting .words) ≡ [] → Words (x .acting .words) → StandsFor t x none
 
--- the tree lies in the arrays, and the set is that of one of its residuals
-pub record Here (ks es : List ℕ) (t : Tree) (ws : List ℕ) (r : Residual) : Type 0 where
-  pub lies : Lies ks es t
+-- the arrays have the moves of the tree, and the set is that of one of its residuals
+pub record Here (ls fs : List ℕ) (t : Tree) (ws : List ℕ) (r : Residual) : Type 0 where
+  pub charted : Charted ls fs t
   pub of : Of t r
   pub stands : members ws ≡ acting r
   pub words : Words ws
@@ -58,20 +57,20 @@ pub record Arrives (t : Tree) (x : Next Residual) (a : Answered) : Type 0 where
   pub stands : StandsFor t (a .situation) place
 
 -- a node that moves acts
-pub record Movable (ks es ws : List ℕ) (v : Verdict) : Type 0 where
-  pub standing : (n : ℕ) (b : Bool) → v ≡ Move n b → Standing ks es ws n
+pub record Movable (ls fs ws : List ℕ) (v : Verdict) : Type 0 where
+  pub standing : (n : ℕ) (b : Bool) → v ≡ Move n b → Standing ls fs ws n
 
 -- ---- the whole event
--- the arrays hold the schedule: its plant, its tree, and what each node does that acts in a residual of it
-pub record ScheduleLent (s : Schedule) (l : Lent) (ks es : List ℕ) : Type 0 where
+-- the arrays hold the schedule: its plant, and what each node does that acts in a residual of its tree
+pub record ScheduleLent (s : Schedule) (l : Lent) : Type 0 where
   pub plant : PlantLent (s .plant) l
-  pub tree : Lies ks es (s .root)
   pub nodes : (r : Residual) → Of (s .root) r → (n : ℕ) → among n (acting r) ≡ true → NodeLent (s .plant) (actionOrStop (actionsOf (s .nodes)) n) l n
 
 -- there are such a schedule and such a place, and values and modes fit
-pub record Promised (l : Lent) (ks es : List ℕ) (x : Situation) (vs : List ℤ) (ms : List ℕ) : Type 0 where
+pub record Promised (l : Lent) (ls fs : List ℕ) (x : Situation) (vs : List ℤ) (ms : List ℕ) : Type 0 where
   pub schedule : Schedule
-  pub lent : ScheduleLent schedule l ks es
+  pub lent : ScheduleLent schedule l
+  pub charted : Charted ls fs (schedule .root)
   pub place : Option Residual
   pub stands : StandsFor (schedule .root) x place
   pub fits : Fits (schedule .plant) vs ms

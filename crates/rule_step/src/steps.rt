@@ -14,7 +14,7 @@ ghost use Rattle.schedules.specs.Trees.{Tree};
 ghost use Rattle.schedules.specs.Residuals.{Residual, move};
 ghost use Rattle.schedules.specs.Files.{Schedule, ruleControl};
 ghost use Rattle.nodeset.specs.Sets.{members};
-ghost use Rattle.moves.specs.Contracts.{Upward, Standing};
+ghost use Rattle.moves.specs.Contracts.{Charted, Standing};
 ghost use Rattle.effects.specs.Told.{Left};
 ghost use Rattle.execution.specs.Ready.{lent, Fits};
 ghost use Rattle.rule_step.specs.Situations.{goingOn, ended, Here, Arrives, Movable, StandsFor, ScheduleLent, Promised, Steps};
@@ -60,17 +60,16 @@ fn end(n: u8) -> Answered
 
 // A taken event with the move of node n.
 fn moved<'a>(
-    kinds: &'a [u8],
-    subtrees: &'a [usize],
-    parents: &'a [usize],
+    leads: &'a [u16],
+    fresh: &'a [u64],
     acting: NodeSet,
     n: usize,
     truth: bool,
 ) -> Answered
-    requires { ⌜ Standing (now kinds) (now subtrees) (acting .words) n × Upward (now subtrees) (now parents) ⌝ }
-    ensures { λ r. ⌜ ((t : Tree) (x : Residual) → Here (now (kinds .entry)) (now (subtrees .entry)) t (acting .words) x → Arrives t (move x n truth) r) ⌝ }
+    requires { ⌜ Standing (now leads) (now fresh) (acting .words) n ⌝ }
+    ensures { λ r. ⌜ ((t : Tree) (x : Residual) → Here (now (leads .entry)) (now (fresh .entry)) t (acting .words) x → Arrives t (move x n truth) r) ⌝ }
 {
-    let m = moves::advance(kinds, subtrees, parents, acting, n, truth);
+    let m = moves::advance(leads, fresh, acting, n, truth);
     let how = m.how;
     let set = m.set;
     match how {
@@ -82,21 +81,20 @@ fn moved<'a>(
 
 // What a judged event makes of the acting nodes.
 fn settled<'a>(
-    kinds: &'a [u8],
-    subtrees: &'a [usize],
-    parents: &'a [usize],
+    leads: &'a [u16],
+    fresh: &'a [u64],
     acting: NodeSet,
     v: Verdict,
 ) -> Answered
-    requires { ⌜ Movable (now kinds) (now subtrees) (acting .words) v × Upward (now subtrees) (now parents) ⌝ }
-    ensures { λ r. ⌜ ((s : Schedule) (x : Residual) → Here (now (kinds .entry)) (now (subtrees .entry)) (s .root) (acting .words) x → (vs : List ℤ) (ms e : List ℕ) (vs' : List ℤ) (ms' : List ℕ) → Left (judge edition1 (s .plant) (ruleControl s .action) (members (acting .words)) vs ms (eventIn edition1 e)) vs ms v vs' ms' → Steps s (some x) vs ms e r vs' ms') ⌝ }
+    requires { ⌜ Movable (now leads) (now fresh) (acting .words) v ⌝ }
+    ensures { λ r. ⌜ ((s : Schedule) (x : Residual) → Here (now (leads .entry)) (now (fresh .entry)) (s .root) (acting .words) x → (vs : List ℤ) (ms e : List ℕ) (vs' : List ℤ) (ms' : List ℕ) → Left (judge edition1 (s .plant) (ruleControl s .action) (members (acting .words)) vs ms (eventIn edition1 e)) vs ms v vs' ms' → Steps s (some x) vs ms e r vs' ms') ⌝ }
 {
     match v {
         Verdict::Away(n) => go_on(n, acting),
         Verdict::Above => end(203),
         Verdict::Below => end(203),
         Verdict::Stay => go_on(200, acting),
-        Verdict::Move(n, truth) => moved(kinds, subtrees, parents, acting, n, truth),
+        Verdict::Move(n, truth) => moved(leads, fresh, acting, n, truth),
     }
 }
 
@@ -111,9 +109,8 @@ pub fn step<'a>(
     acts: &[u8],
     starts: &[usize],
     ends: &[usize],
-    kinds: &'a [u8],
-    subtrees: &'a [usize],
-    parents: &'a [usize],
+    leads: &'a [u16],
+    fresh: &'a [u64],
     at: Situation,
     a: u8,
     b: u8,
@@ -121,8 +118,8 @@ pub fn step<'a>(
     values: &mut [i32],
     modes: &mut [u8],
 ) -> Answered
-    requires { ⌜ Promised (lent (now es) (now places) steady (now lows) (now highs) (now ops) (now acts) (now starts) (now ends)) (now kinds) (now subtrees) at (now values) (now modes) × Upward (now subtrees) (now parents) ⌝ }
-    ensures { λ r. ⌜ ((s : Schedule) (o : Option Residual) → ScheduleLent s (lent (now (es .entry)) (now (places .entry)) steady (now (lows .entry)) (now (highs .entry)) (now (ops .entry)) (now (acts .entry)) (now (starts .entry)) (now (ends .entry))) (now (kinds .entry)) (now (subtrees .entry)) → StandsFor (s .root) at o → Fits (s .plant) (now (values .entry)) (now (modes .entry)) → Steps s o (now (values .entry)) (now (modes .entry)) (a ∷ b ∷ c ∷ []) r (now (values .exit)) (now (modes .exit)) × Fits (s .plant) (now (values .exit)) (now (modes .exit))) ⌝ }
+    requires { ⌜ Promised (lent (now es) (now places) steady (now lows) (now highs) (now ops) (now acts) (now starts) (now ends)) (now leads) (now fresh) at (now values) (now modes) ⌝ }
+    ensures { λ r. ⌜ ((s : Schedule) (o : Option Residual) → ScheduleLent s (lent (now (es .entry)) (now (places .entry)) steady (now (lows .entry)) (now (highs .entry)) (now (ops .entry)) (now (acts .entry)) (now (starts .entry)) (now (ends .entry))) → Charted (now (leads .entry)) (now (fresh .entry)) (s .root) → StandsFor (s .root) at o → Fits (s .plant) (now (values .entry)) (now (modes .entry)) → Steps s o (now (values .entry)) (now (modes .entry)) (a ∷ b ∷ c ∷ []) r (now (values .exit)) (now (modes .exit)) × Fits (s .plant) (now (values .exit)) (now (modes .exit))) ⌝ }
 {
     if at.over {
         return Answered {
@@ -148,5 +145,5 @@ pub fn step<'a>(
         values,
         modes,
     );
-    settled(kinds, subtrees, parents, acting, v)
+    settled(leads, fresh, acting, v)
 }

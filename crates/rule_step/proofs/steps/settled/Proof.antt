@@ -31,7 +31,7 @@ enum-known-v-2 : tie.Need-enum-known-v-2
 enum-known-v-2 c = search needs
 
 moved-requires : tie.Need-moved-requires
-moved-requires c κs = let q = c .before .before .before .before .before .before .pre in (q .0 .standing _ _ (c .before .v2 .given .1), q .1)
+moved-requires c κs = c .before .before .before .before .before .pre .standing _ _ (c .before .v2 .given .1)
 
 returns : tie.Need-returns
 returns c = λ s x h vs ms e vs' ms' l. settled-away s x h vs ms e vs' ms' l (c .before .before .v .given .1) (c .go-on .ensures)

@@ -6,16 +6,16 @@ use Rattle.rule_step.proofs.steps.step.Statement.{statement}
 use Rattle.rule_step.proofs.steps.step.Tie as tie
 
 returns : tie.Need-returns
-returns c = λ s o d g f. step-over s o d g f _ (c .if1 .taken) refl
+returns c = λ s o d i g f. step-over s o d i g f _ (c .if1 .taken) refl
 
 judge-requires : tie.Need-judge-requires
-judge-requires c κs = judging (c .before .before .before .before .before .before .before .before .before .before .before .before .before .before .pre .0) (c .before .before .before .if1 .left)
+judge-requires c κs = judging (c .before .before .before .before .before .before .before .before .before .before .before .before .before .pre) (c .before .before .before .if1 .left)
 
 settled-requires : tie.Need-settled-requires
 settled-requires c κs =
-    let s = c .before .before .before .before .before .before .before .before .before .before .before .before .before .before .before .before .before .before in
+    let s = c .before .before .before .before .before .before .before .before .before .before .before .before .before .before .before .before .before in
     let a = s .args in
-    (movable (a .a ∷ a .b ∷ a .c ∷ []) (s .pre .0) (c .before .before .before .before .before .before .before .if1 .left) (c .before .before .before .judge .ensures), s .pre .1)
+    movable (a .a ∷ a .b ∷ a .c ∷ []) (s .pre) (c .before .before .before .before .before .before .before .if1 .left) (c .before .before .before .judge .ensures)
 
 same-length : tie.Need-same-length
 same-length c = search needs
@@ -24,7 +24,7 @@ same-length-2 : tie.Need-same-length-2
 same-length-2 c = search needs
 
 returns-2 : tie.Need-returns-2
-returns-2 c = λ s o d g f. step-at s o d g f _ (c .before .before .before .before .before .before .before .before .if1 .left) (c .before .before .before .before .judge .ensures) (c .settled .ensures)
+returns-2 c = λ s o d i g f. step-at s o d i g f _ (c .before .before .before .before .before .before .before .before .if1 .left) (c .before .before .before .before .judge .ensures) (c .settled .ensures)
 
 pub step-spec : {M : Type 1} → statement M
 step-spec =
