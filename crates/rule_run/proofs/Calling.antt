@@ -100,6 +100,7 @@ module _ (f : List ℕ) {ix : ScheduleIndex} (h : ix ≡ scheduleIndex f) {asked
   pub asked-of : {l : Lent} {s : Schedule} → LentFrom f ix l → Admits f asked events d s → Asked s l (ix .nodes .kinds) (ix .subtrees .ends) (take (ix .plant .variables) (asked .values)) (take (ix .plant .selectors) (asked .modes)) events d
   asked-of q a = record {
     lent = schedule-lent (promised-of a) q;
+    tree = promised-of a .tree;
     fits = rw (variables-are a, selectors-are a) (a .fits);
     room = a .room;
   }

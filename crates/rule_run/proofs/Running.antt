@@ -17,10 +17,10 @@ use Rattle.semantics.proofs.Facts.{true-not-false}
 use Rattle.schedules.specs.Residuals.{Residual, fresh, acting}
 use Rattle.schedules.specs.Files.{Schedule, ruleControl}
 use Rattle.schedules.proofs.ResidualsKept.{of-fresh}
-use Rattle.nodeset.specs.Sets.{mem, members}
+use Rattle.nodeset.specs.Sets.{mem, members, Words}
 use Rattle.nodeset.specs.declared.NodeSet.{NodeSet}
 use Rattle.nodeset.proofs.Members.{among-set}
-use Rattle.moves.specs.Contracts.{Planted, Begun}
+use Rattle.moves.specs.Contracts.{Planted, Charted}
 use Rattle.codec.specs.Writing.{Wrote}
 use Rattle.codec.proofs.Writing.{wrote-length}
 use Rattle.records.specs.Booking.{bookedOf, Room}
@@ -35,7 +35,7 @@ use Rattle.rule_step.specs.declared.steps.Answered.{Answered}
 
 -- ---- the set of the acting nodes
 -- they are nodes of a schedule
-pub acting-few : {s : Schedule} {l : Lent} {ks es : List ℕ} {x : Situation} {o : Option Residual} → ScheduleLent s l ks es → StandsFor (s .root) x o → (n : ℕ) → mem (x .acting .words) n ≡ true → n < 64
+pub acting-few : {s : Schedule} {l : Lent} {x : Situation} {o : Option Residual} → ScheduleLent s l → StandsFor (s .root) x o → (n : ℕ) → mem (x .acting .words) n ≡ true → n < 64
 unfolding among
 acting-few d (at-residual {r = r} y i e w) n m = d .nodes r i n (ap (among n) (sym e) ∙ among-set w n ∙ m) .below
 acting-few d (at-end y e w) n m = true-not-false (sym m ∙ sym (among-set w n) ∙ ap (among n) e)
@@ -48,21 +48,21 @@ shown s {x} (at-end y e w) = set-over (ruleControl s) (x .acting .words) e
 -- ---- what is asked
 module _ {l : Lent} {ks es : List ℕ} {vs₀ : List ℤ} {ms₀ events d₀ : List ℕ} where
   pub planted : Asking l ks es vs₀ ms₀ events d₀ → Planted ks es
-  planted q = record { tree = q .schedule .root; lies = q .asked .lent .tree }
+  planted q = record { tree = q .schedule .root; lies = q .asked .tree }
 
-  pub going-start : {set : NodeSet} (s : Schedule) → Asked s l ks es vs₀ ms₀ events d₀ → Begun ks es (set .words) →
+  pub going-start : {set : NodeSet} (s : Schedule) → Asked s l ks es vs₀ ms₀ events d₀ → Words (set .words) → members (set .words) ≡ acting (fresh (s .root)) →
       Going s vs₀ ms₀ events d₀ 0 0 (record { over = false; acting = set }) (record { taken = 0; «turned_away» = 0; faulted = 0 }) vs₀ ms₀ d₀
   unfolding ruleControl
-  going-start s a b = record {
+  going-start s a w b = record {
     place = some (fresh (s .root));
-    stands = at-residual refl (of-fresh (s .root)) (b .begins (s .root) (a .lent .tree)) (b .words);
+    stands = at-residual refl (of-fresh (s .root)) b w;
     so-far = run-start (s .plant) (ruleControl s) (begins s vs₀ ms₀) events (length events / 3) d₀ (a .fits);
   }
 
   module _ {k i : ℕ} {x : Situation} {cs : Counts} {vs : List ℤ} {ms d : List ℕ} where
     -- what the step asks
-    pub going-promised : (q : Asking l ks es vs₀ ms₀ events d₀) → Going (q .schedule) vs₀ ms₀ events d₀ k i x cs vs ms d → Promised l ks es x vs ms
-    going-promised q g = record { schedule = q .schedule; lent = q .asked .lent; place = g .place; stands = g .stands; fits = g .so-far .fits }
+    pub going-promised : {ls fs : List ℕ} (q : Asking l ks es vs₀ ms₀ events d₀) → Charted ls fs (q .schedule .root) → Going (q .schedule) vs₀ ms₀ events d₀ k i x cs vs ms d → Promised l ls fs x vs ms
+    going-promised q h g = record { schedule = q .schedule; lent = q .asked .lent; charted = h; place = g .place; stands = g .stands; fits = g .so-far .fits }
 
     -- what the record asks
     pub going-room : (s : Schedule) → Asked s l ks es vs₀ ms₀ events d₀ → Going s vs₀ ms₀ events d₀ k i x cs vs ms d → k < length events / 3 → {vs' : List ℤ} {ms' : List ℕ} → Fits (s .plant) vs' ms' → i + (9 + 4 * length vs' + length ms') ≤ length d

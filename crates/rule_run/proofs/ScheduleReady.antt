@@ -104,10 +104,9 @@ module _ {f : List ℕ} {ix : ScheduleIndex} {s : Schedule} (p : Promised f ix s
     unfolding actionOrStop
     or-stop n h = rw (h, actionOrStop) refl
 
-    pub schedule-lent : ScheduleLent s l (ix .nodes .kinds) (ix .subtrees .ends)
+    pub schedule-lent : ScheduleLent s l
     schedule-lent = record {
       plant = plant-of;
-      tree = p .tree;
       nodes = λ r o n e.
           let k = acting-action (s .nodes) (passed edition1 f s (p .judged) .tree) o n (among-mem n (acting r) e) in
           lent-as (or-stop n (k .1)) (node-lent n (k .1));

@@ -11,6 +11,7 @@ use Rattle.semantics.specs.Run.{answers}
 use Rattle.semantics.specs.Calls.{recordSize}
 use Rattle.schedules.specs.Residuals.{Residual}
 use Rattle.schedules.specs.Files.{Schedule, ruleControl}
+use Rattle.schedules.specs.Laid.{Lies}
 use Rattle.execution.specs.Ready.{Lent, Fits}
 use Rattle.execution.specs.Runs.{RunSoFar, RunDone}
 use Rattle.records.specs.declared.Counts.{Counts}
@@ -19,7 +20,8 @@ use Rattle.rule_step.specs.declared.steps.Situation.{Situation}
 
 -- the arrays hold the schedule, the run starts with these values and modes, and d has room for its records
 pub record Asked (s : Schedule) (l : Lent) (ks es : List ℕ) (vs : List ℤ) (ms events d : List ℕ) : Type 0 where
-  pub lent : ScheduleLent s l ks es
+  pub lent : ScheduleLent s l
+  pub tree : Lies ks es (s .root)
   pub fits : Fits (s .plant) vs ms
   pub room : length events / 3 * recordSize edition1 (s .plant) ≤ length d
 

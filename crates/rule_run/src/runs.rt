@@ -27,8 +27,9 @@ pub fn all<'a>(
     requires { ⌜ Asking (lent (now es) (now places) steady (now lows) (now highs) (now ops) (now acts) (now starts) (now ends)) (now kinds) (now subtrees) (now values) (now modes) (now events) (now records) ⌝ }
     ensures { λ r. ⌜ ((s : Schedule) → Asked s (lent (now (es .entry)) (now (places .entry)) steady (now (lows .entry)) (now (highs .entry)) (now (ops .entry)) (now (acts .entry)) (now (starts .entry)) (now (ends .entry))) (now (kinds .entry)) (now (subtrees .entry)) (now (values .entry)) (now (modes .entry)) (now (events .entry)) (now (records .entry)) → Whole s (now (values .entry)) (now (modes .entry)) (now (events .entry)) (now (records .entry)) r (now (records .exit))) ⌝ }
 {
-    let first = moves::fresh(kinds, subtrees);
-    let parents = moves::parents(subtrees);
+    let leads = moves::leads::all(kinds, subtrees);
+    let fresh = moves::fresh::all(kinds, subtrees);
+    let first = moves::fresh::at(&fresh, 0);
     let mut at = Situation {
         over: false,
         acting: first,
@@ -52,9 +53,8 @@ pub fn all<'a>(
             acts,
             starts,
             ends,
-            kinds,
-            subtrees,
-            &parents,
+            &leads,
+            &fresh,
             at,
             events[3 * k],
             events[3 * k + 1],

@@ -59,13 +59,7 @@ fn end(n: u8) -> Answered
 }
 
 // A taken event with the move of node n.
-fn moved<'a>(
-    leads: &'a [u16],
-    fresh: &'a [u64],
-    acting: NodeSet,
-    n: usize,
-    truth: bool,
-) -> Answered
+fn moved<'a>(leads: &'a [u16], fresh: &'a [u64], acting: NodeSet, n: usize, truth: bool) -> Answered
     requires { ⌜ Standing (now leads) (now fresh) (acting .words) n ⌝ }
     ensures { λ r. ⌜ ((t : Tree) (x : Residual) → Here (now (leads .entry)) (now (fresh .entry)) t (acting .words) x → Arrives t (move x n truth) r) ⌝ }
 {
@@ -80,12 +74,7 @@ fn moved<'a>(
 }
 
 // What a judged event makes of the acting nodes.
-fn settled<'a>(
-    leads: &'a [u16],
-    fresh: &'a [u64],
-    acting: NodeSet,
-    v: Verdict,
-) -> Answered
+fn settled<'a>(leads: &'a [u16], fresh: &'a [u64], acting: NodeSet, v: Verdict) -> Answered
     requires { ⌜ Movable (now leads) (now fresh) (acting .words) v ⌝ }
     ensures { λ r. ⌜ ((s : Schedule) (x : Residual) → Here (now (leads .entry)) (now (fresh .entry)) (s .root) (acting .words) x → (vs : List ℤ) (ms e : List ℕ) (vs' : List ℤ) (ms' : List ℕ) → Left (judge edition1 (s .plant) (ruleControl s .action) (members (acting .words)) vs ms (eventIn edition1 e)) vs ms v vs' ms' → Steps s (some x) vs ms e r vs' ms') ⌝ }
 {

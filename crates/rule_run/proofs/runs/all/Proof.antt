@@ -4,7 +4,8 @@ use native.Mathlib.Omega.{arith}
 use lib.ListN.{length}
 use Rattle.schedules.specs.Files.{Schedule}
 use Rattle.execution.specs.Ready.{lent}
-use Rattle.moves.proofs.Preorder.{lies-roomy}
+use Rattle.nodeset.proofs.Owned.{owned}
+use Rattle.moves.proofs.Callers.{charted, begun}
 use borrow.Author.Needs.{needs}
 use Rattle.rule_run.specs.Runs.{Asked, Going}
 use Rattle.rule_run.proofs.Running.{planted, going-start, going-promised, going-room, going-values, going-modes, going-records, acting-few, going-counts, going-next, going-end}
@@ -12,65 +13,81 @@ use Rattle.rule_run.proofs.runs.all.Statement.{statement}
 use Rattle.rule_run.proofs.runs.all.Tie as tie
 
 abbrev Inv-loop : tie.InvT-loop
-Inv-loop es places steady lows highs ops acts starts ends kinds subtrees events values₀ modes₀ records₀ parents at₀ counts₀ n i₀ k₀ values modes records at counts i k = (k ≤ n) × (n ≡ length events / 3) × (length events < 2 ^ 64)
+Inv-loop es places steady lows highs ops acts starts ends kinds subtrees events values₀ modes₀ records₀ leads fresh at₀ counts₀ n i₀ k₀ values modes records at counts i k = (k ≤ n) × (n ≡ length events / 3) × (length events < 2 ^ 64)
     × ((s : Schedule) → Asked s (lent es places steady lows highs ops acts starts ends) kinds subtrees values₀ modes₀ events records₀ → Going s values₀ modes₀ events records₀ k i at counts values modes records)
 
 abbrev μ-loop : tie.MeasureT-loop
-μ-loop es places steady lows highs ops acts starts ends kinds subtrees events values₀ modes₀ records₀ parents at₀ counts₀ n i₀ k₀ values modes records at counts i k = n - k
+μ-loop es places steady lows highs ops acts starts ends kinds subtrees events values₀ modes₀ records₀ leads fresh at₀ counts₀ n i₀ k₀ values modes records at counts i k = n - k
 
-fresh-requires : tie.Need-fresh-requires Inv-loop μ-loop
-fresh-requires c κs = planted (c .before .before .before .before .before .before .before .before .before .before .before .pre)
+all-requires : tie.Need-all-requires Inv-loop μ-loop
+all-requires c κs = planted (c .before .before .before .before .before .before .before .before .before .before .before .pre)
 
-parents-requires : tie.Need-parents-requires Inv-loop μ-loop
-parents-requires c κs = lies-roomy (planted (c .before .before .before .before .before .before .before .before .before .before .before .before .pre) .lies)
+all-requires-2 : tie.Need-all-requires-2 Inv-loop μ-loop
+all-requires-2 c κs = planted (c .before .before .before .before .before .before .before .before .before .before .before .before .pre)
+
+slice-aggregate-at : tie.Need-slice-aggregate-at Inv-loop μ-loop
+slice-aggregate-at c = search needs
+
+at-requires : tie.Need-at-requires Inv-loop μ-loop
+at-requires c κs = (omega arith, c .before .all2 .ensures .long)
 
 loop-holds : tie.Need-loop-holds Inv-loop μ-loop
-loop-holds c = (omega arith, refl, omega arith, λ s a. going-start s a (c .before .fresh .ensures))
+loop-holds c = (
+  omega arith,
+  refl,
+  omega (arith, c .before .before .before .before .before .before .before .before .before .before .before .before .before .before .before .good),
+  λ s a.
+      let w = owned _ _ (c .at .ok .1 .1 .0) in
+      going-start s a w (begun (charted (a .tree) (c .before .before .before .all .ensures) (c .before .before .all2 .ensures)) w (c .at .ensures)),
+)
 
 slice-aggregate-step : tie.Need-slice-aggregate-step Inv-loop μ-loop
 slice-aggregate-step c = search needs
 
+slice-aggregate-step-2 : tie.Need-slice-aggregate-step-2 Inv-loop μ-loop
+slice-aggregate-step-2 c = search needs
+
 mul-step : tie.Need-mul-step Inv-loop μ-loop
-mul-step c = omega (arith, c .before .before .loop .inv .1, c .before .before .loop .inv .2)
+mul-step c = omega (arith, c .before .before .before .loop .inv .1, c .before .before .before .loop .inv .2)
 
 shared-slice-read-step : tie.Need-shared-slice-read-step Inv-loop μ-loop
-shared-slice-read-step c = omega (arith, c .before .before .before .loop .inv .1)
+shared-slice-read-step c = omega (arith, c .before .before .before .before .loop .inv .1)
 
 mul-step-2 : tie.Need-mul-step-2 Inv-loop μ-loop
-mul-step-2 c = omega (arith, c .before .before .before .loop .inv .1, c .before .before .before .loop .inv .2)
+mul-step-2 c = omega (arith, c .before .before .before .before .loop .inv .1, c .before .before .before .before .loop .inv .2)
 
 add-step : tie.Need-add-step Inv-loop μ-loop
-add-step c = omega (arith, c .before .before .before .loop .inv .1, c .before .before .before .loop .inv .2)
+add-step c = omega (arith, c .before .before .before .before .loop .inv .1, c .before .before .before .before .loop .inv .2)
 
 shared-slice-read-step-2 : tie.Need-shared-slice-read-step-2 Inv-loop μ-loop
-shared-slice-read-step-2 c = omega (arith, c .before .before .before .before .loop .inv .1)
+shared-slice-read-step-2 c = omega (arith, c .before .before .before .before .before .loop .inv .1)
 
 mul-step-3 : tie.Need-mul-step-3 Inv-loop μ-loop
-mul-step-3 c = omega (arith, c .before .before .before .before .loop .inv .1, c .before .before .before .before .loop .inv .2)
+mul-step-3 c = omega (arith, c .before .before .before .before .before .loop .inv .1, c .before .before .before .before .before .loop .inv .2)
 
 add-step-2 : tie.Need-add-step-2 Inv-loop μ-loop
-add-step-2 c = omega (arith, c .before .before .before .before .loop .inv .1, c .before .before .before .before .loop .inv .2)
+add-step-2 c = omega (arith, c .before .before .before .before .before .loop .inv .1, c .before .before .before .before .before .loop .inv .2)
 
 shared-slice-read-step-3 : tie.Need-shared-slice-read-step-3 Inv-loop μ-loop
-shared-slice-read-step-3 c = omega (arith, c .before .before .before .before .before .loop .inv .1)
+shared-slice-read-step-3 c = omega (arith, c .before .before .before .before .before .before .loop .inv .1)
 
 step-requires : tie.Need-step-requires Inv-loop μ-loop
 step-requires c κs =
-    let q = c .before .before .before .before .before .before .before .before .before .before .before .before .before .before .before .before .before .before .before .before .before .pre in
-    (going-promised q (c .before .before .before .before .before .before .before .loop .inv .3 (q .schedule) (q .asked)), c .before .before .before .before .before .before .before .before .parents .ensures)
+    let q = c .before .before .before .before .before .before .before .before .before .before .before .before .before .before .before .before .before .before .before .before .before .before .before .before .pre in
+    going-promised q (charted (q .asked .tree) (c .before .before .before .before .before .before .before .before .before .before .before .before .all .ensures) (c .before .before .before .before .before .before .before .before .before .before .before .all2 .ensures)) (c .before .before .before .before .before .before .before .before .loop .inv .3 (q .schedule) (q .asked))
 
 put-record-requires : tie.Need-put-record-requires Inv-loop μ-loop
 put-record-requires c κs =
-    let q = c .before .before .before .before .before .before .before .before .before .before .before .before .before .before .before .before .before .before .before .before .before .before .before .before .before .before .before .before .before .before .pre in
-    let g = c .before .before .before .before .before .before .before .before .before .before .before .before .before .before .before .before .loop .inv .3 (q .schedule) (q .asked) in
-    let t = c .before .before .before .before .before .before .before .before .step .ensures (q .schedule) (g .place) (q .asked .lent) (g .stands) (g .so-far .fits) in
-    (going-room (q .schedule) (q .asked) g (omega (arith, c .before .before .before .before .before .before .before .before .before .before .before .before .before .before .before .before .loop .inv .1, c .before .before .before .before .before .before .before .before .before .before .before .before .before .before .before .loop-test .taken)) (t .1), acting-few (q .asked .lent) (t .0 .stands))
+    let q = c .before .before .before .before .before .before .before .before .before .before .before .before .before .before .before .before .before .before .before .before .before .before .before .before .before .before .before .before .before .before .before .before .before .pre in
+    let g = c .before .before .before .before .before .before .before .before .before .before .before .before .before .before .before .before .before .loop .inv .3 (q .schedule) (q .asked) in
+    let t = c .before .before .before .before .before .before .before .before .step .ensures (q .schedule) (g .place) (q .asked .lent) (charted (q .asked .tree) (c .before .before .before .before .before .before .before .before .before .before .before .before .before .before .before .before .before .before .before .before .before .all .ensures) (c .before .before .before .before .before .before .before .before .before .before .before .before .before .before .before .before .before .before .before .before .all2 .ensures)) (g .stands) (g .so-far .fits) in
+    (going-room (q .schedule) (q .asked) g (omega (arith, c .before .before .before .before .before .before .before .before .before .before .before .before .before .before .before .before .before .loop .inv .1, c .before .before .before .before .before .before .before .before .before .before .before .before .before .before .before .before .loop-test .taken)) (t .1), acting-few (q .asked .lent) (t .0 .stands))
 
 booked-requires : tie.Need-booked-requires Inv-loop μ-loop
-booked-requires c κs = let q = c .before .before .before .before .before .before .before .before .before .before .before .before .before .before .before .before .before .before .before .before .before .before .before .before .before .before .before .before .before .before .before .before .before .pre in going-counts (q .schedule) (c .before .before .before .before .before .before .before .before .before .before .before .before .before .before .before .before .before .before .before .loop .inv .3 (q .schedule) (q .asked)) (omega (arith, c .before .before .before .before .before .before .before .before .before .before .before .before .before .before .before .before .before .before .before .loop .inv .1, c .before .before .before .before .before .before .before .before .before .before .before .before .before .before .before .before .before .before .loop-test .taken)) (c .before .before .before .before .before .before .before .before .before .before .before .before .before .before .before .before .before .before .before .loop .inv .2)
+booked-requires c κs = let q = c .before .before .before .before .before .before .before .before .before .before .before .before .before .before .before .before .before .before .before .before .before .before .before .before .before .before .before .before .before .before .before .before .before .before .before .before .pre in going-counts (q .schedule) (c .before .before .before .before .before .before .before .before .before .before .before .before .before .before .before .before .before .before .before .before .loop .inv .3 (q .schedule) (q .asked)) (omega (arith, c .before .before .before .before .before .before .before .before .before .before .before .before .before .before .before .before .before .before .before .before .loop .inv .1, c .before .before .before .before .before .before .before .before .before .before .before .before .before .before .before .before .before .before .before .loop-test .taken)) (c .before .before .before .before .before .before .before .before .before .before .before .before .before .before .before .before .before .before .before .before .loop .inv .2)
 
 add-k : tie.Need-add-k Inv-loop μ-loop
-add-k c = omega (arith, c .before .before .before .before .before .before .before .before .before .before .before .before .before .before .before .before .before .before .before .before .loop .inv .1, c .before .before .before .before .before .before .before .before .before .before .before .before .before .before .before .before .before .before .before .before .loop .inv .2)
+add-k c = omega (arith, c .before .before .before .before .before .before .before .before .before .before .before .before .before .before .before .before .before .before .before .before .before .loop .inv .1, c .before .before .before .before .before .before .before .before .before .before .before .before .before .before .before .before .before .before .before .before .before .loop .inv .2)
 
 loop-less : tie.Need-loop-less Inv-loop μ-loop
 loop-less c = omega arith
@@ -78,22 +95,22 @@ loop-less c = omega arith
 loop-again : tie.Need-loop-again Inv-loop μ-loop
 loop-again c = (
   omega arith,
-  c .before .before .before .before .before .before .before .before .before .before .before .before .before .before .before .before .before .before .before .before .loop .inv .1,
-  c .before .before .before .before .before .before .before .before .before .before .before .before .before .before .before .before .before .before .before .before .loop .inv .2,
+  c .before .before .before .before .before .before .before .before .before .before .before .before .before .before .before .before .before .before .before .before .before .loop .inv .1,
+  c .before .before .before .before .before .before .before .before .before .before .before .before .before .before .before .before .before .before .before .before .before .loop .inv .2,
   λ s a.
-      let g = c .before .before .before .before .before .before .before .before .before .before .before .before .before .before .before .before .before .before .before .before .loop .inv .3 s a in
-      let t = c .before .before .before .before .before .before .before .before .before .before .before .before .step .ensures s (g .place) (a .lent) (g .stands) (g .so-far .fits) in
-      going-next s g (omega (arith, c .before .before .before .before .before .before .before .before .before .before .before .before .before .before .before .before .before .before .before .before .loop .inv .1, c .before .before .before .before .before .before .before .before .before .before .before .before .before .before .before .before .before .before .before .loop-test .taken)) refl (t .0) (t .1) (c .before .before .before .put-record .ensures .1) (c .before .before .before .put-record .ensures .0) (c .booked .ensures),
+      let g = c .before .before .before .before .before .before .before .before .before .before .before .before .before .before .before .before .before .before .before .before .before .loop .inv .3 s a in
+      let t = c .before .before .before .before .before .before .before .before .before .before .before .before .step .ensures s (g .place) (a .lent) (charted (a .tree) (c .before .before .before .before .before .before .before .before .before .before .before .before .before .before .before .before .before .before .before .before .before .before .before .before .before .all .ensures) (c .before .before .before .before .before .before .before .before .before .before .before .before .before .before .before .before .before .before .before .before .before .before .before .before .all2 .ensures)) (g .stands) (g .so-far .fits) in
+      going-next s g (omega (arith, c .before .before .before .before .before .before .before .before .before .before .before .before .before .before .before .before .before .before .before .before .before .loop .inv .1, c .before .before .before .before .before .before .before .before .before .before .before .before .before .before .before .before .before .before .before .before .loop-test .taken)) refl (t .0) (t .1) (c .before .before .before .put-record .ensures .1) (c .before .before .before .put-record .ensures .0) (c .booked .ensures),
 )
 
 same-length : tie.Need-same-length Inv-loop μ-loop
-same-length c = let q = c .before .before .before .before .before .before .before .before .before .before .before .before .before .before .before .pre in going-values q (c .before .loop .inv .3 (q .schedule) (q .asked))
+same-length c = let q = c .before .before .before .before .before .before .before .before .before .before .before .before .before .before .before .before .before .pre in going-values q (c .before .loop .inv .3 (q .schedule) (q .asked))
 
 same-length-2 : tie.Need-same-length-2 Inv-loop μ-loop
-same-length-2 c = let q = c .before .before .before .before .before .before .before .before .before .before .before .before .before .before .before .pre in going-modes q (c .before .loop .inv .3 (q .schedule) (q .asked))
+same-length-2 c = let q = c .before .before .before .before .before .before .before .before .before .before .before .before .before .before .before .before .before .pre in going-modes q (c .before .loop .inv .3 (q .schedule) (q .asked))
 
 same-length-3 : tie.Need-same-length-3 Inv-loop μ-loop
-same-length-3 c = let q = c .before .before .before .before .before .before .before .before .before .before .before .before .before .before .before .pre in going-records q (c .before .loop .inv .3 (q .schedule) (q .asked))
+same-length-3 c = let q = c .before .before .before .before .before .before .before .before .before .before .before .before .before .before .before .before .before .pre in going-records q (c .before .loop .inv .3 (q .schedule) (q .asked))
 
 returns : tie.Need-returns Inv-loop μ-loop
 returns c = λ s a. going-end s (c .before .loop .inv .3 s a) (omega (arith, c .before .loop .inv .1))
@@ -104,10 +121,13 @@ all-spec =
     (tie.spec
     Inv-loop
     μ-loop
-    fresh-requires
-    parents-requires
+    all-requires
+    all-requires-2
+    slice-aggregate-at
+    at-requires
     loop-holds
     slice-aggregate-step
+    slice-aggregate-step-2
     mul-step
     shared-slice-read-step
     mul-step-2
