@@ -31,7 +31,7 @@ fn assemble<'a>(
     requires { ⌜ Lending (now vs) (now es) (now s) (now kinds) (now subs) (now acts) (now starts) (now ends) count ⌝ }
     ensures { λ r. ⌜ ((x : Schedule) → Lent (now (vs .entry)) (now (es .entry)) (now (s .entry)) (now (kinds .entry)) (now (subs .entry)) (now (acts .entry)) (now (starts .entry)) (now (ends .entry)) count x → returned (r .refusal) (r .length) (now (table .exit)) ≡ leaves writes (now (table .entry)) (judgeRest writes x (now (table .entry)))) ⌝ }
 {
-    let mut sets = [0u64; 4096];
+    let mut sets = [0u32; 8192];
     let mut rows = [0u8; 328704];
     let l = locations::number(kinds, subs, acts, &mut sets, &mut rows);
     let n = l.count;
