@@ -291,6 +291,16 @@ pub fn broad() -> Runs {
     lively(&wide(), 14)
 }
 
+/// A WHILE true and a RESET in it, picked in turn, with so many SEQUENCEs and PARALLELs of one child between them.
+pub fn picked(between: u8) -> Runs {
+    let mut nodes = vec![node(3, &[0x2F])];
+    nodes.extend((0..between).map(|i| vec![1 + i % 2, 1]));
+    nodes.push(reset(0, &constant(1)));
+    let d = plain_plant(nodes);
+    let events = (0..EVENTS).flat_map(|i| [1, if i % 2 == 0 { 0 } else { between + 1 }, 0]).collect();
+    Runs { file: d.bytes(), start: d.start(), events }
+}
+
 /// An example as it is, with events of any kind.
 pub fn example(file: &[u8], seed: u64, count: usize) -> Runs {
     let d = Draft::of(file);

@@ -35,7 +35,7 @@ fn by_table(r: Runs) -> Work {
     Work::Table(table, r)
 }
 
-const NAMES: [&str; 11] = [
+const NAMES: [&str; 13] = [
     "compile-k8",
     "compile-mixed",
     "compile-widest",
@@ -43,6 +43,8 @@ const NAMES: [&str; 11] = [
     "rules-vessels",
     "rules-batch",
     "rules-wide",
+    "rules-flat",
+    "rules-nested",
     "table-filling",
     "table-vessels",
     "table-batch",
@@ -58,6 +60,8 @@ fn work(name: &str) -> Work {
         "rules-vessels" => Work::Rules(cases::vessels()),
         "rules-batch" => Work::Rules(cases::batch()),
         "rules-wide" => Work::Rules(cases::broad()),
+        "rules-flat" => Work::Rules(cases::picked(0)),
+        "rules-nested" => Work::Rules(cases::picked(62)),
         "table-filling" => by_table(cases::filling()),
         "table-vessels" => by_table(cases::vessels()),
         "table-batch" => by_table(cases::batch()),
