@@ -1,49 +1,63 @@
 -- The mission's demands as theorems about the definitions: each statement written out, under the sentence that it settles, and proved by one citation.
 -- They hold for a tree of any size and over any edition, so that 256 nodes need no second proof: `edition-256` shows that such an edition is one.
 -- What each statement rules out is named by two wrong products that it does not let by.
-use mathlib.Core.Path.{_≡_, refl, sym, _∙_}
-use mathlib.Core.Bool.{Bool, true}
-use mathlib.Core.List.{List}
+use mathlib.Core.Path.{_≡_, refl}
+use mathlib.Core.Bool.{Bool, true, false}
+use mathlib.Core.List.{List, List·Memᴰ as Mem}
 use mathlib.Core.Logic.{_↔_, _⊎_}
 use mathlib.Core.Option.{some}
 use Prim.Native.Nat.{ℕ, _≤_, _<_}
 use lib.Dec.{lit<, lit≤}
-use lib.ListN.{length, take}
+use lib.IntN.{ℤ}
+use lib.ListN.{length, getElem?, take}
 use Rattle.semantics.specs.Bytes.{All, within, isSome, overwrite, two-bytes}
 use Rattle.semantics.specs.Editions.{Edition}
 use Rattle.semantics.specs.Refusals.{accepted}
 use Rattle.semantics.specs.Expressions.{Number, Truth, numberBytes, truthBytes, numberDepth, truthDepth, numberKnown, truthKnown, numberIn, truthIn}
 use Rattle.semantics.specs.Plant.{Plant, selectors}
-use Rattle.semantics.specs.Run.{Control, Situation, Answered, step}
-use Rattle.semantics.specs.Rules.{Rule, Derives, Sound, Decides}
-use Rattle.semantics.specs.Tables.{Table, judgeTable, tableControl}
+use Rattle.semantics.specs.Run.{stop, possible, Next, halted, Control, Situation, Answered, at, step}
+use Rattle.semantics.specs.Rules.{Rule, Derives, Stopping, Standing, at-start, stands-at, Sound, Decides}
+use Rattle.semantics.specs.Tables.{Table, risingFrom, judgeTable, actionOrStop, tableControl}
+use Rattle.semantics.specs.Starts.{Start, startIn, startFits}
+use Rattle.semantics.specs.Writing.{writeTable, TableLimits, TableReadAs, startBytes, StartLimits}
+use Rattle.semantics.specs.Proper.{ProperTable}
 use Rattle.semantics.specs.Statements.{RunHolds}
 use Rattle.semantics.specs.Calls.{readTable, tableRun}
-use Rattle.semantics.specs.Conditions.{First, Clear, tableConditions, tableRunConditions}
+use Rattle.semantics.specs.Conditions.{First, Clear, tableConditions, tableRunConditions, is20}
 use Rattle.semantics.proofs.StepRules as StepRules
 use Rattle.semantics.proofs.FirstAnswer as FirstAnswer
 use Rattle.semantics.proofs.FirstNumber as TableNumbers
 use Rattle.semantics.proofs.CallsHold as TableCalls
 use Rattle.semantics.proofs.ExpressionBytes as ExpressionBytes
 use Rattle.semantics.proofs.WrittenSources as TableBytes
-use Rattle.schedules.specs.Nodes.{Node}
+use Rattle.semantics.proofs.TableForms as TableForms
+use Rattle.semantics.proofs.TablesProper as TablesProper
+use Rattle.schedules.specs.Nodes.{Node, stop-all, actionOf, nodeAction, actionsOf}
 use Rattle.schedules.specs.Trees.{Tree, treeOf}
 use Rattle.schedules.specs.Preorder.{Written}
-use Rattle.schedules.specs.Residuals.{Residual, fresh, acting}
-use Rattle.schedules.specs.Reached.{Leads, Of}
+use Rattle.schedules.specs.Residuals.{Residual, fresh, acting, move}
+use Rattle.schedules.specs.MoveRules.{Fresh, Acts, MoveRule, LeadsByRule}
+use Rattle.schedules.specs.Reached.{Leads, Of, Distinct}
 use Rattle.schedules.specs.Files.{Schedule, judgeFile, ruleControl}
 use Rattle.schedules.specs.Compiling.{tableOf}
 use Rattle.schedules.specs.Calls.{readSchedule, ruleRun, compile}
 use Rattle.schedules.specs.Conditions.{fileSchedule, fileConditions, compileConditions, ruleRunConditions}
+use Rattle.schedules.specs.Writing.{writeFile, FileLimits, FileReadAs}
+use Rattle.schedules.specs.Proper.{ScheduleWritten}
 use Rattle.schedules.specs.Agreement.{TableHolds, TooMany, Agrees}
 use Rattle.schedules.proofs.Demand2 as Demand2
 use Rattle.schedules.proofs.Agreement as Agreement
 use Rattle.schedules.proofs.FirstNumber as FileNumbers
 use Rattle.schedules.proofs.CallsHold as FileCalls
+use Rattle.schedules.proofs.NodeActions as NodeActions
+use Rattle.schedules.proofs.ScheduleSound as ScheduleSound
+use Rattle.schedules.proofs.MovesByRule as MovesByRule
 use Rattle.schedules.proofs.ActingDetermines as ActingDetermines
 use Rattle.schedules.proofs.ReadShapes as ReadShapes
 use Rattle.schedules.proofs.OneTree as OneTree
 use Rattle.schedules.proofs.WrittenBytes as WrittenBytes
+use Rattle.schedules.proofs.FileForms as FileForms
+use Rattle.schedules.proofs.FilesProper as FilesProper
 
 -- ---- demand 2: "The table of an accepted schedule has every control state that the rules reach from the start, guards ignored, and no other;
 -- each has an edge for each move and no other, numbered in the paper's order."
@@ -67,6 +81,26 @@ acting-determines ns t h r s p q = ActingDetermines.acting-determines p q ((Read
 pub reached-of : (tests : ℕ → Bool) (t : Tree) (r : Residual) → Leads tests (fresh t) r → Of t r
 reached-of = FileCalls.reached-of
 
+-- "Residuals and moves", sentence by sentence: `fresh`, `acting` and `move`, which the above rests on, are just the relations `Fresh`, `Acts` and `MoveRule`.
+-- Of a move it is asked that its node acts and that no other place of the residual has the same number: so it is in every residual of a tree that was read.
+-- Ruled out: a WHILE that finishes when its body does; a PARALLEL that forgets which of its children are finished.
+pub fresh-rules : (t : Tree) (r : Residual) → (fresh t ≡ r) ↔ Fresh t r
+fresh-rules = MovesByRule.fresh-rules
+
+pub acting-rules : (r : Residual) (n : ℕ) → Mem n (acting r) ↔ Acts n r
+acting-rules = MovesByRule.acting-rules
+
+pub move-rules : (r : Residual) → Distinct (acting r) → (n : ℕ) (b : Bool) (x : Next Residual) → Acts n r → (move r n b ≡ x) ↔ MoveRule r n b x
+move-rules = MovesByRule.move-rules
+
+pub acting-distinct : (ns : List Node) (t : Tree) (r : Residual) → treeOf ns ≡ some t → Of t r → Distinct (acting r)
+acting-distinct = MovesByRule.acting-distinct
+
+-- so what is reached is what the rules reach.
+-- Ruled out: a location that only the code's own moves lead to; one that the paper's moves lead to and the code's do not.
+pub reached-rules : (ns : List Node) (t : Tree) → treeOf ns ≡ some t → (tests : ℕ → Bool) (r : Residual) → Leads tests (fresh t) r ↔ LeadsByRule tests t r
+reached-rules = MovesByRule.reached-rules
+
 -- the bytes that compiling writes: at the front of the room, which holds them, and the rest of it unaltered.
 -- Ruled out: a compiler that writes nothing; one that clears the room beyond its table.
 pub written-table : (ed : Edition) (file room : List ℕ) → (compile ed file room) .refusal ≡ 0 →
@@ -81,11 +115,18 @@ pub agreement : (ed : Edition) (file room : List ℕ) → (compile ed file room)
     Agrees ed file (take ((compile ed file room) .written) ((compile ed file room) .table))
 agreement = Agreement.agreement
 
--- the executable step of one event is just the rule-by-rule relation.
--- Ruled out: a step that skips the switch check; a fault that keeps the run going.
-pub step-rules : {S : Type 0} (ed : Edition) (p : Plant) (c : Control S) → Sound p c → (s : Situation S) (e : List ℕ) (a : ℕ) (t : Situation S) →
+-- the executable step of one event is just the rule-by-rule relation, wherever a run can be.
+-- Ruled out: a step that skips the switch check, or takes selector 1 before selector 0; a fault that keeps the run going.
+pub step-rules : {S : Type 0} (ed : Edition) (p : Plant) (c : Control S) → Sound p c → (s : Situation S) → Standing c s → (e : List ℕ) (a : ℕ) (t : Situation S) →
     (step ed p c s e ≡ record { answer = a; left = t }) ↔ Rule ed p c s e a t
-step-rules = StepRules.step-rules
+step-rules ed p c = StepRules.step-rules ed p c
+
+-- a run can be at its start, and where an event leaves it.
+pub start-stands : {S : Type 0} (c : Control S) (vs : List ℤ) (ms : List ℕ) → Standing c (at (c .start) vs ms)
+start-stands c vs ms = stands-at at-start
+
+pub event-stands : {S : Type 0} (ed : Edition) (p : Plant) (c : Control S) → Sound p c → (s : Situation S) → Standing c s → (e : List ℕ) → Standing c ((step ed p c s e) .left)
+event-stands ed p c sound s stand e = StepRules.rule-standing ed p c stand (StepRules.rule-of ed p c sound s stand e)
 
 -- what `step-rules` and `first-answer` ask of a run, every accepted schedule and every accepted table gives.
 pub sound-rules : (ed : Edition) (file : List ℕ) (s : Schedule) → judgeFile ed file ≡ accepted s → Sound (s .plant) (ruleControl s)
@@ -93,6 +134,38 @@ sound-rules = FileCalls.sound-rules
 
 pub sound-table : (ed : Edition) (table : List ℕ) (t : Table) → judgeTable ed table ≡ accepted t → Sound (t .plant) (tableControl t)
 sound-table = TableCalls.sound-table
+
+-- "their truths in node order": the acting nodes, in whose order a tick walks, rise.
+-- Ruled out: a PARALLEL that lists its children's nodes last first; a table whose entries do not rise.
+pub node-order-rules : (ed : Edition) (file : List ℕ) (s : Schedule) → judgeFile ed file ≡ accepted s → (r : Residual) → Of (s .root) r → risingFrom 0 (acting r) ≡ true
+node-order-rules ed file s h r o = MovesByRule.acting-rises (s .nodes) (s .root) r ((FileNumbers.passed ed file s h) .tree) o
+
+pub node-order-table : (ed : Edition) (table : List ℕ) (t : Table) → judgeTable ed table ≡ accepted t → (x : ℕ) → risingFrom 0 ((tableControl t) .acting x) ≡ true
+node-order-table = TableCalls.table-rises
+
+-- "one of a STOP 202": over any control 202 is the answer to the pick of a STOP that acts, and to nothing else.
+-- Ruled out: a WHILE whose move halts the run; a tick that is answered 202.
+pub halts-by-stop : {S : Type 0} {ed : Edition} {p : Plant} {c : Control S} {s t : Situation S} {e : List ℕ} → Rule ed p c s e 202 t → Stopping ed c s e
+halts-by-stop r = StepRules.halts-by-stop r
+
+-- "STOP halts the whole", and no other node does: in an accepted schedule wherever its moves can lead, in an accepted table at every location.
+-- Ruled out: a STOP that finishes its branch; a table whose RESET leads to FFFD.
+pub only-stop-halts-rules : (ed : Edition) (file : List ℕ) (s : Schedule) → judgeFile ed file ≡ accepted s → (r : Residual) → Of (s .root) r → (n : ℕ) (b : Bool) → Mem n (acting r) →
+    (move r n b ≡ halted) ↔ (getElem? (s .nodes) n ≡ some stop-all)
+only-stop-halts-rules ed file s h = ScheduleSound.rule-halts s ((FileNumbers.passed ed file s h) .tree)
+
+pub only-stop-halts-table : (ed : Edition) (table : List ℕ) (t : Table) → judgeTable ed table ≡ accepted t → (x n : ℕ) (b : Bool) → Mem n ((tableControl t) .acting x) →
+    possible ((tableControl t) .action n) b ≡ true → ((tableControl t) .next x n b ≡ halted) ↔ ((tableControl t) .action n ≡ stop)
+only-stop-halts-table = TableCalls.table-halts
+
+-- what a node does is taken from the node itself, whichever node acts; the list of actions that a table has says the same of every number.
+-- Ruled out: a rule run that takes its actions from a list that was written wrongly; a node that acts without an action.
+pub acts-as-listed : (s : Schedule) (n : ℕ) → (ruleControl s) .action n ≡ actionOrStop (actionsOf (s .nodes)) n
+acts-as-listed = NodeActions.rule-action
+
+pub acts-by-node : (ed : Edition) (file : List ℕ) (s : Schedule) → judgeFile ed file ≡ accepted s → (r : Residual) → Of (s .root) r → (n : ℕ) → Mem n (acting r) →
+    (x : Node) × (getElem? (s .nodes) n ≡ some x) × (actionOf x ≡ some (nodeAction (s .nodes) n))
+acts-by-node ed file s h r o n m = let q = ScheduleSound.acting-own s ((FileNumbers.passed ed file s h) .tree) r o n m in (q .node, q .is-node, q .is-action)
 
 -- "The records of the rule run, and those of the table run, equal this section's byte for byte.": for every call that is not refused, also for schedules
 -- that compiling refuses with 13 and for tables that nobody compiled.
@@ -107,7 +180,7 @@ table-run-holds = TableCalls.table-run-holds
 
 -- the rules derive one list only.
 pub derives-one : {S : Type 0} {ed : Edition} {p : Plant} {c : Control S} {s : Situation S} {es : List (List ℕ)} {l m : List (Answered S)} → Derives ed p c s es l → Derives ed p c s es m → l ≡ m
-derives-one d e = StepRules.derived-answers d ∙ sym (StepRules.derived-answers e)
+derives-one d e = StepRules.derives-one d e
 
 -- ---- demand 1: "A refused call returns .. length and counts zero and every lent buffer unwritten."
 -- Ruled out: a refused run that clears its record buffer; a refused compilation that returns a length.
@@ -169,7 +242,7 @@ first-number-table-run = TableNumbers.run-table-first
 -- "23..31 are per event ..; the run's steps are taken in their order": an event's answer is n of 23 to 31 exactly where n's sentence holds
 -- in the situation before it, no earlier number's does, and no fault of the switch check comes first.
 -- Ruled out: 29 answered while the switch check faults; 28 answered for a node that does not act.
-pub first-answer : {S : Type 0} (ed : Edition) (p : Plant) (c : Control S) → Sound p c → (s : Situation S) (e : List ℕ) (n : ℕ) →
+pub first-answer : {S : Type 0} (ed : Edition) (p : Plant) (c : Control S) → Sound p c → (s : Situation S) → Standing c s → (e : List ℕ) (n : ℕ) →
     (((step ed p c s e) .answer ≡ n) × (within 23 31 n ≡ true)) ↔ Decides ed p c s e n
 first-answer ed p c = FirstAnswer.first-answer ed p c
 
@@ -197,6 +270,44 @@ expression-bytes-truth = ExpressionBytes.truth-bytes
 -- Ruled out: a reader that gives up at some depth; one that leaves nodes over.
 pub one-tree : (ns : List Node) (t : Tree) → (treeOf ns ≡ some t) ↔ Written t 0 ns
 one-tree = OneTree.one-tree
+
+-- 1, 2, 3 and the layouts of 4, 6 and 9: bytes are read as these variables, equations and nodes exactly where they are their written form and
+-- every count, number and length lies in the limits that the paper prints (`FileLimits`).
+-- Ruled out: a reader that takes at most one CASE a file; one that refuses a file of more than 255 bytes.
+pub schedule-bytes : (ed : Edition) (file : List ℕ) (p : Plant) (ns : List Node) →
+    (All (λ b. b < 256) file × FileReadAs ed file p ns) ↔ ((file ≡ writeFile ed p ns) × FileLimits ed p ns)
+schedule-bytes = FileForms.schedule-bytes
+
+-- and 5, 7, 8, 10, 11 and 12 turn none of these away but those that their sentences name (`ProperSchedule`): a file is accepted as this schedule exactly
+-- where it is the written form of it.
+-- Ruled out: a reader that refuses a variable which two modes of one CASE drive; one that takes a REINITIAL of a missing variable.
+pub schedule-accepted : (ed : Edition) (file : List ℕ) (s : Schedule) → (All (λ b. b < 256) file × (judgeFile ed file ≡ accepted s)) ↔ ScheduleWritten ed file s
+schedule-accepted = FilesProper.schedule-accepted
+
+-- the same of tables: 15, 16 and the layouts of 17, 18 and 19; then all of 15 to 19.
+-- Ruled out: a reader that refuses a location of one entry; one that takes an entry whose node has no action.
+pub table-bytes : (ed : Edition) (table : List ℕ) (t : Table) →
+    (All (λ b. b < 256) table × TableReadAs ed table t) ↔ ((table ≡ writeTable ed t) × TableLimits ed t)
+table-bytes = TableForms.table-bytes
+
+pub table-accepted : (ed : Edition) (table : List ℕ) (t : Table) →
+    (All (λ b. b < 256) table × (judgeTable ed table ≡ accepted t)) ↔ ((table ≡ writeTable ed t) × TableLimits ed t × ProperTable ed t)
+table-accepted = TablesProper.table-accepted
+
+-- 20: of an accepted file, and of an accepted table, a start is let pass exactly where it is the bytes of a value in its declared range for each variable
+-- and of an existing mode for each CASE; and it is read back as just these.
+-- Ruled out: a run that asks for the initial modes; one that takes a value outside its range.
+pub starts-admitted : (ed : Edition) (file : List ℕ) (s : Schedule) → All (λ b. b < 256) file → judgeFile ed file ≡ accepted s → (start : List ℕ) (st : Start) →
+    (All (λ b. b < 256) start × (startIn (s .plant) start ≡ some st) × (startFits (s .plant) st ≡ true)) ↔ ((start ≡ startBytes st) × StartLimits (s .plant) st)
+starts-admitted = FilesProper.starts-admitted
+
+pub starts-admitted-table : (ed : Edition) (table : List ℕ) (t : Table) → All (λ b. b < 256) table → judgeTable ed table ≡ accepted t → (start : List ℕ) (st : Start) →
+    (All (λ b. b < 256) start × (startIn (t .plant) start ≡ some st) × (startFits (t .plant) st ≡ true)) ↔ ((start ≡ startBytes st) × StartLimits (t .plant) st)
+starts-admitted-table = TablesProper.starts-admitted
+
+pub start-let-pass : (ed : Edition) (file : List ℕ) (s : Schedule) → All (λ b. b < 256) file → judgeFile ed file ≡ accepted s → (start events buffer : List ℕ) →
+    (All (λ b. b < 256) start × (is20 ed (some (s .plant)) start events buffer ≡ false)) ↔ ((st : Start) × (start ≡ startBytes st) × StartLimits (s .plant) st)
+start-let-pass = FilesProper.start-let-pass
 
 -- where the inputs are bytes, so is every element that a call writes.
 -- Ruled out: a length that overflows its field; a value of more than 32 bits in a record.

@@ -22,7 +22,7 @@ use Rattle.schedules.specs.Numbering.{locations}
 use Rattle.schedules.specs.Compiling.{testsOf}
 use Rattle.schedules.specs.Files.{Schedule, ruleControl}
 use Rattle.schedules.specs.Calls.{ruleRun, compile}
-use Rattle.schedules.specs.Examples.{locationCount, stopOrWait, case-file, case-table, case-events, case-records, one-wait-file, stop-wait-file, two-rates-file, two-rates-file-2, while-file, stop-reset-file, stop-reset-table, faulty-check-file}
+use Rattle.schedules.specs.Examples.{locationCount, stopOrWait, case-file, case-table, case-events, case-records, one-wait-file, stop-wait-file, two-rates-file, two-rates-file-2, while-file, stop-reset-file, stop-reset-table, faulty-check-file, fault-first-file, truth-first-file, truth-listed-file, fault-listed-file}
 use Rattle.schedules.proofs.Traps as Traps
 use Rattle.schedules.proofs.CasePaper as CasePaper
 use Rattle.schedules.proofs.Papers as Schedules
@@ -131,3 +131,20 @@ check-faults-before-29 = Traps.check-faults-before-29
 pub check-faults-before-31 : ruleRun edition1 faulty-check-file (replicate 5 0) (0 ∷ 0 ∷ 0 ∷ []) (replicate 14 9)
     ≡ record { refusal = 0; taken = 0; turned-away = 0; faulted = 1; records = one-record 203 0 0 (0 ∷ []) }
 check-faults-before-31 = Traps.check-faults-before-31
+
+-- "selectors rising and each mode's as listed": a fault before a true switch is 203, after it 28
+pub lower-selector-faults : ruleRun edition1 fault-first-file (replicate 6 0) (1 ∷ 0 ∷ 0 ∷ 0 ∷ 0 ∷ 0 ∷ []) (replicate 30 9)
+    ≡ record { refusal = 0; taken = 0; turned-away = 1; faulted = 1; records = one-record 203 0 0 (0 ∷ 0 ∷ one-record 23 0 0 (0 ∷ 0 ∷ [])) }
+lower-selector-faults = Traps.lower-selector-faults
+
+pub lower-selector-true : ruleRun edition1 truth-first-file (replicate 6 0) (1 ∷ 0 ∷ 0 ∷ 0 ∷ 0 ∷ 0 ∷ []) (replicate 30 9)
+    ≡ record { refusal = 0; taken = 0; turned-away = 2; faulted = 0; records = one-record 28 1 0 (0 ∷ 0 ∷ one-record 28 1 0 (0 ∷ 0 ∷ [])) }
+lower-selector-true = Traps.lower-selector-true
+
+pub first-listed-true : ruleRun edition1 truth-listed-file (replicate 5 0) (1 ∷ 0 ∷ 0 ∷ 0 ∷ 0 ∷ 0 ∷ []) (replicate 28 9)
+    ≡ record { refusal = 0; taken = 0; turned-away = 2; faulted = 0; records = one-record 28 1 0 (0 ∷ one-record 28 1 0 (0 ∷ [])) }
+first-listed-true = Traps.first-listed-true
+
+pub first-listed-faults : ruleRun edition1 fault-listed-file (replicate 5 0) (1 ∷ 0 ∷ 0 ∷ 0 ∷ 0 ∷ 0 ∷ []) (replicate 28 9)
+    ≡ record { refusal = 0; taken = 0; turned-away = 1; faulted = 1; records = one-record 203 0 0 (0 ∷ one-record 23 0 0 (0 ∷ [])) }
+first-listed-faults = Traps.first-listed-faults

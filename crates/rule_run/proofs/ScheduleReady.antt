@@ -17,9 +17,10 @@ use Rattle.semantics.specs.TableFile as TableFile
 use Rattle.semantics.specs.TableFile.{actionKind}
 use Rattle.semantics.specs.Tables.{operandFits, actionAt, actionOrStop}
 use Rattle.semantics.proofs.Facts.{none-not-some, and-left, among-mem, every-all, all-mem, at-mem}
-use Rattle.schedules.specs.Nodes.{Node, nodeNamed, nodeReads, actionOf, actionsOf}
+use Rattle.schedules.specs.Nodes.{Node, nodeNamed, nodeReads, actionOf, nodeAction, actionsOf}
 use Rattle.schedules.specs.Residuals.{acting}
 use Rattle.schedules.specs.Files.{Schedule}
+use Rattle.schedules.proofs.NodeActions.{node-action}
 use Rattle.schedules.proofs.ActionsListed.{operand-fits}
 use Rattle.schedules.proofs.FirstNumber.{passed}
 use Rattle.schedule_read.specs.Actions.{actionNumbers}
@@ -100,9 +101,9 @@ module _ {f : List ℕ} {ix : ScheduleIndex} {s : Schedule} (p : Promised f ix s
             TableFile.actionOf (actionKind (getD (l .kinds) n 0)) (cutAt (l .operands) (l .starts) (l .ends) n) ≡ some a
         payload-is e = rw (q .kinds, operands-are, q .starts, q .ends) e
 
-    or-stop : (n : ℕ) {a : Action} → actionAt (actionsOf (s .nodes)) n ≡ some a → a ≡ actionOrStop (actionsOf (s .nodes)) n
+    or-stop : (n : ℕ) {a : Action} → actionAt (actionsOf (s .nodes)) n ≡ some a → a ≡ nodeAction (s .nodes) n
     unfolding actionOrStop
-    or-stop n h = rw (h, actionOrStop) refl
+    or-stop n h = rw (node-action (s .nodes) n, h, actionOrStop) refl
 
     pub schedule-lent : ScheduleLent s l
     schedule-lent = record {

@@ -10,10 +10,9 @@ use Rattle.semantics.specs.Plant.{Plant, among}
 use Rattle.semantics.specs.Events.{eventIn}
 use Rattle.semantics.specs.Run as Run
 use Rattle.semantics.specs.Run.{Next, arrive, judge}
-use Rattle.semantics.specs.Tables.{actionOrStop}
 use Rattle.semantics.proofs.Facts.{true-not-false, mem-among}
 use Rattle.semantics.proofs.Verdicts.{judged-possible}
-use Rattle.schedules.specs.Nodes.{actionsOf}
+use Rattle.schedules.specs.Nodes.{nodeAction}
 use Rattle.schedules.specs.Trees.{Tree}
 use Rattle.schedules.specs.Residuals.{Residual, acting, move}
 use Rattle.schedules.specs.Files.{Schedule, ruleControl}
@@ -95,7 +94,7 @@ module _ {ls fs : List ℕ} {set : NodeSet} (s : Schedule) (r : Residual) (h : H
 
 -- ---- an event
 abbrev actionOfRule : Schedule → ℕ → Run.Action
-actionOfRule s = actionOrStop (actionsOf (s .nodes))
+actionOfRule s = nodeAction (s .nodes)
 
 -- where the run is not over
 record Acting (t : Tree) (ws : List ℕ) (o : Option Residual) : Type 0 where

@@ -9,8 +9,7 @@ use Rattle.semantics.specs.Editions.{edition1}
 use Rattle.semantics.specs.Plant.{among}
 use Rattle.semantics.specs.Run as Run
 use Rattle.semantics.specs.Run.{Next, arrive, step}
-use Rattle.semantics.specs.Tables.{actionOrStop}
-use Rattle.schedules.specs.Nodes.{actionsOf}
+use Rattle.schedules.specs.Nodes.{nodeAction}
 use Rattle.schedules.specs.Trees.{Tree}
 use Rattle.schedules.specs.Residuals.{Residual, acting}
 use Rattle.schedules.specs.Files.{Schedule, ruleControl}
@@ -64,7 +63,7 @@ pub record Movable (ls fs ws : List ℕ) (v : Verdict) : Type 0 where
 -- the arrays hold the schedule: its plant, and what each node does that acts in a residual of its tree
 pub record ScheduleLent (s : Schedule) (l : Lent) : Type 0 where
   pub plant : PlantLent (s .plant) l
-  pub nodes : (r : Residual) → Of (s .root) r → (n : ℕ) → among n (acting r) ≡ true → NodeLent (s .plant) (actionOrStop (actionsOf (s .nodes)) n) l n
+  pub nodes : (r : Residual) → Of (s .root) r → (n : ℕ) → among n (acting r) ≡ true → NodeLent (s .plant) (nodeAction (s .nodes) n) l n
 
 -- there are such a schedule and such a place, and values and modes fit
 pub record Promised (l : Lent) (ls fs : List ℕ) (x : Situation) (vs : List ℤ) (ms : List ℕ) : Type 0 where

@@ -38,7 +38,7 @@ use Rattle.schedules.proofs.FirstNumber.{passed, file-schedule, compile
 use Rattle.schedules.proofs.OneTree.{one-tree}
 use Rattle.schedules.proofs.Numbered.{number-found, number-exists}
 use Rattle.schedules.proofs.Reached.{reached, closed-under}
-use Rattle.schedules.proofs.ScheduleSound.{schedule-sound}
+use Rattle.schedules.proofs.ScheduleSound.{schedule-sound, root-stands}
 use Rattle.schedules.proofs.TableAgrees.{tableFor, table-agrees}
 use Rattle.schedules.proofs.TableAccepted.{table-accepted}
 
@@ -159,7 +159,7 @@ module _ (ed : Edition) (file : List ℕ) (s : Schedule) (h : judgeFile ed file 
       rules-taken-on = refl;
       table-taken-on = refl;
       said = told;
-      derived = answers-derived ed (s .plant) (ruleControl s) (schedule-sound s ((passed ed file s h) .named)) begin es;
+      derived = answers-derived ed (s .plant) (ruleControl s) (schedule-sound ed file s (passed ed file s h)) begin (root-stands s (b .st .values) (b .st .modes)) es;
       rules-records = refl;
       table-records = refl;
       records-length = written-length ed (s .plant) (ruleControl s) begin es (lengths .0) (lengths .1) ∙ ap (λ n. n * recordSize ed (s .plant)) (events-length (ed .event-bytes) (eventCount ed events) events);

@@ -76,7 +76,7 @@ written-table ed file room z =
     (b .0, file-schedule ed file (b .1), leb-true (length (tableOf ed (b .0))) (length room) (d .0), ap (compiledInto room) (a .1 ∙ ap accepted (sym (Judging.accepted-is (d .1)))))
 
 pub sound-rules : (ed : Edition) (file : List ℕ) (s : Schedule) → judgeFile ed file ≡ accepted s → Sound (s .plant) (ruleControl s)
-sound-rules ed file s h = schedule-sound s ((passed ed file s h) .named)
+sound-rules ed file s h = schedule-sound ed file s (passed ed file s h)
 
 rule-numbers : (ed : Edition) (file start events buffer : List ℕ) → All (λ (c : Condition). c .refusal ≡ 0 → ⊥) (ruleRunConditions ed file start events buffer)
 unfolding ruleRunConditions fileConditions runConditions

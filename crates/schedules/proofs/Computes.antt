@@ -6,8 +6,11 @@ use Rattle.schedules.specs.Residuals as Residuals
 use Rattle.schedules.specs.Numbering as Numbering
 use Rattle.schedules.specs.Files as Files
 use Rattle.schedules.specs.Compiling as Compiling
+use Rattle.schedules.specs.Writing as Writing
 use Rattle.schedules.specs.Calls as Calls
+use Rattle.schedules.specs.Sizes as Sizes
 use Rattle.semantics.proofs.Computes as Semantics
+use mathlib.Core.Option.{bind}
 use native.Mathlib.Decide.{ℕ-discrete}
 
 unfoldable pub fileSections : Unit {0}
@@ -15,7 +18,7 @@ unfolding FileSections.readFileSections FileSections.fileSectionsIn
 fileSections = tt
 
 unfoldable pub nodes : Unit {0}
-unfolding Nodes.kindOf Nodes.childCount Nodes.nodeOf Nodes.readNode Nodes.readNodes Nodes.nodesIn Nodes.nodeReads Nodes.nodeNamed Nodes.actionOf Nodes.listed Nodes.actionsFrom Nodes.actionsOf
+unfolding Nodes.kindOf Nodes.childCount Nodes.nodeOf Nodes.readNode Nodes.readNodes Nodes.nodesIn Nodes.nodeReads Nodes.nodeNamed bind Nodes.actionOf Nodes.nodeAction Nodes.listed Nodes.actionsFrom Nodes.actionsOf
 nodes = tt
 
 unfoldable pub trees : Unit {0}
@@ -38,10 +41,18 @@ unfoldable pub compiling : Unit {0}
 unfolding Compiling.testsOf Compiling.scheduleLocations Compiling.targetCode Compiling.entryOf Compiling.entriesOf Compiling.tableOf Compiling.judgeCompile
 compiling = tt
 
+unfoldable pub writing : Unit {0}
+unfolding Writing.nodeBytes Writing.writeNode Writing.writeNodes Writing.writeSections Writing.writeFile
+writing = tt
+
 unfoldable pub calls : Unit {0}
 unfolding Calls.scheduleCounts Calls.readSchedule Calls.ruleProgram Calls.ruleRun Calls.compiledInto Calls.compile
 calls = tt
 
+unfoldable pub sizes : Unit {0}
+unfolding Sizes.one Sizes.nothingLeft Sizes.inTurn Sizes.sideBySide Sizes.sequenceSize Sizes.parallelSize Sizes.leafSize Sizes.haltSize Sizes.loopSize Sizes.branchSize Sizes.sizeOf
+sizes = tt
+
 unfoldable pub schedules : Unit {0}
-unfolding Semantics.semantics ℕ-discrete fileSections nodes trees residuals numbering files compiling calls
+unfolding Semantics.semantics ℕ-discrete fileSections nodes trees residuals numbering files compiling writing calls sizes
 schedules = tt

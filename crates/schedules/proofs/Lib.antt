@@ -10,6 +10,7 @@ pub mod ReadShapes
 pub mod ActingDetermines
 pub mod ResidualsKept
 pub mod MovesFit
+pub mod MovesByRule
 -- numbering
 pub mod Places
 pub mod Numbered
@@ -19,6 +20,7 @@ pub mod FirstNumber
 -- the table of a schedule
 pub mod NodesRead
 pub mod ActionsListed
+pub mod NodeActions
 pub mod TableAgrees
 pub mod ScheduleSound
 pub mod TableAccepted
@@ -27,3 +29,17 @@ pub mod Agreement
 pub mod Demand2
 pub mod CallsHold
 pub mod WrittenBytes
+-- the number of locations, and the order of a PARALLEL's children
+pub mod Counting
+pub mod Reachable
+pub mod Reaching
+pub mod LocationCount
+pub mod PreorderSizes
+pub mod ReorderedTrees
+pub mod AnyOrder
+pub mod BranchOrder
+pub mod SizePapers
+-- bytes read just where they are a written form
+pub mod FileForms
+pub mod FilesProper
+pub mod WritingPapers

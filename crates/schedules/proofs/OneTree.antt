@@ -54,17 +54,17 @@ none-left (walked t m (x ∷ ms)) h = none-not-some h
 
 -- ---- a node and its children, written
 -- the children of a node are as many as it says, and make its tree
-record Rooted (t : Tree) (n : ℕ) (x : Node) (ts : Forest) : Type 0 where
-  many : howMany ts ≡ children x
-  made : treeFrom n x ts ≡ some t
+pub record Rooted (t : Tree) (n : ℕ) (x : Node) (ts : Forest) : Type 0 where
+  pub many : howMany ts ≡ children x
+  pub made : treeFrom n x ts ≡ some t
 
-only-one : {t : Tree} {n : ℕ} {ns : List Node} → WrittenAll (cons t nil) n ns → Written t n ns
+pub only-one : {t : Tree} {n : ℕ} {ns : List Node} → WrittenAll (cons t nil) n ns → Written t n ns
 only-one {t} {n} (next-tree {ms = ms} w no-tree e) = subst (Written t n) (sym (append-nil ms) ∙ sym e) w
 
 one-only : {t : Tree} {n : ℕ} {ns : List Node} → Written t n ns → WrittenAll (cons t nil) n ns
 one-only {ns = ns} w = next-tree w no-tree (sym (append-nil ns))
 
-rooted-written : {t : Tree} {n : ℕ} (x : Node) (ts : Forest) {ns : List Node} → Rooted t n x ts → WrittenAll ts (suc n) ns → Written t n (x ∷ ns)
+pub rooted-written : {t : Tree} {n : ℕ} (x : Node) (ts : Forest) {ns : List Node} → Rooted t n x ts → WrittenAll ts (suc n) ns → Written t n (x ∷ ns)
 unfolding children treeFrom ofNone ofOne ofTwo ofSome
 rooted-written (sequence k) nil r w = none-not-some (r .made)
 rooted-written {n = n} (sequence k) (cons t ts) {ns} r w = subst (λ t. Written t n (sequence k ∷ ns)) (some-is (r .made)) (a-sequence w (sym (r .many)))

@@ -8,7 +8,6 @@ use lib.IntN.{ℤ}
 use Rattle.semantics.specs.Editions.{edition1}
 use Rattle.semantics.specs.Plant.{Plant, among}
 use Rattle.semantics.specs.Run.{pass, switchCheck, at, over, step, settle, follow, arrive, judge, judgePick, act, allow, _>>_}
-use Rattle.semantics.specs.Tables.{actionOrStop, actionAt}
 use Rattle.semantics.specs.K1.{k1-file, k1-table, start-at, k2-events, k2-records, k3-events, k3-records, k4-events, k4-records}
 use Rattle.schedules.specs.Examples.{locationCount, stopOrWait}
 use Rattle.schedules.specs.FileSections.{FileSections}
@@ -72,7 +71,7 @@ picked s vs ms = step edition1 (s .plant) (ruleControl s) (at (fresh (s .root)) 
 
 stop-picked : (parts : FileSections) (p : Plant) (t : List ℕ) (vs : List ℤ) (ms : List ℕ) → switchCheck edition1 p vs ms ≡ pass tt →
     picked (record { sections = parts; plant = p; nodes = stopOrWait t; root = stopRoot }) vs ms
-unfolding Semantics.bytes Semantics.events nodes residuals step settle follow arrive judge judgePick act allow _>>_ among ruleControl actionOrStop actionAt
+unfolding Semantics.bytes Semantics.events nodes residuals step settle follow arrive judge judgePick act allow _>>_ among ruleControl
 stop-picked parts p t vs ms h = rw h refl
 
 -- whatever the plant: where the switch check finds nothing, picking the STOP answers 202 and ends the run

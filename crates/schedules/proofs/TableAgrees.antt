@@ -17,6 +17,7 @@ use Rattle.semantics.proofs.Simulation.{NextRel, to-rel, finished-rel, halted-r
 use Rattle.schedules.specs.Nodes.{Node, actionsOf}
 use Rattle.schedules.specs.Residuals.{Residual, fresh, acting, move, same?}
 use Rattle.schedules.specs.Numbering.{numberOf}
+use Rattle.schedules.proofs.NodeActions.{node-action}
 use Rattle.schedules.specs.Files.{Schedule, ruleControl}
 use Rattle.schedules.specs.Compiling.{testsOf, scheduleLocations, targetCode, entryOf, entriesOf}
 
@@ -117,7 +118,7 @@ module _ (s : Schedule)
   unfolding ruleControl tableControl tableFor entriesAt
   table-agrees = record {
     starts = first;
-    actions = λ n. refl;
+    actions = λ n. node-action (s .nodes) n;
     acting-same = acting-at (s .nodes) (scheduleLocations s) numbers closed;
-    nexts = nexts-at (s .nodes) (scheduleLocations s) numbers closed;
+    nexts = λ r k h n m b e. nexts-at (s .nodes) (scheduleLocations s) numbers closed r k h n m b (rw (node-action (s .nodes) n) at e);
   }

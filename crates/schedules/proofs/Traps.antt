@@ -6,7 +6,7 @@ use Rattle.semantics.specs.Editions.{edition1}
 use Rattle.semantics.specs.K1.{start-at, one-record}
 use Rattle.schedules.specs.Calls.{compile, ruleRun}
 use Rattle.schedules.proofs.Computes.{schedules}
-use Rattle.schedules.specs.Examples.{one-wait-file, stop-wait-file, two-rates-file, two-rates-file-2, while-file, stop-reset-file, stop-reset-table, faulty-check-file}
+use Rattle.schedules.specs.Examples.{one-wait-file, stop-wait-file, two-rates-file, two-rates-file-2, while-file, stop-reset-file, stop-reset-table, faulty-check-file, fault-first-file, truth-first-file, truth-listed-file, fault-listed-file}
 
 -- "or" that skips its right side would answer 201: the pick of CONTINUE UNTIL (true or a fault) faults
 pub or-evaluates-both : ruleRun edition1 one-wait-file (start-at 0) (1 ∷ 0 ∷ 0 ∷ []) (replicate 13 9)
@@ -52,3 +52,25 @@ pub check-faults-before-31 : ruleRun edition1 faulty-check-file (replicate 5 0) 
     ≡ record { refusal = 0; taken = 0; turned-away = 0; faulted = 1; records = one-record 203 0 0 (0 ∷ []) }
 unfolding schedules faulty-check-file
 check-faults-before-31 = refl
+
+-- "selectors rising": a check that takes selector 1 first would answer 28 to the first pick, and 203 once the CASEs are changed over
+pub lower-selector-faults : ruleRun edition1 fault-first-file (replicate 6 0) (1 ∷ 0 ∷ 0 ∷ 0 ∷ 0 ∷ 0 ∷ []) (replicate 30 9)
+    ≡ record { refusal = 0; taken = 0; turned-away = 1; faulted = 1; records = one-record 203 0 0 (0 ∷ 0 ∷ one-record 23 0 0 (0 ∷ 0 ∷ [])) }
+unfolding schedules fault-first-file
+lower-selector-faults = refl
+
+pub lower-selector-true : ruleRun edition1 truth-first-file (replicate 6 0) (1 ∷ 0 ∷ 0 ∷ 0 ∷ 0 ∷ 0 ∷ []) (replicate 30 9)
+    ≡ record { refusal = 0; taken = 0; turned-away = 2; faulted = 0; records = one-record 28 1 0 (0 ∷ 0 ∷ one-record 28 1 0 (0 ∷ 0 ∷ [])) }
+unfolding schedules truth-first-file
+lower-selector-true = refl
+
+-- "each mode's as listed": a check that takes the last switch first would answer 203 to the first pick, and 28 once the switches are changed over
+pub first-listed-true : ruleRun edition1 truth-listed-file (replicate 5 0) (1 ∷ 0 ∷ 0 ∷ 0 ∷ 0 ∷ 0 ∷ []) (replicate 28 9)
+    ≡ record { refusal = 0; taken = 0; turned-away = 2; faulted = 0; records = one-record 28 1 0 (0 ∷ one-record 28 1 0 (0 ∷ [])) }
+unfolding schedules truth-listed-file
+first-listed-true = refl
+
+pub first-listed-faults : ruleRun edition1 fault-listed-file (replicate 5 0) (1 ∷ 0 ∷ 0 ∷ 0 ∷ 0 ∷ 0 ∷ []) (replicate 28 9)
+    ≡ record { refusal = 0; taken = 0; turned-away = 1; faulted = 1; records = one-record 203 0 0 (0 ∷ one-record 23 0 0 (0 ∷ [])) }
+unfolding schedules fault-listed-file
+first-listed-faults = refl

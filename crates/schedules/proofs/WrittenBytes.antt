@@ -26,6 +26,7 @@ use Rattle.schedules.specs.Residuals.{Residual, acting}
 use Rattle.schedules.specs.Files.{Schedule, judgeFile, ruleControl}
 use Rattle.schedules.specs.Compiling.{testsOf, scheduleLocations, entryOf, entriesOf, tableOf, judgeCompile}
 use Rattle.schedules.specs.Calls.{compile, compiledInto, ruleProgram, ruleRun}
+use Rattle.schedules.proofs.NodeActions.{node-action}
 use Rattle.schedules.proofs.FirstNumber.{Passed, passed}
 use Rattle.schedules.proofs.ResidualsKept.{acting-fit-a-byte}
 use Rattle.schedules.proofs.ActionsListed.{actions-few, actions-all}
@@ -143,7 +144,7 @@ module _ (ed : Edition) (file : List ℕ) (s : Schedule) (g : Passed ed file s) 
   unfolding ruleControl
   program-bytes = record {
     plant = plant-bytes ed (s .sections .variables) (s .sections .equations) (g .plant) (parts-bytes .variables .each) (parts-bytes .equations .each);
-    control = record { actions = actions-bytes acts-bytes };
+    control = record { actions = λ n. rw (node-action (s .nodes) n) (actions-bytes acts-bytes n) };
   }
 
   written-table : length (scheduleLocations s) ≤ locationLimit → All Byte (tableOf ed s)

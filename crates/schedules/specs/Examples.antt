@@ -54,6 +54,18 @@ stop-reset-file =
     1 ∷ 0 ∷ 37 ∷ 0 ∷ 13 ∷ 1 ∷ 0 ∷ 0 ∷ 0 ∷ 0 ∷ 0 ∷ 0 ∷ 0 ∷ 10 ∷ 0 ∷ 0 ∷ 0 ∷ 0 ∷ 0 ∷ 1 ∷ 0 ∷ 0 ∷ 14 ∷ 3 ∷
     2 ∷ 1 ∷ 2 ∷ 1 ∷ 9 ∷ 7 ∷ 6 ∷ 0 ∷ 1 ∷ 0 ∷ 0 ∷ 0 ∷ 7 ∷ []
 
+-- PARALLEL of RESET variable 0 to 7 and of a SEQUENCE: RESET variable 0 to 5, CONTINUE UNTIL true
+unfoldable pub reset-first-file : List ℕ
+reset-first-file =
+    1 ∷ 0 ∷ 49 ∷ 0 ∷ 13 ∷ 1 ∷ 0 ∷ 0 ∷ 0 ∷ 0 ∷ 0 ∷ 0 ∷ 0 ∷ 10 ∷ 0 ∷ 0 ∷ 0 ∷ 0 ∷ 0 ∷ 1 ∷ 0 ∷ 0 ∷ 26 ∷ 5 ∷
+    2 ∷ 2 ∷ 2 ∷ 7 ∷ 6 ∷ 0 ∷ 1 ∷ 0 ∷ 0 ∷ 0 ∷ 7 ∷ 2 ∷ 1 ∷ 2 ∷ 7 ∷ 6 ∷ 0 ∷ 1 ∷ 0 ∷ 0 ∷ 0 ∷ 5 ∷ 2 ∷ 5 ∷ 47 ∷ []
+
+-- the same with its two children listed the other way round
+unfoldable pub reset-last-file : List ℕ
+reset-last-file =
+    1 ∷ 0 ∷ 49 ∷ 0 ∷ 13 ∷ 1 ∷ 0 ∷ 0 ∷ 0 ∷ 0 ∷ 0 ∷ 0 ∷ 0 ∷ 10 ∷ 0 ∷ 0 ∷ 0 ∷ 0 ∷ 0 ∷ 1 ∷ 0 ∷ 0 ∷ 26 ∷ 5 ∷
+    2 ∷ 2 ∷ 2 ∷ 2 ∷ 1 ∷ 2 ∷ 7 ∷ 6 ∷ 0 ∷ 1 ∷ 0 ∷ 0 ∷ 0 ∷ 5 ∷ 2 ∷ 5 ∷ 47 ∷ 7 ∷ 6 ∷ 0 ∷ 1 ∷ 0 ∷ 0 ∷ 0 ∷ 7 ∷ []
+
 -- a CASE of one mode whose switch faults; PARALLEL of CONTINUE UNTIL false and CONTINUE UNTIL true
 unfoldable pub faulty-check-file : List ℕ
 faulty-check-file =
@@ -61,7 +73,35 @@ faulty-check-file =
     0 ∷ 1 ∷ 0 ∷ 1 ∷ 13 ∷ 0 ∷ 32 ∷ 20 ∷ 1 ∷ 128 ∷ 0 ∷ 0 ∷ 0 ∷ 1 ∷ 0 ∷ 0 ∷ 0 ∷ 0 ∷ 0 ∷ 11 ∷ 3 ∷ 2 ∷ 2 ∷ 2 ∷
     3 ∷ 5 ∷ 42 ∷ 47 ∷ 2 ∷ 5 ∷ 47 ∷ []
 
--- its table: two actions, one location
+-- two CASEs of one mode each, CONTINUE UNTIL false: selector 0's switch faults, selector 1's is true
+unfoldable pub fault-first-file : List ℕ
+fault-first-file =
+    1 ∷ 0 ∷ 59 ∷ 0 ∷ 13 ∷ 1 ∷ 0 ∷ 0 ∷ 0 ∷ 0 ∷ 0 ∷ 0 ∷ 0 ∷ 10 ∷ 0 ∷ 0 ∷ 0 ∷ 0 ∷ 0 ∷ 32 ∷ 2 ∷ 0 ∷ 19 ∷ 2 ∷
+    0 ∷ 1 ∷ 0 ∷ 1 ∷ 13 ∷ 0 ∷ 32 ∷ 20 ∷ 1 ∷ 128 ∷ 0 ∷ 0 ∷ 0 ∷ 1 ∷ 0 ∷ 0 ∷ 0 ∷ 0 ∷ 0 ∷ 8 ∷ 2 ∷ 0 ∷ 1 ∷ 0 ∷
+    1 ∷ 2 ∷ 0 ∷ 47 ∷ 0 ∷ 5 ∷ 1 ∷ 3 ∷ 5 ∷ 42 ∷ 47 ∷ []
+
+-- the same with the CASEs changed over
+unfoldable pub truth-first-file : List ℕ
+truth-first-file =
+    1 ∷ 0 ∷ 59 ∷ 0 ∷ 13 ∷ 1 ∷ 0 ∷ 0 ∷ 0 ∷ 0 ∷ 0 ∷ 0 ∷ 0 ∷ 10 ∷ 0 ∷ 0 ∷ 0 ∷ 0 ∷ 0 ∷ 32 ∷ 2 ∷ 0 ∷ 8 ∷ 2 ∷
+    0 ∷ 1 ∷ 0 ∷ 1 ∷ 2 ∷ 0 ∷ 47 ∷ 0 ∷ 19 ∷ 2 ∷ 0 ∷ 1 ∷ 0 ∷ 1 ∷ 13 ∷ 0 ∷ 32 ∷ 20 ∷ 1 ∷ 128 ∷ 0 ∷ 0 ∷ 0 ∷ 1 ∷
+    0 ∷ 0 ∷ 0 ∷ 0 ∷ 0 ∷ 5 ∷ 1 ∷ 3 ∷ 5 ∷ 42 ∷ 47 ∷ []
+
+-- one CASE of one mode with two switches, CONTINUE UNTIL false: the first is true, the second faults
+unfoldable pub truth-listed-file : List ℕ
+truth-listed-file =
+    1 ∷ 0 ∷ 52 ∷ 0 ∷ 13 ∷ 1 ∷ 0 ∷ 0 ∷ 0 ∷ 0 ∷ 0 ∷ 0 ∷ 0 ∷ 10 ∷ 0 ∷ 0 ∷ 0 ∷ 0 ∷ 0 ∷ 25 ∷ 1 ∷ 0 ∷ 22 ∷ 2 ∷
+    0 ∷ 1 ∷ 0 ∷ 2 ∷ 2 ∷ 0 ∷ 47 ∷ 13 ∷ 0 ∷ 32 ∷ 20 ∷ 1 ∷ 128 ∷ 0 ∷ 0 ∷ 0 ∷ 1 ∷ 0 ∷ 0 ∷ 0 ∷ 0 ∷ 0 ∷ 5 ∷ 1 ∷
+    3 ∷ 5 ∷ 42 ∷ 47 ∷ []
+
+-- the same with the switches changed over
+unfoldable pub fault-listed-file : List ℕ
+fault-listed-file =
+    1 ∷ 0 ∷ 52 ∷ 0 ∷ 13 ∷ 1 ∷ 0 ∷ 0 ∷ 0 ∷ 0 ∷ 0 ∷ 0 ∷ 0 ∷ 10 ∷ 0 ∷ 0 ∷ 0 ∷ 0 ∷ 0 ∷ 25 ∷ 1 ∷ 0 ∷ 22 ∷ 2 ∷
+    0 ∷ 1 ∷ 0 ∷ 2 ∷ 13 ∷ 0 ∷ 32 ∷ 20 ∷ 1 ∷ 128 ∷ 0 ∷ 0 ∷ 0 ∷ 1 ∷ 0 ∷ 0 ∷ 0 ∷ 0 ∷ 2 ∷ 0 ∷ 47 ∷ 0 ∷ 5 ∷ 1 ∷
+    3 ∷ 5 ∷ 42 ∷ 47 ∷ []
+
+-- the table of stop-reset-file: two actions, one location
 unfoldable pub stop-reset-table : List ℕ
 stop-reset-table =
     1 ∷ 0 ∷ 0 ∷ 0 ∷ 50 ∷ 0 ∷ 13 ∷ 1 ∷ 0 ∷ 0 ∷ 0 ∷ 0 ∷ 0 ∷ 0 ∷ 0 ∷ 10 ∷ 0 ∷ 0 ∷ 0 ∷ 0 ∷ 0 ∷ 1 ∷ 0 ∷ 0 ∷

@@ -9,9 +9,8 @@ use Rattle.semantics.specs.Editions.{Edition}
 use Rattle.semantics.specs.Refusals.{Judged, accepted, _>>=_, _>>_, ensure, need}
 use Rattle.semantics.specs.Plant.{Plant, judgePlant, switchesRead, selectors}
 use Rattle.semantics.specs.Run.{Control}
-use Rattle.semantics.specs.Tables.{actionOrStop}
 use Rattle.schedules.specs.FileSections.{FileSections, fileSectionsIn}
-use Rattle.schedules.specs.Nodes.{Node, nodesIn, nodeNamed, nodeReads, actionsOf}
+use Rattle.schedules.specs.Nodes.{Node, nodesIn, nodeNamed, nodeReads, nodeAction}
 use Rattle.schedules.specs.Trees.{Tree, treeOf}
 use Rattle.schedules.specs.Residuals.{Residual, fresh, acting, move}
 
@@ -44,4 +43,4 @@ judgeFile ed f = do
 
 -- "A run starts at the fresh root"
 unfoldable pub ruleControl : Schedule → Control Residual
-ruleControl s = record { start = fresh (s .root); acting = acting; action = actionOrStop (actionsOf (s .nodes)); next = move }
+ruleControl s = record { start = fresh (s .root); acting = acting; action = nodeAction (s .nodes); next = move }

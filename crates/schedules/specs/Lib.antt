@@ -5,11 +5,16 @@ pub mod Trees
 pub mod Preorder
 pub mod Laid
 pub mod Residuals
+pub mod MoveRules
 pub mod Numbering
 pub mod Reached
 pub mod Files
 pub mod Compiling
 pub mod Calls
 pub mod Conditions
+pub mod Writing
+pub mod Proper
 pub mod Agreement
+pub mod Sizes
+pub mod Reordered
 pub mod Examples

@@ -1,9 +1,10 @@
 -- Document 01, "Schedule file": the schedule section. Conditions 9 and 11, and 12 of the nodes.
 use mathlib.Core.Bool.{Bool, true, cond}
 use mathlib.Core.List.{List, [], _∷_}
-use mathlib.Core.Option.{Option, none, some}
+use mathlib.Core.Option.{Option, none, some, bind}
 use Prim.Native.Nat.{ℕ, suc, _-_}
 use lib.Dec.{leb, ltb, eqb}
+use lib.ListN.{getElem?}
 use Rattle.semantics.specs.Bytes.{isSome, within, Reader, _>>=_, guard, from, byte, number, bytes, times, whole, noBytes, twoBytes, byteAndRest}
 use Rattle.semantics.specs.Editions.{Edition}
 use Rattle.semantics.specs.Expressions.{numberIn, truthIn}
@@ -106,6 +107,11 @@ actionOf (reinitial v e) = some (assign v e)
 actionOf (switch-to s m) = some (switch s m)
 actionOf stop-all = some stop
 
+-- what node n does, "numbered from 0"; of a SEQUENCE, a PARALLEL and a number beyond the nodes, which never act, nothing is asked
+unfoldable pub nodeAction : List Node → ℕ → Action
+nodeAction ns n = elim (bind (getElem? ns n) actionOf) [ none ↦ stop | some a ↦ a ]
+
+-- ---- the actions of a table
 unfoldable pub listed : ℕ → Option Action → List NodeAction → List NodeAction
 listed n none l = l
 listed n (some a) l = record { node = n; action = a } ∷ l

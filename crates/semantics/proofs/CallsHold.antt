@@ -1,8 +1,8 @@
 -- What the calls over a table return and leave: on a refusal nothing but the number; where they accept, what the rules derive.
-use mathlib.Core.Path.{_≡_, refl, sym, ap, subst, _∙_}
+use mathlib.Core.Path.{_≡_, refl, sym, ap, subst, subst₂, _∙_}
 use mathlib.Core.Bool.{Bool, true, false, cond}
 use mathlib.Core.List.{List, [], _∷_, map, List·Memᴰ as Mem, List·Memᴰ·not-nil, List·Memᴰ·cases-cons}
-use mathlib.Core.Logic.{_⊎_, inl, inr}
+use mathlib.Core.Logic.{_↔_, _⊎_, inl, inr}
 use mathlib.Core.Option.{Option, none, some}
 use Prim.Native.Nat.{ℕ, zero, suc, _≤_, _<_}
 use native.Mathlib.Omega.{arith}
@@ -15,8 +15,8 @@ use Rattle.semantics.specs.Events.{eventsIn}
 use Rattle.semantics.specs.Refusals.{Judged, refused, accepted, refusalOf}
 use Rattle.semantics.specs.Plant.{Plant, selectors}
 use Rattle.semantics.specs.Starts.{Start, startIn}
-use Rattle.semantics.specs.Run.{Action, test, wait, assign, switch, stop, possible, isTest, Next, to, finished, halted, idle, Control, at, answers}
-use Rattle.semantics.specs.Rules.{Sound}
+use Rattle.semantics.specs.Run.{Action, test, wait, assign, switch, stop, possible, isTest, to, halted, Control, at, answers}
+use Rattle.semantics.specs.Rules.{at-start, stands-at, Sound}
 use Rattle.semantics.specs.TableFile.{NodeAction, Entry, FINISHED, HALTED, NONE, locationLimit, readLocation, readLocations, locationsIn}
 use Rattle.semantics.specs.Tables.{Table, judgeTable, operandFits, actionFits, actionsFit, actionAt, actionOrStop, goesOn, targetsFit, entryFits, entryNodes, locationFits, locationsFit, risingFrom, actionNodes, goingTo, entryNext, entriesAt, tableControl}
 use Rattle.semantics.specs.Calls.{Program, Outcome, outcomeOf, runFrom, judgeRun, report, eventCount, tableProgram, tableRun, tableCounts, readTable}
@@ -26,6 +26,8 @@ use Rattle.semantics.proofs.Facts.{true-not-false, and-left, and-right,
 use Rattle.semantics.proofs.Judging as Judging
 use Rattle.semantics.proofs.Readers as Readers
 use Rattle.semantics.proofs.FirstNumber.{table-run-first, ran-refusal}
+use Rattle.semantics.proofs.Halting.{Fitting, fits-on, fits-end, fits-halt, fitting-moves, fitting-halts}
+use Rattle.semantics.proofs.OneRate.{one-rate}
 use Rattle.semantics.proofs.StepRules.{answers-derived}
 use Rattle.semantics.proofs.TablePassed.{table-passed}
 use Rattle.semantics.proofs.WrittenSources.{found}
@@ -42,28 +44,19 @@ few-locations ed s h =
     omega arith
 
 -- ---- a target that fits leads somewhere
-goes : (k t : ℕ) → k ≤ locationLimit → goesOn k t ≡ true → goingTo t ≡ idle → ⊥
+goes : (k t : ℕ) (a : Action) → k ≤ locationLimit → goesOn k t ≡ true → (a ≡ stop → ⊥) → Fitting a (goingTo t)
 unfolding goesOn goingTo FINISHED HALTED NONE
-goes k t few h = go (ltb t k) refl h
+goes k t a few h f = go (ltb t k) refl h
   where
-    go : (b : Bool) → ltb t k ≡ b → cond b true (eqb t 0xfffe) ≡ true → goingTo t ≡ idle → ⊥
-    go true e h i =
+    go : (b : Bool) → ltb t k ≡ b → cond b true (eqb t 0xfffe) ≡ true → Fitting a (goingTo t)
+    go true e h =
         let l = ltb-true t k e in
-        let z : _≡_ {A = Next ℕ} (to t) idle = rw (ne-eqb t 0xfffe (λ q. omega arith), ne-eqb t 0xfffd (λ q. omega arith), ne-eqb t 0xffff (λ q. omega arith)) at i in
-        let y : _≡_ {A = ℕ} 0 1 = cc in
-        omega arith
-    go false e h i =
-        let z : _≡_ {A = Next ℕ} finished idle = rw h at i in
-        let y : _≡_ {A = ℕ} 0 1 = cc in
-        omega arith
+        fits-on {y = t} f (rw (ne-eqb t 0xfffe (λ q. omega arith), ne-eqb t 0xfffd (λ q. omega arith), ne-eqb t 0xffff (λ q. omega arith)) refl)
+    go false e h = fits-end f (rw h refl)
 
-halts : (t : ℕ) → eqb t HALTED ≡ true → goingTo t ≡ idle → ⊥
+halts : (t : ℕ) → eqb t HALTED ≡ true → Fitting stop (goingTo t)
 unfolding goingTo HALTED FINISHED NONE
-halts t h i =
-    let e = eqb-true t 0xfffd h in
-    let z : _≡_ {A = Next ℕ} halted idle = rw e at i in
-    let y : _≡_ {A = ℕ} 0 1 = cc in
-    omega arith
+halts t h = fits-halt refl (rw (eqb-true t 0xfffd h) refl)
 
 -- the entry of a node that stands in a location is found, and fits
 record Leads (k : ℕ) (acts : List NodeAction) (es : List Entry) (n : ℕ) : Type 0 where
@@ -85,19 +78,31 @@ leads k acts (e ∷ es) h n m = go h (eqb (e .node) n) refl (List·Memᴰ·cases
         let q = ih g n c in
         record { entry = q .entry; fits = q .fits; here = q .here; next = λ b. rw (i, entryNext) (q .next b) }
 
--- an entry that fits an action's kind has a move for each outcome that is possible
-fit-moves : (k : ℕ) (a : Action) (t u : ℕ) → k ≤ locationLimit → targetsFit k a t u ≡ true → (b : Bool) → possible a b ≡ true → goingTo (cond b t u) ≡ idle → ⊥
+test-no-stop : (t : List ℕ) → test t ≡ stop → ⊥
+test-no-stop t h = let z : _≡_ {A = ℕ} 0 1 = cc in omega arith
+
+wait-no-stop : (t : List ℕ) → wait t ≡ stop → ⊥
+wait-no-stop t h = let z : _≡_ {A = ℕ} 0 1 = cc in omega arith
+
+assign-no-stop : (v : ℕ) (t : List ℕ) → assign v t ≡ stop → ⊥
+assign-no-stop v t h = let z : _≡_ {A = ℕ} 0 1 = cc in omega arith
+
+switch-no-stop : (s m : ℕ) → switch s m ≡ stop → ⊥
+switch-no-stop s m h = let z : _≡_ {A = ℕ} 0 1 = cc in omega arith
+
+-- an entry that fits an action's kind has a fit move for each outcome that is possible
+fit-moves : (k : ℕ) (a : Action) (t u : ℕ) → k ≤ locationLimit → targetsFit k a t u ≡ true → (b : Bool) → possible a b ≡ true → Fitting a (goingTo (cond b t u))
 unfolding targetsFit possible isTest
-fit-moves k (test c) t u few h true p i = goes k t few (and-left (goesOn k t) (goesOn k u) h) i
-fit-moves k (test c) t u few h false p i = goes k u few (and-right (goesOn k t) (goesOn k u) h) i
-fit-moves k (wait c) t u few h true p i = goes k t few (and-left (goesOn k t) _ h) i
-fit-moves k (wait c) t u few h false p i = true-not-false (sym p)
-fit-moves k (assign v e) t u few h true p i = goes k t few (and-left (goesOn k t) _ h) i
-fit-moves k (assign v e) t u few h false p i = true-not-false (sym p)
-fit-moves k (switch s m) t u few h true p i = goes k t few (and-left (goesOn k t) _ h) i
-fit-moves k (switch s m) t u few h false p i = true-not-false (sym p)
-fit-moves k stop t u few h true p i = halts t (and-left (eqb t HALTED) _ h) i
-fit-moves k stop t u few h false p i = true-not-false (sym p)
+fit-moves k (test c) t u few h true p = goes k t _ few (and-left (goesOn k t) (goesOn k u) h) (test-no-stop c)
+fit-moves k (test c) t u few h false p = goes k u _ few (and-right (goesOn k t) (goesOn k u) h) (test-no-stop c)
+fit-moves k (wait c) t u few h true p = goes k t _ few (and-left (goesOn k t) _ h) (wait-no-stop c)
+fit-moves k (wait c) t u few h false p = true-not-false (sym p)
+fit-moves k (assign v e) t u few h true p = goes k t _ few (and-left (goesOn k t) _ h) (assign-no-stop v e)
+fit-moves k (assign v e) t u few h false p = true-not-false (sym p)
+fit-moves k (switch s m) t u few h true p = goes k t _ few (and-left (goesOn k t) _ h) (switch-no-stop s m)
+fit-moves k (switch s m) t u few h false p = true-not-false (sym p)
+fit-moves k stop t u few h true p = halts t (and-left (eqb t HALTED) _ h)
+fit-moves k stop t u few h false p = true-not-false (sym p)
 
 -- the entries of a location of the table fit; beyond it there are none
 entries-fit : (k : ℕ) (acts : List NodeAction) (ls : List (List Entry)) (x : ℕ) → All (λ es. locationFits k acts es ≡ true) ls → All (λ e. entryFits k acts e ≡ true) (getD ls x [])
@@ -105,6 +110,12 @@ unfolding locationFits
 entries-fit k acts [] x h = all-nil
 entries-fit k acts (es ∷ ls) zero (all-cons h g) = every-all (entryFits k acts) es (and-right (risingFrom 0 (entryNodes es)) (every (entryFits k acts) es) h)
 entries-fit k acts (es ∷ ls) (suc x) (all-cons h g) = entries-fit k acts ls x g
+
+entries-rise : (k : ℕ) (acts : List NodeAction) (ls : List (List Entry)) (x : ℕ) → All (λ es. locationFits k acts es ≡ true) ls → risingFrom 0 (entryNodes (getD ls x [])) ≡ true
+unfolding locationFits risingFrom entryNodes
+entries-rise k acts [] x h = refl
+entries-rise k acts (es ∷ ls) zero (all-cons h g) = and-left (risingFrom 0 (entryNodes es)) (every (entryFits k acts) es) h
+entries-rise k acts (es ∷ ls) (suc x) (all-cons h g) = entries-rise k acts ls x g
 
 found-or-stop : (l : List NodeAction) (n : ℕ) {a : Action} → actionAt l n ≡ some a → actionOrStop l n ≡ a
 unfolding actionOrStop
@@ -138,13 +149,13 @@ module _ (ed : Edition) (table : List ℕ) (t : Table) (h : judgeTable ed table 
   unfolding locationsFit
   row-fits x = entries-fit (length (t .locations)) acts (t .locations) x (every-all (locationFits (length (t .locations)) acts) (t .locations) ((table-passed ed table h) .locs-fit))
 
-  row-moves : (x n : ℕ) (b : Bool) → Mem n (entryNodes (getD (t .locations) x [])) → possible (actionOrStop acts n) b ≡ true → entryNext (getD (t .locations) x []) n b ≡ idle → ⊥
-  row-moves x n b m p i =
+  row-moves : (x n : ℕ) (b : Bool) → Mem n (entryNodes (getD (t .locations) x [])) → possible (actionOrStop acts n) b ≡ true → Fitting (actionOrStop acts n) (entryNext (getD (t .locations) x []) n b)
+  row-moves x n b m p =
       let q = leads (length (t .locations)) acts (getD (t .locations) x []) (row-fits x) n m in
       let k = known-fits (length (t .locations)) acts (q .entry) (q .fits) in
-      let a = found-or-stop acts (q .entry .node) (k .1) in
-      fit-moves (length (t .locations)) (k .0) (q .entry .target) (q .entry .other) (let q = table-passed ed table h in few-locations ed (q .parts .locations) (q .locs)) (k .2) b
-      (ap (λ y. possible y b) (sym a ∙ ap (actionOrStop acts) (q .here)) ∙ p) (sym (q .next b) ∙ i)
+      let a : k .0 ≡ actionOrStop acts n = sym (found-or-stop acts (q .entry .node) (k .1)) ∙ ap (actionOrStop acts) (q .here) in
+      let f = fit-moves (length (t .locations)) (k .0) (q .entry .target) (q .entry .other) (let q = table-passed ed table h in few-locations ed (q .parts .locations) (q .locs)) (k .2) b (ap (λ y. possible y b) a ∙ p) in
+      subst₂ (λ a x. Fitting a x) a (sym (q .next b)) f
 
   named : (n v : ℕ) (e : List ℕ) → actionOrStop acts n ≡ assign v e → v < length (t .plant .variables)
   unfolding actionsFit actionFits operandFits
@@ -157,7 +168,22 @@ module _ (ed : Edition) (table : List ℕ) (t : Table) (h : judgeTable ed table 
 
   pub sound-table : Sound (t .plant) (tableControl t)
   unfolding tableControl entriesAt
-  sound-table = record { moves = λ x n b m p i. row-moves x n b m p i; declares = λ x n v e m i. named n v e i }
+  sound-table = record {
+    moves = λ x n b w m p. fitting-moves (row-moves x n b m p);
+    halts = λ x n b w m p. fitting-halts (row-moves x n b m p);
+    declares = λ x n v e m i. named n v e i;
+    one-rate = let q = table-passed ed table h in one-rate ed (q .parts .variables) (q .parts .equations) (q .plant);
+  }
+
+  -- the acting nodes rise
+  pub table-rises : (x : ℕ) → risingFrom 0 ((tableControl t) .acting x) ≡ true
+  unfolding locationsFit tableControl entriesAt
+  table-rises x = entries-rise (length (t .locations)) acts (t .locations) x (every-all (locationFits (length (t .locations)) acts) (t .locations) ((table-passed ed table h) .locs-fit))
+
+  -- just a STOP halts, also at locations that no run comes to
+  pub table-halts : (x n : ℕ) (b : Bool) → Mem n ((tableControl t) .acting x) → possible ((tableControl t) .action n) b ≡ true → ((tableControl t) .next x n b ≡ halted) ↔ ((tableControl t) .action n ≡ stop)
+  unfolding tableControl entriesAt
+  table-halts x n b m p = fitting-halts (row-moves x n b m p)
 
 -- ---- the calls
 -- no condition has the number 0, so a call that returns 0 has accepted
@@ -196,7 +222,7 @@ run-holds ed p c sound start events buffer st h = record {
   st = st;
   start-read = h;
   said = answers ed p c (at (c .start) (st .values) (st .modes)) (eventsIn (ed .event-bytes) (eventCount ed events) events);
-  derived = answers-derived ed p c sound (at (c .start) (st .values) (st .modes)) (eventsIn (ed .event-bytes) (eventCount ed events) events);
+  derived = answers-derived ed p c sound (at (c .start) (st .values) (st .modes)) (stands-at at-start) (eventsIn (ed .event-bytes) (eventCount ed events) events);
   result = refl;
 }
 

@@ -9,6 +9,7 @@ use Rattle.semantics.specs.Run as Run
 use Rattle.semantics.specs.TableFile as TableFile
 use Rattle.semantics.specs.Tables as Tables
 use Rattle.semantics.specs.Starts as Starts
+use Rattle.semantics.specs.Writing as Writing
 use Rattle.semantics.specs.Calls as Calls
 use mathlib.Core.List.{flatMap}
 
@@ -52,10 +53,14 @@ unfoldable pub starts : Unit {0}
 unfolding Starts.readStart Starts.startIn Starts.isOk Starts.modesFit Starts.startFits
 starts = tt
 
+unfoldable pub writing : Unit {0}
+unfolding Writing.writeVariable Writing.writeVariables Writing.writeRate Writing.writeSwitch Writing.writeMode Writing.equationBytes Writing.writeEquation Writing.writeEquations Writing.writeTableSections Writing.writeTable Writing.startBytes
+writing = tt
+
 unfoldable pub calls : Unit {0}
 unfolding Calls.wholeEvents Calls.eventCount Calls.recordSize Calls.roomForRecords Calls.runFrom Calls.outcomeOf Calls.judgeRun Calls.report Calls.tableProgram Calls.tableRun Calls.tableCounts Calls.readTable
 calls = tt
 
 unfoldable pub semantics : Unit {0}
-unfolding flatMap bytes refusals expressions sections plant events run tableFile tables starts calls
+unfolding flatMap bytes refusals expressions sections plant events run tableFile tables starts writing calls
 semantics = tt

@@ -11,6 +11,9 @@ pub mod DepthPapers
 -- the step and the rules
 pub mod Hearing
 pub mod StepParts
+pub mod Currents
+pub mod OneRate
+pub mod Halting
 pub mod StepRules
 pub mod FirstAnswer
 -- a run, and two controls that agree
@@ -25,3 +28,10 @@ pub mod WrittenRecords
 pub mod WrittenSources
 pub mod WrittenTables
 pub mod CallsHold
+-- bytes read just where they are a written form
+pub mod TakenBytes
+pub mod SectionForms
+pub mod StartForms
+pub mod TableForms
+pub mod ProperForms
+pub mod TablesProper

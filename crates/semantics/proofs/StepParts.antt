@@ -4,7 +4,6 @@ use mathlib.Core.Bool.{Bool, true, false, not}
 use mathlib.Core.List.{List, [], _∷_, map, List·Memᴰ as Mem, List·Memᴰ·head as first, List·Memᴰ·tail as later}
 use mathlib.Core.Option.{some}
 use Prim.Native.Nat.{ℕ, zero, suc, _+_, _<_}
-use native.Mathlib.Nat.{zero-add}
 use native.Mathlib.Omega.{arith}
 use borrow.Author.Tests.{leb-true, leb-false, le-ltb, lt-ltb}
 use lib.Dec.{leb, ltb}
@@ -15,9 +14,9 @@ use Rattle.semantics.specs.Bytes.{every}
 use Rattle.semantics.specs.Editions.{Edition}
 use Rattle.semantics.specs.Expressions.{Side, Value, ok, fault, ranged, thenValue, truthValue}
 use Rattle.semantics.specs.Sections.{Variable}
-use Rattle.semantics.specs.Plant.{Plant, rateOf, declared, allDeclared, added}
+use Rattle.semantics.specs.Plant.{declared, allDeclared, added}
 use Rattle.semantics.specs.Run.{Action, test, wait, assign, switch, stop, isWait, waitTruth, Verdict, away, faulty, pass, _>>=_, _>>_, allow, valued, walk}
-use Rattle.semantics.specs.Rules.{Found, nothing, a-truth, a-fault, Walks, walk-ends, walk-on, stops-at-truth, stops-at-fault, Waits, none-waits, one-waits, Inside, inside, Outside, too-low, too-high, Added, AllInside, FirstOutside}
+use Rattle.semantics.specs.Rules.{Found, nothing, a-truth, a-fault, Walks, walk-ends, walk-on, stops-at-truth, stops-at-fault, Waits, none-waits, one-waits, Inside, inside, Outside, too-low, too-high, AllInside, FirstOutside}
 use Rattle.semantics.proofs.Facts.{true-not-false, none-not-some, some-is, by-cases, every-all, all-mem}
 
 -- ---- walks
@@ -127,7 +126,7 @@ lies x z = go (leZ (x .minimum) z) refl (leZ z (x .maximum)) refl
     go false e b h = lies-outside (too-low (rw (ltZ-leZ z (x .minimum), e) refl))
 
 -- ---- rates
-added-length : (rate : ℕ → ℤ) (v : ℕ) (zs : List ℤ) → length (added rate v zs) ≡ length zs
+pub added-length : (rate : ℕ → ℤ) (v : ℕ) (zs : List ℤ) → length (added rate v zs) ≡ length zs
 unfolding added
 added-length rate v [] = refl
 added-length rate v (z ∷ zs) = ap suc (added-length rate (suc v) zs)
@@ -135,13 +134,13 @@ added-length rate v (z ∷ zs) = ap suc (added-length rate (suc v) zs)
 shifted : (a v : ℕ) → a + suc v ≡ suc a + v
 shifted a v = omega arith
 
-added-each : (rate : ℕ → ℤ) (a : ℕ) (zs : List ℤ) (v : ℕ) (z : ℤ) → getElem? zs v ≡ some z → getElem? (added rate a zs) v ≡ some (z +ℤ rate (a + v))
+pub added-each : (rate : ℕ → ℤ) (a : ℕ) (zs : List ℤ) (v : ℕ) (z : ℤ) → getElem? zs v ≡ some z → getElem? (added rate a zs) v ≡ some (z +ℤ rate (a + v))
 unfolding added
 added-each rate a [] v z h = none-not-some h
 added-each rate a (y ∷ ys) zero z h = let e : a ≡ a + 0 = omega arith in rw (← e, some-is h) refl
 added-each rate a (y ∷ ys) (suc v) z h = rw (shifted a v) (added-each rate (suc a) ys v z h)
 
-added-only : (rate : ℕ → ℤ) (a : ℕ) (zs ys : List ℤ) → length ys ≡ length zs → ((v : ℕ) (z : ℤ) → getElem? zs v ≡ some z → getElem? ys v ≡ some (z +ℤ rate (a + v))) → ys ≡ added rate a zs
+pub added-only : (rate : ℕ → ℤ) (a : ℕ) (zs ys : List ℤ) → length ys ≡ length zs → ((v : ℕ) (z : ℤ) → getElem? zs v ≡ some z → getElem? ys v ≡ some (z +ℤ rate (a + v))) → ys ≡ added rate a zs
 unfolding added
 added-only rate a [] [] e h = refl
 added-only rate a [] (y ∷ ys) e h = absurd (omega arith)
@@ -151,15 +150,6 @@ added-only rate a (z ∷ zs) (y ∷ ys) e h =
     let i = added-only rate (suc a) zs ys (omega arith) (λ v z g. rw (shifted a v) at (h (suc v) z g)) in
     let j : y ≡ z +ℤ rate a = rw k at (some-is (h 0 z refl)) in
     cc
-
-pub rates-added : (p : Plant) (ms : List ℕ) (vs : List ℤ) → Added p ms vs (added (rateOf p ms) 0 vs)
-rates-added p ms vs = record {
-  as-many = added-length (rateOf p ms) 0 vs;
-  each = λ v z h. rw zero-add at (added-each (rateOf p ms) 0 vs v z h);
-}
-
-pub added-rates : {p : Plant} {ms : List ℕ} {vs ys : List ℤ} → Added p ms vs ys → ys ≡ added (rateOf p ms) 0 vs
-added-rates {p} {ms} {vs} {ys} h = added-only (rateOf p ms) 0 vs ys (h .as-many) (λ v z g. rw (zero-add v) (h .each v z g))
 
 -- ---- all in range, or the first that is not
 pub data AllLie (xs : List Variable) (ys : List ℤ) : Type 0 where

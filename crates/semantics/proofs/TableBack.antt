@@ -19,7 +19,7 @@ use Rattle.semantics.proofs.Judging.{go-then, go-need, go-ensure, go-on
 use Rattle.semantics.proofs.Readers.{Reads, reads-then, reads-last, reads-byte, reads-nat2, reads-nat4, reads-number, reads-bytes, reads-guard, reads-from, reads-times, whole-reads}
 
 -- a second reader that takes no bytes
-reads-nothing-more : {A B : Type 0} (r : Reader A) (f : A → Reader B) {w : List ℕ} {a : A} {b : B} → Reads r w a → Reads (f a) [] b → Reads (r >>= f) w b
+pub reads-nothing-more : {A B : Type 0} (r : Reader A) (f : A → Reader B) {w : List ℕ} {a : A} {b : B} → Reads r w a → Reads (f a) [] b → Reads (r >>= f) w b
 unfolding _>>=_ after
 reads-nothing-more r f h k = record { back = λ s. rw (h .back s) (k .back s) }
 
@@ -28,11 +28,11 @@ anything : {A : Type 0} (l : List A) → All (λ x. Unit {0}) l
 anything [] = all-nil
 anything (x ∷ l) = all-cons tt (anything l)
 
-reads-section2 : (w : List ℕ) → Reads section2 (inSection2 w) w
+pub reads-section2 : (w : List ℕ) → Reads section2 (inSection2 w) w
 unfolding section2 inSection2
 reads-section2 w = reads-then nat2 _ (reads-nat2 (length w)) (reads-bytes w)
 
-reads-section4 : (w : List ℕ) → Reads section4 (inSection4 w) w
+pub reads-section4 : (w : List ℕ) → Reads section4 (inSection4 w) w
 unfolding section4 inSection4
 reads-section4 w = reads-then nat4 _ (reads-nat4 (length w)) (reads-bytes w)
 
@@ -65,7 +65,7 @@ module _ (ed : Edition) where
       rw (c .coded, e)
       (reads-then byte _ (reads-byte (c .kind)) (reads-nothing-more (bytes (length o)) _ (reads-bytes o) (reads-last (from (actionOf (actionKind (c .kind)) o)) _ (reads-from (c .decoded)))))
 
-  reads-action : (a : NodeAction) → Short a → Reads (readAction ed) (writeAction ed a) a
+  pub reads-action : (a : NodeAction) → Short a → Reads (readAction ed) (writeAction ed a) a
   unfolding readAction writeAction
   reads-action a h =
       let w = ed .width in
@@ -90,7 +90,7 @@ module _ (ed : Edition) where
       reads-then (number (ed .width)) _ (reads-number (ed .width) (e .node))
       (reads-then nat2 _ (reads-nat2 (e .target)) (reads-last nat2 _ (reads-nat2 (e .other))))
 
-  reads-location : (es : List Entry) → 1 ≤ length es → Reads (readLocation ed) (writeLocation ed es) es
+  pub reads-location : (es : List Entry) → 1 ≤ length es → Reads (readLocation ed) (writeLocation ed es) es
   unfolding readLocation writeLocation
   reads-location es h =
       reads-then byte _ (reads-byte (length es))

@@ -21,12 +21,12 @@ use Rattle.semantics.proofs.WrittenSources.{ActionWritten, found}
 use Rattle.semantics.proofs.WrittenRecords.{Byte, out2-bytes, out4-bytes, out-bytes}
 
 -- ---- lengths
-width-small : (w : Width) → widthOf w ≤ 2
+pub width-small : (w : Width) → widthOf w ≤ 2
 unfolding widthOf
 width-small one-byte = lit≤ tt
 width-small two-bytes = lit≤ tt
 
-capacity-large : (w : Width) → 256 ≤ capacity w
+pub capacity-large : (w : Width) → 256 ≤ capacity w
 capacity-large one-byte = lit≤ tt
 capacity-large two-bytes = lit≤ tt
 
@@ -52,11 +52,11 @@ flat-length f k (all-cons {x = x} {l = l} h q) =
     let e = length-append (f x) (flatMap f l) in
     rw (suc-mul (length l) k) (let g : length (f x ++ flatMap f l) ≤ length l * k + k = omega arith in g)
 
-section2-written : (s : List ℕ) → length s < 65536 → All Byte s → All Byte (inSection2 s)
+pub section2-written : (s : List ℕ) → length s < 65536 → All Byte s → All Byte (inSection2 s)
 unfolding inSection2
 section2-written s h b = all-append (out2-bytes (length s) h) b
 
-section4-written : (s : List ℕ) → length s < 4294967296 → All Byte s → All Byte (inSection4 s)
+pub section4-written : (s : List ℕ) → length s < 4294967296 → All Byte s → All Byte (inSection4 s)
 unfolding inSection4
 section4-written s h b = all-append (out4-bytes (length s) h) b
 

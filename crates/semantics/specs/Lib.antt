@@ -11,6 +11,8 @@ pub mod Rules
 pub mod TableFile
 pub mod Tables
 pub mod Starts
+pub mod Writing
+pub mod Proper
 pub mod Calls
 pub mod Conditions
 pub mod Statements

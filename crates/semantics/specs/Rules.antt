@@ -3,17 +3,18 @@
 use mathlib.Core.Path.{_≡_}
 use mathlib.Core.Bool.{Bool, true, false}
 use mathlib.Core.List.{List, [], _∷_, _++_, List·Memᴰ as Mem}
+use mathlib.Core.Logic.{_↔_}
 use mathlib.Core.Option.{some}
-use Prim.Native.Nat.{ℕ, _+_, _*_, _<_}
+use Prim.Native.Nat.{ℕ, suc, _+_, _*_, _<_}
 use lib.ListN.{length, getElem?, set}
-use lib.IntN.{ℤ, _+ℤ_}
+use lib.IntN.{ℤ, pos, _+ℤ_}
 use lib.Signed.{leZ, ltZ}
 use Rattle.semantics.specs.Bytes.{Width, one-byte, two-bytes}
 use Rattle.semantics.specs.Editions.{Edition}
 use Rattle.semantics.specs.Expressions.{Side, above, below, ok, fault, numberValue, truthValue}
-use Rattle.semantics.specs.Sections.{Variable, Switch, Mode}
-use Rattle.semantics.specs.Plant.{Plant, currentModes, currentTruths, rateOf}
-use Rattle.semantics.specs.Run.{Action, test, wait, assign, switch, stop, possible, Next, to, finished, halted, idle, Control, Situation, Answered, at, over, faultAnswer}
+use Rattle.semantics.specs.Sections.{Variable, Rate, Switch, Mode, Selector, Equation, steady, choice}
+use Rattle.semantics.specs.Plant.{Plant}
+use Rattle.semantics.specs.Run.{Action, test, wait, assign, switch, stop, possible, Next, to, finished, halted, idle, Control, Situation, Answered, at, over}
 
 -- ---- what an event's bytes say
 pub data Zeros : List ℕ → Type 0 where
@@ -24,6 +25,37 @@ pub data Zeros : List ℕ → Type 0 where
 pub data Names : Width → List ℕ → ℕ → Type 0 where
   by-one : {n : ℕ} → Names one-byte (n ∷ []) n
   by-two : {a b : ℕ} → Names two-bytes (a ∷ b ∷ []) (a * 256 + b)
+
+-- ---- what is current
+-- "CASEs are selectors 0, 1, .. in order"
+pub data CaseAt : List Equation → ℕ → Selector → Type 0 where
+  this-case : {c : Selector} {es : List Equation} → CaseAt (choice c ∷ es) 0 c
+  past-case : {c d : Selector} {es : List Equation} {s : ℕ} → CaseAt es s c → CaseAt (choice d ∷ es) (suc s) c
+  past-rate : {c : Selector} {r : Rate} {es : List Equation} {s : ℕ} → CaseAt es s c → CaseAt (steady r ∷ es) s c
+
+-- selector s's current mode
+pub record CurrentMode (p : Plant) (ms : List ℕ) (s : ℕ) (m : Mode) : Type 0 where
+  pub selector : Selector
+  pub number : ℕ
+  pub is-selector : CaseAt (p .equations) s selector
+  pub is-number : getElem? ms s ≡ some number
+  pub is-mode : getElem? (selector .modes) number ≡ some m
+
+-- "switch k (from 0) of selector s's current mode"
+pub record CurrentSwitch (p : Plant) (ms : List ℕ) (s k : ℕ) (w : Switch) : Type 0 where
+  pub mode : Mode
+  pub is-current : CurrentMode p ms s mode
+  pub is-switch : getElem? (mode .switches) k ≡ some w
+
+-- "its current rate": that of its own equation, or the one that its CASE's current mode gives
+pub data CurrentRate (p : Plant) (ms : List ℕ) (v : ℕ) (z : ℤ) : Type 0 where
+  own-rate : {r : Rate} → Mem (steady r) (p .equations) → r .driven ≡ v → r .rate ≡ z → CurrentRate p ms v z
+  mode-rate : {s : ℕ} {m : Mode} {r : Rate} → CurrentMode p ms s m → Mem r (m .rates) → r .driven ≡ v → r .rate ≡ z → CurrentRate p ms v z
+
+-- "selectors rising and each mode's as listed": switch k of selector s comes before switch l of selector t
+pub data Before (s k t l : ℕ) : Type 0 where
+  lower-selector : s < t → Before s k t l
+  listed-before : s ≡ t → k < l → Before s k t l
 
 -- what a walk over truths stops at
 pub data Found : Type 0 where
@@ -58,6 +90,17 @@ module _ (ed : Edition) where
     stops-at-truth : {t : List ℕ} {ts : List (List ℕ)} → truthValue ed vs t ≡ ok true → Walks vs (t ∷ ts) a-truth
     stops-at-fault : {t : List ℕ} {ts : List (List ℕ)} {s : Side} → truthValue ed vs t ≡ fault s → Walks vs (t ∷ ts) (a-fault s)
 
+  -- a truth that is true or faults
+  pub data Stops (vs : List ℤ) (t : List ℕ) : Found → Type 0 where
+    by-truth : truthValue ed vs t ≡ ok true → Stops vs t a-truth
+    by-fault : {side : Side} → truthValue ed vs t ≡ fault side → Stops vs t (a-fault side)
+
+  -- "The switch check evaluates the switches of all current modes, .., and stops at the first that is true or faults.": all before it are false
+  pub data Checks (vs : List ℤ) (current : ℕ → ℕ → Switch → Type 0) : Found → Type 0 where
+    check-ends : ((s k : ℕ) (w : Switch) → current s k w → truthValue ed vs (w .truth) ≡ ok false) → Checks vs current nothing
+    check-stops : {s k : ℕ} {w : Switch} {f : Found} → current s k w →
+        ((t l : ℕ) (u : Switch) → Before t l s k → current t l u → truthValue ed vs (u .truth) ≡ ok false) → Stops vs (w .truth) f → Checks vs current f
+
 -- "all acting nodes are CONTINUE", with their truths in node order
 pub data Waits (action : ℕ → Action) : List ℕ → List (List ℕ) → Type 0 where
   none-waits : Waits action [] []
@@ -71,10 +114,11 @@ pub data Outside (x : Variable) (z : ℤ) : Side → Type 0 where
   too-low : ltZ z (x .minimum) ≡ true → Outside x z below
   too-high : leZ (x .minimum) z ≡ true → ltZ (x .maximum) z ≡ true → Outside x z above
 
--- "each driven variable adds its current rate (0 where its CASE's mode gives none)"
+-- "each driven variable adds its current rate (0 where its CASE's mode gives none)"; a variable that no equation drives adds 0 as well
 pub record Added (p : Plant) (ms : List ℕ) (vs ys : List ℤ) : Type 0 where
   pub as-many : length ys ≡ length vs
-  pub each : (v : ℕ) (z : ℤ) → getElem? vs v ≡ some z → getElem? ys v ≡ some (z +ℤ rateOf p ms v)
+  pub driven : (v : ℕ) (x z : ℤ) → getElem? vs v ≡ some x → CurrentRate p ms v z → getElem? ys v ≡ some (x +ℤ z)
+  pub others : (v : ℕ) (x : ℤ) → getElem? vs v ≡ some x → ((z : ℤ) → CurrentRate p ms v z → ⊥) → getElem? ys v ≡ some (x +ℤ pos 0)
 
 pub record AllInside (xs : List Variable) (ys : List ℤ) : Type 0 where
   pub each : (v : ℕ) (x : Variable) (y : ℤ) → getElem? xs v ≡ some x → getElem? ys v ≡ some y → Inside x y
@@ -90,10 +134,10 @@ pub record FirstOutside (xs : List Variable) (ys : List ℤ) (side : Side) : Typ
   pub lower : (v : ℕ) (x : Variable) (y : ℤ) → v < which → getElem? xs v ≡ some x → getElem? ys v ≡ some y → Inside x y
 
 -- ---- "A taken pick that finishes the root is answered 201 and one of a STOP 202, and both end the run; any other taken event is answered 200."
+-- where the move of a node leads that is no STOP: a STOP's pick has a rule of its own, `pick-stop`, and no other rule gives 202
 pub data Goes {S : Type 0} (vs : List ℤ) (ms : List ℕ) : Next S → ℕ → Situation S → Type 0 where
   goes-on : {y : S} → Goes vs ms (to y) 200 (at y vs ms)
   finishes : Goes vs ms finished 201 (over vs ms)
-  halts : Goes vs ms halted 202 (over vs ms)
 
 module _ {S : Type 0} (ed : Edition) (p : Plant) (c : Control S) where
   pub data Rule : Situation S → List ℕ → ℕ → Situation S → Type 0 where
@@ -109,61 +153,60 @@ module _ {S : Type 0} (ed : Edition) (p : Plant) (c : Control S) where
         (Mem n (c .acting x) → ⊥) → Rule (at x vs ms) e 25 (at x vs ms)
     -- 28: "The switch check of a pick or tick stops at a true switch."
     pick-switch-true : {x : S} {vs : List ℤ} {ms e : List ℕ} {n : ℕ} → SaysPick ed e n → Mem n (c .acting x) →
-        Walks ed vs (currentTruths p ms) a-truth → Rule (at x vs ms) e 28 (at x vs ms)
+        Checks ed vs (CurrentSwitch p ms) a-truth → Rule (at x vs ms) e 28 (at x vs ms)
     pick-switch-fault : {x : S} {vs : List ℤ} {ms e : List ℕ} {n : ℕ} {side : Side} → SaysPick ed e n → Mem n (c .acting x) →
-        Walks ed vs (currentTruths p ms) (a-fault side) → Rule (at x vs ms) e (faultAnswer side) (over vs ms)
+        Checks ed vs (CurrentSwitch p ms) (a-fault side) → Rule (at x vs ms) e 203 (over vs ms)
     -- a WHILE or an IF
     pick-test : {x : S} {vs : List ℤ} {ms e t : List ℕ} {n a : ℕ} {b : Bool} {after : Situation S} → SaysPick ed e n → Mem n (c .acting x) →
-        Walks ed vs (currentTruths p ms) nothing → c .action n ≡ test t → truthValue ed vs t ≡ ok b →
+        Checks ed vs (CurrentSwitch p ms) nothing → c .action n ≡ test t → truthValue ed vs t ≡ ok b →
         Goes vs ms (c .next x n b) a after → Rule (at x vs ms) e a after
     pick-test-fault : {x : S} {vs : List ℤ} {ms e t : List ℕ} {n : ℕ} {side : Side} → SaysPick ed e n → Mem n (c .acting x) →
-        Walks ed vs (currentTruths p ms) nothing → c .action n ≡ test t → truthValue ed vs t ≡ fault side →
-        Rule (at x vs ms) e (faultAnswer side) (over vs ms)
+        Checks ed vs (CurrentSwitch p ms) nothing → c .action n ≡ test t → truthValue ed vs t ≡ fault side →
+        Rule (at x vs ms) e 203 (over vs ms)
     -- a CONTINUE
     pick-wait : {x : S} {vs : List ℤ} {ms e t : List ℕ} {n a : ℕ} {after : Situation S} → SaysPick ed e n → Mem n (c .acting x) →
-        Walks ed vs (currentTruths p ms) nothing → c .action n ≡ wait t → truthValue ed vs t ≡ ok true →
+        Checks ed vs (CurrentSwitch p ms) nothing → c .action n ≡ wait t → truthValue ed vs t ≡ ok true →
         Goes vs ms (c .next x n true) a after → Rule (at x vs ms) e a after
     -- 29: "The CONTINUE is not yet true."
     pick-wait-false : {x : S} {vs : List ℤ} {ms e t : List ℕ} {n : ℕ} → SaysPick ed e n → Mem n (c .acting x) →
-        Walks ed vs (currentTruths p ms) nothing → c .action n ≡ wait t → truthValue ed vs t ≡ ok false →
+        Checks ed vs (CurrentSwitch p ms) nothing → c .action n ≡ wait t → truthValue ed vs t ≡ ok false →
         Rule (at x vs ms) e 29 (at x vs ms)
     pick-wait-fault : {x : S} {vs : List ℤ} {ms e t : List ℕ} {n : ℕ} {side : Side} → SaysPick ed e n → Mem n (c .acting x) →
-        Walks ed vs (currentTruths p ms) nothing → c .action n ≡ wait t → truthValue ed vs t ≡ fault side →
-        Rule (at x vs ms) e (faultAnswer side) (over vs ms)
+        Checks ed vs (CurrentSwitch p ms) nothing → c .action n ≡ wait t → truthValue ed vs t ≡ fault side →
+        Rule (at x vs ms) e 203 (over vs ms)
     -- a RESET or REINITIAL
     pick-assign : {x : S} {vs : List ℤ} {ms e t : List ℕ} {n v a : ℕ} {z : ℤ} {d : Variable} {after : Situation S} → SaysPick ed e n → Mem n (c .acting x) →
-        Walks ed vs (currentTruths p ms) nothing → c .action n ≡ assign v t → numberValue ed vs t ≡ ok z →
+        Checks ed vs (CurrentSwitch p ms) nothing → c .action n ≡ assign v t → numberValue ed vs t ≡ ok z →
         getElem? (p .variables) v ≡ some d → Inside d z →
         Goes (set vs v z) ms (c .next x n true) a after → Rule (at x vs ms) e a after
     pick-assign-fault : {x : S} {vs : List ℤ} {ms e t : List ℕ} {n v : ℕ} {side : Side} → SaysPick ed e n → Mem n (c .acting x) →
-        Walks ed vs (currentTruths p ms) nothing → c .action n ≡ assign v t → numberValue ed vs t ≡ fault side →
-        Rule (at x vs ms) e (faultAnswer side) (over vs ms)
+        Checks ed vs (CurrentSwitch p ms) nothing → c .action n ≡ assign v t → numberValue ed vs t ≡ fault side →
+        Rule (at x vs ms) e 203 (over vs ms)
     pick-assign-outside : {x : S} {vs : List ℤ} {ms e t : List ℕ} {n v : ℕ} {z : ℤ} {d : Variable} {side : Side} → SaysPick ed e n → Mem n (c .acting x) →
-        Walks ed vs (currentTruths p ms) nothing → c .action n ≡ assign v t → numberValue ed vs t ≡ ok z →
-        getElem? (p .variables) v ≡ some d → Outside d z side → Rule (at x vs ms) e (faultAnswer side) (over vs ms)
+        Checks ed vs (CurrentSwitch p ms) nothing → c .action n ≡ assign v t → numberValue ed vs t ≡ ok z →
+        getElem? (p .variables) v ≡ some d → Outside d z side → Rule (at x vs ms) e 203 (over vs ms)
     -- a SWITCH
     pick-switch : {x : S} {vs : List ℤ} {ms e : List ℕ} {n s m a : ℕ} {after : Situation S} → SaysPick ed e n → Mem n (c .acting x) →
-        Walks ed vs (currentTruths p ms) nothing → c .action n ≡ switch s m →
+        Checks ed vs (CurrentSwitch p ms) nothing → c .action n ≡ switch s m →
         Goes vs (set ms s m) (c .next x n true) a after → Rule (at x vs ms) e a after
-    -- a STOP
-    pick-stop : {x : S} {vs : List ℤ} {ms e : List ℕ} {n a : ℕ} {after : Situation S} → SaysPick ed e n → Mem n (c .acting x) →
-        Walks ed vs (currentTruths p ms) nothing → c .action n ≡ stop →
-        Goes vs ms (c .next x n true) a after → Rule (at x vs ms) e a after
+    -- a STOP: 202, and the run is over, whatever the control
+    pick-stop : {x : S} {vs : List ℤ} {ms e : List ℕ} {n : ℕ} → SaysPick ed e n → Mem n (c .acting x) →
+        Checks ed vs (CurrentSwitch p ms) nothing → c .action n ≡ stop → Rule (at x vs ms) e 202 (over vs ms)
     -- "Switch (no switch check): it exists, its truth holds, the mode changes."
     -- 26: "There is no such switch."
     switch-missing : {x : S} {vs : List ℤ} {ms e : List ℕ} {s k : ℕ} → SaysSwitch ed e s k →
-        ((m : Mode) (w : Switch) → getElem? (currentModes p ms) s ≡ some m → getElem? (m .switches) k ≡ some w → ⊥) →
+        ((w : Switch) → CurrentSwitch p ms s k w → ⊥) →
         Rule (at x vs ms) e 26 (at x vs ms)
-    switch-taken : {x : S} {vs : List ℤ} {ms e : List ℕ} {s k : ℕ} {m : Mode} {w : Switch} → SaysSwitch ed e s k →
-        getElem? (currentModes p ms) s ≡ some m → getElem? (m .switches) k ≡ some w → truthValue ed vs (w .truth) ≡ ok true →
+    switch-taken : {x : S} {vs : List ℤ} {ms e : List ℕ} {s k : ℕ} {w : Switch} → SaysSwitch ed e s k →
+        CurrentSwitch p ms s k w → truthValue ed vs (w .truth) ≡ ok true →
         Rule (at x vs ms) e 200 (at x vs (set ms s (w .target)))
     -- 30: "The switch's truth is false."
-    switch-false : {x : S} {vs : List ℤ} {ms e : List ℕ} {s k : ℕ} {m : Mode} {w : Switch} → SaysSwitch ed e s k →
-        getElem? (currentModes p ms) s ≡ some m → getElem? (m .switches) k ≡ some w → truthValue ed vs (w .truth) ≡ ok false →
+    switch-false : {x : S} {vs : List ℤ} {ms e : List ℕ} {s k : ℕ} {w : Switch} → SaysSwitch ed e s k →
+        CurrentSwitch p ms s k w → truthValue ed vs (w .truth) ≡ ok false →
         Rule (at x vs ms) e 30 (at x vs ms)
-    switch-fault : {x : S} {vs : List ℤ} {ms e : List ℕ} {s k : ℕ} {m : Mode} {w : Switch} {side : Side} → SaysSwitch ed e s k →
-        getElem? (currentModes p ms) s ≡ some m → getElem? (m .switches) k ≡ some w → truthValue ed vs (w .truth) ≡ fault side →
-        Rule (at x vs ms) e (faultAnswer side) (over vs ms)
+    switch-fault : {x : S} {vs : List ℤ} {ms e : List ℕ} {s k : ℕ} {w : Switch} {side : Side} → SaysSwitch ed e s k →
+        CurrentSwitch p ms s k w → truthValue ed vs (w .truth) ≡ fault side →
+        Rule (at x vs ms) e 203 (over vs ms)
     -- "Tick: all acting nodes are CONTINUE, switch check, their truths in node order up to the first that is true or faults,
     -- then each driven variable adds its current rate"
     -- 27: "A tick while some acting node is no CONTINUE."
@@ -171,20 +214,20 @@ module _ {S : Type 0} (ed : Edition) (p : Plant) (c : Control S) where
         ((t : List ℕ) → c .action n ≡ wait t → ⊥) → Rule (at x vs ms) e 27 (at x vs ms)
     -- 28
     tick-switch-true : {x : S} {vs : List ℤ} {ms e : List ℕ} {ts : List (List ℕ)} → SaysTick ed e → Waits (c .action) (c .acting x) ts →
-        Walks ed vs (currentTruths p ms) a-truth → Rule (at x vs ms) e 28 (at x vs ms)
+        Checks ed vs (CurrentSwitch p ms) a-truth → Rule (at x vs ms) e 28 (at x vs ms)
     tick-switch-fault : {x : S} {vs : List ℤ} {ms e : List ℕ} {ts : List (List ℕ)} {side : Side} → SaysTick ed e → Waits (c .action) (c .acting x) ts →
-        Walks ed vs (currentTruths p ms) (a-fault side) → Rule (at x vs ms) e (faultAnswer side) (over vs ms)
+        Checks ed vs (CurrentSwitch p ms) (a-fault side) → Rule (at x vs ms) e 203 (over vs ms)
     -- 31: "A tick whose walk over the CONTINUE truths stops at a true one."
     tick-wait-true : {x : S} {vs : List ℤ} {ms e : List ℕ} {ts : List (List ℕ)} → SaysTick ed e → Waits (c .action) (c .acting x) ts →
-        Walks ed vs (currentTruths p ms) nothing → Walks ed vs ts a-truth → Rule (at x vs ms) e 31 (at x vs ms)
+        Checks ed vs (CurrentSwitch p ms) nothing → Walks ed vs ts a-truth → Rule (at x vs ms) e 31 (at x vs ms)
     tick-wait-fault : {x : S} {vs : List ℤ} {ms e : List ℕ} {ts : List (List ℕ)} {side : Side} → SaysTick ed e → Waits (c .action) (c .acting x) ts →
-        Walks ed vs (currentTruths p ms) nothing → Walks ed vs ts (a-fault side) → Rule (at x vs ms) e (faultAnswer side) (over vs ms)
+        Checks ed vs (CurrentSwitch p ms) nothing → Walks ed vs ts (a-fault side) → Rule (at x vs ms) e 203 (over vs ms)
     tick-taken : {x : S} {vs ys : List ℤ} {ms e : List ℕ} {ts : List (List ℕ)} → SaysTick ed e → Waits (c .action) (c .acting x) ts →
-        Walks ed vs (currentTruths p ms) nothing → Walks ed vs ts nothing → Added p ms vs ys → AllInside (p .variables) ys →
+        Checks ed vs (CurrentSwitch p ms) nothing → Walks ed vs ts nothing → Added p ms vs ys → AllInside (p .variables) ys →
         Rule (at x vs ms) e 200 (at x ys ms)
     tick-outside : {x : S} {vs ys : List ℤ} {ms e : List ℕ} {ts : List (List ℕ)} {side : Side} → SaysTick ed e → Waits (c .action) (c .acting x) ts →
-        Walks ed vs (currentTruths p ms) nothing → Walks ed vs ts nothing → Added p ms vs ys → FirstOutside (p .variables) ys side →
-        Rule (at x vs ms) e (faultAnswer side) (over vs ms)
+        Checks ed vs (CurrentSwitch p ms) nothing → Walks ed vs ts nothing → Added p ms vs ys → FirstOutside (p .variables) ys side →
+        Rule (at x vs ms) e 203 (over vs ms)
 
   -- ---- 23 to 31, each by itself: its sentence, in the situation before the event; 24 to 31 speak of a run that is not over
   pub data Sentence : ℕ → Situation S → List ℕ → Type 0 where
@@ -197,21 +240,21 @@ module _ {S : Type 0} (ed : Edition) (p : Plant) (c : Control S) where
     is-idle : {x : S} {vs : List ℤ} {ms e : List ℕ} {n : ℕ} → SaysPick ed e n → (Mem n (c .acting x) → ⊥) → Sentence 25 (at x vs ms) e
     -- 26: "There is no such switch."
     is-missing : {x : S} {vs : List ℤ} {ms e : List ℕ} {s k : ℕ} → SaysSwitch ed e s k →
-        ((m : Mode) (w : Switch) → getElem? (currentModes p ms) s ≡ some m → getElem? (m .switches) k ≡ some w → ⊥) → Sentence 26 (at x vs ms) e
+        ((w : Switch) → CurrentSwitch p ms s k w → ⊥) → Sentence 26 (at x vs ms) e
     -- 27: "A tick while some acting node is no CONTINUE."
     is-busy : {x : S} {vs : List ℤ} {ms e : List ℕ} {n : ℕ} → SaysTick ed e → Mem n (c .acting x) →
         ((t : List ℕ) → c .action n ≡ wait t → ⊥) → Sentence 27 (at x vs ms) e
     -- 28: "The switch check of a pick or tick stops at a true switch."
     is-checked-pick : {x : S} {vs : List ℤ} {ms e : List ℕ} {n : ℕ} → SaysPick ed e n →
-        Walks ed vs (currentTruths p ms) a-truth → Sentence 28 (at x vs ms) e
+        Checks ed vs (CurrentSwitch p ms) a-truth → Sentence 28 (at x vs ms) e
     is-checked-tick : {x : S} {vs : List ℤ} {ms e : List ℕ} → SaysTick ed e →
-        Walks ed vs (currentTruths p ms) a-truth → Sentence 28 (at x vs ms) e
+        Checks ed vs (CurrentSwitch p ms) a-truth → Sentence 28 (at x vs ms) e
     -- 29: "The CONTINUE is not yet true."
     is-early : {x : S} {vs : List ℤ} {ms e t : List ℕ} {n : ℕ} → SaysPick ed e n → c .action n ≡ wait t →
         truthValue ed vs t ≡ ok false → Sentence 29 (at x vs ms) e
     -- 30: "The switch's truth is false."
-    is-false : {x : S} {vs : List ℤ} {ms e : List ℕ} {s k : ℕ} {m : Mode} {w : Switch} → SaysSwitch ed e s k →
-        getElem? (currentModes p ms) s ≡ some m → getElem? (m .switches) k ≡ some w → truthValue ed vs (w .truth) ≡ ok false → Sentence 30 (at x vs ms) e
+    is-false : {x : S} {vs : List ℤ} {ms e : List ℕ} {s k : ℕ} {w : Switch} → SaysSwitch ed e s k →
+        CurrentSwitch p ms s k w → truthValue ed vs (w .truth) ≡ ok false → Sentence 30 (at x vs ms) e
     -- 31: "A tick whose walk over the CONTINUE truths stops at a true one."
     is-due : {x : S} {vs : List ℤ} {ms e : List ℕ} {ts : List (List ℕ)} → SaysTick ed e → Waits (c .action) (c .acting x) ts →
         Walks ed vs ts a-truth → Sentence 31 (at x vs ms) e
@@ -219,9 +262,9 @@ module _ {S : Type 0} (ed : Edition) (p : Plant) (c : Control S) where
   -- the switch check of this pick or tick would fault: "a fault in the switch check is 203 before 29 or 31 is looked at"
   pub data CheckFaults : Situation S → List ℕ → Type 0 where
     pick-check : {x : S} {vs : List ℤ} {ms e : List ℕ} {n : ℕ} {side : Side} → SaysPick ed e n →
-        Walks ed vs (currentTruths p ms) (a-fault side) → CheckFaults (at x vs ms) e
+        Checks ed vs (CurrentSwitch p ms) (a-fault side) → CheckFaults (at x vs ms) e
     tick-check : {x : S} {vs : List ℤ} {ms e : List ℕ} {side : Side} → SaysTick ed e →
-        Walks ed vs (currentTruths p ms) (a-fault side) → CheckFaults (at x vs ms) e
+        Checks ed vs (CurrentSwitch p ms) (a-fault side) → CheckFaults (at x vs ms) e
 
   -- the whole list, "from the start to its last event"
   pub data Derives : Situation S → List (List ℕ) → List (Answered S) → Type 0 where
@@ -235,7 +278,29 @@ pub record Decides {S : Type 0} (ed : Edition) (p : Plant) (c : Control S) (s : 
   pub least : (m : ℕ) → m < n → Sentence ed p c m s e → ⊥
   pub unfaulted : 28 < n → CheckFaults ed p c s e → ⊥
 
--- what an accepted schedule or table gives to its run: an acting node has its moves, and what is assigned is declared
+-- a STOP that acts is picked
+pub record Stopping {S : Type 0} (ed : Edition) (c : Control S) (s : Situation S) (e : List ℕ) : Type 0 where
+  pub place : S
+  pub node : ℕ
+  pub stands : s .place ≡ some place
+  pub says : SaysPick ed e node
+  pub acts : Mem node (c .acting place)
+  pub is-stop : c .action node ≡ stop
+
+-- ---- where a run can be
+-- the places that moves lead to from the start
+pub data Comes {S : Type 0} (c : Control S) : S → Type 0 where
+  at-start : Comes c (c .start)
+  by-move : {x y : S} {n : ℕ} {b : Bool} → Comes c x → Mem n (c .acting x) → possible (c .action n) b ≡ true → c .next x n b ≡ to y → Comes c y
+
+pub data Standing {S : Type 0} (c : Control S) : Situation S → Type 0 where
+  stands-at : {x : S} {vs : List ℤ} {ms : List ℕ} → Comes c x → Standing c (at x vs ms)
+  stands-over : {vs : List ℤ} {ms : List ℕ} → Standing c (over vs ms)
+
+-- what an accepted schedule or table gives to its run: wherever it comes to, an acting node has its moves and just a STOP's halts;
+-- what is assigned is declared; and no variable has two rates
 pub record Sound {S : Type 0} (p : Plant) (c : Control S) : Type 0 where
-  pub moves : (x : S) (n : ℕ) (b : Bool) → Mem n (c .acting x) → possible (c .action n) b ≡ true → c .next x n b ≡ idle → ⊥
+  pub moves : (x : S) (n : ℕ) (b : Bool) → Comes c x → Mem n (c .acting x) → possible (c .action n) b ≡ true → c .next x n b ≡ idle → ⊥
+  pub halts : (x : S) (n : ℕ) (b : Bool) → Comes c x → Mem n (c .acting x) → possible (c .action n) b ≡ true → (c .next x n b ≡ halted) ↔ (c .action n ≡ stop)
   pub declares : (x : S) (n v : ℕ) (t : List ℕ) → Mem n (c .acting x) → c .action n ≡ assign v t → v < length (p .variables)
+  pub one-rate : (ms : List ℕ) (v : ℕ) (y z : ℤ) → CurrentRate p ms v y → CurrentRate p ms v z → y ≡ z

@@ -1,0 +1,70 @@
+-- Schedules that are the same but for the order in which the children of PARALLELs are listed.
+use mathlib.Core.Path.{_≡_}
+use mathlib.Core.Logic.{_↔_}
+use mathlib.Core.List.{List, _∷_, _++_, flatMap, List·Memᴰ as Mem}
+use mathlib.Core.Option.{some}
+use Prim.Native.Nat.{ℕ, _+_, _≤_}
+use lib.ListN.{length, drop}
+use Rattle.semantics.specs.Editions.{Edition}
+use Rattle.schedules.specs.FileSections.{FileSections, fileSectionsIn}
+use Rattle.schedules.specs.Nodes.{Node, parallel, nodesIn}
+use Rattle.schedules.specs.Trees.{Tree, Forest}
+use Rattle.schedules.specs.Preorder.{howMany, Written, WrittenAll}
+use Rattle.schedules.specs.Residuals.{Residual, acting}
+use Rattle.schedules.specs.Reached.{Distinct}
+use Rattle.schedules.specs.Files.{fileHeader, fileLength}
+
+-- the nodes of one tree, in preorder; from which number on they are counted does not matter
+abbrev pub OneTree : List Node → Type 0
+OneTree ns = (t : Tree) × Written t 0 ns
+
+-- two neighbouring children of a PARALLEL, each with all of its nodes, have changed places
+pub record Swapped (ns ms : List Node) : Type 0 where
+  -- the nodes before the PARALLEL, those of its first children, of the two, and all nodes after them
+  pub before : List Node
+  pub first : List Node
+  pub one : List Node
+  pub other : List Node
+  pub after : List Node
+  pub count : ℕ
+  pub first-trees : Forest
+  pub first-written : WrittenAll first-trees 0 first
+  pub one-tree : OneTree one
+  pub other-tree : OneTree other
+  -- both are children of it
+  pub both : howMany first-trees + 2 ≤ count
+  pub here : ns ≡ before ++ (parallel count ∷ (first ++ (one ++ (other ++ after))))
+  pub there : ms ≡ before ++ (parallel count ∷ (first ++ (other ++ (one ++ after))))
+
+-- by any number of such exchanges: any order of the children of any PARALLELs of the tree
+pub data Reordered (ns : List Node) : List Node → Type 0 where
+  unchanged : Reordered ns ns
+  swapped : {ms ls : List Node} → Reordered ns ms → Swapped ms ls → Reordered ns ls
+
+-- as many residuals are of the one sort as of the other, and as many nodes act in them
+pub record AsMany (P Q : Residual → Type 0) : Type 0 where
+  pub these : List Residual
+  pub those : List Residual
+  pub these-once : Distinct these
+  pub those-once : Distinct those
+  pub these-exact : (r : Residual) → Mem r these ↔ P r
+  pub those-exact : (r : Residual) → Mem r those ↔ Q r
+  pub as-many : length these ≡ length those
+  pub as-many-acting : length (flatMap acting these) ≡ length (flatMap acting those)
+
+-- two files with the same variables and equations, whose nodes are the same but for that order
+pub record SameButOrder (ed : Edition) (file other : List ℕ) : Type 0 where
+  -- 1 and 2 apply to both or to neither
+  pub same-header : fileHeader ed file ≡ fileHeader ed other
+  pub same-length : fileLength file ≡ fileLength other
+  pub parts : FileSections
+  pub other-parts : FileSections
+  pub in-file : fileSectionsIn (drop 3 file) ≡ some parts
+  pub in-other : fileSectionsIn (drop 3 other) ≡ some other-parts
+  pub same-variables : parts .variables ≡ other-parts .variables
+  pub same-equations : parts .equations ≡ other-parts .equations
+  pub nodes : List Node
+  pub other-nodes : List Node
+  pub nodes-read : nodesIn ed (parts .schedule) ≡ some nodes
+  pub other-read : nodesIn ed (other-parts .schedule) ≡ some other-nodes
+  pub order : Reordered nodes other-nodes

@@ -1,0 +1,125 @@
+-- Document 01, "When a file, table or event is turned away": what 5, 7, 8, 11 and 12, and 17 to 19, ask of what was read, as relations.
+use mathlib.Core.Path.{_≡_}
+use mathlib.Core.Bool.{true}
+use mathlib.Core.List.{List, [], _∷_, List·Memᴰ as Mem}
+use mathlib.Core.Logic.{_⊎_}
+use mathlib.Core.Option.{some}
+use Prim.Native.Nat.{ℕ, _≤_, _<_}
+use lib.ListN.{length, getElem?}
+use Rattle.semantics.specs.Bytes.{All}
+use Rattle.semantics.specs.Editions.{Edition}
+use Rattle.semantics.specs.Expressions.{Number, Truth, numberBytes, truthBytes, numberDepth, truthDepth, numberKnown, truthKnown}
+use Rattle.semantics.specs.Sections.{Variable, Rate, Switch, Mode, Selector, Equation, steady, choice}
+use Rattle.semantics.specs.Plant.{Plant, selectors, modeDrives, drives}
+use Rattle.semantics.specs.Run.{Action, test, wait, assign, switch, stop}
+use Rattle.semantics.specs.TableFile.{NodeAction, Entry}
+use Rattle.semantics.specs.Tables.{Table, actionNodes, entryNodes}
+use Rattle.semantics.specs.Writing.{InRange, HasMode}
+
+-- ---- 12: these bytes are a truth or number, of depth at most 16, that names no missing variable
+pub record IsTruth (ed : Edition) (variables : ℕ) (s : List ℕ) : Type 0 where
+  pub truth : Truth
+  pub written : truthBytes ed truth ≡ s
+  pub depth : truthDepth truth ≤ 16
+  pub known : truthKnown variables truth ≡ true
+
+pub record IsNumber (ed : Edition) (variables : ℕ) (s : List ℕ) : Type 0 where
+  pub number : Number
+  pub written : numberBytes ed number ≡ s
+  pub depth : numberDepth number ≤ 16
+  pub known : numberKnown variables number ≡ true
+
+-- ---- 7: "An equation names a missing variable or mode, truths left aside."
+pub record NamedInMode (variables modes : ℕ) (m : Mode) : Type 0 where
+  pub rates : All (λ (r : Rate). r .driven < variables) (m .rates)
+  pub targets : All (λ (w : Switch). w .target < modes) (m .switches)
+
+-- each variable and mode that it names is there
+pub data Named (variables : ℕ) : Equation → Type 0 where
+  named-steady : {r : Rate} → r .driven < variables → Named variables (steady r)
+  named-choice : {c : Selector} → HasMode c (c .initial) → All (NamedInMode variables (length (c .modes))) (c .modes) → Named variables (choice c)
+
+-- ---- 8: "A variable is in two equations or twice in one mode."
+-- none twice
+pub data Once : List ℕ → Type 0 where
+  once-nil : Once []
+  once-cons : {n : ℕ} {l : List ℕ} → (Mem n l → ⊥) → Once l → Once (n ∷ l)
+
+pub data OnceInModes : Equation → Type 0 where
+  once-steady : {r : Rate} → OnceInModes (steady r)
+  once-choice : {c : Selector} → All (λ m. Once (modeDrives m)) (c .modes) → OnceInModes (choice c)
+
+-- none in two equations
+pub data Apart : List Equation → Type 0 where
+  apart-nil : Apart []
+  apart-cons : {e : Equation} {es : List Equation} → ((f : Equation) (n : ℕ) → Mem f es → Mem n (drives f) → Mem n (drives e) → ⊥) → Apart es → Apart (e ∷ es)
+
+pub record DrivenOnce (es : List Equation) : Type 0 where
+  pub in-modes : All OnceInModes es
+  pub apart : Apart es
+
+-- ---- 12 of the switches
+abbrev pub TruthsInMode : Edition → ℕ → Mode → Type 0
+TruthsInMode ed variables m = All (λ (w : Switch). IsTruth ed variables (w .truth)) (m .switches)
+
+pub data Truths (ed : Edition) (variables : ℕ) : Equation → Type 0 where
+  truths-steady : {r : Rate} → Truths ed variables (steady r)
+  truths-choice : {c : Selector} → All (TruthsInMode ed variables) (c .modes) → Truths ed variables (choice c)
+
+-- ---- 5, 7, 8 and 12
+pub record ProperPlant (ed : Edition) (p : Plant) : Type 0 where
+  -- "Minimum ≤ initial ≤ maximum"
+  pub initial : All (λ (x : Variable). InRange x (x .initial)) (p .variables)
+  pub named : All (Named (length (p .variables))) (p .equations)
+  pub once : DrivenOnce (p .equations)
+  pub truths : All (Truths ed (length (p .variables))) (p .equations)
+
+-- ---- 11 and 12 of a node or an action
+-- a selector and a mode of it that exist
+pub record ModeThere (cs : List Selector) (s m : ℕ) : Type 0 where
+  pub selector : Selector
+  pub there : getElem? cs s ≡ some selector
+  pub mode : HasMode selector m
+
+pub data ProperAction (ed : Edition) (p : Plant) : Action → Type 0 where
+  proper-test : {t : List ℕ} → IsTruth ed (length (p .variables)) t → ProperAction ed p (test t)
+  proper-wait : {t : List ℕ} → IsTruth ed (length (p .variables)) t → ProperAction ed p (wait t)
+  proper-assign : {v : ℕ} {e : List ℕ} → v < length (p .variables) → IsNumber ed (length (p .variables)) e → ProperAction ed p (assign v e)
+  proper-switch : {s m : ℕ} → ModeThere (selectors p) s m → ProperAction ed p (switch s m)
+  proper-stop : ProperAction ed p stop
+
+-- ---- 18 and 19
+-- each greater than the one before it
+pub data Rising : List ℕ → Type 0 where
+  rising-nil : Rising []
+  rising-one : {n : ℕ} → Rising (n ∷ [])
+  rising-more : {m n : ℕ} {l : List ℕ} → m < n → Rising (n ∷ l) → Rising (m ∷ n ∷ l)
+
+-- "a location or FFFE"
+abbrev pub GoesOn : ℕ → ℕ → Type 0
+GoesOn locations t = (t < locations) ⊎ (t ≡ 0xfffe)
+
+-- "Fit targets: tests take two, each a location or FFFE; stop has FFFD, FFFF; others a location or FFFE, then FFFF."
+pub data FitTargets (locations : ℕ) : Action → ℕ → ℕ → Type 0 where
+  fit-test : {c : List ℕ} {t u : ℕ} → GoesOn locations t → GoesOn locations u → FitTargets locations (test c) t u
+  fit-wait : {c : List ℕ} {t u : ℕ} → GoesOn locations t → u ≡ 0xffff → FitTargets locations (wait c) t u
+  fit-assign : {v : ℕ} {e : List ℕ} {t u : ℕ} → GoesOn locations t → u ≡ 0xffff → FitTargets locations (assign v e) t u
+  fit-switch : {s m t u : ℕ} → GoesOn locations t → u ≡ 0xffff → FitTargets locations (switch s m) t u
+  fit-stop : {t u : ℕ} → t ≡ 0xfffd → u ≡ 0xffff → FitTargets locations stop t u
+
+-- its node is known, and its targets fit that node's action
+pub record ProperEntry (acts : List NodeAction) (locations : ℕ) (e : Entry) : Type 0 where
+  pub action : Action
+  pub listed : Mem (record { node = e .node; action = action }) acts
+  pub targets : FitTargets locations action (e .target) (e .other)
+
+pub record ProperRow (acts : List NodeAction) (locations : ℕ) (es : List Entry) : Type 0 where
+  pub rising : Rising (entryNodes es)
+  pub entries : All (ProperEntry acts locations) es
+
+pub record ProperTable (ed : Edition) (t : Table) : Type 0 where
+  pub plant : ProperPlant ed (t .plant)
+  pub rising : Rising (actionNodes (t .actions))
+  pub nodes : All (λ (a : NodeAction). a .node < ed .nodes) (t .actions)
+  pub actions : All (λ (a : NodeAction). ProperAction ed (t .plant) (a .action)) (t .actions)
+  pub locations : All (ProperRow (t .actions) (length (t .locations))) (t .locations)
