@@ -1,15 +1,15 @@
 -- The rows of the actions, node by node.
-use mathlib.Core.Path.{_≡_, refl, sym, ap, _∙_}
+use mathlib.Core.Path.{_≡_, refl, sym, ap, ap₂, _∙_}
 use mathlib.Core.List.{List, [], _∷_, _++_}
-use Prim.Native.Nat.{ℕ, zero, suc, _+_, _-_, _≤_}
+use Prim.Native.Nat.{ℕ, zero, suc, _+_, _-_, _≤_, _<_}
 use native.Mathlib.Omega.{arith}
-use native.Mathlib.Nat.{zero-add}
+use native.Mathlib.Decide.{decLe}
 use native.Mathlib.Numerals.{add-one}
 use lib.ListN.{length, getD, length-append, drop, length-drop}
 use lib.Seq.{length-take-le}
 use Rattle.codec.specs.Writing.{Wrote}
 use Rattle.codec.proofs.Writing.{wrote-none, put-more, wrote-as}
-use Rattle.table_write.specs.ActionTable.{actionRow, actionOnce, operandAt, actionRows, actionCount, OperandOf, ActionPut, ActionsPut}
+use Rattle.table_write.specs.ActionTable.{actionRow, actionOnce, operandAt, actionRows, actionCount, OperandOf, Listed, Measured}
 
 pub operand-long : (s starts ends : List ℕ) (n : ℕ) → getD starts n 0 ≤ getD ends n 0 → getD ends n 0 ≤ length s → length (operandAt s starts ends n) ≡ getD ends n 0 - getD starts n 0
 unfolding operandAt
@@ -53,40 +53,73 @@ module _ {s acts starts ends : List ℕ} {n : ℕ} (h : OperandOf s acts starts 
       go zero f = omega arith
       go (suc k) f = let a = f (λ e. omega arith) in let b = operand-long s starts ends n (h .ordered) (h .inside) in omega arith
 
-  -- a node without an action
-  pub put-none : (b : List ℕ) (count at : ℕ) → getD acts n 0 ≡ 0 → ActionPut s acts starts ends n b count at b count at
-  put-none b count at e =
-      let z = row-none n (getD acts n 0) (operandAt s starts ends n) e in
-      record { counts = omega (arith, once-none (getD acts n 0) e); ends-at = omega (arith, ap length z); writes = wrote-as (sym z) (wrote-none b at) }
-
-  pub put-some : {b b′ : List ℕ} (count : ℕ) {at at′ : ℕ} → (getD acts n 0 ≡ 0 → ⊥) → at′ ≡ at + length (actionRow n (getD acts n 0) (operandAt s starts ends n)) → Wrote b at (actionRow n (getD acts n 0) (operandAt s starts ends n)) b′ → ActionPut s acts starts ends n b count at b′ (count + 1) at′
-  put-some count f e w = record { counts = omega (arith, once-some (getD acts n 0) f); ends-at = e; writes = w }
-
 -- ---- all
 module _ (s acts starts ends : List ℕ) where
-  rows-next : (n : ℕ) → actionRows s acts starts ends n ++ actionRow n (getD acts n 0) (operandAt s starts ends n) ≡ actionRows s acts starts ends (n + 1)
+  pub rows-next : (n : ℕ) → actionRows s acts starts ends n ++ actionRow n (getD acts n 0) (operandAt s starts ends n) ≡ actionRows s acts starts ends (n + 1)
   unfolding actionRows
   rows-next n = rw (add-one n) refl
 
-  count-next : (n : ℕ) → actionCount acts n + actionOnce (getD acts n 0) ≡ actionCount acts (n + 1)
-  unfolding actionCount
-  count-next n = rw (add-one n) refl
+  -- those of some nodes are no longer than those of more
+  pub rows-within : (n count : ℕ) → n ≤ count → length (actionRows s acts starts ends n) ≤ length (actionRows s acts starts ends count)
+  unfolding actionRows
+  rows-within n zero h = let e : n ≡ 0 = omega arith in rw e (omega arith)
+  rows-within n (suc count) h =
+      let l = length-append (actionRows s acts starts ends count) (actionRow count (getD acts count 0) (operandAt s starts ends count)) in
+      elim (decLe n count) [
+        | yes k ↦ (let i = rows-within n count k in omega arith)
+        | no k ↦ (let e : n ≡ suc count = omega arith in rw (e, actionRows) (omega arith))
+      ]
 
-  pub actions-start : (b : List ℕ) → ActionsPut s acts starts ends 0 b b 0 0
-  unfolding actionRows actionCount
-  actions-start b = record { counts = refl; ends-at = refl; writes = wrote-none b 0 }
+  -- the rows so far, written from a place on
+  pub record Written (from n : ℕ) (b b′ : List ℕ) (at : ℕ) : Type 0 where
+    pub ends-at : at ≡ from + length (actionRows s acts starts ends n)
+    pub writes : Wrote b from (actionRows s acts starts ends n) b′
 
-  pub actions-more : {n : ℕ} {b b₁ b′ : List ℕ} {count at count′ at′ : ℕ} → ActionsPut s acts starts ends n b b₁ count at → ActionPut s acts starts ends n b₁ count at b′ count′ at′ → ActionsPut s acts starts ends (n + 1) b b′ count′ at′
-  actions-more {n} x y = record {
-    counts = y .counts ∙ ap (λ (k : ℕ). k + actionOnce (getD acts n 0)) (x .counts) ∙ count-next n;
-    ends-at = y .ends-at ∙ ap (λ (k : ℕ). k + length (actionRow n (getD acts n 0) (operandAt s starts ends n))) (x .ends-at) ∙ sym (length-append (actionRows s acts starts ends n) _) ∙ ap length (rows-next n);
-    writes = wrote-as (rows-next n) (put-more (x .writes) (y .writes) (omega arith) (x .ends-at ∙ sym (zero-add _)));
+  pub written-none : (from : ℕ) (b : List ℕ) → Written from 0 b b from
+  unfolding actionRows
+  written-none from b = record { ends-at = omega arith; writes = wrote-none b from }
+
+  pub written-more : {from n : ℕ} {b b₁ b′ : List ℕ} {at at′ : ℕ} → Written from n b b₁ at → from ≤ length b → at′ ≡ at + length (actionRow n (getD acts n 0) (operandAt s starts ends n)) →
+      Wrote b₁ at (actionRow n (getD acts n 0) (operandAt s starts ends n)) b′ → Written from (n + 1) b b′ at′
+  written-more {n = n} x h e w = record {
+    ends-at = let a = length-append (actionRows s acts starts ends n) (actionRow n (getD acts n 0) (operandAt s starts ends n)) in let f = ap length (rows-next n) in omega (arith, x .ends-at);
+    writes = wrote-as (rows-next n) (put-more (x .writes) w h (x .ends-at));
   }
 
-  pub actions-end : {n m : ℕ} {b b′ : List ℕ} {count at : ℕ} → n ≡ m → ActionsPut s acts starts ends n b b′ count at → ActionsPut s acts starts ends m b b′ count at
-  actions-end e x = rw (← e) x
+  -- there is room for one more where there is room for all
+  pub written-room : {from n count : ℕ} {b b₁ : List ℕ} {at : ℕ} → Written from n b b₁ at → n < count → at + length (actionRow n (getD acts n 0) (operandAt s starts ends n)) ≤ from + length (actionRows s acts starts ends count)
+  written-room {n = n} {count = count} x h =
+      let a = length-append (actionRows s acts starts ends n) (actionRow n (getD acts n 0) (operandAt s starts ends n)) in
+      let f = ap length (rows-next n) in
+      let w = rows-within (n + 1) count (omega arith) in
+      omega (arith, x .ends-at)
 
-pub count-few : (acts : List ℕ) (n : ℕ) → actionCount acts n ≤ n
-unfolding actionCount
-count-few acts zero = omega arith
-count-few acts (suc n) = let a = count-few acts n in let b = once-few (getD acts n 0) in omega arith
+  pub written-end : {from n count : ℕ} {b b′ : List ℕ} {at : ℕ} → n ≡ count → Written from n b b′ at → (at ≡ from + length (actionRows s acts starts ends count)) × Wrote b from (actionRows s acts starts ends count) b′
+  written-end e x = rw (← e) (x .ends-at, x .writes)
+
+-- ---- counted
+module _ {acts starts ends : List ℕ} where
+  pub measured-none : Measured acts starts ends 0 0 0
+  unfolding actionRows actionCount
+  measured-none = record { counts = refl; sizes = λ s h. refl }
+
+  pub measured-more : {n count size once len : ℕ} → Measured acts starts ends n count size → once ≡ actionOnce (getD acts n 0) →
+      ((s : List ℕ) → OperandOf s acts starts ends n → len ≡ length (actionRow n (getD acts n 0) (operandAt s starts ends n))) → Measured acts starts ends (n + 1) (count + once) (size + len)
+  unfolding actionCount
+  measured-more {n} {count} x e f = record {
+    counts = ap₂ (λ (i j : ℕ). i + j) (x .counts) e ∙ ap (actionCount acts) (sym (add-one n));
+    sizes = λ s h.
+        let a = length-append (actionRows s acts starts ends n) (actionRow n (getD acts n 0) (operandAt s starts ends n)) in
+        let g = ap length (rows-next s acts starts ends n) in
+        omega (arith, x .sizes s (λ i k. h i (omega arith)), f s (h n (omega arith)));
+  }
+
+  pub measured-end : {n m count size : ℕ} → n ≡ m → Measured acts starts ends n count size → Measured acts starts ends m count size
+  measured-end e x = rw (← e) x
+
+-- among fewer nodes
+pub listed-front : {acts starts ends : List ℕ} {n count : ℕ} → Listed acts starts ends count → n ≤ count → Listed acts starts ends n
+listed-front x h = record { section = x .section; operands = record { few = omega (arith, x .operands .few); each = λ i k. x .operands .each i (omega arith) } }
+
+pub listed-last : {acts starts ends : List ℕ} {n : ℕ} (x : Listed acts starts ends (n + 1)) → OperandOf (x .section) acts starts ends n
+listed-last {n = n} x = x .operands .each n (omega arith)

@@ -2,4 +2,3 @@
 pub mod ActionLoop
 -- all sections
 pub mod TableBytes
-pub mod Room

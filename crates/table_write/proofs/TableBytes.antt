@@ -1,16 +1,19 @@
 -- The bytes of a table, section by section.
-use mathlib.Core.Path.{_≡_, refl, ap, _∙_}
-use mathlib.Core.List.{List, [], _∷_, _++_, append-assoc}
-use Prim.Native.Nat.{ℕ, suc, _+_}
+use mathlib.Core.Path.{_≡_, refl, sym, ap₂, _∙_}
+use mathlib.Core.List.{List, [], _∷_, _++_}
+use Prim.Native.Nat.{ℕ, suc, _+_, _≤_}
 use native.Mathlib.Numerals.{add-one}
 use native.Mathlib.Omega.{arith}
-use lib.ListN.{length, take, drop, length-append}
-use lib.Seq.{take-append-seam}
-use Rattle.semantics.specs.Bytes.{out2, out4, overwrite}
+use lib.ListN.{length}
+use Rattle.semantics.specs.Bytes.{out2, out4}
 use Rattle.semantics.specs.TableFile.{inSection2, inSection4}
 use Rattle.codec.specs.Writing.{Wrote}
-use Rattle.codec.proofs.Writing.{wrote-front}
-use Rattle.table_write.specs.TableParts.{bodyWith, tableWith}
+use Rattle.codec.proofs.Writing.{put-more, wrote-as}
+use Rattle.schedules.specs.Numbering.{locations}
+use Rattle.numbering.specs.Meeting.{testsIn}
+use Rattle.numbering.specs.Located.{allRows, Fitting, Numbered}
+use Rattle.table_write.specs.ActionTable.{actionRows, actionCount, actionSection, Operands, Measured}
+use Rattle.table_write.specs.LocationTable.{locationSection, Counted, LocationsPut}
 
 pub section-length : (s : List ℕ) → length (inSection2 s) ≡ length s + 2
 unfolding inSection2 out2
@@ -20,10 +23,6 @@ pub long-length : (s : List ℕ) → length (inSection4 s) ≡ length s + 4
 unfolding inSection4 out4
 long-length s = omega arith
 
-pub rows-length : (n : ℕ) (s : List ℕ) → length (out2 n ++ s) ≡ length s + 2
-unfolding out2
-rows-length n s = omega arith
-
 pub actions-joined : (k : ℕ) (rows : List ℕ) → (out2 (length rows + 1) ++ (k ∷ [])) ++ rows ≡ inSection2 (k ∷ rows)
 unfolding inSection2 out2
 actions-joined k rows = rw (add-one (length rows)) refl
@@ -32,34 +31,25 @@ pub locations-joined : (n : ℕ) (rows : List ℕ) → (out4 (length rows + 2) +
 unfolding inSection4 out4 out2
 locations-joined n rows = let e : length rows + 2 ≡ suc (suc (length rows)) = omega arith in rw e refl
 
-module _ (vs es : List ℕ) (k : ℕ) (acts : List ℕ) (n : ℕ) (locs : List ℕ) where
-  body-length : length (bodyWith vs es k acts n locs) ≡ length vs + length es + length acts + length locs + 13
-  unfolding bodyWith
-  body-length =
-      let a = inSection2 vs in
-      let b = inSection2 es in
-      let c = inSection2 (k ∷ acts) in
-      let d = inSection4 (out2 n ++ locs) in
-      omega (arith, length-append a (b ++ (c ++ d)), length-append b (c ++ d), length-append c d, section-length vs, section-length es, section-length (k ∷ acts), long-length (out2 n ++ locs), rows-length n locs)
+-- ---- the action section, its head written before its rows
+pub actions-put : {s acts starts ends : List ℕ} {count n size : ℕ} {d d₁ d₂ d′ : List ℕ} {i j l k r : ℕ} → Operands s acts starts ends count → Measured acts starts ends count n size → i ≤ length d → j ≡ i + 2 → Wrote d i (out2 (size + 1)) d₁ →
+    k ≡ n → l ≡ j + 1 → Wrote d₁ j (k ∷ []) d₂ → r ≡ l + length (actionRows s acts starts ends count) → Wrote d₂ l (actionRows s acts starts ends count) d′ → (r ≡ i + size + 3) × Wrote d i (inSection2 (actionSection s acts starts ends count)) d′
+unfolding out2
+actions-put {s} {acts} {starts} {ends} {count} {k = k} o m h p w e q v f z =
+    let b = actionRows s acts starts ends count in
+    let a = m .sizes s (o .each) in
+    (omega arith, wrote-as (ap₂ (λ (x y : ℕ). (out2 (x + 1) ++ (y ∷ [])) ++ b) a (e ∙ m .counts) ∙ actions-joined (actionCount acts count) b) (put-more (put-more w v h p) z h (omega arith)))
 
-  pub with-length : length (tableWith vs es k acts n locs) ≡ length vs + length es + length acts + length locs + 18
-  unfolding tableWith out4
-  with-length = omega (arith, body-length)
+-- ---- the location section, its head written before its rows
+module _ {ks es acts : List ℕ} {n size : ℕ} (x : Counted ks es acts n size) where
+  pub fitting : {d : List ℕ} {at : ℕ} → at + size ≤ length d → Fitting ks es acts d at
+  fitting h = record { few = λ t l. omega (arith, x .few, x .counts t l); fits = λ t l. omega (arith, x .sizes t l) }
 
-  -- written section by section
-  pub with-joined : {i : ℕ} → i ≡ length vs + length es + length acts + length locs + 18 →
-      ((((1 ∷ out4 i) ++ inSection2 vs) ++ inSection2 es) ++ inSection2 (k ∷ acts)) ++ inSection4 (out2 n ++ locs) ≡ tableWith vs es k acts n locs
-  unfolding tableWith bodyWith
-  with-joined {i} e =
-      let a = inSection2 vs in
-      let b = inSection2 es in
-      let c = inSection2 (k ∷ acts) in
-      let d = inSection4 (out2 n ++ locs) in
-      let h : List ℕ = 1 ∷ out4 i in
-      let z : i ≡ 5 + length (a ++ (b ++ (c ++ d))) = let l = body-length in omega arith in
-      append-assoc ((h ++ a) ++ b) c d ∙ append-assoc (h ++ a) b (c ++ d) ∙ append-assoc h a (b ++ (c ++ d)) ∙ ap (λ (j : ℕ). 1 ∷ (out4 j ++ (a ++ (b ++ (c ++ d))))) z
-
--- what was written at the front is taken from it
-pub taken-front : {d e bs : List ℕ} {n : ℕ} → n ≡ length bs → Wrote d 0 bs e → take n e ≡ bs
-unfolding overwrite
-taken-front {d} {e} {bs} h w = rw (h, wrote-front w) (take-append-seam bs (drop (length bs) d))
+  pub locations-put : {d d₁ d₂ d′ : List ℕ} {i j l r : ℕ} → i ≤ length d → j ≡ i + 4 → Wrote d i (out4 (size + 2)) d₁ → l ≡ j + 2 → Wrote d₁ j (out2 n) d₂ → Numbered ks es acts d₂ l d′ r → LocationsPut ks es acts d i d′ r
+  unfolding out4 out2
+  locations-put {d′ = d′} h p w q v z = record {
+    ends = λ t e. let a = long-length (locationSection (testsIn acts) t) in omega (arith, z .ends t e);
+    writes = λ t e.
+        wrote-as (ap₂ (λ (k m : ℕ). (out4 (k + 2) ++ out2 m) ++ allRows (testsIn acts) t) (sym (x .sizes t e)) (sym (x .counts t e)) ∙ locations-joined (length (locations (testsIn acts) t)) (allRows (testsIn acts) t))
+        (put-more (put-more w v h p) (z .writes t e) h (omega arith));
+  }

@@ -29,6 +29,10 @@ unfoldable pub actionCount : List ℕ → ℕ → ℕ
 actionCount acts zero = 0
 actionCount acts (suc n) = actionCount acts n + actionOnce (getD acts n 0)
 
+-- "count, then per node .."
+abbrev pub actionSection : List ℕ → List ℕ → List ℕ → List ℕ → ℕ → List ℕ
+actionSection s acts starts ends n = actionCount acts n ∷ actionRows s acts starts ends n
+
 -- node n stands in the index, and its operand in the section
 pub record OperandOf (s acts starts ends : List ℕ) (n : ℕ) : Type 0 where
   pub in-acts : n < length acts
@@ -43,14 +47,12 @@ pub record Operands (s acts starts ends : List ℕ) (count : ℕ) : Type 0 where
   pub few : count ≤ 64
   pub each : (i : ℕ) → i < count → OperandOf s acts starts ends i
 
--- a node's row at a place: the count of rows, and the place after them
-pub record ActionPut (s acts starts ends : List ℕ) (n : ℕ) (b : List ℕ) (count at : ℕ) (b′ : List ℕ) (count′ at′ : ℕ) : Type 0 where
-  pub counts : count′ ≡ count + actionOnce (getD acts n 0)
-  pub ends-at : at′ ≡ at + length (actionRow n (getD acts n 0) (operandAt s starts ends n))
-  pub writes : Wrote b at (actionRow n (getD acts n 0) (operandAt s starts ends n)) b′
+-- in some section
+pub record Listed (acts starts ends : List ℕ) (count : ℕ) : Type 0 where
+  pub section : List ℕ
+  pub operands : Operands section acts starts ends count
 
--- the rows of the first n nodes from the front
-pub record ActionsPut (s acts starts ends : List ℕ) (n : ℕ) (b b′ : List ℕ) (count at : ℕ) : Type 0 where
+-- how many of the first n nodes have an action, and how many bytes their rows take, whatever the operands are
+pub record Measured (acts starts ends : List ℕ) (n count size : ℕ) : Type 0 where
   pub counts : count ≡ actionCount acts n
-  pub ends-at : at ≡ length (actionRows s acts starts ends n)
-  pub writes : Wrote b 0 (actionRows s acts starts ends n) b′
+  pub sizes : (s : List ℕ) → ((i : ℕ) → i < n → OperandOf s acts starts ends i) → size ≡ length (actionRows s acts starts ends n)

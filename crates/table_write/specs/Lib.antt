@@ -1,3 +1,3 @@
 -- What the contracts of the writer cite.
 pub mod ActionTable
-pub mod TableParts
+pub mod LocationTable

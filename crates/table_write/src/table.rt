@@ -1,27 +1,18 @@
-// The bytes of a table, section by section, and condition 14.
+// The bytes of a table, section by section.
+use super::actions;
+use numbering::locations;
+use numbering::spot;
+use numbering::spot::Spot;
 ghost use mathlib.Core.Path.{_≡_};
 ghost use mathlib.Core.List.{_∷_, _++_};
 ghost use Prim.Native.Nat.{ℕ, _+_, _≤_, _<_};
 ghost use lib.ListN.{length};
-ghost use Rattle.semantics.specs.Bytes.{out2, out4};
-ghost use Rattle.semantics.specs.TableFile.{inSection2, inSection4};
+ghost use Rattle.semantics.specs.Bytes.{out4};
+ghost use Rattle.semantics.specs.TableFile.{inSection2};
+ghost use Rattle.moves.specs.Contracts.{Planted};
 ghost use Rattle.codec.specs.Writing.{Wrote};
-ghost use Rattle.table_write.specs.TableParts.{returned, leaves, tableWith, judgeRoom};
-
-// 0 and the length of the table; or the number of the first condition that is broken, and 0
-pub struct Compiled {
-    pub refusal: u8,
-    pub length: usize,
-}
-
-pub fn refused(n: u8) -> Compiled
-    ensures { λ r. ⌜ (r .refusal ≡ n) × (r .length ≡ 0) ⌝ }
-{
-    Compiled {
-        refusal: n,
-        length: 0,
-    }
-}
+ghost use Rattle.table_write.specs.ActionTable.{actionSection, Operands, Measured};
+ghost use Rattle.table_write.specs.LocationTable.{Counted, LocationsPut};
 
 // version and whole length at the front; the next place
 fn put_header(d: &mut [u8], whole: usize) -> usize
@@ -41,74 +32,48 @@ fn put_section(d: &mut [u8], i: usize, s: &[u8]) -> usize
     codec::put_slice(d, j, s)
 }
 
-// the action section, of k actions with these rows
-fn put_actions(d: &mut [u8], i: usize, k: u8, rows: &[u8]) -> usize
-    requires { ⌜ (i + length (now rows) + 3 ≤ length (now d)) × (length (now rows) ≤ 12928) ⌝ }
-    ensures { λ r. ⌜ (r ≡ i + length (inSection2 (k ∷ now (rows .entry)))) × Wrote (now (d .entry)) i (inSection2 (k ∷ now (rows .entry))) (now (d .exit)) ⌝ }
-{
-    let j = codec::put2(d, i, rows.len() + 1);
-    let l = codec::put1(d, j, k);
-    codec::put_slice(d, l, rows)
-}
-
-// the location section, of n locations with these rows
-fn put_locations(d: &mut [u8], i: usize, n: usize, rows: &[u8]) -> usize
-    requires { ⌜ (i + length (now rows) + 6 ≤ length (now d)) × (n < 65536) × (length (now rows) ≤ 328704) ⌝ }
-    ensures { λ r. ⌜ (r ≡ i + length (inSection4 (out2 n ++ now (rows .entry)))) × Wrote (now (d .entry)) i (inSection4 (out2 n ++ now (rows .entry))) (now (d .exit)) ⌝ }
-{
-    let j = codec::put4(d, i, rows.len() + 2);
-    let l = codec::put2(d, j, n);
-    codec::put_slice(d, l, rows)
-}
-
-// the table at the front, of this length
-fn put_table<'a>(
-    vs: &'a [u8],
-    es: &'a [u8],
-    k: u8,
-    acts: &'a [u8],
-    n: usize,
-    locs: &'a [u8],
-    table: &mut [u8],
-    whole: usize,
-) -> usize
-    requires { ⌜ (whole ≡ length (now vs) + length (now es) + length (now acts) + length (now locs) + 18) × (whole ≤ length (now table)) × (length (now vs) < 65536) × (length (now es) < 65536) × (length (now acts) ≤ 12928) × (n < 65536) × (length (now locs) ≤ 328704) ⌝ }
-    ensures { λ r. ⌜ (r ≡ whole) × Wrote (now (table .entry)) 0 (tableWith (now (vs .entry)) (now (es .entry)) k (now (acts .entry)) n (now (locs .entry))) (now (table .exit)) ⌝ }
+// the front of a table of this length: up to the sections that are copied; the next place
+pub fn put_front<'a>(vs: &'a [u8], es: &'a [u8], table: &mut [u8], whole: usize) -> usize
+    requires { ⌜ (length (now vs) + length (now es) + 9 ≤ length (now table)) × (length (now vs) < 65536) × (length (now es) < 65536) × (whole < 4294967296) ⌝ }
+    ensures { λ r. ⌜ (r ≡ length (now (vs .entry)) + length (now (es .entry)) + 9) × Wrote (now (table .entry)) 0 (((1 ∷ out4 whole) ++ inSection2 (now (vs .entry))) ++ inSection2 (now (es .entry))) (now (table .exit)) ⌝ }
 {
     let a = put_header(table, whole);
     let b = put_section(table, a, vs);
-    let c = put_section(table, b, es);
-    let d = put_actions(table, c, k, acts);
-    put_locations(table, d, n, locs)
+    put_section(table, b, es)
 }
 
-// 14, or the table written; where it is not asked for, its length
-pub fn finish<'a>(
-    vs: &'a [u8],
-    es: &'a [u8],
-    k: u8,
+// the action section, of so many actions and bytes of rows, at a place; the next place
+pub fn put_actions<'a>(
+    s: &'a [u8],
     acts: &'a [u8],
-    n: usize,
-    locs: &'a [u8],
+    starts: &'a [usize],
+    ends: &'a [usize],
+    count: usize,
+    list: Spot,
     table: &mut [u8],
-    writes: bool,
-) -> Compiled
-    requires { ⌜ (length (now vs) < 65536) × (length (now es) < 65536) × (length (now acts) ≤ 12928) × (n < 65536) × (length (now locs) ≤ 328704) ⌝ }
-    ensures { λ r. ⌜ returned (r .refusal) (r .length) (now (table .exit)) ≡ leaves writes (now (table .entry)) (judgeRoom writes (tableWith (now (vs .entry)) (now (es .entry)) k (now (acts .entry)) n (now (locs .entry))) (now (table .entry))) ⌝ }
+    i: usize,
+) -> usize
+    requires { ⌜ Operands (now s) (now acts) (now starts) (now ends) count × Measured (now acts) (now starts) (now ends) count (list .count) (list .at) × (list .count ≤ 64) × (list .at ≤ 12928) × (i + list .at + 3 ≤ length (now table)) ⌝ }
+    ensures { λ r. ⌜ (r ≡ i + list .at + 3) × Wrote (now (table .entry)) i (inSection2 (actionSection (now (s .entry)) (now (acts .entry)) (now (starts .entry)) (now (ends .entry)) count)) (now (table .exit)) ⌝ }
 {
-    let whole = vs.len() + es.len() + acts.len() + locs.len() + 18;
-    if !writes {
-        return Compiled {
-            refusal: 0,
-            length: whole,
-        };
-    }
-    if table.len() < whole {
-        return refused(14);
-    }
-    let end = put_table(vs, es, k, acts, n, locs, table, whole);
-    Compiled {
-        refusal: 0,
-        length: end,
-    }
+    let j = codec::put2(table, i, list.at + 1);
+    let l = codec::put1(table, j, spot::byte(list.count));
+    actions::write(s, acts, starts, ends, count, table, l)
+}
+
+// the location section, of so many locations and bytes of rows, at a place; the next place
+pub fn put_locations<'a>(
+    kinds: &'a [u8],
+    subs: &'a [usize],
+    acts: &'a [u8],
+    rows: Spot,
+    table: &mut [u8],
+    i: usize,
+) -> usize
+    requires { ⌜ Planted (now kinds) (now subs) × (length (now kinds) ≤ 64) × (64 ≤ length (now acts)) × Counted (now kinds) (now subs) (now acts) (rows .count) (rows .at) × (i + rows .at + 6 ≤ length (now table)) ⌝ }
+    ensures { λ r. ⌜ LocationsPut (now (kinds .entry)) (now (subs .entry)) (now (acts .entry)) (now (table .entry)) i (now (table .exit)) r ⌝ }
+{
+    let j = codec::put4(table, i, rows.at + 2);
+    let l = codec::put2(table, j, rows.count);
+    locations::number(kinds, subs, acts, table, l)
 }

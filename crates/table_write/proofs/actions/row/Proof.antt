@@ -1,6 +1,10 @@
+use mathlib.Core.Path.{sym, ap}
+use mathlib.Core.List.{List}
+use lib.ListN.{length, getD}
 use native.Mathlib.Omega.{arith}
-use Rattle.table_write.specs.ActionTable.{operandAt}
-use Rattle.table_write.proofs.ActionLoop.{operand-long, put-none, put-some}
+use Rattle.codec.proofs.Writing.{wrote-none, wrote-as}
+use Rattle.table_write.specs.ActionTable.{operandAt, actionRow}
+use Rattle.table_write.proofs.ActionLoop.{operand-long, row-none, row-length}
 use borrow.Author.Needs.{needs}
 use Rattle.table_write.proofs.actions.row.Statement.{statement}
 use Rattle.table_write.proofs.actions.row.Tie as tie
@@ -9,7 +13,11 @@ shared-slice-read-k : tie.Need-shared-slice-read-k
 shared-slice-read-k c = search needs
 
 returns : tie.Need-returns
-returns c = let s = c .before .before .before .before .before .before .before in put-none (s .pre .0) (s .args .body .now) (s .args .count) (s .args .at) (c .if1 .taken)
+returns c =
+    let s = c .before .before .before .before .before .before .before in
+    let a = s .args in
+    let e = row-none (a .n) (getD (a .acts .now) (a .n) 0) (operandAt (a .s .now) (a .starts .now) (a .ends .now) (a .n)) (c .if1 .taken) in
+    (omega (arith, ap length e), wrote-as (sym e) (wrote-none (a .body .now) (a .at)))
 
 mul-a : tie.Need-mul-a
 mul-a c = search needs
@@ -33,24 +41,20 @@ part-put-row-end : tie.Need-part-put-row-end
 part-put-row-end c = search needs
 
 put-row-requires : tie.Need-put-row-requires
-unfolding operandAt
 put-row-requires c κs =
     let s = c .before .before .before .before .before .before .before .before .before .before .before in
     let a = s .args in
     let h = s .pre .0 in
+    let k = c .before .before .before .before .if1 .left in
     let l = operand-long (a .s .now) (a .starts .now) (a .ends .now) (a .n) (h .ordered) (h .inside) in
-    let z = h .short (c .before .before .before .before .if1 .left) in
-    (c .before .before .before .before .if1 .left, s .pre .1, omega (arith, l, z), omega (arith, l, z, s .pre .3))
-
-add-t18 : tie.Need-add-t18
-add-t18 c = search needs
+    (k, s .pre .1, omega (arith, h .short k, l), omega (arith, row-length (a .n) (getD (a .acts .now) (a .n) 0) (operandAt (a .s .now) (a .starts .now) (a .ends .now) (a .n)) k, s .pre .2))
 
 same-length : tie.Need-same-length
 same-length c = search needs
 
 returns-2 : tie.Need-returns-2
 unfolding operandAt
-returns-2 c = let s = c .before .before .before .before .before .before .before .before .before .before .before .before .before .before in put-some (s .pre .0) (s .args .count) (c .before .before .before .before .before .before .before .if1 .left) (c .before .before .put-row .ensures .0) (c .before .before .put-row .ensures .1)
+returns-2 c = c .before .before .put-row .ensures
 
 pub row-spec : {M : Type 1} → statement M
 row-spec =
@@ -66,6 +70,5 @@ row-spec =
     part-put-row-start
     part-put-row-end
     put-row-requires
-    add-t18
     same-length
     returns-2)

@@ -1,11 +1,6 @@
-use mathlib.Core.List.{_∷_}
-use Prim.Native.Nat.{_≤_}
-use lib.ListN.{length}
-use borrow.Author.Needs.{needs}
 use native.Mathlib.Omega.{arith}
-use Rattle.codec.proofs.Writing.{put-more, wrote-as}
-use Rattle.semantics.specs.Bytes.{out2}
-use Rattle.table_write.proofs.TableBytes.{section-length, actions-joined}
+use Rattle.table_write.proofs.TableBytes.{actions-put}
+use borrow.Author.Needs.{needs}
 use Rattle.table_write.proofs.table.put_actions.Statement.{statement}
 use Rattle.table_write.proofs.table.put_actions.Tie as tie
 
@@ -15,26 +10,25 @@ add-put2 c = search needs
 put2-requires : tie.Need-put2-requires
 put2-requires c κs = search needs
 
+byte-requires : tie.Need-byte-requires
+byte-requires c κs = search needs
+
 put1-requires : tie.Need-put1-requires
 put1-requires c κs = search needs
 
-put-slice-requires : tie.Need-put-slice-requires
-put-slice-requires c κs = search needs
+write-requires : tie.Need-write-requires
+write-requires c κs = let s = c .before .before .before .before .before .before .before .before .before .before .before .before .before .before .before .before in (s .pre .0, omega (arith, s .pre .4, s .pre .1 .sizes (s .args .s .now) (s .pre .0 .each), c .before .before .before .before .before .before .before .before .put2 .ensures .0, c .before .before .before .put1 .ensures .0, c .before .before .before .before .before .before .before .before .put2 .kept .0, c .before .before .before .put1 .kept .0))
 
 same-length : tie.Need-same-length
 same-length c = search needs
 
 returns : tie.Need-returns
-unfolding out2
 returns c =
-    let s = c .before .before .before .before .before .before .before .before .before .before .before .before .before .before in
-    let a = s .args in
-    let p = c .before .before .before .before .before .before .before .before .before .before .put2 .ensures in
+    let s = c .before .before .before .before .before .before .before .before .before .before .before .before .before .before .before .before .before .before .before in
+    let p = c .before .before .before .before .before .before .before .before .before .before .before .put2 .ensures in
     let q = c .before .before .before .before .before .before .put1 .ensures in
-    let r = c .before .before .put-slice .ensures in
-    let h : a .i ≤ length (a .d .now) = omega (arith, s .pre .0) in
-    let two = put-more (p .1) (q .1) h (p .0) in
-    (omega (arith, p .0, q .0, r .0, section-length (a .k ∷ a .rows .now)), wrote-as (actions-joined (a .k) (a .rows .now)) (put-more two (r .1) h (omega (arith, p .0, q .0))))
+    let r = c .before .before .write .ensures in
+    actions-put (s .pre .0) (s .pre .1) (omega (arith, s .pre .4)) (p .0) (p .1) (c .before .before .before .before .before .before .before .byte .ensures) (q .0) (q .1) (r .0) (r .1)
 
 pub put-actions-spec : {M : Type 1} → statement M
 put-actions-spec =
@@ -42,7 +36,8 @@ put-actions-spec =
     (tie.spec
     add-put2
     put2-requires
+    byte-requires
     put1-requires
-    put-slice-requires
+    write-requires
     same-length
     returns)

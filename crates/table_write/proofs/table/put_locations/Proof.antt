@@ -1,11 +1,6 @@
-use mathlib.Core.List.{_++_}
-use Prim.Native.Nat.{_≤_}
-use lib.ListN.{length}
-use borrow.Author.Needs.{needs}
 use native.Mathlib.Omega.{arith}
-use Rattle.codec.proofs.Writing.{put-more, wrote-as}
-use Rattle.semantics.specs.Bytes.{out2, out4}
-use Rattle.table_write.proofs.TableBytes.{long-length, rows-length, locations-joined}
+use Rattle.table_write.proofs.TableBytes.{fitting, locations-put}
+use borrow.Author.Needs.{needs}
 use Rattle.table_write.proofs.table.put_locations.Statement.{statement}
 use Rattle.table_write.proofs.table.put_locations.Tie as tie
 
@@ -18,31 +13,21 @@ put4-requires c κs = search needs
 put2-requires : tie.Need-put2-requires
 put2-requires c κs = search needs
 
-put-slice-requires : tie.Need-put-slice-requires
-put-slice-requires c κs = search needs
+number-requires : tie.Need-number-requires
+number-requires c κs =
+    let s = c .before .before .before .before .before .before .before .before .before .before .before .before .before .before in
+    (s .pre .0, s .pre .1, s .pre .2, fitting (s .pre .3) (omega (arith, s .pre .4, c .before .before .before .before .before .before .before .put4 .ensures .0, c .before .before .before .put2 .ensures .0, c .before .before .before .before .before .before .before .put4 .kept .0, c .before .before .before .put2 .kept .0)))
 
 same-length : tie.Need-same-length
 same-length c = search needs
 
 returns : tie.Need-returns
-unfolding out2 out4
 returns c =
-    let s = c .before .before .before .before .before .before .before .before .before .before .before .before .before .before in
-    let a = s .args in
+    let s = c .before .before .before .before .before .before .before .before .before .before .before .before .before .before .before .before .before in
     let p = c .before .before .before .before .before .before .before .before .before .before .put4 .ensures in
     let q = c .before .before .before .before .before .before .put2 .ensures in
-    let r = c .before .before .put-slice .ensures in
-    let h : a .i ≤ length (a .d .now) = omega (arith, s .pre .0) in
-    let two = put-more (p .1) (q .1) h (p .0) in
-    (omega (arith, p .0, q .0, r .0, long-length (out2 (a .n) ++ a .rows .now), rows-length (a .n) (a .rows .now)), wrote-as (locations-joined (a .n) (a .rows .now)) (put-more two (r .1) h (omega (arith, p .0, q .0))))
+    locations-put (s .pre .3) (omega (arith, s .pre .4)) (p .0) (p .1) (q .0) (q .1) (c .before .before .number .ensures)
 
 pub put-locations-spec : {M : Type 1} → statement M
 put-locations-spec =
-    tie.close
-    (tie.spec
-    add-put4
-    put4-requires
-    put2-requires
-    put-slice-requires
-    same-length
-    returns)
+    tie.close (tie.spec add-put4 put4-requires put2-requires number-requires same-length returns)

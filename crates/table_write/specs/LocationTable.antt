@@ -1,0 +1,30 @@
+-- The location section of a table, from the arrays of the tree.
+use mathlib.Core.Path.{_≡_}
+use mathlib.Core.Bool.{Bool}
+use mathlib.Core.List.{List, _++_}
+use Prim.Native.Nat.{ℕ, _+_, _≤_}
+use lib.ListN.{length}
+use Rattle.semantics.specs.Bytes.{out2}
+use Rattle.semantics.specs.TableFile.{inSection4, locationLimit}
+use Rattle.schedules.specs.Trees.{Tree}
+use Rattle.schedules.specs.Numbering.{locations}
+use Rattle.schedules.specs.Laid.{Lies}
+use Rattle.codec.specs.Writing.{Wrote}
+use Rattle.numbering.specs.Meeting.{testsIn}
+use Rattle.numbering.specs.Located.{allRows}
+
+-- "count (2 bytes), per location .."
+abbrev pub locationSection : (ℕ → Bool) → Tree → List ℕ
+locationSection tests t = out2 (length (locations tests t)) ++ allRows tests t
+
+-- the tree that lies in the arrays has n locations, no more than a table may hold, and their rows take so many bytes: each at most 321
+pub record Counted (ks es acts : List ℕ) (n size : ℕ) : Type 0 where
+  pub few : n ≤ locationLimit
+  pub short : size ≤ 328704
+  pub counts : (t : Tree) → Lies ks es t → length (locations (testsIn acts) t) ≡ n
+  pub sizes : (t : Tree) → Lies ks es t → length (allRows (testsIn acts) t) ≡ size
+
+-- its section is written at a place, and where it ends
+pub record LocationsPut (ks es acts d : List ℕ) (i : ℕ) (d′ : List ℕ) (r : ℕ) : Type 0 where
+  pub ends : (t : Tree) → Lies ks es t → r ≡ i + length (inSection4 (locationSection (testsIn acts) t))
+  pub writes : (t : Tree) → Lies ks es t → Wrote d i (inSection4 (locationSection (testsIn acts) t)) d′
