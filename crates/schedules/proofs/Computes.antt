@@ -50,7 +50,7 @@ unfolding Calls.scheduleCounts Calls.readSchedule Calls.ruleProgram Calls.ruleRu
 calls = tt
 
 unfoldable pub sizes : Unit {0}
-unfolding Sizes.one Sizes.nothingLeft Sizes.inTurn Sizes.sideBySide Sizes.sequenceSize Sizes.parallelSize Sizes.leafSize Sizes.haltSize Sizes.loopSize Sizes.branchSize Sizes.sizeOf
+unfolding Sizes.one Sizes.nothingLeft Sizes.inTurn Sizes.sideBySide Sizes.sequenceSize Sizes.parallelSize Sizes.leafSize Sizes.haltSize Sizes.loopSize Sizes.branchSize Sizes.sizeOf Sizes.allFinish Sizes.upToFirst Sizes.sumOf Sizes.factor Sizes.productOf Sizes.entryProducts Sizes.byProducts Sizes.pencilSize
 sizes = tt
 
 unfoldable pub schedules : Unit {0}

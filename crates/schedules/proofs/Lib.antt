@@ -30,6 +30,7 @@ pub mod Demand2
 pub mod CallsHold
 pub mod WrittenBytes
 -- the number of locations, and the order of a PARALLEL's children
+pub mod ByPencil
 pub mod Counting
 pub mod Reachable
 pub mod Reaching
