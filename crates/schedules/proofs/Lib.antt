@@ -35,6 +35,7 @@ pub mod Counting
 pub mod Reachable
 pub mod Reaching
 pub mod LocationCount
+pub mod TableLength
 pub mod PreorderSizes
 pub mod ReorderedTrees
 pub mod AnyOrder
