@@ -45,3 +45,4 @@ pub mod SizePapers
 pub mod FileForms
 pub mod FilesProper
 pub mod WritingPapers
+pub mod ExchangedBytes
