@@ -1,41 +1,33 @@
 -- The order in which a PARALLEL's children are listed changes neither whether a schedule is accepted nor the length of its table.
-use mathlib.Core.Path.{_≡_, refl, sym, ap, ap₂, subst, _∙_}
-use mathlib.Core.Logic.{_↔_}
+use mathlib.Core.Path.{_≡_, refl, sym, ap, ap₂, _∙_}
 use mathlib.Core.Bool.{Bool, true, false, _&&_}
-use mathlib.Core.List.{List, [], _∷_, _++_, map, flatMap}
+use mathlib.Core.List.{List, [], _∷_, _++_, flatMap}
 use mathlib.Core.Option.{Option, none, some}
-use Prim.Native.Nat.{ℕ, suc, _+_, _*_, _<_}
-use native.Mathlib.Nat.{add-mul, suc-mul}
+use Prim.Native.Nat.{ℕ, suc, _+_}
 use native.Mathlib.Omega.{arith}
 use borrow.Author.Tests.{leb-true}
 use lib.Dec.{leb}
-use lib.ListN.{length, length-append, length-map}
-use Rattle.semantics.specs.Bytes.{every, widthOf, out, out2}
+use lib.ListN.{length, length-append}
+use Rattle.semantics.specs.Bytes.{every, widthOf, out}
 use Rattle.semantics.specs.Editions.{Edition}
 use Rattle.semantics.specs.Refusals.{Judged, refused, accepted, _>>=_, _>>_, ensure, need}
 use Rattle.semantics.specs.Plant.{judgePlant, selectors, switchesRead}
 use Rattle.semantics.specs.Run.{Action}
-use Rattle.semantics.specs.TableFile.{Entry, locationLimit, actionBytes, writeAction, writeActions, writeEntry, writeLocation, writeLocations}
-use Rattle.semantics.proofs.Facts.{some-is}
+use Rattle.semantics.specs.TableFile.{locationLimit, actionBytes, writeAction, writeActions}
 use Rattle.semantics.proofs.Judging as Judging
-use Rattle.semantics.proofs.WrittenTables.{out-length, body-length, table-length}
+use Rattle.semantics.proofs.WrittenTables.{out-length}
 use Rattle.schedules.specs.Nodes.{Node, nodeNamed, nodeReads, actionOf, listed, actionsFrom, actionsOf}
 use Rattle.schedules.specs.Trees.{Tree, treeOf}
-use Rattle.schedules.specs.Residuals.{Residual, acting, fresh}
 use Rattle.schedules.specs.Numbering.{locations}
 use Rattle.schedules.specs.Files.{Schedule, judgeFile, fileHeader, fileLength}
-use Rattle.schedules.specs.Compiling.{testsOf, scheduleLocations, entryOf, entriesOf, tableOf, judgeCompile}
+use Rattle.schedules.specs.Compiling.{scheduleLocations, tableOf, judgeCompile}
 use Rattle.schedules.specs.Calls.{scheduleCounts, readSchedule, compile, compiledInto}
 use Rattle.schedules.specs.Sizes.{Size, sizeOf}
 use Rattle.schedules.specs.TableSizes.{tableLength}
 use Rattle.schedules.specs.Reordered.{Reordered, SameButOrder}
-use Rattle.schedules.specs.Preorder.{Written}
-use Rattle.schedules.specs.Reached.{Leads}
-use Rattle.schedules.specs.Agreement.{TooMany}
 use Rattle.schedules.proofs.Counting.{total}
 use Rattle.schedules.proofs.LocationCount.{few-locations}
 use Rattle.schedules.proofs.TableLength.{table-of-length}
-use Rattle.schedules.proofs.OneTree.{one-tree}
 use Rattle.schedules.proofs.ReorderedTrees.{reordered-tree, reordered-none, reordered-total, reordered-length, reordered-every}
 
 -- ---- the bytes of the actions

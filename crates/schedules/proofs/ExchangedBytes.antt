@@ -2,7 +2,7 @@
 use mathlib.Core.Path.{_≡_, refl, sym, ap, ap₂, subst, _∙_}
 use mathlib.Core.List.{List, [], _∷_, _++_, flatMap, append-assoc, List·Permᴰ as Permuted}
 use mathlib.Core.Option.{some}
-use Prim.Native.Nat.{ℕ, zero, suc, _+_, _≤_}
+use Prim.Native.Nat.{ℕ, _+_}
 use native.Mathlib.Omega.{arith}
 use lib.ListN.{length, drop, length-append}
 use Rattle.semantics.specs.Bytes.{All, out, out2}
@@ -14,7 +14,7 @@ use Rattle.semantics.proofs.WrittenTables.{out-length}
 use Rattle.schedules.specs.FileSections.{FileSections, fileSectionsIn}
 use Rattle.schedules.specs.Nodes.{Node, parallel, nodesIn}
 use Rattle.schedules.specs.Files.{fileHeader, fileLength}
-use Rattle.schedules.specs.Writing.{NodeLimits, writeNode, writeNodes, NodesLimits, writeSections}
+use Rattle.schedules.specs.Writing.{writeNode, writeNodes, NodesLimits, writeSections}
 use Rattle.schedules.specs.Reordered.{OneTree, Swapped, Reordered, unchanged, swapped, SameButOrder}
 use Rattle.schedules.proofs.Places.{flat-append}
 use Rattle.schedules.proofs.Counting.{total}

@@ -40,7 +40,7 @@ pub mod PreorderSizes
 pub mod ReorderedTrees
 pub mod AnyOrder
 pub mod BranchOrder
-pub mod SizePapers
+pub mod BorderPapers
 -- bytes read just where they are a written form
 pub mod FileForms
 pub mod FilesProper
