@@ -1,8 +1,7 @@
--- Papers of the border: sizes of small schedules, K8, and two files that differ in the order of a PARALLEL's children.
+-- Papers of the border: K8, and two files that differ in the order of a PARALLEL's children.
 use mathlib.Core.Path.{_≡_, refl, sym, ap, _∙_}
-use mathlib.Core.Bool.{true, false}
+use mathlib.Core.Bool.{true}
 use mathlib.Core.List.{List, [], _∷_}
-use mathlib.Core.Option.{some}
 use Prim.Native.Nat.{ℕ, _≤_}
 use borrow.Author.Tests.{leb-true, le-leb}
 use lib.Dec.{leb, lit≤, lit<}
@@ -11,7 +10,7 @@ use Rattle.semantics.specs.Editions.{Edition, edition1}
 use Rattle.semantics.specs.Refusals.{accepted}
 use Rattle.semantics.specs.TableFile.{locationLimit}
 use Rattle.semantics.proofs.Judging.{accepted-is}
-use Rattle.schedules.specs.Nodes.{sequence, parallel, while-do, reset, stop-all, continue-until}
+use Rattle.schedules.specs.Nodes.{sequence, reset, continue-until}
 use Rattle.schedules.specs.Trees.{leaf, seq, cons, nil}
 use Rattle.schedules.specs.Preorder.{howMany, a-sequence, a-reset, a-continue, no-tree, one-tree}
 use Rattle.schedules.specs.Numbering.{locations}
@@ -20,36 +19,10 @@ use Rattle.schedules.specs.Calls.{compile}
 use Rattle.schedules.specs.Sizes.{sizeOf}
 use Rattle.schedules.specs.TableSizes.{tableLength}
 use Rattle.schedules.specs.Reordered.{unchanged, swapped, SameButOrder}
-use Rattle.schedules.specs.Examples.{sizeIn, mixed, stopInside, tenResets, resetsBefore, fileWith, TakenWith, reset-first-file, reset-last-file}
+use Rattle.schedules.specs.Examples.{tenResets, resetsBefore, fileWith, TakenWith, reset-first-file, reset-last-file}
 use Rattle.schedules.proofs.Computes.{schedules}
 use Rattle.schedules.proofs.LocationCount.{refused-13-by-size}
 use Rattle.schedules.proofs.TableLength.{locations-by-size, taken-by-size}
-
--- ---- sizes
--- 2 · 2 − 1: a PARALLEL that adds would have 2, one that keeps the one 4
-pub two-resets : (v w : ℕ) (e f : List ℕ) → sizeIn (parallel 2 ∷ reset v e ∷ reset w f ∷ []) ≡ some (record { locations = 3; entries = 4; finishes = true })
-unfolding schedules
-two-resets v w e f = refl
-
--- a WHILE without a location of its own would have 1
-pub while-reset : (v : ℕ) (t e : List ℕ) → sizeIn (while-do t ∷ reset v e ∷ []) ≡ some (record { locations = 2; entries = 2; finishes = true })
-unfolding schedules
-while-reset v t e = refl
-
--- (3 + 1) · (4 + 1) − 1
-pub mixed-size : (v : ℕ) (e t : List ℕ) → sizeIn (mixed v e t) ≡ some (record { locations = 19; entries = 31; finishes = true })
-unfolding schedules
-mixed-size v e t = refl
-
--- 2 · (1 + 1): what stands after a STOP is not counted, and nothing is taken away where a child cannot finish
-pub stop-inside : (v : ℕ) (e t : List ℕ) → sizeIn (stopInside v e t) ≡ some (record { locations = 4; entries = 6; finishes = false })
-unfolding schedules
-stop-inside v e t = refl
-
--- listed the other way round
-pub stop-inside-last : (v : ℕ) (e t : List ℕ) → sizeIn (parallel 2 ∷ continue-until t ∷ sequence 4 ∷ reset v e ∷ stop-all ∷ reset v e ∷ reset v e ∷ []) ≡ some (record { locations = 4; entries = 6; finishes = false })
-unfolding schedules
-stop-inside-last v e t = refl
 
 -- ---- K8
 -- a schedule that is read, of so many locations, is compiled to a table of so many, where there is room for its bytes
