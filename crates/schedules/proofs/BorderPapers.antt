@@ -26,8 +26,8 @@ use Rattle.schedules.proofs.TableLength.{locations-by-size, taken-by-si
 
 -- ---- K8
 -- a schedule that is read, of so many locations, is compiled to a table of so many, where there is room for its bytes
-taken-with : (ed : Edition) (file room : List ℕ) {s : Schedule} → judgeFile ed file ≡ accepted s → leb ((sizeOf (s .root)) .locations) locationLimit ≡ true → leb (tableLength ed s) (length room) ≡ true →
-    TakenWith ed file room ((sizeOf (s .root)) .locations)
+taken-with : (ed : Edition) (file room : List ℕ) {s : Schedule} → judgeFile ed file ≡ accepted s →
+    leb ((sizeOf (s .root)) .locations) locationLimit ≡ true → leb (tableLength ed s) (length room) ≡ true → TakenWith ed file room ((sizeOf (s .root)) .locations)
 taken-with ed file room {s} h few fits =
     let t = taken-by-size ed file room s h (leb-true ((sizeOf (s .root)) .locations) locationLimit few) (leb-true (tableLength ed s) (length room) fits) .0 in
     let z = locations-by-size ed file room t in
@@ -35,12 +35,12 @@ taken-with ed file room {s} h few fits =
 
 -- "PARALLEL of ten RESETs: 1,023."
 pub K8-ten : (room : List ℕ) → 26745 ≤ length room → TakenWith edition1 (fileWith tenResets) room 1023
-unfolding schedules tableLength
+unfolding schedules
 K8-ten room fits = taken-with edition1 (fileWith tenResets) room refl refl (le-leb 26745 (length room) fits)
 
 -- "One RESET before it: 1,024, taken"
 pub K8-one-before : (room : List ℕ) → 26760 ≤ length room → TakenWith edition1 (fileWith (resetsBefore 1)) room 1024
-unfolding schedules tableLength
+unfolding schedules
 K8-one-before room fits = taken-with edition1 (fileWith (resetsBefore 1)) room refl refl (le-leb 26760 (length room) fits)
 
 -- "two: 13."

@@ -30,23 +30,24 @@ use Rattle.schedules.proofs.LocationCount.{few-locations}
 use Rattle.schedules.proofs.TableLength.{table-of-length}
 use Rattle.schedules.proofs.ReorderedTrees.{reordered-tree, reordered-none, reordered-total, reordered-length, reordered-every}
 
--- ---- the bytes of the actions
+-- ---- how long the actions are
 module _ (ed : Edition) where
-  -- the bytes of a node's action
-  unfoldable bytesFor : Option Action → ℕ
-  bytesFor none = 0
-  bytesFor (some y) = widthOf (ed .width) + (widthOf (ed .width) + length (actionBytes y))
+  -- the bytes that a node's action takes
+  unfoldable lengthFor : Option Action → ℕ
+  lengthFor none = 0
+  lengthFor (some y) = widthOf (ed .width) + (widthOf (ed .width) + length (actionBytes y))
 
-  nodeBytes : Node → ℕ
-  nodeBytes x = bytesFor (actionOf x)
+  actionLength : Node → ℕ
+  actionLength x = lengthFor (actionOf x)
 
-  actions-length : (n : ℕ) (ns : List Node) → length (flatMap (writeAction ed) (actionsFrom n ns)) ≡ total nodeBytes ns
-  unfolding actionsFrom flatMap total listed bytesFor nodeBytes writeAction
+  actions-length : (n : ℕ) (ns : List Node) → length (flatMap (writeAction ed) (actionsFrom n ns)) ≡ total actionLength ns
+  unfolding actionsFrom flatMap total listed lengthFor actionLength writeAction
   actions-length n [] = refl
   actions-length n (x ∷ ns) = go (actionOf x) (actions-length (suc n) ns)
     where
-      go : (o : Option Action) → length (flatMap (writeAction ed) (actionsFrom (suc n) ns)) ≡ total nodeBytes ns → length (flatMap (writeAction ed) (listed n o (actionsFrom (suc n) ns))) ≡ bytesFor o + total nodeBytes ns
-      go none e = let z : 0 + total nodeBytes ns ≡ total nodeBytes ns = omega arith in e ∙ sym z
+      go : (o : Option Action) → length (flatMap (writeAction ed) (actionsFrom (suc n) ns)) ≡ total actionLength ns →
+          length (flatMap (writeAction ed) (listed n o (actionsFrom (suc n) ns))) ≡ lengthFor o + total actionLength ns
+      go none e = let z : 0 + total actionLength ns ≡ total actionLength ns = omega arith in e ∙ sym z
       go (some y) e =
           let w = ed .width in
           let b = actionBytes y in
@@ -57,12 +58,14 @@ module _ (ed : Edition) where
           let r = length-append (out w (widthOf w + length b) ++ (out w n ++ b)) (flatMap (writeAction ed) (actionsFrom (suc n) ns)) in
           omega arith
 
-  all-actions-length : (ns : List Node) → length (writeActions ed (actionsOf ns)) ≡ widthOf (ed .width) + total nodeBytes ns
+  all-actions-length : (ns : List Node) → length (writeActions ed (actionsOf ns)) ≡ widthOf (ed .width) + total actionLength ns
   unfolding writeActions actionsOf
-  all-actions-length ns = length-append (out (ed .width) (length (actionsOf ns))) (flatMap (writeAction ed) (actionsOf ns)) ∙ ap₂ _+_ (out-length (ed .width) (length (actionsOf ns))) (actions-length 0 ns)
+  all-actions-length ns =
+      let count = out (ed .width) (length (actionsOf ns)) in
+      length-append count (flatMap (writeAction ed) (actionsOf ns)) ∙ ap₂ _+_ (out-length (ed .width) (length (actionsOf ns))) (actions-length 0 ns)
 
   actions-same : {ns ms : List Node} → Reordered ns ms → length (writeActions ed (actionsOf ns)) ≡ length (writeActions ed (actionsOf ms))
-  actions-same {ns} {ms} r = all-actions-length ns ∙ ap (λ n. widthOf (ed .width) + n) (reordered-total nodeBytes r) ∙ sym (all-actions-length ms)
+  actions-same {ns} {ms} r = all-actions-length ns ∙ ap (λ n. widthOf (ed .width) + n) (reordered-total actionLength r) ∙ sym (all-actions-length ms)
 
 -- ---- two calls that answer alike
 data Alike {A B : Type 0} (R : A → B → Type 0) : Judged A → Judged B → Type 0 where
@@ -102,8 +105,8 @@ same-length : (ed : Edition) (s u : Schedule) → s .sections .variables ≡ u .
 unfolding tableLength
 same-length ed s u v e r z = rw (v, e, actions-same ed r, z) refl
 
-reordered-large : (ed : Edition) (s u : Schedule) → s .plant ≡ u .plant → s .sections .variables ≡ u .sections .variables → s .sections .equations ≡ u .sections .equations → treeOf (s .nodes) ≡ some (s .root) → treeOf (u .nodes) ≡ some (u .root) →
-    Reordered (s .nodes) (u .nodes) → sizeOf (u .root) ≡ sizeOf (s .root) → AsLarge ed s u
+reordered-large : (ed : Edition) (s u : Schedule) → s .plant ≡ u .plant → s .sections .variables ≡ u .sections .variables → s .sections .equations ≡ u .sections .equations →
+    treeOf (s .nodes) ≡ some (s .root) → treeOf (u .nodes) ≡ some (u .root) → Reordered (s .nodes) (u .nodes) → sizeOf (u .root) ≡ sizeOf (s .root) → AsLarge ed s u
 unfolding scheduleLocations
 reordered-large ed s u p v e h k r z =
     let few = few-locations (s .nodes) h ∙ ap (λ (a : Size). leb (a .locations) locationLimit) (sym z) ∙ sym (few-locations (u .nodes) k) in
@@ -136,7 +139,8 @@ module _ (ed : Edition) (file other : List ℕ) (s : SameButOrder ed file other)
       alike-need 9 _ _ (s .nodes-read) (s .other-read) (
       alike-tree _ _ (s .nodes) (s .other-nodes) (s .order) (λ t u h k z.
       alike-ensure 11 (every (nodeNamed (length (p .variables)) (selectors p)) (s .nodes)) (reordered-every (nodeNamed (length (p .variables)) (selectors p)) (s .order)) (λ h11.
-      alike-ensure 12 (every (nodeReads ed (length (p .variables))) (s .nodes) && switchesRead ed p) (ap (λ b. b && switchesRead ed p) (reordered-every (nodeReads ed (length (p .variables))) (s .order))) (λ h12.
+      alike-ensure 12 (every (nodeReads ed (length (p .variables))) (s .nodes) && switchesRead ed p)
+      (ap (λ b. b && switchesRead ed p) (reordered-every (nodeReads ed (length (p .variables))) (s .order))) (λ h12.
       both-accepted (reordered-large ed _ _ refl (s .same-variables) (s .same-equations) h k (s .order) z)))))))))
 
   compiled-alike : (room : List ℕ) → Alike (λ (t u : List ℕ). length t ≡ length u) (judgeCompile ed file room) (judgeCompile ed other room)
@@ -146,7 +150,8 @@ module _ (ed : Edition) (file other : List ℕ) (s : SameButOrder ed file other)
       alike-ensure 14 (leb (length (tableOf ed a)) (length room)) (ap (λ n. leb n (length room)) (l .long h13)) (λ h14.
       both-accepted (l .long h13))))
 
-alike-compiled : (room : List ℕ) {j k : Judged (List ℕ)} → Alike (λ (t u : List ℕ). length t ≡ length u) j k → ((compiledInto room j) .refusal ≡ (compiledInto room k) .refusal) × ((compiledInto room j) .written ≡ (compiledInto room k) .written)
+alike-compiled : (room : List ℕ) {j k : Judged (List ℕ)} → Alike (λ (t u : List ℕ). length t ≡ length u) j k →
+    ((compiledInto room j) .refusal ≡ (compiledInto room k) .refusal) × ((compiledInto room j) .written ≡ (compiledInto room k) .written)
 unfolding compiledInto
 alike-compiled room (both-refused n) = (refl, refl)
 alike-compiled room (both-accepted e) = (refl, e)

@@ -48,6 +48,9 @@ reordered-all {P} (swapped r s) p = go s (reordered-all r p)
         let f = s .before ++ (parallel (s .count) ∷ s .first) in
         subst (All P) (in-front s _ ∙ sym (s .there)) (all-exchanged f (s .one) (s .other) (s .after) (subst (All P) (s .here ∙ sym (in-front s _)) p))
 
+same-behind : (f g l k : List ℕ) → length f ≡ length g → length l ≡ length k → length (f ++ l) ≡ length (g ++ k)
+same-behind f g l k d e = length-append f l ∙ ap₂ _+_ d e ∙ sym (length-append g k)
+
 module _ (ed : Edition) where
   bytes-length : (ns : List Node) → length (flatMap (writeNode ed) ns) ≡ total (λ x. length (writeNode ed x)) ns
   unfolding flatMap total
@@ -88,7 +91,8 @@ module _ (ed : Edition) where
     other-sections : FileSections
     other-sections = record { variables = x .variables; equations = x .equations; schedule = writeNodes ed ms }
 
-    pub reordered-bytes : (file : List ℕ) → AllBytes file → fileSectionsIn (drop 3 file) ≡ some x →
+    -- a file is its head and its nodes' bytes; with the nodes in the other order it is the other file
+    reordered-bytes : (file : List ℕ) → AllBytes file → fileSectionsIn (drop 3 file) ≡ some x →
         (head : List ℕ) × (file ≡ head ++ nodesBytes ns) × SameButOrder ed file (head ++ nodesBytes ms)
     unfolding other-sections writeNodes
     reordered-bytes [] z e = absurd (no-sections x (sections-bytes [] x .0 (all-nil, e) .0))
@@ -100,7 +104,7 @@ module _ (ed : Edition) where
         let head = headOf x ns in
         let here : u ≡ head ++ nodesBytes ns = parts .0 ∙ body-parts x ns (n .0) in
         let there : head ++ nodesBytes ms ≡ writeSections other-sections = ap (λ (l : List ℕ). l ++ nodesBytes ms) same-head ∙ sym (body-parts other-sections ms refl) in
-        let long : length u ≡ length (head ++ nodesBytes ms) = ap length here ∙ length-append head (nodesBytes ns) ∙ ap (λ n. length head + n) (same-bytes r) ∙ sym (length-append head (nodesBytes ms)) in
+        let long : length u ≡ length (head ++ nodesBytes ms) = ap length here ∙ same-behind head head (nodesBytes ns) (nodesBytes ms) refl (same-bytes r) in
         let start = same-start a b c u (head ++ nodesBytes ms) long in (
           a ∷ b ∷ c ∷ head,
           ap (λ (l : List ℕ). a ∷ b ∷ c ∷ l) here,
@@ -125,7 +129,9 @@ module _ (ed : Edition) where
         same-head = ap₂ (λ (l : ℕ) (n : ℕ). inSection2 (x .variables) ++ (inSection2 (x .equations) ++ (out2 l ++ out (ed .width) n))) all-bytes (reordered-length r)
           where
             all-bytes : length (writeNodes ed ns) ≡ length (writeNodes ed ms)
-            all-bytes = length-append (out (ed .width) (length ns)) (nodesBytes ns) ∙ ap₂ _+_ (out-length (ed .width) (length ns) ∙ sym (out-length (ed .width) (length ms))) (same-bytes r) ∙ sym (length-append (out (ed .width) (length ms)) (nodesBytes ms))
+            all-bytes =
+                let w = ed .width in
+                same-behind (out w (length ns)) (out w (length ms)) (nodesBytes ns) (nodesBytes ms) (out-length w (length ns) ∙ sym (out-length w (length ms))) (same-bytes r)
 
   -- ---- the bytes of a PARALLEL's children
   module _ (file : List ℕ) (x : FileSections) (z : AllBytes file) (e : fileSectionsIn (drop 3 file) ≡ some x) where
@@ -134,10 +140,10 @@ module _ (ed : Edition) where
         (front : List ℕ) × (file ≡ front ++ nodesBytes l) × SameButOrder ed file (front ++ nodesBytes k)
     behind f l k u v h r =
         let q = reordered-bytes x r h file z e in
-        (q .0 ++ nodesBytes f, q .1 ∙ ap (λ (b : List ℕ). q .0 ++ b) (ap nodesBytes u) ∙ moved (q .0) l, subst (SameButOrder ed file) (ap (λ (b : List ℕ). q .0 ++ b) (ap nodesBytes v) ∙ moved (q .0) k) (q .2))
+        (q .0 ++ nodesBytes f, q .1 ∙ moved (q .0) l u, subst (SameButOrder ed file) (moved (q .0) k v) (q .2))
       where
-        moved : (head : List ℕ) (l : List Node) → head ++ nodesBytes (f ++ l) ≡ (head ++ nodesBytes f) ++ nodesBytes l
-        moved head l = ap (λ (b : List ℕ). head ++ b) (flat-append (writeNode ed) f l) ∙ sym (append-assoc head (nodesBytes f) (nodesBytes l))
+        moved : (head : List ℕ) (l : List Node) {ns : List Node} → ns ≡ f ++ l → head ++ nodesBytes ns ≡ (head ++ nodesBytes f) ++ nodesBytes l
+        moved head l e = ap (λ (ns : List Node). head ++ nodesBytes ns) e ∙ ap (λ (b : List ℕ). head ++ b) (flat-append (writeNode ed) f l) ∙ sym (append-assoc head (nodesBytes f) (nodesBytes l))
 
     -- two neighbours have changed places
     pub exchanged-bytes : {ns ms : List Node} → nodesIn ed (x .schedule) ≡ some ns → (w : Swapped ns ms) →
@@ -146,13 +152,14 @@ module _ (ed : Edition) where
     exchanged-bytes h w =
         let f = w .before ++ (parallel (w .count) ∷ w .first) in
         let q = behind f (w .one ++ (w .other ++ w .after)) (w .other ++ (w .one ++ w .after)) (w .here ∙ sym (in-front w _)) (w .there ∙ sym (in-front w _)) h (swapped unchanged w) in
-        (q .0, q .1 ∙ ap (λ (b : List ℕ). q .0 ++ b) (three (w .one) (w .other) (w .after)), subst (SameButOrder ed file) (ap (λ (b : List ℕ). q .0 ++ b) (three (w .other) (w .one) (w .after))) (q .2))
+        (q .0, q .1 ∙ three (q .0) (w .one) (w .other) (w .after), subst (SameButOrder ed file) (three (q .0) (w .other) (w .one) (w .after)) (q .2))
       where
-        three : (i j a : List Node) → nodesBytes (i ++ (j ++ a)) ≡ nodesBytes i ++ (nodesBytes j ++ nodesBytes a)
-        three i j a = flat-append (writeNode ed) i (j ++ a) ∙ ap (λ (b : List ℕ). nodesBytes i ++ b) (flat-append (writeNode ed) j a)
+        three : (front : List ℕ) (i j a : List Node) → front ++ nodesBytes (i ++ (j ++ a)) ≡ front ++ (nodesBytes i ++ (nodesBytes j ++ nodesBytes a))
+        three front i j a = ap (λ (b : List ℕ). front ++ b) (flat-append (writeNode ed) i (j ++ a) ∙ ap (λ (b : List ℕ). nodesBytes i ++ b) (flat-append (writeNode ed) j a))
 
     -- all of them stand in another order
-    pub any-order-bytes : (before after : List Node) {cs ds : List (List Node)} → All OneTree cs → Permuted cs ds → nodesIn ed (x .schedule) ≡ some (before ++ (parallel (length cs) ∷ (flatMap (λ (c : List Node). c) cs ++ after))) →
+    pub any-order-bytes : (before after : List Node) {cs ds : List (List Node)} → All OneTree cs → Permuted cs ds →
+        nodesIn ed (x .schedule) ≡ some (before ++ (parallel (length cs) ∷ (flatMap (λ (c : List Node). c) cs ++ after))) →
         (front : List ℕ) × (file ≡ front ++ (flatMap nodesBytes cs ++ nodesBytes after)) × SameButOrder ed file (front ++ (flatMap nodesBytes ds ++ nodesBytes after))
     unfolding flatMap
     any-order-bytes before after {cs} {ds} p d h =

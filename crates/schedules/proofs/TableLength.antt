@@ -70,7 +70,8 @@ module _ (ed : Edition) where
         let l = scheduleLocations s in
         let locs = map (entriesOf (testsOf (s .nodes)) l) l in
         let r : length (writeLocations ed locs) ≡ 2 + length (flatMap (writeLocation ed) locs) = omega arith in
-        summed (length vs) (length es) _ (table-length ed vs es acts locs) (body-length ed vs es acts locs) r (rows-length (testsOf (s .nodes)) l l) (sized .0) (ap (λ n. n * (widthOf (ed .width) + 4)) (sized .1))
+        summed (length vs) (length es) _ (table-length ed vs es acts locs) (body-length ed vs es acts locs) r (rows-length (testsOf (s .nodes)) l l) (sized .0)
+        (ap (λ n. n * (widthOf (ed .width) + 4)) (sized .1))
       where
         summed : (v e a : ℕ) {t b l r n i m j : ℕ} → t ≡ 5 + b → b ≡ 10 + (v + (e + (a + l))) → l ≡ 2 + r → r ≡ n + m → n ≡ i → m ≡ j → t ≡ 17 + (v + (e + (a + (i + j))))
         summed v e a p q k w x y = omega arith
