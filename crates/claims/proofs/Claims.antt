@@ -156,15 +156,24 @@ pub read-order : (ed : Edition) (file other : List ℕ) → SameButOrder ed file
 read-order = BranchOrder.read-order
 
 -- such a pair are a file and the same bytes with those of two neighbouring children of a PARALLEL exchanged: of every file whose sections (3) and nodes (9) are read, whatever else is wrong with it.
--- Ruled out: nodes that stand elsewhere than their order says; a node whose bytes mean something else at another place.
+-- Ruled out: a reader that looks for a node elsewhere than after the bytes of the node before it; one that takes the same bytes for another node at another place.
 pub exchanged-bytes : (ed : Edition) (file : List ℕ) (parts : FileSections) → All (λ b. b < 256) file → fileSectionsIn (drop 3 file) ≡ some parts →
     {ns ms : List Node} → nodesIn ed (parts .schedule) ≡ some ns → (w : Swapped ns ms) →
     (front : List ℕ) × (file ≡ front ++ (flatMap (writeNode ed) (w .one) ++ (flatMap (writeNode ed) (w .other) ++ flatMap (writeNode ed) (w .after))))
     × SameButOrder ed file (front ++ (flatMap (writeNode ed) (w .other) ++ (flatMap (writeNode ed) (w .one) ++ flatMap (writeNode ed) (w .after))))
 exchanged-bytes = ExchangedBytes.exchanged-bytes
 
--- and the same bytes with those of all its children in any other order.
--- Ruled out: a border that only the exchange of neighbours leaves as it was; one that depends on which child comes first.
+-- so in one statement, of bytes alone: whatever room is lent, the exchanged file gets the same number and the same length.
+-- Ruled out: a compiler that is "too complex" only one way round; one whose table is shorter with the longest branch first.
+pub branches-exchanged : (ed : Edition) (file : List ℕ) (parts : FileSections) → All (λ b. b < 256) file → fileSectionsIn (drop 3 file) ≡ some parts →
+    {ns ms : List Node} → nodesIn ed (parts .schedule) ≡ some ns → (w : Swapped ns ms) →
+    (front : List ℕ) × (file ≡ front ++ (flatMap (writeNode ed) (w .one) ++ (flatMap (writeNode ed) (w .other) ++ flatMap (writeNode ed) (w .after))))
+    × ((room : List ℕ) → let other = front ++ (flatMap (writeNode ed) (w .other) ++ (flatMap (writeNode ed) (w .one) ++ flatMap (writeNode ed) (w .after))) in
+    ((compile ed file room) .refusal ≡ (compile ed other room) .refusal) × ((compile ed file room) .written ≡ (compile ed other room) .written))
+branches-exchanged ed file parts b e h w = let q = exchanged-bytes ed file parts b e h w in (q .0, q .1, λ room. branch-order ed file _ room (q .2))
+
+-- and the same bytes with those of all its children in any other order are such a pair, too.
+-- Ruled out: a compiler whose answer depends on which child is listed first; one that holds for two children and not for three.
 pub any-order : (ed : Edition) (file : List ℕ) (parts : FileSections) → All (λ b. b < 256) file → fileSectionsIn (drop 3 file) ≡ some parts →
     (before after : List Node) {children others : List (List Node)} → All OneTree children → Permuted children others →
     nodesIn ed (parts .schedule) ≡ some (before ++ (parallel (length children) ∷ (flatMap (λ (c : List Node). c) children ++ after))) →
