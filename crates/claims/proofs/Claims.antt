@@ -3,13 +3,13 @@
 -- What each statement rules out is named by two wrong products that it does not let by.
 use mathlib.Core.Path.{_≡_, refl}
 use mathlib.Core.Bool.{Bool, true, false}
-use mathlib.Core.List.{List, List·Memᴰ as Mem}
+use mathlib.Core.List.{List, _∷_, _++_, flatMap, List·Memᴰ as Mem, List·Permᴰ as Permuted}
 use mathlib.Core.Logic.{_↔_, _⊎_}
 use mathlib.Core.Option.{some}
 use Prim.Native.Nat.{ℕ, _≤_, _<_}
 use lib.Dec.{lit<, lit≤}
 use lib.IntN.{ℤ}
-use lib.ListN.{length, getElem?, take}
+use lib.ListN.{length, getElem?, take, drop}
 use Rattle.semantics.specs.Bytes.{All, within, isSome, overwrite, two-bytes}
 use Rattle.semantics.specs.Editions.{Edition}
 use Rattle.semantics.specs.Refusals.{accepted}
@@ -17,6 +17,7 @@ use Rattle.semantics.specs.Expressions.{Number, Truth, numberBytes, truthBytes,
 use Rattle.semantics.specs.Plant.{Plant, selectors}
 use Rattle.semantics.specs.Run.{stop, possible, Next, halted, Control, Situation, Answered, at, step}
 use Rattle.semantics.specs.Rules.{Rule, Derives, Stopping, Standing, at-start, stands-at, Sound, Decides}
+use Rattle.semantics.specs.TableFile.{locationLimit}
 use Rattle.semantics.specs.Tables.{Table, risingFrom, judgeTable, actionOrStop, tableControl}
 use Rattle.semantics.specs.Starts.{Start, startIn, startFits}
 use Rattle.semantics.specs.Writing.{writeTable, TableLimits, TableReadAs, startBytes, StartLimits}
@@ -32,19 +33,23 @@ use Rattle.semantics.proofs.ExpressionBytes as ExpressionBytes
 use Rattle.semantics.proofs.WrittenSources as TableBytes
 use Rattle.semantics.proofs.TableForms as TableForms
 use Rattle.semantics.proofs.TablesProper as TablesProper
-use Rattle.schedules.specs.Nodes.{Node, stop-all, actionOf, nodeAction, actionsOf}
+use Rattle.schedules.specs.FileSections.{FileSections, fileSectionsIn}
+use Rattle.schedules.specs.Nodes.{Node, parallel, stop-all, nodesIn, actionOf, nodeAction, actionsOf}
 use Rattle.schedules.specs.Trees.{Tree, treeOf}
 use Rattle.schedules.specs.Preorder.{Written}
 use Rattle.schedules.specs.Residuals.{Residual, fresh, acting, move}
 use Rattle.schedules.specs.MoveRules.{Fresh, Acts, MoveRule, LeadsByRule}
-use Rattle.schedules.specs.Reached.{Leads, Of, Distinct}
+use Rattle.schedules.specs.Reached.{Leads, Of, Distinct, AsMany}
 use Rattle.schedules.specs.Files.{Schedule, judgeFile, ruleControl}
-use Rattle.schedules.specs.Compiling.{tableOf}
+use Rattle.schedules.specs.Compiling.{testsOf, tableOf}
 use Rattle.schedules.specs.Calls.{readSchedule, ruleRun, compile}
 use Rattle.schedules.specs.Conditions.{fileSchedule, fileConditions, compileConditions, ruleRunConditions}
-use Rattle.schedules.specs.Writing.{writeFile, FileLimits, FileReadAs}
+use Rattle.schedules.specs.Writing.{writeNode, writeFile, FileLimits, FileReadAs}
 use Rattle.schedules.specs.Proper.{ScheduleWritten}
 use Rattle.schedules.specs.Agreement.{TableHolds, TooMany, Agrees}
+use Rattle.schedules.specs.Sizes.{sizeOf, pencilSize}
+use Rattle.schedules.specs.TableSizes.{tableLength, TableSized}
+use Rattle.schedules.specs.Reordered.{OneTree, Swapped, SameButOrder}
 use Rattle.schedules.proofs.Demand2 as Demand2
 use Rattle.schedules.proofs.Agreement as Agreement
 use Rattle.schedules.proofs.FirstNumber as FileNumbers
@@ -58,6 +63,11 @@ use Rattle.schedules.proofs.OneTree as OneTree
 use Rattle.schedules.proofs.WrittenBytes as WrittenBytes
 use Rattle.schedules.proofs.FileForms as FileForms
 use Rattle.schedules.proofs.FilesProper as FilesProper
+use Rattle.schedules.proofs.ByPencil as ByPencil
+use Rattle.schedules.proofs.LocationCount as LocationCount
+use Rattle.schedules.proofs.TableLength as TableLength
+use Rattle.schedules.proofs.BranchOrder as BranchOrder
+use Rattle.schedules.proofs.ExchangedBytes as ExchangedBytes
 
 -- ---- demand 2: "The table of an accepted schedule has every control state that the rules reach from the start, guards ignored, and no other;
 -- each has an edge for each move and no other, numbered in the paper's order."
@@ -107,6 +117,69 @@ pub written-table : (ed : Edition) (file room : List ℕ) → (compile ed file r
     (s : Schedule) × (fileSchedule ed file ≡ some s) × (length (tableOf ed s) ≤ length room) ×
     (compile ed file room ≡ record { refusal = 0; written = length (tableOf ed s); table = overwrite (tableOf ed s) room })
 written-table = FileCalls.written-table
+
+-- how many locations there are, by arithmetic: `sizeOf` of a tree (Sizes) is stated twice, two children at a time and with the products that one works out by hand.
+-- Ruled out: a PARALLEL whose locations are its children's added up; one that is counted once more where all its children are finished.
+pub size-by-pencil : (t : Tree) → pencilSize t ≡ sizeOf t
+size-by-pencil = ByPencil.by-pencil
+
+-- what moves lead to from the fresh root is as many residuals, in which as many nodes act: of every tree that is read, however many they are.
+-- Ruled out: a WHILE without a location of its own; children after a STOP that are counted, though nothing leads there.
+pub reached-by-size : (ns : List Node) (t : Tree) → treeOf ns ≡ some t → AsMany (Leads (testsOf ns) (fresh t)) ((sizeOf t) .locations) ((sizeOf t) .entries)
+reached-by-size ns t h = LocationCount.reached-by-size ns h
+
+-- so the bytes that compiling writes, read back as a table, have as many locations and entries, and their length follows.
+-- Ruled out: a table with a location for a PARALLEL that is wholly finished; one with bytes left over after its last location.
+pub locations-by-size : (ed : Edition) (file room : List ℕ) → (compile ed file room) .refusal ≡ 0 →
+    TableSized ed file (take ((compile ed file room) .written) ((compile ed file room) .table))
+locations-by-size = TableLength.locations-by-size
+
+-- 13 is given exactly where that number is above 1,024.
+-- Ruled out: a compiler that refuses by the number of nodes or entries; one that gives up on a schedule that it took too long to number.
+pub refused-13-by-size : (ed : Edition) (file room : List ℕ) →
+    ((compile ed file room) .refusal ≡ 13) ↔ ((s : Schedule) × (judgeFile ed file ≡ accepted s) × (locationLimit < (sizeOf (s .root)) .locations))
+refused-13-by-size = LocationCount.refused-13-by-size
+
+-- and where it is not, the schedule is compiled wherever its table has room.
+-- Ruled out: a compiler that refuses all; one that wants a longer room than the table takes.
+pub taken-by-size : (ed : Edition) (file room : List ℕ) (s : Schedule) → judgeFile ed file ≡ accepted s → (sizeOf (s .root)) .locations ≤ locationLimit → tableLength ed s ≤ length room →
+    ((compile ed file room) .refusal ≡ 0) × ((compile ed file room) .written ≡ tableLength ed s)
+taken-by-size = TableLength.taken-by-size
+
+-- the order in which the children of PARALLELs are listed: two files that differ in nothing else get the same number, 0 or a refusal's, for every room, and tables of the same length.
+-- Ruled out: a compiler that takes a schedule with its branches one way round and gives 13 the other way; one that gives 12 for the one and 11 for the other.
+pub branch-order : (ed : Edition) (file other room : List ℕ) → SameButOrder ed file other →
+    ((compile ed file room) .refusal ≡ (compile ed other room) .refusal) × ((compile ed file room) .written ≡ (compile ed other room) .written)
+branch-order = BranchOrder.branch-order
+
+pub read-order : (ed : Edition) (file other : List ℕ) → SameButOrder ed file other → readSchedule ed file ≡ readSchedule ed other
+read-order = BranchOrder.read-order
+
+-- such a pair are a file and the same bytes with those of two neighbouring children of a PARALLEL exchanged: of every file whose sections (3) and nodes (9) are read, whatever else is wrong with it.
+-- Ruled out: a reader that looks for a node elsewhere than after the bytes of the node before it; one that takes the same bytes for another node at another place.
+pub exchanged-bytes : (ed : Edition) (file : List ℕ) (parts : FileSections) → All (λ b. b < 256) file → fileSectionsIn (drop 3 file) ≡ some parts →
+    {ns ms : List Node} → nodesIn ed (parts .schedule) ≡ some ns → (w : Swapped ns ms) →
+    (front : List ℕ) × (file ≡ front ++ (flatMap (writeNode ed) (w .one) ++ (flatMap (writeNode ed) (w .other) ++ flatMap (writeNode ed) (w .after))))
+    × SameButOrder ed file (front ++ (flatMap (writeNode ed) (w .other) ++ (flatMap (writeNode ed) (w .one) ++ flatMap (writeNode ed) (w .after))))
+exchanged-bytes = ExchangedBytes.exchanged-bytes
+
+-- so in one statement, of bytes alone: whatever room is lent, the exchanged file gets the same number and the same length.
+-- Ruled out: a compiler that is "too complex" only one way round; one whose table is shorter with the longest branch first.
+pub branches-exchanged : (ed : Edition) (file : List ℕ) (parts : FileSections) → All (λ b. b < 256) file → fileSectionsIn (drop 3 file) ≡ some parts →
+    {ns ms : List Node} → nodesIn ed (parts .schedule) ≡ some ns → (w : Swapped ns ms) →
+    (front : List ℕ) × (file ≡ front ++ (flatMap (writeNode ed) (w .one) ++ (flatMap (writeNode ed) (w .other) ++ flatMap (writeNode ed) (w .after))))
+    × ((room : List ℕ) → let other = front ++ (flatMap (writeNode ed) (w .other) ++ (flatMap (writeNode ed) (w .one) ++ flatMap (writeNode ed) (w .after))) in
+    ((compile ed file room) .refusal ≡ (compile ed other room) .refusal) × ((compile ed file room) .written ≡ (compile ed other room) .written))
+branches-exchanged ed file parts b e h w = let q = exchanged-bytes ed file parts b e h w in (q .0, q .1, λ room. branch-order ed file _ room (q .2))
+
+-- and the same bytes with those of all its children in any other order are such a pair, too.
+-- Ruled out: a compiler whose answer depends on which child is listed first; one that holds for two children and not for three.
+pub any-order : (ed : Edition) (file : List ℕ) (parts : FileSections) → All (λ b. b < 256) file → fileSectionsIn (drop 3 file) ≡ some parts →
+    (before after : List Node) {children others : List (List Node)} → All OneTree children → Permuted children others →
+    nodesIn ed (parts .schedule) ≡ some (before ++ (parallel (length children) ∷ (flatMap (λ (c : List Node). c) children ++ after))) →
+    (front : List ℕ) × (file ≡ front ++ (flatMap (flatMap (writeNode ed)) children ++ flatMap (writeNode ed) after))
+    × SameButOrder ed file (front ++ (flatMap (flatMap (writeNode ed)) others ++ flatMap (writeNode ed) after))
+any-order = ExchangedBytes.any-order-bytes
 
 -- ---- demand 3: "The table runner accepts that table, and for every start and every list of whole events the run by the rules and the run of the table
 -- write the same records, byte for byte, and the same counts. One claim about the whole list."

@@ -1,10 +1,11 @@
 -- The bench papers of document 01 that are theorems, and the negative papers, each cited where it is proved.
 use mathlib.Core.Path.{_≡_}
 use mathlib.Core.List.{List, [], _∷_, _++_}
-use mathlib.Core.Bool.{true}
+use mathlib.Core.Bool.{true, false}
 use mathlib.Core.Option.{some, none, Option·map}
-use Prim.Native.Nat.{ℕ}
-use lib.ListN.{replicate}
+use Prim.Native.Nat.{ℕ, _≤_}
+use native.Mathlib.Omega.{arith}
+use lib.ListN.{length, replicate}
 use lib.IntN.{ℤ, negsuc}
 use Rattle.semantics.specs.Bytes.{isSome}
 use Rattle.semantics.specs.Editions.{Edition, edition1}
@@ -15,17 +16,20 @@ use Rattle.semantics.specs.K1.{one-record, k1-file, k1-table, start-at, k2-even
 use Rattle.semantics.proofs.Facts.{is-some}
 use Rattle.semantics.proofs.DepthPapers as DepthPapers
 use Rattle.semantics.proofs.Papers as Tables
-use Rattle.schedules.specs.Nodes.{parallel, while-do, if-else, reset}
+use Rattle.schedules.specs.Nodes.{sequence, parallel, while-do, if-else, continue-until, reset, stop-all}
 use Rattle.schedules.specs.Trees.{treeOf, branch, leaf}
 use Rattle.schedules.specs.Residuals.{fresh, in-branch, at as at-node}
 use Rattle.schedules.specs.Numbering.{locations}
 use Rattle.schedules.specs.Compiling.{testsOf}
 use Rattle.schedules.specs.Files.{Schedule, ruleControl}
 use Rattle.schedules.specs.Calls.{ruleRun, compile}
-use Rattle.schedules.specs.Examples.{locationCount, stopOrWait, case-file, case-table, case-events, case-records, one-wait-file, stop-wait-file, two-rates-file, two-rates-file-2, while-file, stop-reset-file, stop-reset-table, faulty-check-file, fault-first-file, truth-first-file, truth-listed-file, fault-listed-file}
+use Rattle.schedules.specs.Reordered.{SameButOrder}
+use Rattle.schedules.specs.Examples.{locationCount, stopOrWait, sizeIn, mixed, stopInside, tenResets, resetsBefore, fileWith, TakenWith, reset-first-file, reset-last-file, case-file, case-table, case-events, case-records, one-wait-file, stop-wait-file, two-rates-file, two-rates-file-2, while-file, stop-reset-file, stop-reset-table, faulty-check-file, fault-first-file, truth-first-file, truth-listed-file, fault-listed-file}
 use Rattle.schedules.proofs.Traps as Traps
 use Rattle.schedules.proofs.CasePaper as CasePaper
 use Rattle.schedules.proofs.Papers as Schedules
+use Rattle.schedules.proofs.ByPencil as Sizes
+use Rattle.schedules.proofs.BorderPapers as Border
 
 -- K1, which computes: its table, and the bytes of the buffer after it as they were
 pub K1 : compile edition1 k1-file (replicate 75 0 ++ (7 ∷ 8 ∷ [])) ≡ record { refusal = 0; written = 75; table = k1-table ++ (7 ∷ 8 ∷ []) }
@@ -61,6 +65,11 @@ pub K7 : ((t : List ℕ) → locationCount (stopOrWait t) ≡ some 2)
     step edition1 (s .plant) (ruleControl s) (at (fresh (s .root)) vs ms) (1 ∷ 1 ∷ 0 ∷ []) ≡ record { answer = 202; left = over vs ms })
 K7 = (Schedules.K7-locations, Schedules.K7-halts)
 
+-- K8: "PARALLEL of ten RESETs: 1,023. One RESET before it: 1,024, taken; two: 13." In a room for the longer of the two tables; 13 in every room.
+pub K8 : ((room : List ℕ) → 26760 ≤ length room → TakenWith edition1 (fileWith tenResets) room 1023 × TakenWith edition1 (fileWith (resetsBefore 1)) room 1024)
+    × ((room : List ℕ) → (compile edition1 (fileWith (resetsBefore 2)) room) .refusal ≡ 13)
+K8 = (λ room fits. (Border.K8-ten room (omega arith), Border.K8-one-before room fits), Border.K8-two-before)
+
 -- K9: "Negating −2147483648 faults; true or a fault faults."
 pub K9 : ((vs : List ℤ) → valueOf vs (negation (constant (negsuc 2147483647))) ≡ fault above)
     × ((vs : List ℤ) (t : Truth) (side : Side) → holds vs t ≡ fault side → holds vs (connect either always t) ≡ fault side)
@@ -93,6 +102,19 @@ case-rules = CasePaper.case-rules
 pub case-by-table : tableRun edition1 case-table (replicate 9 0) case-events (replicate 342 0)
     ≡ record { refusal = 0; taken = 10; turned-away = 9; faulted = 0; records = case-records }
 case-by-table = CasePaper.case-by-table
+
+-- ---- sizes: the worked examples of docs/BORDER.md besides K8
+pub mixed-size : (v : ℕ) (e t : List ℕ) → sizeIn (mixed v e t) ≡ some (record { locations = 19; entries = 31; finishes = true })
+mixed-size = Sizes.mixed-size
+
+-- what stands after a STOP is not counted; and the same with the two children listed the other way round
+pub stop-inside : (v : ℕ) (e t : List ℕ) → (sizeIn (stopInside v e t) ≡ some (record { locations = 4; entries = 6; finishes = false }))
+    × (sizeIn (parallel 2 ∷ continue-until t ∷ sequence 4 ∷ reset v e ∷ stop-all ∷ reset v e ∷ reset v e ∷ []) ≡ some (record { locations = 4; entries = 6; finishes = false }))
+stop-inside v e t = (Sizes.stop-inside v e t, Sizes.stop-inside-last v e t)
+
+-- two files whose bytes differ in the order of a PARALLEL's two children
+pub reset-first-or-last : SameButOrder edition1 reset-first-file reset-last-file
+reset-first-or-last = Border.reset-first-or-last
 
 -- ---- negative papers: for each trap that document 01 names a small run that tells the right rule from the wrong one
 -- "or" that skips its right side would answer 201: the pick of CONTINUE UNTIL (true or a fault) faults

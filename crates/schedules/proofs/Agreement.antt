@@ -197,6 +197,19 @@ compile-taken ed file buffer h =
     let c = Judging.passed-ensure 14 _ _ (b .1) in
     record { of = a .0; of-file = a .1; few = leb-true (length (scheduleLocations (a .0))) locationLimit (b .0); is-table = Judging.accepted-is (c .1) }
 
+-- what holds of the table of every accepted schedule holds of the bytes that compiling wrote
+pub of-written : (ed : Edition) (file room : List ℕ) (P : List ℕ → Type 0) → ((s : Schedule) → judgeFile ed file ≡ accepted s → length (scheduleLocations s) ≤ locationLimit → P (tableOf ed s)) →
+    (compile ed file room) .refusal ≡ 0 → P (take ((compile ed file room) .written) ((compile ed file room) .table))
+unfolding compile compiledInto overwrite
+of-written ed file room P holds = go (judgeCompile ed file room) refl (compile-first ed file room)
+  where
+    go : (j : Judged (List ℕ)) → judgeCompile ed file room ≡ j → Firsts j (compileConditions ed file room) → (compiledInto room j) .refusal ≡ 0 →
+        P (take ((compiledInto room j) .written) ((compiledInto room j) .table))
+    go (refused n) e (refuses f) z = absurd (first-not-0 (never-0 ed file room) f z)
+    go (accepted t) e f z =
+        let k = compile-taken ed file room e in
+        rw (take-append-seam t (drop (length t) room)) (subst P (k .is-table) (holds (k .of) (k .of-file) (k .few)))
+
 table-agreement : (ed : Edition) (file : List ℕ) (s : Schedule) → judgeFile ed file ≡ accepted s → length (scheduleLocations s) ≤ locationLimit → Agrees ed file (tableOf ed s)
 unfolding readTable tableCounts is21 is22 given
 table-agreement ed file s h fits = record {
@@ -214,12 +227,4 @@ table-agreement ed file s h fits = record {
 -- demand 3, for every file, every room lent for its table, and then every start, every list of events and every two record buffers
 pub agreement : (ed : Edition) (file buffer : List ℕ) → (compile ed file buffer) .refusal ≡ 0 →
     Agrees ed file (take ((compile ed file buffer) .written) ((compile ed file buffer) .table))
-unfolding compile compiledInto overwrite
-agreement ed file buffer = go (judgeCompile ed file buffer) refl (compile-first ed file buffer)
-  where
-    go : (j : Judged (List ℕ)) → judgeCompile ed file buffer ≡ j → Firsts j (compileConditions ed file buffer) → (compiledInto buffer j) .refusal ≡ 0 →
-        Agrees ed file (take ((compiledInto buffer j) .written) ((compiledInto buffer j) .table))
-    go (refused n) e (refuses f) z = absurd (first-not-0 (never-0 ed file buffer) f z)
-    go (accepted t) e f z =
-        let k = compile-taken ed file buffer e in
-        rw (take-append-seam t (drop (length t) buffer)) (subst (Agrees ed file) (k .is-table) (table-agreement ed file (k .of) (k .of-file) (k .few)))
+agreement ed file buffer = of-written ed file buffer (Agrees ed file) (table-agreement ed file)

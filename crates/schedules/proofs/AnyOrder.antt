@@ -1,5 +1,5 @@
 -- Exchanges of neighbours bring the children of a PARALLEL into any order.
-use mathlib.Core.Path.{_≡_, refl, sym, ap, subst, _∙_}
+use mathlib.Core.Path.{_≡_, refl, sym, ap, ap₂, subst, _∙_}
 use mathlib.Core.List.{List, [], _∷_, _++_, flatMap, append-assoc, append-nil, List·Permᴰ as Permuted, List·Permᴰ·nil as perm-nil, List·Permᴰ·cons as perm-cons, List·Permᴰ·swap as perm-swap, List·Permᴰ·trans as perm-trans}
 use mathlib.Core.Option.{some}
 use Prim.Native.Nat.{ℕ, suc, _+_, _≤_}
@@ -74,7 +74,7 @@ module _ (before after : List Node) (k : ℕ) where
         other-tree = u;
         both = omega arith;
         here = two f a b cs;
-        there = subst (λ x. with f (x ∷ d ∷ cs) ≡ before ++ (parallel k ∷ (f ++ (b ++ (a ++ (allNodes cs ++ after)))))) j (subst (λ x. with f (b ∷ x ∷ cs) ≡ before ++ (parallel k ∷ (f ++ (b ++ (a ++ (allNodes cs ++ after)))))) i (two f b a cs));
+        there = ap₂ (λ (x y : List Node). with f (x ∷ y ∷ cs)) (sym j) (sym i) ∙ two f b a cs;
       })
   any-from f e p (perm-trans d g) h = reordered-trans (any-from f e p d h) (any-from f e (perm-all d p) g (let z = perm-length d in omega arith))
 

@@ -1,61 +1,53 @@
 -- The order in which a PARALLEL's children are listed changes neither whether a schedule is accepted nor the length of its table.
-use mathlib.Core.Path.{_≡_, refl, sym, ap, ap₂, subst, _∙_}
-use mathlib.Core.Logic.{_↔_}
+use mathlib.Core.Path.{_≡_, refl, sym, ap, ap₂, _∙_}
 use mathlib.Core.Bool.{Bool, true, false, _&&_}
-use mathlib.Core.List.{List, [], _∷_, _++_, map, flatMap}
+use mathlib.Core.List.{List, [], _∷_, _++_, flatMap}
 use mathlib.Core.Option.{Option, none, some}
-use Prim.Native.Nat.{ℕ, suc, _+_, _*_, _<_}
-use native.Mathlib.Nat.{add-mul, suc-mul}
+use Prim.Native.Nat.{ℕ, suc, _+_}
 use native.Mathlib.Omega.{arith}
 use borrow.Author.Tests.{leb-true}
 use lib.Dec.{leb}
-use lib.ListN.{length, length-append, length-map}
-use Rattle.semantics.specs.Bytes.{every, widthOf, out, out2}
+use lib.ListN.{length, length-append}
+use Rattle.semantics.specs.Bytes.{every, widthOf, out}
 use Rattle.semantics.specs.Editions.{Edition}
 use Rattle.semantics.specs.Refusals.{Judged, refused, accepted, _>>=_, _>>_, ensure, need}
 use Rattle.semantics.specs.Plant.{judgePlant, selectors, switchesRead}
 use Rattle.semantics.specs.Run.{Action}
-use Rattle.semantics.specs.TableFile.{Entry, locationLimit, actionBytes, writeAction, writeActions, writeEntry, writeLocation, writeLocations}
-use Rattle.semantics.proofs.Facts.{some-is}
+use Rattle.semantics.specs.TableFile.{locationLimit, actionBytes, writeAction, writeActions}
 use Rattle.semantics.proofs.Judging as Judging
-use Rattle.semantics.proofs.WrittenTables.{out-length, body-length, table-length}
+use Rattle.semantics.proofs.WrittenTables.{out-length}
 use Rattle.schedules.specs.Nodes.{Node, nodeNamed, nodeReads, actionOf, listed, actionsFrom, actionsOf}
 use Rattle.schedules.specs.Trees.{Tree, treeOf}
-use Rattle.schedules.specs.Residuals.{Residual, acting, fresh}
 use Rattle.schedules.specs.Numbering.{locations}
 use Rattle.schedules.specs.Files.{Schedule, judgeFile, fileHeader, fileLength}
-use Rattle.schedules.specs.Compiling.{testsOf, scheduleLocations, entryOf, entriesOf, tableOf, judgeCompile}
+use Rattle.schedules.specs.Compiling.{scheduleLocations, tableOf, judgeCompile}
 use Rattle.schedules.specs.Calls.{scheduleCounts, readSchedule, compile, compiledInto}
 use Rattle.schedules.specs.Sizes.{Size, sizeOf}
-use Rattle.schedules.specs.Reordered.{Reordered, AsMany, SameButOrder}
-use Rattle.schedules.specs.Preorder.{Written}
-use Rattle.schedules.specs.Reached.{Leads}
-use Rattle.schedules.specs.Agreement.{TooMany}
+use Rattle.schedules.specs.TableSizes.{tableLength}
+use Rattle.schedules.specs.Reordered.{Reordered, SameButOrder}
 use Rattle.schedules.proofs.Counting.{total}
-use Rattle.schedules.proofs.LocationCount.{entriesAt, reached-counted, locations-counted, few-locations, too-many-by-size, entries-acting}
-use Rattle.schedules.proofs.OneTree.{one-tree}
+use Rattle.schedules.proofs.LocationCount.{few-locations}
+use Rattle.schedules.proofs.TableLength.{table-of-length}
 use Rattle.schedules.proofs.ReorderedTrees.{reordered-tree, reordered-none, reordered-total, reordered-length, reordered-every}
 
-same-trees : {ns ms : List Node} {t u : Tree} → Reordered ns ms → treeOf ns ≡ some t → treeOf ms ≡ some u → sizeOf t ≡ sizeOf u
-same-trees r h k = let p = reordered-tree r h in sym (p .2) ∙ ap sizeOf (some-is (sym (p .1) ∙ k))
-
--- ---- the length of a table
+-- ---- how long the actions are
 module _ (ed : Edition) where
-  -- the bytes of a node's action
-  unfoldable bytesFor : Option Action → ℕ
-  bytesFor none = 0
-  bytesFor (some y) = widthOf (ed .width) + (widthOf (ed .width) + length (actionBytes y))
+  -- the bytes that a node's action takes
+  unfoldable lengthFor : Option Action → ℕ
+  lengthFor none = 0
+  lengthFor (some y) = widthOf (ed .width) + (widthOf (ed .width) + length (actionBytes y))
 
-  nodeBytes : Node → ℕ
-  nodeBytes x = bytesFor (actionOf x)
+  actionLength : Node → ℕ
+  actionLength x = lengthFor (actionOf x)
 
-  actions-length : (n : ℕ) (ns : List Node) → length (flatMap (writeAction ed) (actionsFrom n ns)) ≡ total nodeBytes ns
-  unfolding actionsFrom flatMap total listed bytesFor nodeBytes writeAction
+  actions-length : (n : ℕ) (ns : List Node) → length (flatMap (writeAction ed) (actionsFrom n ns)) ≡ total actionLength ns
+  unfolding actionsFrom flatMap total listed lengthFor actionLength writeAction
   actions-length n [] = refl
   actions-length n (x ∷ ns) = go (actionOf x) (actions-length (suc n) ns)
     where
-      go : (o : Option Action) → length (flatMap (writeAction ed) (actionsFrom (suc n) ns)) ≡ total nodeBytes ns → length (flatMap (writeAction ed) (listed n o (actionsFrom (suc n) ns))) ≡ bytesFor o + total nodeBytes ns
-      go none e = let z : 0 + total nodeBytes ns ≡ total nodeBytes ns = omega arith in e ∙ sym z
+      go : (o : Option Action) → length (flatMap (writeAction ed) (actionsFrom (suc n) ns)) ≡ total actionLength ns →
+          length (flatMap (writeAction ed) (listed n o (actionsFrom (suc n) ns))) ≡ lengthFor o + total actionLength ns
+      go none e = let z : 0 + total actionLength ns ≡ total actionLength ns = omega arith in e ∙ sym z
       go (some y) e =
           let w = ed .width in
           let b = actionBytes y in
@@ -66,80 +58,14 @@ module _ (ed : Edition) where
           let r = length-append (out w (widthOf w + length b) ++ (out w n ++ b)) (flatMap (writeAction ed) (actionsFrom (suc n) ns)) in
           omega arith
 
-  entries-length : (es : List Entry) → length (flatMap (writeEntry ed) es) ≡ length es * (widthOf (ed .width) + 4)
-  unfolding flatMap writeEntry out2
-  entries-length [] = omega arith
-  entries-length (e ∷ es) =
-      let w = ed .width in
-      let i = out-length w (e .node) in
-      let p = length-append (out w (e .node)) (out2 (e .target) ++ out2 (e .other)) in
-      let q = length-append (writeEntry ed e) (flatMap (writeEntry ed) es) in
-      let r = entries-length es in
-      let s = suc-mul (length es) (widthOf w + 4) in
-      omega arith
+  all-actions-length : (ns : List Node) → length (writeActions ed (actionsOf ns)) ≡ widthOf (ed .width) + total actionLength ns
+  unfolding writeActions actionsOf
+  all-actions-length ns =
+      let count = out (ed .width) (length (actionsOf ns)) in
+      length-append count (flatMap (writeAction ed) (actionsOf ns)) ∙ ap₂ _+_ (out-length (ed .width) (length (actionsOf ns))) (actions-length 0 ns)
 
-  row-length : (tests : ℕ → Bool) (l : List Residual) (r : Residual) → length (writeLocation ed (entriesOf tests l r)) ≡ suc (entriesAt r * (widthOf (ed .width) + 4))
-  unfolding writeLocation entriesOf
-  row-length tests l r = ap suc (entries-length (map (entryOf tests l r) (acting r)) ∙ ap (λ n. n * (widthOf (ed .width) + 4)) (length-map (acting r) (entryOf tests l r)))
-
-  rows-length : (tests : ℕ → Bool) (l k : List Residual) → length (flatMap (writeLocation ed) (map (entriesOf tests l) k)) ≡ length k + total entriesAt k * (widthOf (ed .width) + 4)
-  unfolding flatMap total
-  rows-length tests l [] = omega arith
-  rows-length tests l (r ∷ k) =
-      let i = row-length tests l r in
-      let p = length-append (writeLocation ed (entriesOf tests l r)) (flatMap (writeLocation ed) (map (entriesOf tests l) k)) in
-      let q = rows-length tests l k in
-      let s = add-mul (entriesAt r) (total entriesAt k) (widthOf (ed .width) + 4) in
-      omega arith
-
-  -- from the sections, the nodes and the tree's size
-  tableLength : List ℕ → List ℕ → List Node → Size → ℕ
-  tableLength vs es ns a = 17 + (length vs + (length es + ((widthOf (ed .width) + total nodeBytes ns) + (a .locations + a .entries * (widthOf (ed .width) + 4)))))
-
-  table-of-length : (s : Schedule) → treeOf (s .nodes) ≡ some (s .root) → leb (length (scheduleLocations s)) locationLimit ≡ true →
-      length (tableOf ed s) ≡ tableLength (s .sections .variables) (s .sections .equations) (s .nodes) (sizeOf (s .root))
-  unfolding tableOf scheduleLocations writeActions writeLocations actionsOf out2 tableLength
-  table-of-length s h few =
-      let vs = s .sections .variables in
-      let es = s .sections .equations in
-      let acts = actionsOf (s .nodes) in
-      let l = scheduleLocations s in
-      let locs = map (entriesOf (testsOf (s .nodes)) l) l in
-      let c = locations-counted (s .nodes) h (leb-true (length l) locationLimit few) in
-      let a : length (writeActions ed acts) ≡ widthOf (ed .width) + total nodeBytes (s .nodes) =
-      length-append (out (ed .width) (length acts)) (flatMap (writeAction ed) acts) ∙ ap₂ _+_ (out-length (ed .width) (length acts)) (actions-length 0 (s .nodes)) in
-      let r : length (writeLocations ed locs) ≡ 2 + length (flatMap (writeLocation ed) locs) = omega arith in
-      summed (length vs) (length es) (table-length ed vs es acts locs) (body-length ed vs es acts locs) a r (rows-length (testsOf (s .nodes)) l l) (c .0) (ap (λ n. n * (widthOf (ed .width) + 4)) (c .1))
-    where
-      summed : (v e : ℕ) {t b a x l r n i m j : ℕ} → t ≡ 5 + b → b ≡ 10 + (v + (e + (a + l))) → a ≡ x → l ≡ 2 + r → r ≡ n + m → n ≡ i → m ≡ j → t ≡ 17 + (v + (e + (x + (i + j))))
-      summed v e p q u k w x y = omega arith
-
--- ---- over trees
-pub same-reached : {ns ms : List Node} {t u : Tree} → Reordered ns ms → Written t 0 ns → Written u 0 ms → AsMany (Leads (testsOf ns) (fresh t)) (Leads (testsOf ms) (fresh u))
-same-reached {ns} {ms} {t} {u} r v w =
-    let h = one-tree ns t .1 v in
-    let k = one-tree ms u .1 w in
-    let z = same-trees r h k in
-    let c = reached-counted ns h in
-    let d = reached-counted ms k in
-    record {
-      these = c .list;
-      those = d .list;
-      these-once = c .distinct;
-      those-once = d .distinct;
-      these-exact = c .exact;
-      those-exact = d .exact;
-      as-many = c .as-many ∙ ap (λ (a : Size). a .locations) z ∙ sym (d .as-many);
-      as-many-acting = sym (entries-acting (c .list)) ∙ c .weigh ∙ ap (λ (a : Size). a .entries) z ∙ sym (d .weigh) ∙ entries-acting (d .list);
-    }
-
--- 13 applies to both or to neither
-pub too-many-both : (s u : Schedule) → treeOf (s .nodes) ≡ some (s .root) → treeOf (u .nodes) ≡ some (u .root) → Reordered (s .nodes) (u .nodes) → TooMany s ↔ TooMany u
-too-many-both s u h k r =
-    let z = same-trees r h k in (
-      λ m. too-many-by-size u k .1 (subst (λ (a : Size). locationLimit < a .locations) z (too-many-by-size s h .0 m)),
-      λ m. too-many-by-size s h .1 (subst (λ (a : Size). locationLimit < a .locations) (sym z) (too-many-by-size u k .0 m)),
-    )
+  actions-same : {ns ms : List Node} → Reordered ns ms → length (writeActions ed (actionsOf ns)) ≡ length (writeActions ed (actionsOf ms))
+  actions-same {ns} {ms} r = all-actions-length ns ∙ ap (λ n. widthOf (ed .width) + n) (reordered-total actionLength r) ∙ sym (all-actions-length ms)
 
 -- ---- two calls that answer alike
 data Alike {A B : Type 0} (R : A → B → Type 0) : Judged A → Judged B → Type 0 where
@@ -174,21 +100,23 @@ record AsLarge (ed : Edition) (s u : Schedule) : Type 0 where
   few : leb (length (scheduleLocations s)) locationLimit ≡ leb (length (scheduleLocations u)) locationLimit
   long : leb (length (scheduleLocations s)) locationLimit ≡ true → length (tableOf ed s) ≡ length (tableOf ed u)
 
-reordered-large : (ed : Edition) (s u : Schedule) → s .plant ≡ u .plant → s .sections .variables ≡ u .sections .variables → s .sections .equations ≡ u .sections .equations → treeOf (s .nodes) ≡ some (s .root) → treeOf (u .nodes) ≡ some (u .root) →
-    Reordered (s .nodes) (u .nodes) → sizeOf (u .root) ≡ sizeOf (s .root) → AsLarge ed s u
-unfolding scheduleLocations tableLength
-reordered-large ed s u p v e h k r z = record {
-  same-plant = p;
-  same-count = reordered-length r;
-  few = few;
-  long = λ t. table-of-length ed s h t ∙ same ∙ sym (table-of-length ed u k (sym few ∙ t));
-}
-  where
-    few : leb (length (scheduleLocations s)) locationLimit ≡ leb (length (scheduleLocations u)) locationLimit
-    few = few-locations (s .nodes) h ∙ ap (λ (a : Size). leb (a .locations) locationLimit) (sym z) ∙ sym (few-locations (u .nodes) k)
+same-length : (ed : Edition) (s u : Schedule) → s .sections .variables ≡ u .sections .variables → s .sections .equations ≡ u .sections .equations → Reordered (s .nodes) (u .nodes) →
+    sizeOf (s .root) ≡ sizeOf (u .root) → tableLength ed s ≡ tableLength ed u
+unfolding tableLength
+same-length ed s u v e r z = rw (v, e, actions-same ed r, z) refl
 
-    same : tableLength ed (s .sections .variables) (s .sections .equations) (s .nodes) (sizeOf (s .root)) ≡ tableLength ed (u .sections .variables) (u .sections .equations) (u .nodes) (sizeOf (u .root))
-    same = rw (v, e, reordered-total (nodeBytes ed) r, z) refl
+reordered-large : (ed : Edition) (s u : Schedule) → s .plant ≡ u .plant → s .sections .variables ≡ u .sections .variables → s .sections .equations ≡ u .sections .equations →
+    treeOf (s .nodes) ≡ some (s .root) → treeOf (u .nodes) ≡ some (u .root) → Reordered (s .nodes) (u .nodes) → sizeOf (u .root) ≡ sizeOf (s .root) → AsLarge ed s u
+unfolding scheduleLocations
+reordered-large ed s u p v e h k r z =
+    let few = few-locations (s .nodes) h ∙ ap (λ (a : Size). leb (a .locations) locationLimit) (sym z) ∙ sym (few-locations (u .nodes) k) in
+    record {
+      same-plant = p;
+      same-count = reordered-length r;
+      few = few;
+      long = λ t. table-of-length ed s h (leb-true (length (scheduleLocations s)) locationLimit t) ∙ same-length ed s u v e r (sym z)
+          ∙ sym (table-of-length ed u k (leb-true (length (scheduleLocations u)) locationLimit (sym few ∙ t)));
+    }
 
 -- 10 applies to both or to neither
 alike-tree : {A B : Type 0} {R : A → B → Type 0} (f : Tree → Judged A) (g : Tree → Judged B) (ns ms : List Node) → Reordered ns ms →
@@ -211,7 +139,8 @@ module _ (ed : Edition) (file other : List ℕ) (s : SameButOrder ed file other)
       alike-need 9 _ _ (s .nodes-read) (s .other-read) (
       alike-tree _ _ (s .nodes) (s .other-nodes) (s .order) (λ t u h k z.
       alike-ensure 11 (every (nodeNamed (length (p .variables)) (selectors p)) (s .nodes)) (reordered-every (nodeNamed (length (p .variables)) (selectors p)) (s .order)) (λ h11.
-      alike-ensure 12 (every (nodeReads ed (length (p .variables))) (s .nodes) && switchesRead ed p) (ap (λ b. b && switchesRead ed p) (reordered-every (nodeReads ed (length (p .variables))) (s .order))) (λ h12.
+      alike-ensure 12 (every (nodeReads ed (length (p .variables))) (s .nodes) && switchesRead ed p)
+      (ap (λ b. b && switchesRead ed p) (reordered-every (nodeReads ed (length (p .variables))) (s .order))) (λ h12.
       both-accepted (reordered-large ed _ _ refl (s .same-variables) (s .same-equations) h k (s .order) z)))))))))
 
   compiled-alike : (room : List ℕ) → Alike (λ (t u : List ℕ). length t ≡ length u) (judgeCompile ed file room) (judgeCompile ed other room)
@@ -221,7 +150,8 @@ module _ (ed : Edition) (file other : List ℕ) (s : SameButOrder ed file other)
       alike-ensure 14 (leb (length (tableOf ed a)) (length room)) (ap (λ n. leb n (length room)) (l .long h13)) (λ h14.
       both-accepted (l .long h13))))
 
-alike-compiled : (room : List ℕ) {j k : Judged (List ℕ)} → Alike (λ (t u : List ℕ). length t ≡ length u) j k → ((compiledInto room j) .refusal ≡ (compiledInto room k) .refusal) × ((compiledInto room j) .written ≡ (compiledInto room k) .written)
+alike-compiled : (room : List ℕ) {j k : Judged (List ℕ)} → Alike (λ (t u : List ℕ). length t ≡ length u) j k →
+    ((compiledInto room j) .refusal ≡ (compiledInto room k) .refusal) × ((compiledInto room j) .written ≡ (compiledInto room k) .written)
 unfolding compiledInto
 alike-compiled room (both-refused n) = (refl, refl)
 alike-compiled room (both-accepted e) = (refl, e)

@@ -9,6 +9,7 @@ use Rattle.schedules.specs.Compiling as Compiling
 use Rattle.schedules.specs.Writing as Writing
 use Rattle.schedules.specs.Calls as Calls
 use Rattle.schedules.specs.Sizes as Sizes
+use Rattle.schedules.specs.TableSizes as TableSizes
 use Rattle.semantics.proofs.Computes as Semantics
 use mathlib.Core.Option.{bind}
 use native.Mathlib.Decide.{ℕ-discrete}
@@ -50,7 +51,7 @@ unfolding Calls.scheduleCounts Calls.readSchedule Calls.ruleProgram Calls.ruleRu
 calls = tt
 
 unfoldable pub sizes : Unit {0}
-unfolding Sizes.one Sizes.nothingLeft Sizes.inTurn Sizes.sideBySide Sizes.sequenceSize Sizes.parallelSize Sizes.leafSize Sizes.haltSize Sizes.loopSize Sizes.branchSize Sizes.sizeOf
+unfolding Sizes.one Sizes.nothingLeft Sizes.inTurn Sizes.sideBySide Sizes.sequenceSize Sizes.parallelSize Sizes.leafSize Sizes.haltSize Sizes.loopSize Sizes.branchSize Sizes.sizeOf Sizes.allFinish Sizes.upToFirst Sizes.sumOf Sizes.factor Sizes.productOf Sizes.entryProducts Sizes.byProducts Sizes.pencilSize TableSizes.tableLength
 sizes = tt
 
 unfoldable pub schedules : Unit {0}

@@ -178,7 +178,7 @@ sections-form = record {
   in-bytes = λ x h. all-append (section-written (h .variables)) (all-append (section-written (h .equations)) (section-written (h .schedule)));
 }
 
-sections-read : (x : FileSections) → fileSectionsIn (writeSections x) ≡ some x
+pub sections-read : (x : FileSections) → fileSectionsIn (writeSections x) ≡ some x
 unfolding fileSectionsIn
 sections-read x = whole-reads _ (sections-back x)
 

@@ -30,16 +30,19 @@ pub mod Demand2
 pub mod CallsHold
 pub mod WrittenBytes
 -- the number of locations, and the order of a PARALLEL's children
+pub mod ByPencil
 pub mod Counting
 pub mod Reachable
 pub mod Reaching
 pub mod LocationCount
+pub mod TableLength
 pub mod PreorderSizes
 pub mod ReorderedTrees
 pub mod AnyOrder
 pub mod BranchOrder
-pub mod SizePapers
+pub mod BorderPapers
 -- bytes read just where they are a written form
 pub mod FileForms
 pub mod FilesProper
 pub mod WritingPapers
+pub mod ExchangedBytes

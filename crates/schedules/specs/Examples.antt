@@ -1,12 +1,20 @@
 -- What the papers are about: nodes and small schedule files.
-use mathlib.Core.List.{List, [], _∷_}
+use mathlib.Core.Path.{_≡_}
+use mathlib.Core.List.{List, [], _∷_, _++_}
 use mathlib.Core.Option.{Option, Option·map}
-use Prim.Native.Nat.{ℕ}
-use lib.ListN.{length}
-use Rattle.schedules.specs.Nodes.{Node, parallel, stop-all, continue-until}
+use Prim.Native.Nat.{ℕ, suc}
+use lib.IntN.{pos}
+use lib.ListN.{length, replicate, take}
+use Rattle.semantics.specs.Editions.{Edition, edition1}
+use Rattle.semantics.specs.Refusals.{accepted}
+use Rattle.semantics.specs.Tables.{Table, judgeTable}
+use Rattle.schedules.specs.Nodes.{Node, sequence, parallel, while-do, if-else, reset, stop-all, continue-until}
 use Rattle.schedules.specs.Trees.{Tree, treeOf}
 use Rattle.schedules.specs.Numbering.{locations}
 use Rattle.schedules.specs.Compiling.{testsOf}
+use Rattle.schedules.specs.Calls.{compile}
+use Rattle.schedules.specs.Writing.{writeFile}
+use Rattle.schedules.specs.Sizes.{Size, sizeOf}
 
 -- the number of locations of these nodes
 abbrev pub locationCount : List Node → Option ℕ
@@ -15,6 +23,38 @@ locationCount ns = Option·map (λ (t : Tree). length (locations (testsOf ns) t)
 -- PARALLEL of STOP and CONTINUE
 abbrev pub stopOrWait : List ℕ → List Node
 stopOrWait t = parallel 2 ∷ stop-all ∷ continue-until t ∷ []
+
+-- the size of the tree of these nodes
+abbrev pub sizeIn : List Node → Option Size
+sizeIn ns = Option·map sizeOf (treeOf ns)
+
+-- PARALLEL of two: SEQUENCE of a RESET and of a WHILE over a CONTINUE; IF with a RESET and with a SEQUENCE of two RESETs
+abbrev pub mixed : ℕ → List ℕ → List ℕ → List Node
+mixed v e t =
+    parallel 2 ∷ sequence 2 ∷ reset v e ∷ while-do t ∷ continue-until t ∷
+    if-else t ∷ reset v e ∷ sequence 2 ∷ reset v e ∷ reset v e ∷ []
+
+-- PARALLEL of two: SEQUENCE of a RESET, a STOP and two RESETs; CONTINUE
+abbrev pub stopInside : ℕ → List ℕ → List ℕ → List Node
+stopInside v e t = parallel 2 ∷ sequence 4 ∷ reset v e ∷ stop-all ∷ reset v e ∷ reset v e ∷ continue-until t ∷ []
+
+-- PARALLEL of ten RESETs of variable 0 to 7, and so many RESETs before it
+abbrev pub tenResets : List Node
+tenResets = parallel 10 ∷ replicate 10 (reset 0 (1 ∷ 0 ∷ 0 ∷ 0 ∷ 7 ∷ []))
+
+abbrev pub resetsBefore : ℕ → List Node
+resetsBefore n = sequence (suc n) ∷ (replicate n (reset 0 (1 ∷ 0 ∷ 0 ∷ 0 ∷ 7 ∷ [])) ++ tenResets)
+
+-- the bytes of a file with one variable 0..10, no equation and these nodes
+abbrev pub fileWith : List Node → List ℕ
+fileWith ns = writeFile edition1 (record { variables = record { minimum = pos 0; maximum = pos 10; initial = pos 0 } ∷ []; equations = [] }) ns
+
+-- compiling takes the file, and the bytes that it writes are read back as a table of so many locations
+pub record TakenWith (ed : Edition) (file room : List ℕ) (locations : ℕ) : Type 0 where
+  pub taken : (compile ed file room) .refusal ≡ 0
+  pub back : Table
+  pub table-read : judgeTable ed (take ((compile ed file room) .written) ((compile ed file room) .table)) ≡ accepted back
+  pub as-many : length (back .locations) ≡ locations
 
 -- one variable 0..10; CONTINUE UNTIL true or a fault
 unfoldable pub one-wait-file : List ℕ

@@ -16,5 +16,6 @@ pub mod Writing
 pub mod Proper
 pub mod Agreement
 pub mod Sizes
+pub mod TableSizes
 pub mod Reordered
 pub mod Examples

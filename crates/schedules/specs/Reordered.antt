@@ -1,17 +1,14 @@
 -- Schedules that are the same but for the order in which the children of PARALLELs are listed.
 use mathlib.Core.Path.{_≡_}
-use mathlib.Core.Logic.{_↔_}
-use mathlib.Core.List.{List, _∷_, _++_, flatMap, List·Memᴰ as Mem}
+use mathlib.Core.List.{List, _∷_, _++_}
 use mathlib.Core.Option.{some}
 use Prim.Native.Nat.{ℕ, _+_, _≤_}
-use lib.ListN.{length, drop}
+use lib.ListN.{drop}
 use Rattle.semantics.specs.Editions.{Edition}
 use Rattle.schedules.specs.FileSections.{FileSections, fileSectionsIn}
 use Rattle.schedules.specs.Nodes.{Node, parallel, nodesIn}
 use Rattle.schedules.specs.Trees.{Tree, Forest}
 use Rattle.schedules.specs.Preorder.{howMany, Written, WrittenAll}
-use Rattle.schedules.specs.Residuals.{Residual, acting}
-use Rattle.schedules.specs.Reached.{Distinct}
 use Rattle.schedules.specs.Files.{fileHeader, fileLength}
 
 -- the nodes of one tree, in preorder; from which number on they are counted does not matter
@@ -40,17 +37,6 @@ pub record Swapped (ns ms : List Node) : Type 0 where
 pub data Reordered (ns : List Node) : List Node → Type 0 where
   unchanged : Reordered ns ns
   swapped : {ms ls : List Node} → Reordered ns ms → Swapped ms ls → Reordered ns ls
-
--- as many residuals are of the one sort as of the other, and as many nodes act in them
-pub record AsMany (P Q : Residual → Type 0) : Type 0 where
-  pub these : List Residual
-  pub those : List Residual
-  pub these-once : Distinct these
-  pub those-once : Distinct those
-  pub these-exact : (r : Residual) → Mem r these ↔ P r
-  pub those-exact : (r : Residual) → Mem r those ↔ Q r
-  pub as-many : length these ≡ length those
-  pub as-many-acting : length (flatMap acting these) ≡ length (flatMap acting those)
 
 -- two files with the same variables and equations, whose nodes are the same but for that order
 pub record SameButOrder (ed : Edition) (file other : List ℕ) : Type 0 where
