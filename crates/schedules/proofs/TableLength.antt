@@ -46,7 +46,7 @@ module _ (ed : Edition) where
   unfolding writeLocation entriesOf
   row-length tests l r = ap suc (entries-length (map (entryOf tests l r) (acting r)) ∙ ap (λ n. n * (widthOf (ed .width) + 4)) (length-map (acting r) (entryOf tests l r)))
 
-  rows-length : (tests : ℕ → Bool) (l k : List Residual) → length (flatMap (writeLocation ed) (map (entriesOf tests l) k)) ≡ length k + total entriesAt k * (widthOf (ed .width) + 4)
+  pub rows-length : (tests : ℕ → Bool) (l k : List Residual) → length (flatMap (writeLocation ed) (map (entriesOf tests l) k)) ≡ length k + total entriesAt k * (widthOf (ed .width) + 4)
   unfolding flatMap total
   rows-length tests l [] = omega arith
   rows-length tests l (r ∷ k) =

@@ -13,7 +13,7 @@ use Rattle.schedules.specs.Numbering.{locations}
 use Rattle.numbering.specs.Meeting.{testsIn}
 use Rattle.numbering.specs.Located.{allRows, Fitting, Numbered}
 use Rattle.table_write.specs.ActionTable.{actionRows, actionCount, actionSection, Operands, Measured}
-use Rattle.table_write.specs.LocationTable.{locationSection, Counted, LocationsPut}
+use Rattle.table_write.specs.LocationTable.{locationSection, Counts, Counted, LocationsPut}
 
 pub section-length : (s : List ℕ) → length (inSection2 s) ≡ length s + 2
 unfolding inSection2 out2
@@ -41,15 +41,15 @@ actions-put {s} {acts} {starts} {ends} {count} {k = k} o m h p w e q v f z =
     (omega arith, wrote-as (ap₂ (λ (x y : ℕ). (out2 (x + 1) ++ (y ∷ [])) ++ b) a (e ∙ m .counts) ∙ actions-joined (actionCount acts count) b) (put-more (put-more w v h p) z h (omega arith)))
 
 -- ---- the location section, its head written before its rows
-module _ {ks es acts : List ℕ} {n size : ℕ} (x : Counted ks es acts n size) where
-  pub fitting : {d : List ℕ} {at : ℕ} → at + size ≤ length d → Fitting ks es acts d at
-  fitting h = record { few = λ t l. omega (arith, x .few, x .counts t l); fits = λ t l. omega (arith, x .sizes t l) }
+module _ {ks es acts : List ℕ} {n size : ℕ} where
+  pub fitting : {d : List ℕ} {at : ℕ} → Counted ks es acts n size → at + size ≤ length d → Fitting ks es acts d at
+  fitting x h = record { tree = x .tree; lies = x .has .lies; small = x .small; few = omega (arith, x .few, x .has .counts); fits = omega (arith, x .has .sizes) }
 
-  pub locations-put : {d d₁ d₂ d′ : List ℕ} {i j l r : ℕ} → i ≤ length d → j ≡ i + 4 → Wrote d i (out4 (size + 2)) d₁ → l ≡ j + 2 → Wrote d₁ j (out2 n) d₂ → Numbered ks es acts d₂ l d′ r → LocationsPut ks es acts d i d′ r
+  pub locations-put : {d d₁ d₂ d′ : List ℕ} {i j l r : ℕ} → i ≤ length d → j ≡ i + 4 → Wrote d i (out4 (size + 2)) d₁ → l ≡ j + 2 → Wrote d₁ j (out2 n) d₂ → Numbered ks es acts d₂ l d′ r → LocationsPut ks es acts n size d i d′ r
   unfolding out4 out2
   locations-put {d′ = d′} h p w q v z = record {
-    ends = λ t e. let a = long-length (locationSection (testsIn acts) t) in omega (arith, z .ends t e);
-    writes = λ t e.
-        wrote-as (ap₂ (λ (k m : ℕ). (out4 (k + 2) ++ out2 m) ++ allRows (testsIn acts) t) (sym (x .sizes t e)) (sym (x .counts t e)) ∙ locations-joined (length (locations (testsIn acts) t)) (allRows (testsIn acts) t))
-        (put-more (put-more w v h p) (z .writes t e) h (omega arith));
+    ends = λ t x. let a = long-length (locationSection (testsIn acts) t) in omega (arith, z .ends t (x .lies));
+    writes = λ t x.
+        wrote-as (ap₂ (λ (k m : ℕ). (out4 (k + 2) ++ out2 m) ++ allRows (testsIn acts) t) (sym (x .sizes)) (sym (x .counts)) ∙ locations-joined (length (locations (testsIn acts) t)) (allRows (testsIn acts) t))
+        (put-more (put-more w v h p) (z .writes t (x .lies)) h (omega arith));
   }

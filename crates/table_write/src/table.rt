@@ -9,7 +9,6 @@ ghost use Prim.Native.Nat.{ℕ, _+_, _≤_, _<_};
 ghost use lib.ListN.{length};
 ghost use Rattle.semantics.specs.Bytes.{out4};
 ghost use Rattle.semantics.specs.TableFile.{inSection2};
-ghost use Rattle.moves.specs.Contracts.{Planted};
 ghost use Rattle.codec.specs.Writing.{Wrote};
 ghost use Rattle.table_write.specs.ActionTable.{actionSection, Operands, Measured};
 ghost use Rattle.table_write.specs.LocationTable.{Counted, LocationsPut};
@@ -70,8 +69,8 @@ pub fn put_locations<'a>(
     table: &mut [u8],
     i: usize,
 ) -> usize
-    requires { ⌜ Planted (now kinds) (now subs) × (length (now kinds) ≤ 64) × (64 ≤ length (now acts)) × Counted (now kinds) (now subs) (now acts) (rows .count) (rows .at) × (i + rows .at + 6 ≤ length (now table)) ⌝ }
-    ensures { λ r. ⌜ LocationsPut (now (kinds .entry)) (now (subs .entry)) (now (acts .entry)) (now (table .entry)) i (now (table .exit)) r ⌝ }
+    requires { ⌜ Counted (now kinds) (now subs) (now acts) (rows .count) (rows .at) × (64 ≤ length (now acts)) × (i + rows .at + 6 ≤ length (now table)) ⌝ }
+    ensures { λ r. ⌜ LocationsPut (now (kinds .entry)) (now (subs .entry)) (now (acts .entry)) (rows .count) (rows .at) (now (table .entry)) i (now (table .exit)) r ⌝ }
 {
     let j = codec::put4(table, i, rows.at + 2);
     let l = codec::put2(table, j, rows.count);

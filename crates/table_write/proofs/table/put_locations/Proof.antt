@@ -16,7 +16,7 @@ put2-requires c κs = search needs
 number-requires : tie.Need-number-requires
 number-requires c κs =
     let s = c .before .before .before .before .before .before .before .before .before .before .before .before .before .before in
-    (s .pre .0, s .pre .1, s .pre .2, fitting (s .pre .3) (omega (arith, s .pre .4, c .before .before .before .before .before .before .before .put4 .ensures .0, c .before .before .before .put2 .ensures .0, c .before .before .before .before .before .before .before .put4 .kept .0, c .before .before .before .put2 .kept .0)))
+    (fitting (s .pre .0) (omega (arith, s .pre .2, c .before .before .before .before .before .before .before .put4 .ensures .0, c .before .before .before .put2 .ensures .0, c .before .before .before .before .before .before .before .put4 .kept .0, c .before .before .before .put2 .kept .0)), s .pre .1)
 
 same-length : tie.Need-same-length
 same-length c = search needs
@@ -26,7 +26,7 @@ returns c =
     let s = c .before .before .before .before .before .before .before .before .before .before .before .before .before .before .before .before .before in
     let p = c .before .before .before .before .before .before .before .before .before .before .put4 .ensures in
     let q = c .before .before .before .before .before .before .put2 .ensures in
-    locations-put (s .pre .3) (omega (arith, s .pre .4)) (p .0) (p .1) (q .0) (q .1) (c .before .before .number .ensures)
+    locations-put (omega (arith, s .pre .2)) (p .0) (p .1) (q .0) (q .1) (c .before .before .number .ensures)
 
 pub put-locations-spec : {M : Type 1} → statement M
 put-locations-spec =
