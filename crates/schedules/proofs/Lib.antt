@@ -34,6 +34,7 @@ pub mod Counting
 pub mod Reachable
 pub mod Reaching
 pub mod LocationCount
+pub mod SizeCall
 pub mod PreorderSizes
 pub mod ReorderedTrees
 pub mod AnyOrder
