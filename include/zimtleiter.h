@@ -7,8 +7,8 @@
  *
  * Every call returns, whatever the bytes in the buffers lent to it. It returns
  * 0, or the number of the first condition below that applies. Where it returns
- * another number than 0, no lent buffer is written, and the length or the
- * counts are set to 0. What is only read is left as it was in any case.
+ * another number than 0, no lent buffer is written, and the length, the counts
+ * or the numbers of a size are set to 0. What is only read is left as it was in any case.
  *
  * The caller sees to these things, on which the proofs rest:
  *  - A pointer with a length points to that many bytes, which can be read, and
@@ -17,15 +17,16 @@
  *    with length 0 is an empty buffer. Nothing promises it.)
  *  - A pointer to a uint64_t is that of a whole one, aligned and writable. What
  *    it holds before the call does not matter.
- *  - What a call writes to (table or records, length, counts) overlaps nothing
- *    else that is lent to that call. Buffers that are only read may overlap.
+ *  - What a call writes to (table or records, length, counts, numbers) overlaps
+ *    nothing else that is lent to that call. Buffers that are only read may overlap.
  *  - Until the call returns, nothing else writes to what is lent, and nothing
  *    else reads what the call writes to.
  *
  * Stack, as measured on the largest plants, the deepest trees and the deepest
  * expressions: zimtleiter_compile 411,000 bytes, zimtleiter_table_run 53,000,
  * zimtleiter_read_table 42,000, zimtleiter_rule_run 38,000,
- * zimtleiter_read_schedule 23,000. 512 KiB are room for any of them.
+ * zimtleiter_size 24,000, zimtleiter_read_schedule 23,000. 512 KiB are room for
+ * any of them.
  *
  * Schedule files, tables, starting values, events and records are those of
  * document 01; numbers of several bytes are big-endian.
@@ -61,6 +62,16 @@ extern "C" {
  *      unknown code or names a missing variable
  */
 uint8_t zimtleiter_read_schedule(const uint8_t *file, size_t file_len);
+
+/*
+ * How large the table of a schedule is, without compiling it. Returns 0, or 1 to
+ * 12 as above. On 0 *locations and *entries are the numbers of locations and of
+ * entries that the schedule's table has; where there are over 1,024 locations,
+ * so that zimtleiter_compile returns 13, they are 1,025 and 0. docs/BORDER.md
+ * has the rule by which the numbers can be worked out from the tree.
+ */
+uint8_t zimtleiter_size(const uint8_t *file, size_t file_len,
+                        uint64_t *locations, uint64_t *entries);
 
 /*
  * Reads a table and judges it. Returns 0, or

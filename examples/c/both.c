@@ -1,6 +1,7 @@
 /*
- * Compiles a schedule, runs it by the rules and by its table over a list of
- * events, from its own initial values and modes, and compares the two runs.
+ * Says how large a schedule is, compiles it, runs it by the rules and by its
+ * table over a list of events, from its own initial values and modes, and
+ * compares the two runs.
  * both SCHEDULE EVENTS
  */
 #include "zimtleiter.h"
@@ -108,6 +109,19 @@ static struct run by_table(struct bytes table, struct bytes start, struct bytes 
     return print_run("by the table", r);
 }
 
+/* What the schedule's table will have. */
+static void print_size(struct bytes file)
+{
+    uint64_t locations, entries;
+    uint8_t n = zimtleiter_size(file.at, file.length, &locations, &entries);
+    if (n != 0)
+        refused("the size", n);
+    if (locations > 1024)
+        puts("the schedule: over 1,024 locations");
+    else
+        printf("the schedule: %llu locations, %llu entries\n", (unsigned long long)locations, (unsigned long long)entries);
+}
+
 static struct bytes compiled(struct bytes file)
 {
     struct bytes t = {room_for(ZIMTLEITER_TABLE_ROOM), 0};
@@ -141,6 +155,7 @@ int main(int argc, char **argv)
     if (n != 0)
         refused("reading the schedule", n);
     struct bytes start = initial_start(file.at);
+    print_size(file);
     struct bytes table = compiled(file);
     size_t size = 9 + start.length;
     size_t room = events.length / 3 * size;

@@ -2,7 +2,11 @@
 use mathlib.Core.List.{List}
 use Prim.Native.Nat.{ℕ}
 use Rattle.semantics.specs.Calls.{Ran}
-use Rattle.schedules.specs.Calls.{Compiled}
+use Rattle.schedules.specs.Calls.{Sized, Compiled}
+
+-- the size of a schedule: the number, the locations, the entries
+abbrev pub sized : ℕ → ℕ → ℕ → Sized
+sized refusal locations entries = record { refusal = refusal; locations = locations; entries = entries }
 
 -- compiling: the number, the length, the table's buffer
 abbrev pub compiled : ℕ → ℕ → List ℕ → Compiled

@@ -1,10 +1,10 @@
-// The five calls for C, each under its plain name: include/zimtleiter.h declares them.
+// The six calls for C, each under its plain name: include/zimtleiter.h declares them.
 // A lent slice is a pointer and a length there, a `&mut u64` a pointer. No call asks anything of its bytes.
 ghost use mathlib.Core.Path.{_≡_};
 ghost use Rattle.semantics.specs.Editions.{edition1};
 ghost use Rattle.semantics.specs.Calls.{readTable, tableRun};
-ghost use Rattle.schedules.specs.Calls.{readSchedule, compile, ruleRun};
-ghost use Rattle.capi.specs.Returned.{compiled, ran};
+ghost use Rattle.schedules.specs.Calls.{readSchedule, size, compile, ruleRun};
+ghost use Rattle.capi.specs.Returned.{sized, compiled, ran};
 
 // 0, or the first of 1 to 12 that applies
 #[no_mangle]
@@ -21,6 +21,17 @@ pub extern "C" fn zimtleiter_read_table(table: &[u8]) -> u8
     ensures { λ r. ⌜ r ≡ readTable edition1 (now (table .entry)) .refusal ⌝ }
 {
     let x = table_read::call::read(table);
+    x.refusal
+}
+
+// 0 and the numbers of locations and entries, or 1,025 and 0 where 13 would apply; or the first of 1 to 12 that applies, and both 0
+#[no_mangle]
+pub extern "C" fn zimtleiter_size(file: &[u8], locations: &mut u64, entries: &mut u64) -> u8
+    ensures { λ r. ⌜ sized r (now (locations .exit)) (now (entries .exit)) ≡ size edition1 (now (file .entry)) ⌝ }
+{
+    let x = compiler::size::of(file);
+    *locations = x.locations as u64;
+    *entries = x.entries as u64;
     x.refusal
 }
 

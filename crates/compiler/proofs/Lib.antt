@@ -4,3 +4,5 @@ pub mod ActionForms
 pub mod ScheduleTable
 pub mod CallStages
 pub mod Measuring
+-- the size of a schedule
+pub mod SizeStages

@@ -36,6 +36,7 @@ pub mod Reachable
 pub mod Reaching
 pub mod LocationCount
 pub mod TableLength
+pub mod SizeCall
 pub mod PreorderSizes
 pub mod ReorderedTrees
 pub mod AnyOrder

@@ -1,15 +1,19 @@
 -- The calls over a schedule file: all that each returns, and what a lent buffer holds afterwards, for all inputs.
+use mathlib.Core.Bool.{cond}
 use mathlib.Core.List.{List}
-use Prim.Native.Nat.{ℕ}
+use Prim.Native.Nat.{ℕ, suc}
+use lib.Dec.{leb}
 use lib.ListN.{length}
 use Rattle.semantics.specs.Bytes.{overwrite}
 use Rattle.semantics.specs.Editions.{Edition}
 use Rattle.semantics.specs.Refusals.{Judged, refused, accepted, _>>=_}
 use Rattle.semantics.specs.Plant.{selectors}
+use Rattle.semantics.specs.TableFile.{locationLimit}
 use Rattle.semantics.specs.Calls.{Program, judgeRun, Ran, report}
 use Rattle.schedules.specs.Residuals.{Residual}
 use Rattle.schedules.specs.Files.{Schedule, judgeFile, ruleControl}
 use Rattle.schedules.specs.Compiling.{judgeCompile}
+use Rattle.schedules.specs.Sizes.{Size, sizeOf}
 
 -- ---- the call "reading a schedule": 1 to 12
 pub record ScheduleRead : Type 0 where
@@ -29,6 +33,23 @@ scheduleCounts (accepted s) = record {
 
 unfoldable pub readSchedule : Edition → List ℕ → ScheduleRead
 readSchedule ed f = scheduleCounts (judgeFile ed f)
+
+-- ---- the call "size of a schedule": 1 to 12 as for reading; how many locations and entries its table has
+pub record Sized : Type 0 where
+  pub refusal : ℕ
+  pub locations : ℕ
+  pub entries : ℕ
+
+-- the exact numbers, or 1,025 and 0 where there are over 1,024 locations (13)
+unfoldable pub sizeTold : Size → Sized
+sizeTold a = cond (leb (a .locations) locationLimit) (record { refusal = 0; locations = a .locations; entries = a .entries }) (record { refusal = 0; locations = suc locationLimit; entries = 0 })
+
+unfoldable pub sizeCounts : Judged Schedule → Sized
+sizeCounts (refused n) = record { refusal = n; locations = 0; entries = 0 }
+sizeCounts (accepted s) = sizeTold (sizeOf (s .root))
+
+unfoldable pub size : Edition → List ℕ → Sized
+size ed f = sizeCounts (judgeFile ed f)
 
 -- ---- the call "running a schedule by the rules": 1 to 12 and 20 to 22
 unfoldable pub ruleProgram : Edition → List ℕ → Judged (Program Residual)

@@ -145,6 +145,13 @@ pub fn widest() -> Vec<u8> {
     plain_plant(nodes).bytes()
 }
 
+/// PARALLEL of 63 RESETs: 64 nodes, 2^63 - 1 locations, refused with 13.
+pub fn too_many() -> Vec<u8> {
+    let mut nodes = vec![vec![2, 63]];
+    nodes.extend(vec![reset(0, &constant(1)); 63]);
+    plain_plant(nodes).bytes()
+}
+
 /// Nests of all 64 nodes: of SEQUENCEs, PARALLELs, WHILEs and IFs, with truths and a number of depth 16.
 pub fn deep() -> Vec<Vec<u8>> {
     let truth = [vec![0x2A; 15], vec![0x2F]].concat();

@@ -24,6 +24,7 @@ const ALL: [Who; 3] = [Who::Product, Who::Plain, Who::Fast];
 
 enum Work {
     Compile(Vec<u8>),
+    Size(Vec<u8>),
     Rules(Runs),
     Table(Vec<u8>, Runs),
 }
@@ -35,10 +36,12 @@ fn by_table(r: Runs) -> Work {
     Work::Table(table, r)
 }
 
-const NAMES: [&str; 13] = [
+const NAMES: [&str; 15] = [
     "compile-k8",
     "compile-mixed",
     "compile-widest",
+    "refuse-64",
+    "size-k8",
     "rules-filling",
     "rules-vessels",
     "rules-batch",
@@ -56,6 +59,8 @@ fn work(name: &str) -> Work {
         "compile-k8" => Work::Compile(cases::ten_resets()),
         "compile-mixed" => Work::Compile(cases::mixed()),
         "compile-widest" => Work::Compile(cases::widest()),
+        "refuse-64" => Work::Compile(cases::too_many()),
+        "size-k8" => Work::Size(cases::ten_resets()),
         "rules-filling" => Work::Rules(cases::filling()),
         "rules-vessels" => Work::Rules(cases::vessels()),
         "rules-batch" => Work::Rules(cases::batch()),
@@ -70,7 +75,7 @@ fn work(name: &str) -> Work {
     }
 }
 
-/// A call's number, and what it gave: the table's length or the counts.
+/// A call's number, or what it gave: the table's length, its size or the counts.
 fn compiled(who: Who, file: &[u8], out: &mut [u8]) -> Result<usize, u8> {
     match who {
         Who::Product => product::compile(file, out),
@@ -79,6 +84,14 @@ fn compiled(who: Who, file: &[u8], out: &mut [u8]) -> Result<usize, u8> {
             out[..t.len()].copy_from_slice(t);
             t.len()
         }),
+    }
+}
+
+fn sized(who: Who, file: &[u8]) -> Result<[u64; 2], u8> {
+    match who {
+        Who::Product => product::size(file),
+        Who::Fast => fast::size(file),
+        Who::Plain => plain::size(file),
     }
 }
 
@@ -110,6 +123,10 @@ fn perform(who: Who, w: &Work, out: &mut [u8]) -> [u64; 4] {
             Ok(n) => [0, n as u64, 0, 0],
             Err(n) => [n as u64, 0, 0, 0],
         },
+        Work::Size(f) => match sized(who, f) {
+            Ok([locations, entries]) => [0, locations, entries, 0],
+            Err(n) => [n as u64, 0, 0, 0],
+        },
         Work::Rules(r) => told(ran(who, false, &r.file, r, out)),
         Work::Table(t, r) => told(ran(who, true, t, r, out)),
     }
@@ -118,6 +135,7 @@ fn perform(who: Who, w: &Work, out: &mut [u8]) -> [u64; 4] {
 fn room(w: &Work) -> usize {
     match w {
         Work::Compile(_) => ROOM,
+        Work::Size(_) => 0,
         Work::Rules(r) | Work::Table(_, r) => r.events.len() / 3 * (9 + r.start.len()),
     }
 }
@@ -147,6 +165,7 @@ fn agree_beside() {
             let room = 300 * (9 + runs.start.len());
             let table = plain::whole_table(f).unwrap();
             agree(&name, &Work::Compile(f.to_vec()), ROOM);
+            agree(&name, &Work::Size(f.to_vec()), 0);
             agree(&name, &Work::Rules(cases::example(f, 100 * i as u64 + seed, 300)), room);
             agree(&name, &Work::Table(table.clone(), runs), room);
             damaged(f, &table, &name, seed);
@@ -168,6 +187,7 @@ fn damaged(file: &[u8], table: &[u8], name: &str, seed: u64) {
         let runs = || cases::example(file, seed, 20);
         let room = 20 * (9 + runs().start.len());
         agree(name, &Work::Compile(f.clone()), 2_000);
+        agree(name, &Work::Size(f.clone()), 0);
         agree(name, &Work::Rules(Runs { file: f, ..runs() }), room);
         agree(name, &Work::Table(t, runs()), room);
     }

@@ -16,6 +16,7 @@ type Run = unsafe extern "C" fn(
 ) -> u8;
 
 extern "C" {
+    fn zimtleiter_size(file: *const u8, file_len: usize, locations: *mut u64, entries: *mut u64) -> u8;
     fn zimtleiter_compile(file: *const u8, file_len: usize, table: *mut u8, room: usize, length: *mut u64) -> u8;
     fn zimtleiter_rule_run(
         file: *const u8,
@@ -50,6 +51,13 @@ pub fn compile(file: &[u8], table: &mut [u8]) -> Result<usize, u8> {
     // SAFETY: each pointer is lent with its length.
     let refusal = unsafe { zimtleiter_compile(file.as_ptr(), file.len(), table.as_mut_ptr(), table.len(), &mut length) };
     if refusal == 0 { Ok(length as usize) } else { Err(refusal) }
+}
+
+pub fn size(file: &[u8]) -> Result<[u64; 2], u8> {
+    let [mut locations, mut entries] = [0; 2];
+    // SAFETY: as above
+    let refusal = unsafe { zimtleiter_size(file.as_ptr(), file.len(), &mut locations, &mut entries) };
+    if refusal == 0 { Ok([locations, entries]) } else { Err(refusal) }
 }
 
 fn run(call: Run, program: &[u8], start: &[u8], events: &[u8], records: &mut [u8]) -> Result<Ran, u8> {

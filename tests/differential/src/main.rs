@@ -1,4 +1,4 @@
-//! The five calls of the product against the plain implementation, on inputs from a seed.
+//! The six calls of the product against the plain implementation, on inputs from a seed.
 //! differential [SEED [SECONDS]]
 mod drafts;
 mod forms;
@@ -12,18 +12,19 @@ use product::Given;
 use random::Random;
 use std::time::{Duration, Instant};
 
-const CALLS: [&str; 5] = ["read_schedule", "read_table", "compile", "rule_run", "table_run"];
+const CALLS: [&str; 6] = ["read_schedule", "read_table", "compile", "rule_run", "table_run", "size"];
 
 /// What was seen so far.
 #[derive(Default)]
 struct Tally {
     inputs: u64,
-    calls: [u64; 5],
-    accepted: [u64; 5],
+    calls: [u64; 6],
+    accepted: [u64; 6],
     refusals: [u64; 23],
     answers: std::collections::BTreeMap<u8, u64>,
     longest: [usize; 4],
     edges: [u64; 4],
+    over: u64,
 }
 
 const EDGES: [&str; 4] = ["of 65,535 bytes", "of 64 nodes", "with 1,024 locations", "with a table of 65,530 to 65,542 bytes"];
@@ -56,7 +57,7 @@ impl Tally {
 
     fn print(&self, since: Instant) {
         println!("{} s, {} inputs, 0 differences", since.elapsed().as_secs(), self.inputs);
-        let calls: Vec<String> = (0..5).map(|k| format!("{} {} of {}", CALLS[k], self.accepted[k], self.calls[k])).collect();
+        let calls: Vec<String> = (0..6).map(|k| format!("{} {} of {}", CALLS[k], self.accepted[k], self.calls[k])).collect();
         println!("  accepted: {}", calls.join(", "));
         let refusals: Vec<String> = (1..23).map(|n| format!("{n}:{}", self.refusals[n])).collect();
         println!("  refused: {}", refusals.join(" "));
@@ -66,6 +67,7 @@ impl Tally {
         println!("  longest: file {file}, table {table}, events {events}, records {records} bytes");
         let edges: Vec<String> = (0..4).map(|k| format!("{} {}", self.edges[k], EDGES[k])).collect();
         println!("  compiled: {}", edges.join(", "));
+        println!("  sizes over the limit: {}", self.over);
     }
 
     /// A schedule that compiles, and its table.
@@ -112,6 +114,14 @@ fn read(r: &mut Random, t: &mut Tally, call: usize, bytes: &[u8]) -> Result<(), 
     compare(call, &[("bytes", bytes)], given, wanted)
 }
 
+fn size(r: &mut Random, t: &mut Tally, file: &[u8]) -> Result<(), Box<Difference>> {
+    let told = plain::size(file);
+    let wanted = Given { refusal: told.err().unwrap_or(0), numbers: told.unwrap_or([0; 2]).to_vec(), ..Given::default() };
+    t.saw(5, wanted.refusal);
+    t.over += (wanted.numbers == [1025, 0]) as u64;
+    compare(5, &[("file", file)], product::size(r, file), wanted)
+}
+
 /// The table, where there is one.
 fn compile(r: &mut Random, t: &mut Tally, file: &[u8]) -> Result<Option<Vec<u8>>, Box<Difference>> {
     let whole = plain::whole_table(file);
@@ -151,11 +161,12 @@ fn run(r: &mut Random, t: &mut Tally, by_table: bool, program: &[u8], start: &[u
     compare(call, &[("program", program), ("start", start), ("events", events), ("old", &old)], given, wanted)
 }
 
-/// All five calls on one schedule, one table, starts and events.
+/// All six calls on one schedule, one table, starts and events.
 fn input(r: &mut Random, t: &mut Tally) -> Result<(), Box<Difference>> {
     t.inputs += 1;
     let file = inputs::file(r);
     read(r, t, 0, &file)?;
+    size(r, t, &file)?;
     let compiled = compile(r, t, &file)?;
     if let Some(table) = &compiled {
         t.saw_compiled(&file, table);

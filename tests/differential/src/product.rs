@@ -1,9 +1,10 @@
-//! The five calls of libcapi.a, each lent its bytes and numbers between others that are watched.
+//! The six calls of libcapi.a, each lent its bytes and numbers between others that are watched.
 use crate::random::Random;
 
 extern "C" {
     fn zimtleiter_read_schedule(file: *const u8, file_len: usize) -> u8;
     fn zimtleiter_read_table(table: *const u8, table_len: usize) -> u8;
+    fn zimtleiter_size(file: *const u8, file_len: usize, locations: *mut u64, entries: *mut u64) -> u8;
     fn zimtleiter_compile(file: *const u8, file_len: usize, table: *mut u8, room: usize, length: *mut u64) -> u8;
     fn zimtleiter_rule_run(
         file: *const u8,
@@ -125,6 +126,14 @@ pub fn read_table(r: &mut Random, table: &[u8]) -> Given {
     let mut table = Lent::new(r, table);
     let refusal = unsafe { zimtleiter_read_table(table.place(), table.length()) };
     Given { refusal, touched: touched(&[&table], None, &[]), ..Given::default() }
+}
+
+pub fn size(r: &mut Random, file: &[u8]) -> Given {
+    let mut file = Lent::new(r, file);
+    let mut set = [Set::new(r), Set::new(r)];
+    let [locations, entries] = &mut set;
+    let refusal = unsafe { zimtleiter_size(file.place(), file.length(), locations.place(), entries.place()) };
+    Given { refusal, numbers: set.iter().map(|x| x.all[1]).collect(), touched: touched(&[&file], None, &set), ..Given::default() }
 }
 
 pub fn compile(r: &mut Random, file: &[u8], buffer: &[u8]) -> Given {

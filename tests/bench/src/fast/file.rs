@@ -144,6 +144,12 @@ impl<'a> Schedule<'a> {
         }
         Ok(x)
     }
+
+    /// 1 to 12
+    pub fn checked(f: &'a [u8]) -> Result<Self, u8> {
+        let s = Schedule::read(f)?;
+        if s.operands_read() && s.plant.switches_read(s.sections[1]) { Ok(s) } else { Err(12) }
+    }
 }
 
 /// The kind of a node's action, as a table has it.

@@ -5,6 +5,7 @@ mod file;
 mod moves;
 mod plant;
 mod run;
+mod size;
 mod table;
 
 pub use compile::compile;
@@ -31,6 +32,12 @@ fn machine(file: &[u8]) -> Result<(Machine<'_>, Vec<i32>, Moves), u8> {
     let moves = Moves::new(&s);
     let Program { instructions, slots } = program;
     Ok((Machine { plant: s.plant, equations: s.sections[1], switches, actions, instructions }, slots, moves))
+}
+
+/// Locations and entries: 1 to 12; 1,025 and 0 where there are over 1,024 locations.
+pub fn size(file: &[u8]) -> Result<[u64; 2], u8> {
+    let s = Schedule::checked(file)?;
+    Ok(size::of(&s).map_or([1025, 0], |(l, e)| [l as u64, e as u64]))
 }
 
 pub fn rule_run(file: &[u8], start: &[u8], events: &[u8], records: &mut [u8]) -> Result<Ran, u8> {

@@ -1,0 +1,37 @@
+use borrow.Author.Needs.{needs}
+use Rattle.compiler.proofs.SizeStages.{size-refused, sizing, planted, size-over, size-exact}
+use Rattle.compiler.proofs.size.of.Statement.{statement}
+use Rattle.compiler.proofs.size.of.Tie as tie
+
+index-requires : tie.Need-index-requires
+index-requires c κs = search needs
+
+returns : tie.Need-returns
+returns c = size-refused (c .before .before .before .args .file .now) (c .before .index .ensures) (c .if1 .taken)
+
+slice-aggregate-of : tie.Need-slice-aggregate-of
+slice-aggregate-of c = search needs
+
+slice-aggregate-of-2 : tie.Need-slice-aggregate-of-2
+slice-aggregate-of-2 c = search needs
+
+of-requires : tie.Need-of-requires
+of-requires c κs = let d = c .before .before .before .before .before .before in planted (sizing (d .before .before .before .args .file .now) (d .before .index .ensures) (d .if1 .left))
+
+returns-2 : tie.Need-returns-2
+returns-2 c = let d = c .before .before .before .before .before .before .before .before in size-over (sizing (d .before .before .before .args .file .now) (d .before .index .ensures) (d .if1 .left)) (c .before .of .ensures) (c .if2 .taken)
+
+returns-3 : tie.Need-returns-3
+returns-3 c = let d = c .before .before .before .before .before .before .before .before in size-exact (sizing (d .before .before .before .args .file .now) (d .before .index .ensures) (d .if1 .left)) (c .before .of .ensures) (c .if2 .left)
+
+pub of-spec : {M : Type 1} → statement M
+of-spec =
+    tie.close
+    (tie.spec
+    index-requires
+    returns
+    slice-aggregate-of
+    slice-aggregate-of-2
+    of-requires
+    returns-2
+    returns-3)
