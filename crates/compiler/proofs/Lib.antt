@@ -1,8 +1,11 @@
 -- actions
 pub mod ActionForms
 -- the call
+pub mod Indexes
 pub mod ScheduleTable
-pub mod CallStages
 pub mod Measuring
+pub mod Planning
+pub mod Written
+pub mod CallStages
 -- the size of a schedule
 pub mod SizeStages

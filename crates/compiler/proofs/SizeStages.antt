@@ -12,29 +12,18 @@ use Rattle.schedules.specs.Calls.{sizeCounts, size}
 use Rattle.schedules.proofs.SizeCall.{told-exact, told-over, size-accepted}
 use Rattle.schedule_read.specs.ScheduleFile.{scheduleIndex}
 use Rattle.schedule_read.specs.declared.call.ScheduleIndex.{ScheduleIndex}
-use Rattle.schedule_read.proofs.Promises.{Promised, index-refused, index-schedule, promised}
-use Rattle.moves.specs.Contracts.{Planted}
+use Rattle.schedule_read.proofs.Promises.{index-refused}
 use Rattle.sizes.specs.Rows.{Measures}
 use Rattle.sizes.specs.declared.Measured.{Measured}
 use Rattle.compiler.specs.SizeAnswer.{sized}
-
--- an index with its schedule
-pub record Sizing (f : List ℕ) (ix : ScheduleIndex) : Type 0 where
-  pub schedule : Schedule
-  pub promise : Promised f ix schedule
+use Rattle.compiler.proofs.Indexes.{Indexed}
 
 module _ (f : List ℕ) {ix : ScheduleIndex} (h : ix ≡ scheduleIndex f) where
   pub size-refused : (ix .refusal ≡ 0 → ⊥) → sized (ix .refusal) 0 0 ≡ size edition1 f
   unfolding size sizeCounts
   size-refused z = rw (index-refused f h z) refl
 
-  pub sizing : ix .refusal ≡ 0 → Sizing f ix
-  sizing z = let p = index-schedule f h z in record { schedule = p .0; promise = promised f h (p .1) }
-
-module _ {f : List ℕ} {ix : ScheduleIndex} (g : Sizing f ix) where
-  pub planted : Planted (ix .nodes .kinds) (ix .subtrees .ends)
-  planted = record { tree = g .schedule .root; lies = g .promise .tree }
-
+module _ {f : List ℕ} {ix : ScheduleIndex} (g : Indexed f ix) where
   module _ {r : Measured} (x : Measures (ix .nodes .kinds) (ix .subtrees .ends) r) where
     pub size-over : r .over ≡ true → sized 0 1025 0 ≡ size edition1 f
     size-over h =

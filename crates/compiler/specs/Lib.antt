@@ -1,4 +1,4 @@
 -- What the contracts of the compiler cite.
-pub mod CallParts
 pub mod Measured
+pub mod Plans
 pub mod SizeAnswer

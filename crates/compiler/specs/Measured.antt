@@ -8,6 +8,7 @@ use Rattle.semantics.specs.Refusals.{Judged, refused, accepted, _>>=_, _>>_, en
 use Rattle.semantics.specs.TableFile.{locationLimit}
 use Rattle.schedules.specs.Files.{judgeFile}
 use Rattle.schedules.specs.Compiling.{scheduleLocations, tableOf}
+use Rattle.schedules.specs.Calls.{Compiled}
 
 -- 1 to 13: what compiling checks before it looks at its buffer
 unfoldable pub judgeMeasure : Edition → List ℕ → Judged ℕ
@@ -21,3 +22,7 @@ judgeMeasure ed f = do
 unfoldable pub lengthOf : Judged ℕ → ℕ
 lengthOf (refused n) = 0
 lengthOf (accepted n) = n
+
+-- all that compiling returns and leaves
+abbrev pub returned : ℕ → ℕ → List ℕ → Compiled
+returned refusal written table = record { refusal = refusal; written = written; table = table }

@@ -1,13 +1,8 @@
 // The call "compiling": conditions 1 to 14, in order, and the table.
 use numbering::spot::Spot;
-use schedule_read::parts;
-use schedule_read::parts::Parts;
+use schedule_read::call::ScheduleIndex;
 use table_write::actions;
 use table_write::table;
-use tree_read::nodes;
-use tree_read::nodes::Nodes;
-use tree_read::tree;
-use tree_read::tree::Subtrees;
 ghost use mathlib.Core.Path.{_≡_};
 ghost use Prim.Native.Nat.{_≤_};
 ghost use lib.ListN.{length};
@@ -26,14 +21,12 @@ pub struct Compiled {
     pub length: usize,
 }
 
-// What is known of a table before it is written: 1 to 13 and its length; where the sections and the nodes stand, the kinds of the nodes' actions,
-// how many actions and locations there are and the bytes of their rows. On a refusal all numbers are 0.
+// What is known of a table before it is written: 1 to 13 and its length; where the file's sections and nodes stand, the kinds of the nodes' actions,
+// how many actions and locations there are and the bytes of their rows.
 struct Plan {
     refusal: u8,
     length: usize,
-    parts: Parts,
-    nodes: Nodes,
-    subtrees: Subtrees,
+    index: ScheduleIndex,
     acts: [u8; 64],
     list: Spot,
     rows: Spot,
@@ -48,18 +41,14 @@ fn refused(n: u8) -> Compiled
     }
 }
 
-fn no_plan(n: u8) -> Plan
+// no table
+fn no_plan(n: u8, x: ScheduleIndex) -> Plan
     ensures { λ r. ⌜ (r .refusal ≡ n) × (r .length ≡ 0) ⌝ }
 {
-    let parts = parts::refused(n);
-    let nodes = nodes::refused();
-    let subtrees = tree::no_tree();
     Plan {
         refusal: n,
         length: 0,
-        parts: parts,
-        nodes: nodes,
-        subtrees: subtrees,
+        index: x,
         acts: [0; 64],
         list: Spot { count: 0, at: 0 },
         rows: Spot { count: 0, at: 0 },
@@ -67,43 +56,41 @@ fn no_plan(n: u8) -> Plan
 }
 
 // 1 to 13, and what the table is made of
-fn plan(file: &[u8]) -> Plan
+fn planned(file: &[u8]) -> Plan
     ensures { λ r. ⌜ (r .refusal ≡ refusalOf (judgeMeasure edition1 (now (file .entry)))) × (r .length ≡ lengthOf (judgeMeasure edition1 (now (file .entry)))) × ((r .refusal ≡ 0 → Planned (now (file .entry)) r)) ⌝ }
 {
     let x = schedule_read::call::index(file);
     let refusal = x.refusal;
     if refusal != 0 {
-        return no_plan(refusal);
+        return no_plan(refusal, x);
     }
-    let parts = x.parts;
     let nodes = x.nodes;
     let subtrees = x.subtrees;
     let kinds = nodes.kinds;
     let subs = subtrees.ends;
     let m = sizes::of(&kinds, &subs);
     if m.over {
-        return no_plan(13);
+        return no_plan(13, x);
     }
     let starts = nodes.starts;
     let ends = nodes.ends;
     let count = nodes.count;
     let acts = schedule_read::actions::kinds(&kinds, count);
     let list = actions::measured(&acts, &starts, &ends, count);
-    let rows = Spot {
-        count: m.locations,
-        at: m.locations + m.entries * 5,
-    };
-    let copied = parts.variables_to - parts.variables_from + parts.equations_to
-        - parts.equations_from;
+    let size = m.locations + m.entries * 5;
+    let parts = x.parts;
+    let copied = parts.variables_to - parts.variables_from
+        + (parts.equations_to - parts.equations_from);
     Plan {
         refusal: 0,
-        length: copied + list.at + rows.at + 18,
-        parts: parts,
-        nodes: nodes,
-        subtrees: subtrees,
+        length: copied + list.at + size + 18,
+        index: x,
         acts: acts,
         list: list,
-        rows: rows,
+        rows: Spot {
+            count: m.locations,
+            at: size,
+        },
     }
 }
 
@@ -112,31 +99,41 @@ fn write(file: &[u8], table: &mut [u8], p: Plan) -> usize
     requires { ⌜ Planned (now file) p × (p .length ≤ length (now table)) ⌝ }
     ensures { λ r. ⌜ ((s : Schedule) → judgeFile edition1 (now (file .entry)) ≡ accepted s → (r ≡ length (tableOf edition1 s)) × Wrote (now (table .entry)) 0 (tableOf edition1 s) (now (table .exit))) ⌝ }
 {
-    let parts = p.parts;
+    let x = p.index;
+    let parts = x.parts;
     let a = parts.variables_from;
     let b = parts.variables_to;
     let c = parts.equations_from;
     let d = parts.equations_to;
     let e = parts.schedule_from;
     let f = parts.schedule_to;
-    let nodes = p.nodes;
+    let nodes = x.nodes;
     let kinds = nodes.kinds;
     let starts = nodes.starts;
     let ends = nodes.ends;
-    let subtrees = p.subtrees;
+    let subtrees = x.subtrees;
     let subs = subtrees.ends;
     let acts = p.acts;
     let list = p.list;
     let rows = p.rows;
     let i = table::put_front(&file[a..b], &file[c..d], table, p.length);
-    let j = table::put_actions(&file[e..f], &acts, &starts, &ends, nodes.count, list, table, i);
+    let j = table::put_actions(
+        &file[e..f],
+        &acts,
+        &starts,
+        &ends,
+        nodes.count,
+        list,
+        table,
+        i,
+    );
     table::put_locations(&kinds, &subs, &acts, rows, table, j)
 }
 
 pub fn compile(file: &[u8], table: &mut [u8]) -> Compiled
     ensures { λ r. ⌜ returned (r .refusal) (r .length) (now (table .exit)) ≡ calls.compile edition1 (now (file .entry)) (now (table .entry)) ⌝ }
 {
-    let p = plan(file);
+    let p = planned(file);
     let refusal = p.refusal;
     if refusal != 0 {
         return refused(refusal);
@@ -155,7 +152,7 @@ pub fn compile(file: &[u8], table: &mut [u8]) -> Compiled
 pub fn measure(file: &[u8]) -> Compiled
     ensures { λ r. ⌜ (r .refusal ≡ refusalOf (judgeMeasure edition1 (now (file .entry)))) × (r .length ≡ lengthOf (judgeMeasure edition1 (now (file .entry)))) ⌝ }
 {
-    let p = plan(file);
+    let p = planned(file);
     Compiled {
         refusal: p.refusal,
         length: p.length,

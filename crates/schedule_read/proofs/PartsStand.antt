@@ -16,6 +16,7 @@ use Rattle.schedules.specs.FileSections.{FileSections, readFileSections, fileSe
 use Rattle.schedules.specs.Files.{fileHeader, fileLength}
 use Rattle.codec.proofs.Reading.{drop-past, drop-some, nat2At}
 use Rattle.codec.proofs.Sections.{Section, cuts2, section-of}
+pub use Rattle.schedule_read.specs.Promised.{Inside}
 use Rattle.schedule_read.specs.declared.parts.Parts.{Parts}
 use Rattle.schedule_read.specs.FileParts.{noParts, partsAt, partsIn, partsRead, partsOf, sectionsAt}
 
@@ -110,11 +111,6 @@ module _ (f : List ℕ) where
           where
             same : {v e s : ℕ} (x y z : ℕ) → v ≡ 5 + x → e ≡ v + 2 + y → s ≡ e + 2 + z → partsAt v e s ≡ partsAt (5 + x) (5 + x + 2 + y) (5 + x + 2 + y + 2 + z)
             same x y z h i j = cc
-
--- ---- where the sections stand
-pub record Inside (f : List ℕ) (start stop : ℕ) : Type 0 where
-  pub ordered : start ≤ stop
-  pub inside : stop ≤ length f
 
 -- where nothing is refused, the three parts are the sections
 pub record Accepted (f : List ℕ) (p : Parts) : Type 0 where

@@ -19,6 +19,7 @@ use Rattle.schedules.specs.FileSections.{FileSections}
 use Rattle.schedules.specs.Conditions.{fileConditions}
 use Rattle.schedules.proofs.FirstNumber.{passed, file-first}
 use Rattle.plant.specs.PlantRead.{plantOf}
+pub use Rattle.schedule_read.specs.Promised.{Slice, Promised}
 use Rattle.schedule_read.specs.FileParts.{partsIn, partsRead, partsOf, sectionsAt}
 use Rattle.schedule_read.specs.Indexed.{NodesAt}
 use Rattle.tree_read.specs.Index.{nodesOf}
@@ -30,28 +31,6 @@ use Rattle.tree_read.specs.declared.nodes.Nodes.{Nodes}
 use Rattle.schedule_read.proofs.FoundNodes.{found-nodes}
 use Rattle.tree_read.proofs.LaidTree.{laid, lies, tree-size, ends-long}
 use Rattle.schedule_read.proofs.PartsStand.{Inside, accepted-parts}
-
--- a section of the file is what stands between two places
-pub record Slice (f : List ℕ) (start stop : ℕ) (x : List ℕ) : Type 0 where
-  pub inside : Inside f start stop
-  pub is : take (stop - start) (drop start f) ≡ x
-
--- ix is the index of an accepted file, and s its schedule
-pub record Promised (f : List ℕ) (ix : ScheduleIndex) (s : Schedule) : Type 0 where
-  pub judged : judgeFile edition1 f ≡ accepted s
-  pub variables : Slice f (ix .parts .«variables_from») (ix .parts .«variables_to») (s .sections .variables)
-  pub equations : Slice f (ix .parts .«equations_from») (ix .parts .«equations_to») (s .sections .equations)
-  pub schedule : Slice f (ix .parts .«schedule_from») (ix .parts .«schedule_to») (s .sections .schedule)
-  pub plant : ix .plant ≡ plantOf (s .sections .variables) (s .sections .equations)
-  pub plant-judged : judgePlant edition1 (s .sections .variables) (s .sections .equations) ≡ accepted (s .plant)
-  pub nodes : NodesAt (s .sections .schedule) (ix .nodes .kinds) (ix .nodes .starts) (ix .nodes .ends) (ix .nodes .count) (s .nodes)
-  pub tree : Lies (ix .nodes .kinds) (ix .subtrees .ends) (s .root)
-  pub tree-laid : Laid (ix .nodes .kinds) (ix .subtrees .ends) (s .root) 0 (ix .nodes .count)
-  pub tree-count : treeSize (s .root) ≡ ix .nodes .count
-  pub ends-full : length (ix .subtrees .ends) ≡ 64
-  pub named : every (nodeNamed (length (s .plant .variables)) (selectors (s .plant))) (s .nodes) ≡ true
-  pub reads : every (nodeReads edition1 (length (s .plant .variables))) (s .nodes) ≡ true
-  pub switches-read : switchesRead edition1 (s .plant) ≡ true
 
 -- ---- refused or not
 numbers-not-0 : (f : List ℕ) → All (λ (c : Condition). c .refusal ≡ 0 → ⊥) (fileConditions edition1 f)
