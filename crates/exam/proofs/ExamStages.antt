@@ -32,8 +32,7 @@ use Rattle.rule_run.specs.Called as ruled
 use Rattle.rule_run.specs.declared.call.Ran as R
 use Rattle.table_run.specs.Called as tabled
 use Rattle.table_run.specs.declared.call.Ran as T
-use Rattle.table_write.specs.TableParts.{returned}
-use Rattle.compiler.specs.Measured.{judgeMeasure, lengthOf}
+use Rattle.compiler.specs.Measured.{judgeMeasure, lengthOf, returned}
 use Rattle.compiler.proofs.Measuring.{file-numbers, Sized, measure-refused, measure-sized, too-short, long-enough}
 use Rattle.exam.proofs.ExamHolds.{rule-program, run-numbers, exam-judged, exam-numbers, exam-length, exam-refusal, exam-agrees}
 
