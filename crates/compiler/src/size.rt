@@ -1,4 +1,5 @@
 // The call "size of a schedule": 1 to 12 as for reading, or how many locations and entries its table has, without numbering them.
+use sizes::OVER;
 ghost use mathlib.Core.Path.{_≡_};
 ghost use Rattle.semantics.specs.Editions.{edition1};
 ghost use Rattle.schedules.specs.Calls.{size};
@@ -31,7 +32,7 @@ pub fn of(file: &[u8]) -> TableSize
     if m.over {
         return TableSize {
             refusal: 0,
-            locations: 1025,
+            locations: OVER,
             entries: 0,
         };
     }

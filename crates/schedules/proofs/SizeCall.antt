@@ -130,5 +130,5 @@ size-of-table ed file room = go (judgeCompile ed file room) refl (compile-first 
     go (refused n) e (refuses f) z = absurd (first-not-0 (never-0 ed file room) f z)
     go (accepted t) e f z =
         let k = compile-taken ed file room e in
-        let b : judgeTable ed t ≡ accepted (tableFor (k .of)) = subst (λ (x : List ℕ). judgeTable ed x ≡ accepted (tableFor (k .of))) (k .is-table) (table-judged ed file (k .of) (k .of-file) (k .few)) in
+        let b = subst (λ (x : List ℕ). judgeTable ed x ≡ accepted (tableFor (k .of))) (k .is-table) (table-judged ed file (k .of) (k .of-file) (k .few)) in
         (tableFor (k .of), rw (take-append-seam t (drop (length t) room)) b, table-size ed file (k .of) (k .of-file) (k .few))

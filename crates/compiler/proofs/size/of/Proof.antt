@@ -17,13 +17,19 @@ slice-aggregate-of-2 : tie.Need-slice-aggregate-of-2
 slice-aggregate-of-2 c = search needs
 
 of-requires : tie.Need-of-requires
-of-requires c κs = let d = c .before .before .before .before .before .before in planted (indexed (d .before .before .before .args .file .now) (d .before .index .ensures) (d .if1 .left))
+of-requires c κs =
+    let d = c .before .before .before .before .before .before in
+    planted (indexed (d .before .before .before .args .file .now) (d .before .index .ensures) (d .if1 .left))
 
 returns-2 : tie.Need-returns-2
-returns-2 c = let d = c .before .before .before .before .before .before .before .before in size-over (indexed (d .before .before .before .args .file .now) (d .before .index .ensures) (d .if1 .left)) (c .before .of .ensures) (c .if2 .taken)
+returns-2 c =
+    let d = c .before .before .before .before .before .before .before .before in
+    size-over (indexed (d .before .before .before .args .file .now) (d .before .index .ensures) (d .if1 .left)) (c .before .of .ensures) (c .if2 .taken)
 
 returns-3 : tie.Need-returns-3
-returns-3 c = let d = c .before .before .before .before .before .before .before .before in size-exact (indexed (d .before .before .before .args .file .now) (d .before .index .ensures) (d .if1 .left)) (c .before .of .ensures) (c .if2 .left)
+returns-3 c =
+    let d = c .before .before .before .before .before .before .before .before in
+    size-exact (indexed (d .before .before .before .args .file .now) (d .before .index .ensures) (d .if1 .left)) (c .before .of .ensures) (c .if2 .left)
 
 pub of-spec : {M : Type 1} → statement M
 of-spec =
