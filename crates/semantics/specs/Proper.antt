@@ -14,7 +14,7 @@ use Rattle.semantics.specs.Plant.{Plant, selectors, modeDrives, drives}
 use Rattle.semantics.specs.Run.{Action, test, wait, assign, switch, stop}
 use Rattle.semantics.specs.TableFile.{NodeAction, Entry}
 use Rattle.semantics.specs.Tables.{Table, actionNodes, entryNodes}
-use Rattle.semantics.specs.Writing.{InRange, HasMode}
+use Rattle.semantics.specs.Writing.{InRange, HasMode, writeTable, TableLimits}
 
 -- ---- 12: these bytes are a truth or number, of depth at most 16, that names no missing variable
 pub record IsTruth (ed : Edition) (variables : ℕ) (s : List ℕ) : Type 0 where
@@ -117,9 +117,23 @@ pub record ProperRow (acts : List NodeAction) (locations : ℕ) (es : List Entry
   pub rising : Rising (entryNodes es)
   pub entries : All (ProperEntry acts locations) es
 
+-- 18: "a node number above 63 or not rising, .. or operand wrong (.. 11 and 12 judge operands)"
+pub record ProperActions (ed : Edition) (p : Plant) (l : List NodeAction) : Type 0 where
+  pub rising : Rising (actionNodes l)
+  pub nodes : All (λ (a : NodeAction). a .node < ed .nodes) l
+  pub operands : All (λ (a : NodeAction). ProperAction ed p (a .action)) l
+
+-- 19: "a node unknown or not rising, a target unfit for its kind"
+abbrev pub ProperLocations : List NodeAction → List (List Entry) → Type 0
+ProperLocations acts l = All (ProperRow acts (length l)) l
+
 pub record ProperTable (ed : Edition) (t : Table) : Type 0 where
   pub plant : ProperPlant ed (t .plant)
-  pub rising : Rising (actionNodes (t .actions))
-  pub nodes : All (λ (a : NodeAction). a .node < ed .nodes) (t .actions)
-  pub actions : All (λ (a : NodeAction). ProperAction ed (t .plant) (a .action)) (t .actions)
-  pub locations : All (ProperRow (t .actions) (length (t .locations))) (t .locations)
+  pub actions : ProperActions ed (t .plant) (t .actions)
+  pub locations : ProperLocations (t .actions) (t .locations)
+
+-- what an accepted table is: the written form of its parts, within the printed limits
+pub record TableWritten (ed : Edition) (table : List ℕ) (t : Table) : Type 0 where
+  pub bytes : table ≡ writeTable ed t
+  pub limits : TableLimits ed t
+  pub proper : ProperTable ed t
