@@ -53,7 +53,7 @@ pub record PlantSections : Type 0 where
   pub variables : List ℕ
   pub equations : List ℕ
 
-module _ (ed : Edition) (There : PlantSections → Type 0) where
+module _ (There : PlantSections → Type 0) where
   pub record VariablesThere (xs : List Variable) : Type 0 where
     pub sections : PlantSections
     pub there : There sections
@@ -86,8 +86,8 @@ module _ (ed : Edition) (There : PlantSections → Type 0) where
   Sentence8 = Fails PlantThere (λ p. DrivenOnce (p .equations))
 
   -- 12, of the switches: "A truth or number is cut, overlong, too deep, of the wrong sort, has an unknown code or names a missing variable."
-  abbrev pub SwitchSentence12 : Type 0
-  SwitchSentence12 = Fails PlantThere (λ p. All (Truths ed (length (p .variables))) (p .equations))
+  abbrev pub SwitchSentence12 : Edition → Type 0
+  SwitchSentence12 ed = Fails PlantThere (λ p. All (Truths ed (length (p .variables))) (p .equations))
 
   abbrev pub plantClauses : List Clause
   plantClauses = (4 when Sentence4) ∷ (5 when Sentence5) ∷ (6 when Sentence6) ∷ (7 when Sentence7) ∷ (8 when Sentence8) ∷ []
@@ -102,48 +102,50 @@ pub record TableHead : Type 0 where
 pub data HeadOfTable : List ℕ → TableHead → Type 0 where
   five-bytes : {v a b c d : ℕ} {s : List ℕ} → HeadOfTable (v ∷ a ∷ b ∷ c ∷ d ∷ s) (record { version = v; length-field = be4 a b c d; rest = s })
 
-module _ (ed : Edition) (table : List ℕ) where
-  pub record ProperHead (h : TableHead) : Type 0 where
-    pub is-head : HeadOfTable table h
-    pub version : h .version ≡ ed .version
-    pub own-length : h .length-field ≡ length table
+-- what 18 speaks of: the sections and the plant
+pub record TableSource : Type 0 where
+  pub sections : TableSections
+  pub plant : Plant
 
+-- what 19 speaks of: the sections and the actions that 18 lets pass
+pub record TableActions : Type 0 where
+  pub sections : TableSections
+  pub actions : List NodeAction
+
+module _ (ed : Edition) where
+  pub record ActionsOf (x : TableSource) (l : List NodeAction) : Type 0 where
+    pub written : WrittenAs (writeActions ed) (ActionsLimits ed) (x .sections .actions) l
+    pub proper : ProperActions ed (x .plant) l
+
+  pub record LocationsOf (x : TableActions) (l : List (List Entry)) : Type 0 where
+    pub written : WrittenAs (writeLocations ed) (LocationsLimits ed) (x .sections .locations) l
+    pub proper : ProperLocations (x .actions) l
+
+module _ (table : List ℕ) where
   pub record TableSectionsThere (x : TableSections) : Type 0 where
     pub head : TableHead
     pub is-head : HeadOfTable table head
     pub sections : WrittenAs writeTableSections TableSectionsLimits (head .rest) x
 
-  -- the first two sections
-  pub data FirstTwo : PlantSections → Type 0 where
-    first-two : {x : TableSections} → TableSectionsThere x → FirstTwo (record { variables = x .variables; equations = x .equations })
-
-  -- what 18 speaks of: the sections and the plant
-  pub record TableSource : Type 0 where
-    pub sections : TableSections
-    pub plant : Plant
+  -- its first two sections
+  pub data PlantSectionsOfTable : PlantSections → Type 0 where
+    of-table : {x : TableSections} → TableSectionsThere x → PlantSectionsOfTable (record { variables = x .variables; equations = x .equations })
 
   pub record SourceThere (x : TableSource) : Type 0 where
     pub sections : TableSectionsThere (x .sections)
     pub variables : WrittenAs writeVariables VariablesLimits (x .sections .variables) (x .plant .variables)
     pub equations : WrittenAs writeEquations EquationsLimits (x .sections .equations) (x .plant .equations)
 
-  pub record ActionsOf (x : TableSource) (l : List NodeAction) : Type 0 where
-    pub written : WrittenAs (writeActions ed) (ActionsLimits ed) (x .sections .actions) l
-    pub proper : ProperActions ed (x .plant) l
-
-  -- what 19 speaks of: the sections and the actions that 18 lets pass
-  pub record TableActions : Type 0 where
-    pub sections : TableSections
-    pub actions : List NodeAction
+module _ (ed : Edition) (table : List ℕ) where
+  pub record ProperHead (h : TableHead) : Type 0 where
+    pub is-head : HeadOfTable table h
+    pub version : h .version ≡ ed .version
+    pub own-length : h .length-field ≡ length table
 
   pub record ActionsThere (x : TableActions) : Type 0 where
     pub plant : Plant
-    pub source : SourceThere (record { sections = x .sections; plant = plant })
-    pub actions : ActionsOf (record { sections = x .sections; plant = plant }) (x .actions)
-
-  pub record LocationsOf (x : TableActions) (l : List (List Entry)) : Type 0 where
-    pub written : WrittenAs (writeLocations ed) (LocationsLimits ed) (x .sections .locations) l
-    pub proper : ProperLocations (x .actions) l
+    pub source : SourceThere table (record { sections = x .sections; plant = plant })
+    pub actions : ActionsOf ed (record { sections = x .sections; plant = plant }) (x .actions)
 
   -- 15: "The table has under 5 bytes, or a wrong version or length."
   abbrev pub Sentence15 : Type 0
@@ -155,17 +157,17 @@ module _ (ed : Edition) (table : List ℕ) where
 
   -- 17: "Its first two sections break 4..8 or 12."
   abbrev pub Sentence17 : Type 0
-  Sentence17 = AnyHolds (plantClauses ed FirstTwo ++ ((12 when SwitchSentence12 ed FirstTwo) ∷ []))
+  Sentence17 = AnyHolds (plantClauses (PlantSectionsOfTable table) ++ ((12 when SwitchSentence12 (PlantSectionsOfTable table) ed) ∷ []))
 
   -- 18: "An action count is outside 1..64, a node number above 63 or not rising, or a kind, length or operand wrong (..),
   -- or bytes are missing or left over."
   abbrev pub Sentence18 : Type 0
-  Sentence18 = Fails SourceThere (λ x. (l : List NodeAction) × ActionsOf x l)
+  Sentence18 = Fails (SourceThere table) (λ x. (l : List NodeAction) × ActionsOf ed x l)
 
   -- 19: "A location count is outside 1..1,024, an entry count 0, a node unknown or not rising, a target unfit for its kind,
   -- or bytes are missing or left over."
   abbrev pub Sentence19 : Type 0
-  Sentence19 = Fails ActionsThere (λ x. (l : List (List Entry)) × LocationsOf x l)
+  Sentence19 = Fails ActionsThere (λ x. (l : List (List Entry)) × LocationsOf ed x l)
 
   abbrev pub tableClauses : List Clause
   tableClauses = (15 when Sentence15) ∷ (16 when Sentence16) ∷ (17 when Sentence17) ∷ (18 when Sentence18) ∷ (19 when Sentence19) ∷ []
