@@ -112,7 +112,7 @@ module _ (ed : Edition) (file : List ℕ) where
           file-plant (a .1) ∙ ap (λ (g : Program Residual). some (g .plant)) (Judging.accepted-is (a .2))
 
 -- ---- the numbers that the calls return
-schedule-refusal : (j : Judged Schedule) → (scheduleCounts j) .refusal ≡ refusalOf j
+pub schedule-refusal : (j : Judged Schedule) → (scheduleCounts j) .refusal ≡ refusalOf j
 unfolding scheduleCounts refusalOf
 schedule-refusal (refused n) = refl
 schedule-refusal (accepted s) = refl

@@ -42,4 +42,5 @@ pub mod SizePapers
 -- bytes read just where they are a written form
 pub mod FileForms
 pub mod FilesProper
+pub mod FileSentences
 pub mod WritingPapers

@@ -15,6 +15,7 @@ pub mod Conditions
 pub mod Writing
 pub mod Proper
 pub mod Agreement
+pub mod Sentences
 pub mod Sizes
 pub mod Reordered
 pub mod Examples
