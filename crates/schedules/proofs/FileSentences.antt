@@ -34,6 +34,7 @@ use Rattle.schedules.specs.Compiling.{scheduleLocations, tableOf, judgeC
 use Rattle.schedules.specs.Calls.{ruleProgram, ruleRun, readSchedule, compile}
 use Rattle.schedules.specs.Writing.{writeSections, SectionsLimits, writeNodes, NodesLimits}
 use Rattle.schedules.specs.Proper.{ScheduleWritten}
+use Rattle.schedules.specs.Agreement.{TooMany}
 use Rattle.schedules.specs.Sentences.{FileHead, HeadOfFile, three-bytes, FileSource, FileSectionsThere, PlantSectionsOfFile, of-file, NodesThere, FileSourceThere, AllRead, fileClauses, compileClauses, FilePlant, file-plant, ruleRunClauses}
 use Rattle.schedules.proofs.FirstNumber.{schedule-refusal, compiled-refusal}
 use Rattle.schedules.proofs.OneTree.{one-tree}
@@ -105,7 +106,7 @@ module _ (file : List ℕ) (z : AllBytes file) where
 
     -- 12: both tests of the call, and what the sentence asks
     reads-is : (x : FileSource) → FileSourceThere ed file x →
-        ((every (nodeReads ed (length (x .plant .variables))) (x .nodes) && switchesRead ed (x .plant)) ≡ true) ↔ AllRead ed file x
+        ((every (nodeReads ed (length (x .plant .variables))) (x .nodes) && switchesRead ed (x .plant)) ≡ true) ↔ AllRead ed x
     unfolding switchesRead
     reads-is x t =
         let p = x .plant in
@@ -140,3 +141,53 @@ file-answers ed file z =
     } in
     by-test s (λ y u. source-one file z ed s u) 11 (every (nodeNamed (length (p .variables)) (selectors p)) ns) (nodes-named p ns) (λ h11.
     by-test s (λ y u. source-one file z ed s u) 12 (every (nodeReads ed (length (p .variables))) ns && switchesRead ed p) (reads-is file z ed (record { plant = p; nodes = ns }) s) (λ h12. by-end _))))))))
+
+-- ---- 13 and 14, and a run
+module _ (ed : Edition) (file : List ℕ) (z : AllBytes file) where
+  -- an accepted file is one schedule's
+  schedule-there : {s : Schedule} → judgeFile ed file ≡ accepted s → ScheduleWritten ed file s
+  schedule-there {s} e = (schedule-accepted ed file s) .0 (z, e)
+
+  schedule-one : {s : Schedule} → judgeFile ed file ≡ accepted s → (t : Schedule) → ScheduleWritten ed file t → s ≡ t
+  schedule-one e t w = accepted-is (sym e ∙ (schedule-accepted ed file t) .1 w .1)
+
+  pub compile-answers : (buffer : List ℕ) → Answers (judgeCompile ed file buffer) (compileClauses ed file buffer)
+  unfolding judgeCompile
+  compile-answers buffer = by-then (file-answers ed file z) (λ s e.
+      let n = length (tableOf ed s) in
+      by-ensure 13 (leb (length (scheduleLocations s)) locationLimit) (λ f. (s, schedule-there e, too-many s f)) (λ f k. few s f (k .2) (schedule-one e (k .0) (k .1))) (λ h13.
+      by-test (schedule-there e) (schedule-one e) 14 (leb n (length buffer)) (leb-true n (length buffer), le-leb n (length buffer)) (λ h14. by-end _)))
+    where
+      few : (s : Schedule) → leb (length (scheduleLocations s)) locationLimit ≡ true → {t : Schedule} → TooMany t → s ≡ t → ⊥
+      few s f m i = true-not-false (sym f ∙ beyond s (subst TooMany (sym i) m))
+
+  pub plant-of-file : {s : Schedule} → judgeFile ed file ≡ accepted s → FilePlant ed file (s .plant) × ((p : Plant) → FilePlant ed file p → s .plant ≡ p) × PlantLimits (s .plant)
+  plant-of-file {s} e = let w = schedule-there e in (file-plant w, one, w .limits .plant)
+    where
+      one : (p : Plant) → FilePlant ed file p → s .plant ≡ p
+      one p (file-plant {s = t} u) = ap (λ (s : Schedule). s .plant) (schedule-one e t u)
+
+  pub rule-run-answers : (start events buffer : List ℕ) → AllBytes start → Answers (judgeRun ed (ruleProgram ed file) start events buffer) (ruleRunClauses ed file start events buffer)
+  unfolding ruleProgram
+  rule-run-answers start events buffer y = run-answers ed start events buffer y (by-map _ (file-answers ed file z)) program
+    where
+      program : (g : Program Residual) → ruleProgram ed file ≡ accepted g → FilePlant ed file (g .plant) × ((p : Plant) → FilePlant ed file p → g .plant ≡ p) × PlantLimits (g .plant)
+      program g e =
+          let a = passed-then (judgeFile ed file) _ e in
+          subst (λ q. FilePlant ed file q × ((p : Plant) → FilePlant ed file p → q ≡ p) × PlantLimits q) (ap (λ (g : Program Residual). g .plant) (accepted-is (a .2))) (plant-of-file (a .1))
+
+  -- ---- the numbers that the calls return
+  pub first-read-schedule : FirstHolds ((readSchedule ed file) .refusal) (fileClauses ed file) ⊎ (((readSchedule ed file) .refusal ≡ 0) × (AnyHolds (fileClauses ed file) → ⊥))
+  unfolding readSchedule
+  first-read-schedule = rw (schedule-refusal (judgeFile ed file)) (first-or-none (file-answers ed file z))
+
+  pub first-compile : (buffer : List ℕ) →
+      FirstHolds ((compile ed file buffer) .refusal) (compileClauses ed file buffer) ⊎ (((compile ed file buffer) .refusal ≡ 0) × (AnyHolds (compileClauses ed file buffer) → ⊥))
+  unfolding compile
+  first-compile buffer = rw (compiled-refusal buffer (judgeCompile ed file buffer)) (first-or-none (compile-answers buffer))
+
+  pub first-rule-run : (start events buffer : List ℕ) → AllBytes start →
+      FirstHolds ((ruleRun ed file start events buffer) .refusal) (ruleRunClauses ed file start events buffer) ⊎
+      (((ruleRun ed file start events buffer) .refusal ≡ 0) × (AnyHolds (ruleRunClauses ed file start events buffer) → ⊥))
+  unfolding ruleRun
+  first-rule-run start events buffer y = rw (ran-refusal buffer (judgeRun ed (ruleProgram ed file) start events buffer)) (first-or-none (rule-run-answers start events buffer y))

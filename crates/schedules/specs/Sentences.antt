@@ -33,6 +33,11 @@ pub record FileSource : Type 0 where
   pub plant : Plant
   pub nodes : List Node
 
+-- every truth and number of the nodes and of the switches can be read
+pub record AllRead (ed : Edition) (x : FileSource) : Type 0 where
+  pub nodes : All (ReadNode ed (x .plant)) (x .nodes)
+  pub switches : All (Truths ed (length (x .plant .variables))) (x .plant .equations)
+
 module _ (file : List ℕ) where
   pub record FileSectionsThere (x : FileSections) : Type 0 where
     pub head : FileHead
@@ -55,11 +60,6 @@ module _ (ed : Edition) (file : List ℕ) where
     pub variables : WrittenAs writeVariables VariablesLimits (parts .variables) (x .plant .variables)
     pub equations : WrittenAs writeEquations EquationsLimits (parts .equations) (x .plant .equations)
     pub nodes : WrittenAs (writeNodes ed) (NodesLimits ed) (parts .schedule) (x .nodes)
-
-  -- every truth and number of the nodes and of the switches
-  pub record AllRead (x : FileSource) : Type 0 where
-    pub nodes : All (ReadNode ed (x .plant)) (x .nodes)
-    pub switches : All (Truths ed (length (x .plant .variables))) (x .plant .equations)
 
   -- 1: "The file has under 3 bytes or byte 0 is not 1."
   abbrev pub Sentence1 : Type 0
@@ -87,7 +87,7 @@ module _ (ed : Edition) (file : List ℕ) where
 
   -- 12: "A truth or number is cut, overlong, too deep, of the wrong sort, has an unknown code or names a missing variable."
   abbrev pub Sentence12 : Type 0
-  Sentence12 = Fails FileSourceThere AllRead
+  Sentence12 = Fails FileSourceThere (AllRead ed)
 
   -- reading a schedule; 4 to 8 are those of its first two sections
   abbrev pub fileClauses : List Clause
