@@ -43,4 +43,5 @@ pub mod SizePapers
 pub mod FileForms
 pub mod FilesProper
 pub mod FileSentences
+pub mod EveryStart
 pub mod WritingPapers

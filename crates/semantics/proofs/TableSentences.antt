@@ -196,7 +196,7 @@ table-answers ed table z =
     only-one h (inr q) = q
 
 -- ---- 20 to 22, of a program whose plant is that of an accepted file or table
-whole-events : (w : ℕ) (events : List ℕ) → (wholeEvents w events ≡ true) ↔ ((n : ℕ) × (length events ≡ n * w))
+pub whole-events : (w : ℕ) (events : List ℕ) → (wholeEvents w events ≡ true) ↔ ((n : ℕ) × (length events ≡ n * w))
 unfolding wholeEvents
 whole-events w events = (
   λ h. (let e = eqb-true (length events % w) 0 h in (length events / w, sym (div-add-mod' (length events) w) ∙ ap (λ r. length events / w * w + r) e ∙ add-zero (length events / w * w))),
