@@ -6,7 +6,7 @@ use mathlib.Core.Bool.{Bool, true, false}
 use mathlib.Core.List.{List, List·Memᴰ as Mem}
 use mathlib.Core.Logic.{_↔_, _⊎_}
 use mathlib.Core.Option.{some}
-use Prim.Native.Nat.{ℕ, _≤_, _<_}
+use Prim.Native.Nat.{ℕ, _*_, _≤_, _<_}
 use lib.Dec.{lit<, lit≤}
 use lib.IntN.{ℤ}
 use lib.ListN.{length, getElem?, take}
@@ -19,14 +19,16 @@ use Rattle.semantics.specs.Run.{stop, possible, Next, halted, Control, Situatio
 use Rattle.semantics.specs.Rules.{Rule, Derives, Stopping, Standing, at-start, stands-at, Sound, Decides}
 use Rattle.semantics.specs.Tables.{Table, risingFrom, judgeTable, actionOrStop, tableControl}
 use Rattle.semantics.specs.Starts.{Start, startIn, startFits}
-use Rattle.semantics.specs.Writing.{writeTable, TableLimits, TableReadAs, startBytes, StartLimits}
-use Rattle.semantics.specs.Proper.{ProperTable}
+use Rattle.semantics.specs.Writing.{writeTable, TableLimits, TableReadAs, startBytes, Each, InRange, HasMode, StartLimits}
+use Rattle.semantics.specs.Proper.{TableWritten}
 use Rattle.semantics.specs.Statements.{RunHolds}
-use Rattle.semantics.specs.Calls.{readTable, tableRun}
-use Rattle.semantics.specs.Conditions.{First, Clear, tableConditions, tableRunConditions, is20}
+use Rattle.semantics.specs.Calls.{recordSize, readTable, tableRun}
+use Rattle.semantics.specs.Conditions.{is20}
+use Rattle.semantics.specs.Sentences.{Clause, FirstHolds, AnyHolds, tableClauses, tableRunClauses}
 use Rattle.semantics.proofs.StepRules as StepRules
 use Rattle.semantics.proofs.FirstAnswer as FirstAnswer
-use Rattle.semantics.proofs.FirstNumber as TableNumbers
+use Rattle.semantics.proofs.SentenceSteps as SentenceSteps
+use Rattle.semantics.proofs.TableSentences as TableSentences
 use Rattle.semantics.proofs.CallsHold as TableCalls
 use Rattle.semantics.proofs.ExpressionBytes as ExpressionBytes
 use Rattle.semantics.proofs.WrittenSources as TableBytes
@@ -41,10 +43,12 @@ use Rattle.schedules.specs.Reached.{Leads, Of, Distinct}
 use Rattle.schedules.specs.Files.{Schedule, judgeFile, ruleControl}
 use Rattle.schedules.specs.Compiling.{tableOf}
 use Rattle.schedules.specs.Calls.{readSchedule, ruleRun, compile}
-use Rattle.schedules.specs.Conditions.{fileSchedule, fileConditions, compileConditions, ruleRunConditions}
+use Rattle.schedules.specs.Conditions.{fileSchedule}
+use Rattle.schedules.specs.Sentences.{fileClauses, compileClauses, ruleRunClauses}
+use Rattle.schedules.specs.Exam.{refusedExam, examOf, examClauses, ExamHolds}
 use Rattle.schedules.specs.Writing.{writeFile, FileLimits, FileReadAs}
 use Rattle.schedules.specs.Proper.{ScheduleWritten}
-use Rattle.schedules.specs.Agreement.{TableHolds, TooMany, Agrees}
+use Rattle.schedules.specs.Agreement.{TableHolds, TooMany, RunsAgree, Agrees}
 use Rattle.schedules.proofs.Demand2 as Demand2
 use Rattle.schedules.proofs.Agreement as Agreement
 use Rattle.schedules.proofs.FirstNumber as FileNumbers
@@ -58,6 +62,9 @@ use Rattle.schedules.proofs.OneTree as OneTree
 use Rattle.schedules.proofs.WrittenBytes as WrittenBytes
 use Rattle.schedules.proofs.FileForms as FileForms
 use Rattle.schedules.proofs.FilesProper as FilesProper
+use Rattle.schedules.proofs.FileSentences as FileSentences
+use Rattle.schedules.proofs.EveryStart as EveryStart
+use Rattle.schedules.proofs.ExamHolds as ExamHolds
 
 -- ---- demand 2: "The table of an accepted schedule has every control state that the rules reach from the start, guards ignored, and no other;
 -- each has an edge for each move and no other, numbered in the paper's order."
@@ -114,6 +121,22 @@ written-table = FileCalls.written-table
 pub agreement : (ed : Edition) (file room : List ℕ) → (compile ed file room) .refusal ≡ 0 →
     Agrees ed file (take ((compile ed file room) .written) ((compile ed file room) .table))
 agreement = Agreement.agreement
+
+-- the same in the mission's words: for every valuation within the declared ranges, every choice of existing modes, every list of whole events and all
+-- record buffers that are long enough, both runs take the call on, and their records and counts are those that the rules derive.
+-- Ruled out: runners that refuse every start whose modes are not the initial ones; runners that take one event at most.
+pub agreement-every-start : (ed : Edition) (file room : List ℕ) → All (λ b. b < 256) file → (compile ed file room) .refusal ≡ 0 →
+    (s : Schedule) × ScheduleWritten ed file s × ((values : List ℤ) (modes : List ℕ) → Each InRange (s .plant .variables) values → Each HasMode (selectors (s .plant)) modes →
+    (events by-rules by-table : List ℕ) (n : ℕ) → length events ≡ n * ed .event-bytes → n * recordSize ed (s .plant) ≤ length by-rules → n * recordSize ed (s .plant) ≤ length by-table →
+    RunsAgree ed s (record { values = values; modes = modes }) events by-rules by-table (ruleRun ed file (startBytes (record { values = values; modes = modes })) events by-rules)
+    (tableRun ed (take ((compile ed file room) .written) ((compile ed file room) .table)) (startBytes (record { values = values; modes = modes })) events by-table))
+agreement-every-start = EveryStart.every-start
+
+-- and of the call that compiles, runs both ways and compares: where it is not refused, it says that the two agree, and they come to what the rules derive.
+-- Ruled out: a call that always says that they agree and runs nothing; one that compares the records of one run with themselves.
+pub examine-agrees : (ed : Edition) (file start events table records others : List ℕ) → (examOf ed file start events table records others) .refusal ≡ 0 →
+    ExamHolds ed file start events table records others
+examine-agrees = ExamHolds.exam-agrees
 
 -- the executable step of one event is just the rule-by-rule relation, wherever a run can be.
 -- Ruled out: a step that skips the switch check, or takes selector 1 before selector 0; a fault that keeps the run going.
@@ -204,6 +227,10 @@ pub refused-read-table : (ed : Edition) (table : List ℕ) → ((readTable ed ta
     readTable ed table ≡ record { refusal = (readTable ed table) .refusal; variables = 0; selectors = 0; actions = 0; locations = 0 }
 refused-read-table = TableCalls.refused-read-table
 
+pub refused-examine : (ed : Edition) (file start events table records others : List ℕ) → ((examOf ed file start events table records others) .refusal ≡ 0 → ⊥) →
+    examOf ed file start events table records others ≡ refusedExam ((examOf ed file start events table records others) .refusal) table records others
+refused-examine = ExamHolds.exam-refused
+
 -- the counts that the two reading calls return where they accept.
 pub read-schedule-result : (ed : Edition) (file : List ℕ) (s : Schedule) → judgeFile ed file ≡ accepted s →
     readSchedule ed file ≡ record { refusal = 0; variables = length (s .plant .variables); selectors = length (selectors (s .plant)); nodes = length (s .nodes) }
@@ -214,30 +241,43 @@ pub read-table-result : (ed : Edition) (table : List ℕ) (t : Table) → judgeT
 read-table-result ed table t = TableCalls.read-table-result ed table
 
 -- ---- demand 1: "A refused call returns the first number of the list that applies .. A number is given only where its sentence holds."
--- The sentences of 10, 12, 13 and 23 to 31 have a second statement of their own: `one-tree`, `expression-bytes-*`, `refused-13`, `first-answer`.
--- For each of the five calls: its number is the first of its list that applies, or it is 0 and none does.
--- Ruled out: a compiler that refuses all; 7 given where 6 applies as well.
-pub first-number-read-schedule : (ed : Edition) (file : List ℕ) →
-    First ((readSchedule ed file) .refusal) (fileConditions ed file) ⊎ (((readSchedule ed file) .refusal ≡ 0) × Clear (fileConditions ed file))
-first-number-read-schedule = FileNumbers.read-schedule-first
+-- For each of the calls: its number is that of the first sentence that holds, or it is 0 and none does. A sentence (semantics' and schedules' Sentences) is a
+-- proposition about the bytes, told by written forms and relations: no reader and no test of a call stands in it.
+-- Ruled out: a compiler that refuses all; 7 given where 6 applies as well; 8 given where two modes of one CASE drive a variable; 19 given to a test that goes to its own location.
+pub first-number-read-schedule : (ed : Edition) (file : List ℕ) → All (λ b. b < 256) file →
+    FirstHolds ((readSchedule ed file) .refusal) (fileClauses ed file) ⊎ (((readSchedule ed file) .refusal ≡ 0) × (AnyHolds (fileClauses ed file) → ⊥))
+first-number-read-schedule = FileSentences.first-read-schedule
 
-pub first-number-compile : (ed : Edition) (file room : List ℕ) →
-    First ((compile ed file room) .refusal) (compileConditions ed file room) ⊎ (((compile ed file room) .refusal ≡ 0) × Clear (compileConditions ed file room))
-first-number-compile = FileNumbers.compiling-first
+pub first-number-compile : (ed : Edition) (file room : List ℕ) → All (λ b. b < 256) file →
+    FirstHolds ((compile ed file room) .refusal) (compileClauses ed file room) ⊎ (((compile ed file room) .refusal ≡ 0) × (AnyHolds (compileClauses ed file room) → ⊥))
+first-number-compile ed file room z = FileSentences.first-compile ed file z room
 
-pub first-number-rule-run : (ed : Edition) (file start events buffer : List ℕ) →
-    First ((ruleRun ed file start events buffer) .refusal) (ruleRunConditions ed file start events buffer) ⊎
-    (((ruleRun ed file start events buffer) .refusal ≡ 0) × Clear (ruleRunConditions ed file start events buffer))
-first-number-rule-run = FileNumbers.run-rules-first
+pub first-number-rule-run : (ed : Edition) (file start events buffer : List ℕ) → All (λ b. b < 256) file → All (λ b. b < 256) start →
+    FirstHolds ((ruleRun ed file start events buffer) .refusal) (ruleRunClauses ed file start events buffer) ⊎
+    (((ruleRun ed file start events buffer) .refusal ≡ 0) × (AnyHolds (ruleRunClauses ed file start events buffer) → ⊥))
+first-number-rule-run ed file start events buffer z = FileSentences.first-rule-run ed file z start events buffer
 
-pub first-number-read-table : (ed : Edition) (table : List ℕ) →
-    First ((readTable ed table) .refusal) (tableConditions ed table) ⊎ (((readTable ed table) .refusal ≡ 0) × Clear (tableConditions ed table))
-first-number-read-table = TableNumbers.read-table-first
+pub first-number-read-table : (ed : Edition) (table : List ℕ) → All (λ b. b < 256) table →
+    FirstHolds ((readTable ed table) .refusal) (tableClauses ed table) ⊎ (((readTable ed table) .refusal ≡ 0) × (AnyHolds (tableClauses ed table) → ⊥))
+first-number-read-table = TableSentences.first-read-table
 
-pub first-number-table-run : (ed : Edition) (table start events buffer : List ℕ) →
-    First ((tableRun ed table start events buffer) .refusal) (tableRunConditions ed table start events buffer) ⊎
-    (((tableRun ed table start events buffer) .refusal ≡ 0) × Clear (tableRunConditions ed table start events buffer))
-first-number-table-run = TableNumbers.run-table-first
+pub first-number-table-run : (ed : Edition) (table start events buffer : List ℕ) → All (λ b. b < 256) table → All (λ b. b < 256) start →
+    FirstHolds ((tableRun ed table start events buffer) .refusal) (tableRunClauses ed table start events buffer) ⊎
+    (((tableRun ed table start events buffer) .refusal ≡ 0) × (AnyHolds (tableRunClauses ed table start events buffer) → ⊥))
+first-number-table-run = TableSentences.first-run-table
+
+pub first-number-examine : (ed : Edition) (file start events table records others : List ℕ) → All (λ b. b < 256) file → All (λ b. b < 256) start →
+    FirstHolds ((examOf ed file start events table records others) .refusal) (examClauses ed file start events table records others) ⊎
+    (((examOf ed file start events table records others) .refusal ≡ 0) × (AnyHolds (examClauses ed file start events table records others) → ⊥))
+first-number-examine = ExamHolds.exam-first
+
+-- what a call refuses with is one number: no list has two first sentences, nor a first one where none holds.
+-- Ruled out: a list of sentences under which two refusals of one input would both be right.
+pub one-first : {m n : ℕ} {l : List Clause} → FirstHolds m l → FirstHolds n l → m ≡ n
+one-first f g = SentenceSteps.one-first f g
+
+pub first-holds : {n : ℕ} {l : List Clause} → FirstHolds n l → AnyHolds l
+first-holds f = SentenceSteps.any-first f
 
 -- "23..31 are per event ..; the run's steps are taken in their order": an event's answer is n of 23 to 31 exactly where n's sentence holds
 -- in the situation before it, no earlier number's does, and no fault of the switch check comes first.
@@ -291,7 +331,7 @@ pub table-bytes : (ed : Edition) (table : List ℕ) (t : Table) →
 table-bytes = TableForms.table-bytes
 
 pub table-accepted : (ed : Edition) (table : List ℕ) (t : Table) →
-    (All (λ b. b < 256) table × (judgeTable ed table ≡ accepted t)) ↔ ((table ≡ writeTable ed t) × TableLimits ed t × ProperTable ed t)
+    (All (λ b. b < 256) table × (judgeTable ed table ≡ accepted t)) ↔ TableWritten ed table t
 table-accepted = TablesProper.table-accepted
 
 -- 20: of an accepted file, and of an accepted table, a start is let pass exactly where it is the bytes of a value in its declared range for each variable

@@ -46,12 +46,15 @@ pub every-start : (ed : Edition) (file room : List ℕ) → AllBytes file → (c
     (tableRun ed (take ((compile ed file room) .written) ((compile ed file room) .table)) (startBytes (record { values = values; modes = modes })) events by-table))
 every-start ed file room z h =
     let a = agreement ed file room h in
-    let s = a .schedule in
-    (s, (schedule-accepted ed file s) .0 (z, a .schedule-read), λ values modes v m events by-rules by-table n e i j.
-    let st : Start = record { values = values; modes = modes } in
-    let start = startBytes st in
-    let back = (starts-admitted ed file s z (a .schedule-read) start st) .1 (refl, record { values = v; modes = m }) in
-    let pass = (start-let-pass ed file s z (a .schedule-read) start events by-rules) .1 (st, refl, record { values = v; modes = m }) in
-    let r = a .runs start events by-rules by-table (pass .1) (no-21 ed (s .plant) start events by-rules n e) (no-22 ed (s .plant) start events by-rules n e i) (no-22 ed (s .plant) start events by-table n e j) in
-    subst (λ (st : Start). RunsAgree ed s st events by-rules by-table (ruleRun ed file start events by-rules) (tableRun ed (take ((compile ed file room) .written) ((compile ed file room) .table)) start events by-table))
-    (some-is (sym (r .1) ∙ back .1)) (r .2))
+    let s = a .schedule in (
+      s,
+      (schedule-accepted ed file s) .0 (z, a .schedule-read),
+      λ values modes v m events by-rules by-table n e i j.
+          let st : Start = record { values = values; modes = modes } in
+          let start = startBytes st in
+          let back = (starts-admitted ed file s z (a .schedule-read) start st) .1 (refl, record { values = v; modes = m }) in
+          let pass = (start-let-pass ed file s z (a .schedule-read) start events by-rules) .1 (st, refl, record { values = v; modes = m }) in
+          let r = a .runs start events by-rules by-table (pass .1) (no-21 ed (s .plant) start events by-rules n e) (no-22 ed (s .plant) start events by-rules n e i) (no-22 ed (s .plant) start events by-table n e j) in
+          subst (λ (st : Start). RunsAgree ed s st events by-rules by-table (ruleRun ed file start events by-rules) (tableRun ed (take ((compile ed file room) .written) ((compile ed file room) .table)) start events by-table))
+          (some-is (sym (r .1) ∙ back .1)) (r .2),
+    )

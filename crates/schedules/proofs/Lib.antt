@@ -44,4 +44,7 @@ pub mod FileForms
 pub mod FilesProper
 pub mod FileSentences
 pub mod EveryStart
+-- examining
+pub mod SameRuns
+pub mod ExamHolds
 pub mod WritingPapers

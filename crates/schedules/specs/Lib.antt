@@ -16,6 +16,7 @@ pub mod Writing
 pub mod Proper
 pub mod Agreement
 pub mod Sentences
+pub mod Exam
 pub mod Sizes
 pub mod Reordered
 pub mod Examples

@@ -25,6 +25,12 @@ pub any-first : {n : ℕ} {l : List Clause} → FirstHolds n l → AnyHolds l
 any-first (holds-here e p) = inl p
 any-first (holds-further h f) = inr (any-first f)
 
+pub one-first : {m n : ℕ} {l : List Clause} → FirstHolds m l → FirstHolds n l → m ≡ n
+one-first (holds-here e p) (holds-here f q) = sym e ∙ f
+one-first (holds-here e p) (holds-further h g) = absurd (h p)
+one-first (holds-further h f) (holds-here e p) = absurd (h p)
+one-first (holds-further h f) (holds-further i g) = one-first f g
+
 pub any-left : (k l : List Clause) → AnyHolds k → AnyHolds (k ++ l)
 any-left [] l p = absurd p
 any-left (c ∷ k) l (inl p) = inl p
