@@ -11,16 +11,16 @@ use lib.Dec.{lit<, lit≤}
 use lib.IntN.{ℤ}
 use lib.ListN.{length, getElem?, take}
 use Rattle.semantics.specs.Bytes.{All, within, isSome, overwrite, two-bytes}
-use Rattle.semantics.specs.Editions.{Edition}
+use Rattle.semantics.specs.Editions.{Edition, edition1, capacity}
 use Rattle.semantics.specs.Refusals.{accepted}
-use Rattle.semantics.specs.Expressions.{Number, Truth, numberBytes, truthBytes, numberDepth, truthDepth, numberKnown, truthKnown, numberIn, truthIn}
+use Rattle.semantics.specs.Expressions.{Number, Truth, numberBytes, truthBytes, numberDepth, truthDepth, numberIn, truthIn}
 use Rattle.semantics.specs.Plant.{Plant, selectors}
 use Rattle.semantics.specs.Run.{stop, possible, Next, halted, Control, Situation, Answered, at, step}
 use Rattle.semantics.specs.Rules.{Rule, Derives, Stopping, Standing, at-start, stands-at, Sound, Decides}
 use Rattle.semantics.specs.Tables.{Table, risingFrom, judgeTable, actionOrStop, tableControl}
 use Rattle.semantics.specs.Starts.{Start, startIn, startFits}
 use Rattle.semantics.specs.Writing.{writeTable, TableLimits, TableReadAs, startBytes, Each, InRange, HasMode, StartLimits}
-use Rattle.semantics.specs.Proper.{TableWritten}
+use Rattle.semantics.specs.Proper.{NamesKnown, TruthNamesKnown, IsTruth, IsNumber, TableWritten}
 use Rattle.semantics.specs.Statements.{RunHolds}
 use Rattle.semantics.specs.Calls.{recordSize, readTable, tableRun}
 use Rattle.semantics.specs.Conditions.{is20}
@@ -30,18 +30,18 @@ use Rattle.semantics.proofs.FirstAnswer as FirstAnswer
 use Rattle.semantics.proofs.SentenceSteps as SentenceSteps
 use Rattle.semantics.proofs.TableSentences as TableSentences
 use Rattle.semantics.proofs.CallsHold as TableCalls
-use Rattle.semantics.proofs.ExpressionBytes as ExpressionBytes
+use Rattle.semantics.proofs.ProperForms as ProperForms
 use Rattle.semantics.proofs.WrittenSources as TableBytes
 use Rattle.semantics.proofs.TableForms as TableForms
 use Rattle.semantics.proofs.TablesProper as TablesProper
-use Rattle.schedules.specs.Nodes.{Node, stop-all, actionOf, nodeAction, actionsOf}
+use Rattle.schedules.specs.Nodes.{Node, while-do, if-else, stop-all, actionOf, nodeAction, actionsOf}
 use Rattle.schedules.specs.Trees.{Tree, treeOf}
 use Rattle.schedules.specs.Preorder.{Written}
 use Rattle.schedules.specs.Residuals.{Residual, fresh, acting, move}
 use Rattle.schedules.specs.MoveRules.{Fresh, Acts, MoveRule, LeadsByRule}
 use Rattle.schedules.specs.Reached.{Leads, Of, Distinct}
 use Rattle.schedules.specs.Files.{Schedule, judgeFile, ruleControl}
-use Rattle.schedules.specs.Compiling.{tableOf}
+use Rattle.schedules.specs.Compiling.{testsOf, tableOf}
 use Rattle.schedules.specs.Calls.{readSchedule, ruleRun, compile}
 use Rattle.schedules.specs.Conditions.{fileSchedule}
 use Rattle.schedules.specs.Sentences.{fileClauses, compileClauses, ruleRunClauses}
@@ -107,6 +107,12 @@ acting-distinct = MovesByRule.acting-distinct
 -- Ruled out: a location that only the code's own moves lead to; one that the paper's moves lead to and the code's do not.
 pub reached-rules : (ns : List Node) (t : Tree) → treeOf ns ≡ some t → (tests : ℕ → Bool) (r : Residual) → Leads tests (fresh t) r ↔ LeadsByRule tests t r
 reached-rules = MovesByRule.reached-rules
+
+-- the nodes that test, which a table gives a second target, are the WHILEs and the IFs.
+-- Ruled out: a CONTINUE with a target on false; an IF whose second child is never reached.
+pub tests-by-node : (ns : List Node) (n : ℕ) →
+    (testsOf ns n ≡ true) ↔ (((t : List ℕ) × (getElem? ns n ≡ some (while-do t))) ⊎ ((t : List ℕ) × (getElem? ns n ≡ some (if-else t))))
+tests-by-node = NodeActions.tests-by-node
 
 -- the bytes that compiling writes: at the front of the room, which holds them, and the rest of it unaltered.
 -- Ruled out: a compiler that writes nothing; one that clears the room beyond its table.
@@ -289,22 +295,20 @@ first-answer ed p c = FirstAnswer.first-answer ed p c
 -- 12: bytes are read as an expression exactly where they are its encoding, it is of depth at most 16 and its variables are known.
 -- Ruled out: depth 17 taken; a difference read with its operands changed over.
 pub expression-bytes-number-is : (ed : Edition) (variables : ℕ) (s : List ℕ) (e : Number) → All (λ b. b < 256) s →
-    (numberIn ed variables s ≡ some e) ↔ ((numberBytes ed e ≡ s) × (numberDepth e ≤ 16) × (numberKnown variables e ≡ true))
-expression-bytes-number-is = ExpressionBytes.number-is
+    (numberIn ed variables s ≡ some e) ↔ ((numberBytes ed e ≡ s) × (numberDepth e ≤ 16) × NamesKnown variables e)
+expression-bytes-number-is = ProperForms.number-written
 
 pub expression-bytes-truth-is : (ed : Edition) (variables : ℕ) (s : List ℕ) (e : Truth) → All (λ b. b < 256) s →
-    (truthIn ed variables s ≡ some e) ↔ ((truthBytes ed e ≡ s) × (truthDepth e ≤ 16) × (truthKnown variables e ≡ true))
-expression-bytes-truth-is = ExpressionBytes.truth-is
+    (truthIn ed variables s ≡ some e) ↔ ((truthBytes ed e ≡ s) × (truthDepth e ≤ 16) × TruthNamesKnown variables e)
+expression-bytes-truth-is = ProperForms.truth-written
 
 -- so 12 takes bytes exactly where they are the encoding of some such expression.
 -- Ruled out: bytes left over taken; an unknown code taken.
-pub expression-bytes-number : (ed : Edition) (variables : ℕ) (s : List ℕ) → All (λ b. b < 256) s →
-    (isSome (numberIn ed variables s) ≡ true) ↔ ((e : Number) × (numberBytes ed e ≡ s) × (numberDepth e ≤ 16) × (numberKnown variables e ≡ true))
-expression-bytes-number = ExpressionBytes.expression-bytes
+pub expression-bytes-number : (ed : Edition) (variables : ℕ) (s : List ℕ) → All (λ b. b < 256) s → (isSome (numberIn ed variables s) ≡ true) ↔ IsNumber ed variables s
+expression-bytes-number = ProperForms.number-read
 
-pub expression-bytes-truth : (ed : Edition) (variables : ℕ) (s : List ℕ) → All (λ b. b < 256) s →
-    (isSome (truthIn ed variables s) ≡ true) ↔ ((e : Truth) × (truthBytes ed e ≡ s) × (truthDepth e ≤ 16) × (truthKnown variables e ≡ true))
-expression-bytes-truth = ExpressionBytes.truth-bytes
+pub expression-bytes-truth : (ed : Edition) (variables : ℕ) (s : List ℕ) → All (λ b. b < 256) s → (isSome (truthIn ed variables s) ≡ true) ↔ IsTruth ed variables s
+expression-bytes-truth = ProperForms.truth-read
 
 -- the nodes make just one tree, which 10 asks, exactly where they are a tree written in preorder; `reached` and `agreement` say that this tree is compiled and run.
 -- Ruled out: a reader that gives up at some depth; one that leaves nodes over.
@@ -361,6 +365,11 @@ bytes-only-rule-run = WrittenBytes.rule-run-bytes
 pub bytes-only-table-run : (ed : Edition) (table start events buffer : List ℕ) → All (λ b. b < 256) table → All (λ b. b < 256) start → All (λ b. b < 256) buffer →
     All (λ b. b < 256) ((tableRun ed table start events buffer) .records)
 bytes-only-table-run = TableBytes.table-run-bytes
+
+-- the numbers of the first edition, which stand for "version 1", "64", numbers of one byte, "8 bytes" and "3 bytes" in every statement about `edition1`.
+-- Ruled out: a reader of 63 nodes at most; a record whose set has 4 bytes.
+pub edition-1 : (edition1 .version ≡ 1) × (edition1 .nodes ≡ 64) × (capacity (edition1 .width) ≡ 256) × (edition1 .set-bytes ≡ 8) × (edition1 .event-bytes ≡ 3)
+edition-1 = (refl, refl, refl, refl, refl)
 
 -- an edition of 256 nodes keeps what every edition keeps
 pub edition-256 : (ed : Edition) × (ed .nodes ≡ 256)

@@ -8,7 +8,8 @@ use Prim.Native.Nat.{ℕ, _≤_, _<_}
 use lib.ListN.{length, getElem?}
 use Rattle.semantics.specs.Bytes.{All}
 use Rattle.semantics.specs.Editions.{Edition}
-use Rattle.semantics.specs.Expressions.{Number, Truth, numberBytes, truthBytes, numberDepth, truthDepth, numberKnown, truthKnown}
+use lib.IntN.{ℤ}
+use Rattle.semantics.specs.Expressions.{Number, constant, variable, operate, negation, Truth, compare, connect, opposite, always, Operation, Comparison, Connective, numberBytes, truthBytes, numberDepth, truthDepth, fits32}
 use Rattle.semantics.specs.Sections.{Variable, Rate, Switch, Mode, Selector, Equation, steady, choice}
 use Rattle.semantics.specs.Plant.{Plant, selectors, modeDrives, drives}
 use Rattle.semantics.specs.Run.{Action, test, wait, assign, switch, stop}
@@ -17,17 +18,30 @@ use Rattle.semantics.specs.Tables.{Table, actionNodes, entryNodes}
 use Rattle.semantics.specs.Writing.{InRange, HasMode, writeTable, TableLimits}
 
 -- ---- 12: these bytes are a truth or number, of depth at most 16, that names no missing variable
+-- each variable that is named is one of so many; constants are "32-bit two's complement"
+pub data NamesKnown (variables : ℕ) : Number → Type 0 where
+  known-constant : {z : ℤ} → fits32 z ≡ true → NamesKnown variables (constant z)
+  known-variable : {v : ℕ} → v < variables → NamesKnown variables (variable v)
+  known-operands : {o : Operation} {a b : Number} → NamesKnown variables a → NamesKnown variables b → NamesKnown variables (operate o a b)
+  known-negation : {a : Number} → NamesKnown variables a → NamesKnown variables (negation a)
+
+pub data TruthNamesKnown (variables : ℕ) : Truth → Type 0 where
+  known-numbers : {c : Comparison} {a b : Number} → NamesKnown variables a → NamesKnown variables b → TruthNamesKnown variables (compare c a b)
+  known-truths : {c : Connective} {a b : Truth} → TruthNamesKnown variables a → TruthNamesKnown variables b → TruthNamesKnown variables (connect c a b)
+  known-opposite : {a : Truth} → TruthNamesKnown variables a → TruthNamesKnown variables (opposite a)
+  known-always : TruthNamesKnown variables always
+
 pub record IsTruth (ed : Edition) (variables : ℕ) (s : List ℕ) : Type 0 where
   pub truth : Truth
   pub written : truthBytes ed truth ≡ s
   pub depth : truthDepth truth ≤ 16
-  pub known : truthKnown variables truth ≡ true
+  pub known : TruthNamesKnown variables truth
 
 pub record IsNumber (ed : Edition) (variables : ℕ) (s : List ℕ) : Type 0 where
   pub number : Number
   pub written : numberBytes ed number ≡ s
   pub depth : numberDepth number ≤ 16
-  pub known : numberKnown variables number ≡ true
+  pub known : NamesKnown variables number
 
 -- ---- 7: "An equation names a missing variable or mode, truths left aside."
 pub record NamedInMode (variables modes : ℕ) (m : Mode) : Type 0 where
