@@ -108,12 +108,6 @@ acting-distinct = MovesByRule.acting-distinct
 pub reached-rules : (ns : List Node) (t : Tree) → treeOf ns ≡ some t → (tests : ℕ → Bool) (r : Residual) → Leads tests (fresh t) r ↔ LeadsByRule tests t r
 reached-rules = MovesByRule.reached-rules
 
--- the nodes that test, which a table gives a second target, are the WHILEs and the IFs.
--- Ruled out: a CONTINUE with a target on false; an IF whose second child is never reached.
-pub tests-by-node : (ns : List Node) (n : ℕ) →
-    (testsOf ns n ≡ true) ↔ (((t : List ℕ) × (getElem? ns n ≡ some (while-do t))) ⊎ ((t : List ℕ) × (getElem? ns n ≡ some (if-else t))))
-tests-by-node = NodeActions.tests-by-node
-
 -- the bytes that compiling writes: at the front of the room, which holds them, and the rest of it unaltered.
 -- Ruled out: a compiler that writes nothing; one that clears the room beyond its table.
 pub written-table : (ed : Edition) (file room : List ℕ) → (compile ed file room) .refusal ≡ 0 →
@@ -139,7 +133,7 @@ pub agreement-every-start : (ed : Edition) (file room : List ℕ) → All (λ b.
 agreement-every-start = EveryStart.every-start
 
 -- and of the call that compiles, runs both ways and compares: where it is not refused, it says that the two agree, and they come to what the rules derive.
--- Ruled out: a call that always says that they agree and runs nothing; one that compares the records of one run with themselves.
+-- Ruled out: a call that says that they agree and runs nothing; one that leaves the second record buffer as it was.
 pub examine-agrees : (ed : Edition) (file start events table records others : List ℕ) → (examOf ed file start events table records others) .refusal ≡ 0 →
     ExamHolds ed file start events table records others
 examine-agrees = ExamHolds.exam-agrees
@@ -195,6 +189,12 @@ acts-as-listed = NodeActions.rule-action
 pub acts-by-node : (ed : Edition) (file : List ℕ) (s : Schedule) → judgeFile ed file ≡ accepted s → (r : Residual) → Of (s .root) r → (n : ℕ) → Mem n (acting r) →
     (x : Node) × (getElem? (s .nodes) n ≡ some x) × (actionOf x ≡ some (nodeAction (s .nodes) n))
 acts-by-node ed file s h r o n m = let q = ScheduleSound.acting-own s ((FileNumbers.passed ed file s h) .tree) r o n m in (q .node, q .is-node, q .is-action)
+
+-- the nodes that test, which a table gives a second target, are the WHILEs and the IFs.
+-- Ruled out: a CONTINUE with a target on false; an IF whose second child is never reached.
+pub tests-by-node : (ns : List Node) (n : ℕ) →
+    (testsOf ns n ≡ true) ↔ (((t : List ℕ) × (getElem? ns n ≡ some (while-do t))) ⊎ ((t : List ℕ) × (getElem? ns n ≡ some (if-else t))))
+tests-by-node = NodeActions.tests-by-node
 
 -- "The records of the rule run, and those of the table run, equal this section's byte for byte.": for every call that is not refused, also for schedules
 -- that compiling refuses with 13 and for tables that nobody compiled.
