@@ -6,35 +6,37 @@ use mathlib.Core.Bool.{Bool, true, false}
 use mathlib.Core.List.{List, _∷_, _++_, flatMap, List·Memᴰ as Mem, List·Permᴰ as Permuted}
 use mathlib.Core.Logic.{_↔_, _⊎_}
 use mathlib.Core.Option.{some}
-use Prim.Native.Nat.{ℕ, _≤_, _<_}
+use Prim.Native.Nat.{ℕ, _*_, _≤_, _<_}
 use lib.Dec.{lit<, lit≤}
 use lib.IntN.{ℤ}
 use lib.ListN.{length, getElem?, take, drop}
 use Rattle.semantics.specs.Bytes.{All, within, isSome, overwrite, two-bytes}
-use Rattle.semantics.specs.Editions.{Edition}
+use Rattle.semantics.specs.Editions.{Edition, edition1, capacity}
 use Rattle.semantics.specs.Refusals.{accepted}
-use Rattle.semantics.specs.Expressions.{Number, Truth, numberBytes, truthBytes, numberDepth, truthDepth, numberKnown, truthKnown, numberIn, truthIn}
+use Rattle.semantics.specs.Expressions.{Number, Truth, numberBytes, truthBytes, numberDepth, truthDepth, numberIn, truthIn}
 use Rattle.semantics.specs.Plant.{Plant, selectors}
 use Rattle.semantics.specs.Run.{stop, possible, Next, halted, Control, Situation, Answered, at, step}
 use Rattle.semantics.specs.Rules.{Rule, Derives, Stopping, Standing, at-start, stands-at, Sound, Decides}
 use Rattle.semantics.specs.TableFile.{locationLimit}
 use Rattle.semantics.specs.Tables.{Table, risingFrom, judgeTable, actionOrStop, tableControl}
 use Rattle.semantics.specs.Starts.{Start, startIn, startFits}
-use Rattle.semantics.specs.Writing.{writeTable, TableLimits, TableReadAs, startBytes, StartLimits}
-use Rattle.semantics.specs.Proper.{ProperTable}
+use Rattle.semantics.specs.Writing.{writeTable, TableLimits, TableReadAs, startBytes, Each, InRange, HasMode, StartLimits}
+use Rattle.semantics.specs.Proper.{NamesKnown, TruthNamesKnown, IsTruth, IsNumber, TableWritten}
 use Rattle.semantics.specs.Statements.{RunHolds}
-use Rattle.semantics.specs.Calls.{readTable, tableRun}
-use Rattle.semantics.specs.Conditions.{First, Clear, tableConditions, tableRunConditions, is20}
+use Rattle.semantics.specs.Calls.{recordSize, readTable, tableRun}
+use Rattle.semantics.specs.Conditions.{is20}
+use Rattle.semantics.specs.Sentences.{Clause, FirstHolds, AnyHolds, tableClauses, tableRunClauses}
 use Rattle.semantics.proofs.StepRules as StepRules
 use Rattle.semantics.proofs.FirstAnswer as FirstAnswer
-use Rattle.semantics.proofs.FirstNumber as TableNumbers
+use Rattle.semantics.proofs.SentenceSteps as SentenceSteps
+use Rattle.semantics.proofs.TableSentences as TableSentences
 use Rattle.semantics.proofs.CallsHold as TableCalls
-use Rattle.semantics.proofs.ExpressionBytes as ExpressionBytes
+use Rattle.semantics.proofs.ProperForms as ProperForms
 use Rattle.semantics.proofs.WrittenSources as TableBytes
 use Rattle.semantics.proofs.TableForms as TableForms
 use Rattle.semantics.proofs.TablesProper as TablesProper
 use Rattle.schedules.specs.FileSections.{FileSections, fileSectionsIn}
-use Rattle.schedules.specs.Nodes.{Node, parallel, stop-all, nodesIn, actionOf, nodeAction, actionsOf}
+use Rattle.schedules.specs.Nodes.{Node, parallel, while-do, if-else, stop-all, nodesIn, actionOf, nodeAction, actionsOf}
 use Rattle.schedules.specs.Trees.{Tree, treeOf}
 use Rattle.schedules.specs.Preorder.{Written}
 use Rattle.schedules.specs.Residuals.{Residual, fresh, acting, move}
@@ -43,10 +45,12 @@ use Rattle.schedules.specs.Reached.{Leads, Of, Distinct, AsMany}
 use Rattle.schedules.specs.Files.{Schedule, judgeFile, ruleControl}
 use Rattle.schedules.specs.Compiling.{testsOf, tableOf}
 use Rattle.schedules.specs.Calls.{readSchedule, ruleRun, compile}
-use Rattle.schedules.specs.Conditions.{fileSchedule, fileConditions, compileConditions, ruleRunConditions}
+use Rattle.schedules.specs.Conditions.{fileSchedule}
+use Rattle.schedules.specs.Sentences.{fileClauses, compileClauses, ruleRunClauses}
+use Rattle.schedules.specs.Exam.{refusedExam, examOf, examClauses, ExamHolds}
 use Rattle.schedules.specs.Writing.{writeNode, writeFile, FileLimits, FileReadAs}
 use Rattle.schedules.specs.Proper.{ScheduleWritten}
-use Rattle.schedules.specs.Agreement.{TableHolds, TooMany, Agrees}
+use Rattle.schedules.specs.Agreement.{TableHolds, TooMany, RunsAgree, Agrees}
 use Rattle.schedules.specs.Sizes.{sizeOf, pencilSize}
 use Rattle.schedules.specs.TableSizes.{tableLength, TableSized}
 use Rattle.schedules.specs.Reordered.{OneTree, Swapped, SameButOrder}
@@ -68,6 +72,9 @@ use Rattle.schedules.proofs.LocationCount as LocationCount
 use Rattle.schedules.proofs.TableLength as TableLength
 use Rattle.schedules.proofs.BranchOrder as BranchOrder
 use Rattle.schedules.proofs.ExchangedBytes as ExchangedBytes
+use Rattle.schedules.proofs.FileSentences as FileSentences
+use Rattle.schedules.proofs.EveryStart as EveryStart
+use Rattle.schedules.proofs.ExamHolds as ExamHolds
 
 -- ---- demand 2: "The table of an accepted schedule has every control state that the rules reach from the start, guards ignored, and no other;
 -- each has an edge for each move and no other, numbered in the paper's order."
@@ -188,6 +195,22 @@ pub agreement : (ed : Edition) (file room : List ℕ) → (compile ed file room)
     Agrees ed file (take ((compile ed file room) .written) ((compile ed file room) .table))
 agreement = Agreement.agreement
 
+-- the same in the mission's words: for every valuation within the declared ranges, every choice of existing modes, every list of whole events and all
+-- record buffers that are long enough, both runs take the call on, and their records and counts are those that the rules derive.
+-- Ruled out: runners that refuse every start whose modes are not the initial ones; runners that take one event at most.
+pub agreement-every-start : (ed : Edition) (file room : List ℕ) → All (λ b. b < 256) file → (compile ed file room) .refusal ≡ 0 →
+    (s : Schedule) × ScheduleWritten ed file s × ((values : List ℤ) (modes : List ℕ) → Each InRange (s .plant .variables) values → Each HasMode (selectors (s .plant)) modes →
+    (events by-rules by-table : List ℕ) (n : ℕ) → length events ≡ n * ed .event-bytes → n * recordSize ed (s .plant) ≤ length by-rules → n * recordSize ed (s .plant) ≤ length by-table →
+    RunsAgree ed s (record { values = values; modes = modes }) events by-rules by-table (ruleRun ed file (startBytes (record { values = values; modes = modes })) events by-rules)
+    (tableRun ed (take ((compile ed file room) .written) ((compile ed file room) .table)) (startBytes (record { values = values; modes = modes })) events by-table))
+agreement-every-start = EveryStart.every-start
+
+-- and of the call that compiles, runs both ways and compares: where it is not refused, it says that the two agree, and they come to what the rules derive.
+-- Ruled out: a call that says that they agree and runs nothing; one that leaves the second record buffer as it was.
+pub examine-agrees : (ed : Edition) (file start events table records others : List ℕ) → (examOf ed file start events table records others) .refusal ≡ 0 →
+    ExamHolds ed file start events table records others
+examine-agrees = ExamHolds.exam-agrees
+
 -- the executable step of one event is just the rule-by-rule relation, wherever a run can be.
 -- Ruled out: a step that skips the switch check, or takes selector 1 before selector 0; a fault that keeps the run going.
 pub step-rules : {S : Type 0} (ed : Edition) (p : Plant) (c : Control S) → Sound p c → (s : Situation S) → Standing c s → (e : List ℕ) (a : ℕ) (t : Situation S) →
@@ -240,6 +263,12 @@ pub acts-by-node : (ed : Edition) (file : List ℕ) (s : Schedule) → judgeFile
     (x : Node) × (getElem? (s .nodes) n ≡ some x) × (actionOf x ≡ some (nodeAction (s .nodes) n))
 acts-by-node ed file s h r o n m = let q = ScheduleSound.acting-own s ((FileNumbers.passed ed file s h) .tree) r o n m in (q .node, q .is-node, q .is-action)
 
+-- the nodes that test, which a table gives a second target, are the WHILEs and the IFs.
+-- Ruled out: a CONTINUE with a target on false; an IF whose second child is never reached.
+pub tests-by-node : (ns : List Node) (n : ℕ) →
+    (testsOf ns n ≡ true) ↔ (((t : List ℕ) × (getElem? ns n ≡ some (while-do t))) ⊎ ((t : List ℕ) × (getElem? ns n ≡ some (if-else t))))
+tests-by-node = NodeActions.tests-by-node
+
 -- "The records of the rule run, and those of the table run, equal this section's byte for byte.": for every call that is not refused, also for schedules
 -- that compiling refuses with 13 and for tables that nobody compiled.
 -- Ruled out: a rule run that writes anything else for a schedule of 1,025 locations; a table run that reads a table with two equal locations wrongly.
@@ -277,6 +306,10 @@ pub refused-read-table : (ed : Edition) (table : List ℕ) → ((readTable ed ta
     readTable ed table ≡ record { refusal = (readTable ed table) .refusal; variables = 0; selectors = 0; actions = 0; locations = 0 }
 refused-read-table = TableCalls.refused-read-table
 
+pub refused-examine : (ed : Edition) (file start events table records others : List ℕ) → ((examOf ed file start events table records others) .refusal ≡ 0 → ⊥) →
+    examOf ed file start events table records others ≡ refusedExam ((examOf ed file start events table records others) .refusal) table records others
+refused-examine = ExamHolds.exam-refused
+
 -- the counts that the two reading calls return where they accept.
 pub read-schedule-result : (ed : Edition) (file : List ℕ) (s : Schedule) → judgeFile ed file ≡ accepted s →
     readSchedule ed file ≡ record { refusal = 0; variables = length (s .plant .variables); selectors = length (selectors (s .plant)); nodes = length (s .nodes) }
@@ -287,30 +320,43 @@ pub read-table-result : (ed : Edition) (table : List ℕ) (t : Table) → judgeT
 read-table-result ed table t = TableCalls.read-table-result ed table
 
 -- ---- demand 1: "A refused call returns the first number of the list that applies .. A number is given only where its sentence holds."
--- The sentences of 10, 12, 13 and 23 to 31 have a second statement of their own: `one-tree`, `expression-bytes-*`, `refused-13`, `first-answer`.
--- For each of the five calls: its number is the first of its list that applies, or it is 0 and none does.
--- Ruled out: a compiler that refuses all; 7 given where 6 applies as well.
-pub first-number-read-schedule : (ed : Edition) (file : List ℕ) →
-    First ((readSchedule ed file) .refusal) (fileConditions ed file) ⊎ (((readSchedule ed file) .refusal ≡ 0) × Clear (fileConditions ed file))
-first-number-read-schedule = FileNumbers.read-schedule-first
+-- For each of the calls: its number is that of the first sentence that holds, or it is 0 and none does. A sentence (semantics' and schedules' Sentences) is a
+-- proposition about the bytes, told by written forms and relations: no reader and no test of a call stands in it.
+-- Ruled out: a compiler that refuses all; 7 given where 6 applies as well; 8 given where two modes of one CASE drive a variable; 19 given to a test that goes to its own location.
+pub first-number-read-schedule : (ed : Edition) (file : List ℕ) → All (λ b. b < 256) file →
+    FirstHolds ((readSchedule ed file) .refusal) (fileClauses ed file) ⊎ (((readSchedule ed file) .refusal ≡ 0) × (AnyHolds (fileClauses ed file) → ⊥))
+first-number-read-schedule = FileSentences.first-read-schedule
 
-pub first-number-compile : (ed : Edition) (file room : List ℕ) →
-    First ((compile ed file room) .refusal) (compileConditions ed file room) ⊎ (((compile ed file room) .refusal ≡ 0) × Clear (compileConditions ed file room))
-first-number-compile = FileNumbers.compiling-first
+pub first-number-compile : (ed : Edition) (file room : List ℕ) → All (λ b. b < 256) file →
+    FirstHolds ((compile ed file room) .refusal) (compileClauses ed file room) ⊎ (((compile ed file room) .refusal ≡ 0) × (AnyHolds (compileClauses ed file room) → ⊥))
+first-number-compile ed file room z = FileSentences.first-compile ed file z room
 
-pub first-number-rule-run : (ed : Edition) (file start events buffer : List ℕ) →
-    First ((ruleRun ed file start events buffer) .refusal) (ruleRunConditions ed file start events buffer) ⊎
-    (((ruleRun ed file start events buffer) .refusal ≡ 0) × Clear (ruleRunConditions ed file start events buffer))
-first-number-rule-run = FileNumbers.run-rules-first
+pub first-number-rule-run : (ed : Edition) (file start events buffer : List ℕ) → All (λ b. b < 256) file → All (λ b. b < 256) start →
+    FirstHolds ((ruleRun ed file start events buffer) .refusal) (ruleRunClauses ed file start events buffer) ⊎
+    (((ruleRun ed file start events buffer) .refusal ≡ 0) × (AnyHolds (ruleRunClauses ed file start events buffer) → ⊥))
+first-number-rule-run ed file start events buffer z = FileSentences.first-rule-run ed file z start events buffer
 
-pub first-number-read-table : (ed : Edition) (table : List ℕ) →
-    First ((readTable ed table) .refusal) (tableConditions ed table) ⊎ (((readTable ed table) .refusal ≡ 0) × Clear (tableConditions ed table))
-first-number-read-table = TableNumbers.read-table-first
+pub first-number-read-table : (ed : Edition) (table : List ℕ) → All (λ b. b < 256) table →
+    FirstHolds ((readTable ed table) .refusal) (tableClauses ed table) ⊎ (((readTable ed table) .refusal ≡ 0) × (AnyHolds (tableClauses ed table) → ⊥))
+first-number-read-table = TableSentences.first-read-table
 
-pub first-number-table-run : (ed : Edition) (table start events buffer : List ℕ) →
-    First ((tableRun ed table start events buffer) .refusal) (tableRunConditions ed table start events buffer) ⊎
-    (((tableRun ed table start events buffer) .refusal ≡ 0) × Clear (tableRunConditions ed table start events buffer))
-first-number-table-run = TableNumbers.run-table-first
+pub first-number-table-run : (ed : Edition) (table start events buffer : List ℕ) → All (λ b. b < 256) table → All (λ b. b < 256) start →
+    FirstHolds ((tableRun ed table start events buffer) .refusal) (tableRunClauses ed table start events buffer) ⊎
+    (((tableRun ed table start events buffer) .refusal ≡ 0) × (AnyHolds (tableRunClauses ed table start events buffer) → ⊥))
+first-number-table-run = TableSentences.first-run-table
+
+pub first-number-examine : (ed : Edition) (file start events table records others : List ℕ) → All (λ b. b < 256) file → All (λ b. b < 256) start →
+    FirstHolds ((examOf ed file start events table records others) .refusal) (examClauses ed file start events table records others) ⊎
+    (((examOf ed file start events table records others) .refusal ≡ 0) × (AnyHolds (examClauses ed file start events table records others) → ⊥))
+first-number-examine = ExamHolds.exam-first
+
+-- what a call refuses with is one number: no list has two first sentences, nor a first one where none holds.
+-- Ruled out: a list of sentences under which two refusals of one input would both be right.
+pub one-first : {m n : ℕ} {l : List Clause} → FirstHolds m l → FirstHolds n l → m ≡ n
+one-first f g = SentenceSteps.one-first f g
+
+pub first-holds : {n : ℕ} {l : List Clause} → FirstHolds n l → AnyHolds l
+first-holds f = SentenceSteps.any-first f
 
 -- "23..31 are per event ..; the run's steps are taken in their order": an event's answer is n of 23 to 31 exactly where n's sentence holds
 -- in the situation before it, no earlier number's does, and no fault of the switch check comes first.
@@ -322,22 +368,20 @@ first-answer ed p c = FirstAnswer.first-answer ed p c
 -- 12: bytes are read as an expression exactly where they are its encoding, it is of depth at most 16 and its variables are known.
 -- Ruled out: depth 17 taken; a difference read with its operands changed over.
 pub expression-bytes-number-is : (ed : Edition) (variables : ℕ) (s : List ℕ) (e : Number) → All (λ b. b < 256) s →
-    (numberIn ed variables s ≡ some e) ↔ ((numberBytes ed e ≡ s) × (numberDepth e ≤ 16) × (numberKnown variables e ≡ true))
-expression-bytes-number-is = ExpressionBytes.number-is
+    (numberIn ed variables s ≡ some e) ↔ ((numberBytes ed e ≡ s) × (numberDepth e ≤ 16) × NamesKnown variables e)
+expression-bytes-number-is = ProperForms.number-written
 
 pub expression-bytes-truth-is : (ed : Edition) (variables : ℕ) (s : List ℕ) (e : Truth) → All (λ b. b < 256) s →
-    (truthIn ed variables s ≡ some e) ↔ ((truthBytes ed e ≡ s) × (truthDepth e ≤ 16) × (truthKnown variables e ≡ true))
-expression-bytes-truth-is = ExpressionBytes.truth-is
+    (truthIn ed variables s ≡ some e) ↔ ((truthBytes ed e ≡ s) × (truthDepth e ≤ 16) × TruthNamesKnown variables e)
+expression-bytes-truth-is = ProperForms.truth-written
 
 -- so 12 takes bytes exactly where they are the encoding of some such expression.
 -- Ruled out: bytes left over taken; an unknown code taken.
-pub expression-bytes-number : (ed : Edition) (variables : ℕ) (s : List ℕ) → All (λ b. b < 256) s →
-    (isSome (numberIn ed variables s) ≡ true) ↔ ((e : Number) × (numberBytes ed e ≡ s) × (numberDepth e ≤ 16) × (numberKnown variables e ≡ true))
-expression-bytes-number = ExpressionBytes.expression-bytes
+pub expression-bytes-number : (ed : Edition) (variables : ℕ) (s : List ℕ) → All (λ b. b < 256) s → (isSome (numberIn ed variables s) ≡ true) ↔ IsNumber ed variables s
+expression-bytes-number = ProperForms.number-read
 
-pub expression-bytes-truth : (ed : Edition) (variables : ℕ) (s : List ℕ) → All (λ b. b < 256) s →
-    (isSome (truthIn ed variables s) ≡ true) ↔ ((e : Truth) × (truthBytes ed e ≡ s) × (truthDepth e ≤ 16) × (truthKnown variables e ≡ true))
-expression-bytes-truth = ExpressionBytes.truth-bytes
+pub expression-bytes-truth : (ed : Edition) (variables : ℕ) (s : List ℕ) → All (λ b. b < 256) s → (isSome (truthIn ed variables s) ≡ true) ↔ IsTruth ed variables s
+expression-bytes-truth = ProperForms.truth-read
 
 -- the nodes make just one tree, which 10 asks, exactly where they are a tree written in preorder; `reached` and `agreement` say that this tree is compiled and run.
 -- Ruled out: a reader that gives up at some depth; one that leaves nodes over.
@@ -364,7 +408,7 @@ pub table-bytes : (ed : Edition) (table : List ℕ) (t : Table) →
 table-bytes = TableForms.table-bytes
 
 pub table-accepted : (ed : Edition) (table : List ℕ) (t : Table) →
-    (All (λ b. b < 256) table × (judgeTable ed table ≡ accepted t)) ↔ ((table ≡ writeTable ed t) × TableLimits ed t × ProperTable ed t)
+    (All (λ b. b < 256) table × (judgeTable ed table ≡ accepted t)) ↔ TableWritten ed table t
 table-accepted = TablesProper.table-accepted
 
 -- 20: of an accepted file, and of an accepted table, a start is let pass exactly where it is the bytes of a value in its declared range for each variable
@@ -394,6 +438,11 @@ bytes-only-rule-run = WrittenBytes.rule-run-bytes
 pub bytes-only-table-run : (ed : Edition) (table start events buffer : List ℕ) → All (λ b. b < 256) table → All (λ b. b < 256) start → All (λ b. b < 256) buffer →
     All (λ b. b < 256) ((tableRun ed table start events buffer) .records)
 bytes-only-table-run = TableBytes.table-run-bytes
+
+-- the numbers of the first edition, which stand for "version 1", "64", numbers of one byte, "8 bytes" and "3 bytes" in every statement about `edition1`.
+-- Ruled out: a reader of 63 nodes at most; a record whose set has 4 bytes.
+pub edition-1 : (edition1 .version ≡ 1) × (edition1 .nodes ≡ 64) × (capacity (edition1 .width) ≡ 256) × (edition1 .set-bytes ≡ 8) × (edition1 .event-bytes ≡ 3)
+edition-1 = (refl, refl, refl, refl, refl)
 
 -- an edition of 256 nodes keeps what every edition keeps
 pub edition-256 : (ed : Edition) × (ed .nodes ≡ 256)

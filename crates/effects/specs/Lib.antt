@@ -1,3 +1,4 @@
 pub mod Told
 pub mod Ranges
 pub mod Deeds
+pub mod PaperNumbers

@@ -24,8 +24,8 @@ use Rattle.schedules.specs.Calls.{ruleProgram, ruleRun, compile, compiledInto}
 use Rattle.schedules.specs.Conditions.{filePlant, ruleRunConditions}
 use Rattle.schedules.proofs.FirstNumber.{rule-run-first}
 use Rattle.schedules.proofs.Agreement.{compile-taken}
-use Rattle.exam.specs.Exam as Exam
-use Rattle.exam.specs.Exam.{judgeExam, agreed, reported, refusedExam, examTable, examined, examOf}
+use Rattle.schedules.specs.Exam as Exam
+use Rattle.schedules.specs.Exam.{judgeExam, agreed, reported, refusedExam, examTable, examined, examOf}
 use Rattle.exam.specs.Examining.{numbers, noExam, Returned, Room}
 use Rattle.exam.specs.declared.Examined.{Examined}
 use Rattle.rule_run.specs.Called as ruled
@@ -34,7 +34,7 @@ use Rattle.table_run.specs.Called as tabled
 use Rattle.table_run.specs.declared.call.Ran as T
 use Rattle.compiler.specs.Measured.{judgeMeasure, lengthOf, returned}
 use Rattle.compiler.proofs.Measuring.{file-numbers, Sized, measure-refused, measure-sized, too-short, long-enough}
-use Rattle.exam.proofs.ExamHolds.{rule-program, run-numbers, exam-judged, exam-numbers, exam-length, exam-refusal, exam-agrees}
+use Rattle.schedules.proofs.ExamHolds.{rule-program, run-numbers, exam-judged, exam-numbers, exam-length, exam-refusal, exam-agrees}
 
 -- a refusal is the whole call's
 refused-first : {A B : Type 0} (j : Judged A) (f : A → Judged B) → (refusalOf j ≡ 0 → ⊥) → refusalOf (j >>= f) ≡ refusalOf j

@@ -1,4 +1,3 @@
 pub mod Comparing
-pub mod ExamHolds
 pub mod ExamStages
 pub mod Sizes

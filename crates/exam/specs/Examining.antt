@@ -7,7 +7,7 @@ use Rattle.semantics.specs.Editions.{edition1}
 use Rattle.semantics.specs.Refusals.{accepted}
 use Rattle.semantics.specs.Calls.{recordSize}
 use Rattle.schedules.specs.Files.{Schedule, judgeFile}
-use Rattle.exam.specs.Exam as Exam
+use Rattle.schedules.specs.Exam as Exam
 use Rattle.exam.specs.declared.Examined.{Examined}
 
 -- the nine numbers in the code's type

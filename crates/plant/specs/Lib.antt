@@ -4,3 +4,4 @@ pub mod Equations
 pub mod Sound
 pub mod Driven
 pub mod PlantRead
+pub mod PaperNumbers

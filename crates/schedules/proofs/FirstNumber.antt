@@ -2,7 +2,6 @@
 use mathlib.Core.Path.{_≡_, refl, ap, subst, _∙_}
 use mathlib.Core.Bool.{Bool, true, _&&_}
 use mathlib.Core.List.{List, _∷_, _++_}
-use mathlib.Core.Logic.{_⊎_}
 use mathlib.Core.Option.{some}
 use Prim.Native.Nat.{ℕ}
 use lib.ListN.{length, drop}
@@ -15,14 +14,14 @@ use Rattle.semantics.specs.TableFile.{locationLimit}
 use Rattle.semantics.specs.Calls.{Program, judgeRun}
 use Rattle.semantics.specs.Conditions.{Condition, _if_, is4, is5, is6, is7, is8, plantConditions}
 use Rattle.semantics.proofs.Judging as Judging
-use Rattle.semantics.proofs.FirstNumber.{First, Clear, Firsts, by-ensure, by-need, by-then, by-map, by-end, given-some, bind-some, plant-first, plant-in, run-first, first-or-none, ran-refusal}
+use Rattle.semantics.proofs.FirstNumber.{Firsts, by-ensure, by-need, by-then, by-map, by-end, given-some, bind-some, plant-first, plant-in, run-first}
 use Rattle.schedules.specs.FileSections.{FileSections, fileSectionsIn}
 use Rattle.schedules.specs.Nodes.{nodesIn, nodeNamed, nodeReads}
 use Rattle.schedules.specs.Trees.{treeOf}
 use Rattle.schedules.specs.Residuals.{Residual}
 use Rattle.schedules.specs.Files.{Schedule, judgeFile, fileHeader, fileLength}
 use Rattle.schedules.specs.Compiling.{scheduleLocations, tableOf, judgeCompile}
-use Rattle.schedules.specs.Calls.{ruleProgram, ruleRun, readSchedule, scheduleCounts, compile, compiledInto}
+use Rattle.schedules.specs.Calls.{ruleProgram, scheduleCounts, compiledInto}
 use Rattle.schedules.specs.Conditions.{fileParts, filePlant, fileNodes, fileTree, fileSchedule, is1, is2, is3, ofPlant, is9, is10, is11, is12, is13, is14, fileConditions, compileConditions, ruleRunConditions}
 
 module _ (ed : Edition) (file : List ℕ) where
@@ -112,7 +111,7 @@ module _ (ed : Edition) (file : List ℕ) where
           file-plant (a .1) ∙ ap (λ (g : Program Residual). some (g .plant)) (Judging.accepted-is (a .2))
 
 -- ---- the numbers that the calls return
-schedule-refusal : (j : Judged Schedule) → (scheduleCounts j) .refusal ≡ refusalOf j
+pub schedule-refusal : (j : Judged Schedule) → (scheduleCounts j) .refusal ≡ refusalOf j
 unfolding scheduleCounts refusalOf
 schedule-refusal (refused n) = refl
 schedule-refusal (accepted s) = refl
@@ -121,19 +120,3 @@ pub compiled-refusal : (buffer : List ℕ) (j : Judged (List ℕ)) → (compiled
 unfolding compiledInto refusalOf
 compiled-refusal buffer (refused n) = refl
 compiled-refusal buffer (accepted t) = refl
-
-module _ (ed : Edition) (file : List ℕ) where
-  pub read-schedule-first : First ((readSchedule ed file) .refusal) (fileConditions ed file) ⊎ (((readSchedule ed file) .refusal ≡ 0) × Clear (fileConditions ed file))
-  unfolding readSchedule
-  read-schedule-first = rw (schedule-refusal (judgeFile ed file)) (first-or-none (file-first ed file))
-
-  pub compiling-first : (buffer : List ℕ) →
-      First ((compile ed file buffer) .refusal) (compileConditions ed file buffer) ⊎ (((compile ed file buffer) .refusal ≡ 0) × Clear (compileConditions ed file buffer))
-  unfolding compile
-  compiling-first buffer = rw (compiled-refusal buffer (judgeCompile ed file buffer)) (first-or-none (compile-first ed file buffer))
-
-  pub run-rules-first : (start events buffer : List ℕ) →
-      First ((ruleRun ed file start events buffer) .refusal) (ruleRunConditions ed file start events buffer) ⊎
-      (((ruleRun ed file start events buffer) .refusal ≡ 0) × Clear (ruleRunConditions ed file start events buffer))
-  unfolding ruleRun
-  run-rules-first start events buffer = rw (ran-refusal buffer (judgeRun ed (ruleProgram ed file) start events buffer)) (first-or-none (rule-run-first ed file start events buffer))

@@ -45,5 +45,10 @@ pub mod BorderPapers
 -- bytes read just where they are a written form
 pub mod FileForms
 pub mod FilesProper
+pub mod FileSentences
+pub mod EveryStart
+-- examining
+pub mod SameRuns
+pub mod ExamHolds
 pub mod WritingPapers
 pub mod ExchangedBytes

@@ -1,7 +1,8 @@
 -- A node's action, taken from the nodes, is the one that the table's list has for it.
 use mathlib.Core.Path.{_≡_, refl, sym, ap, _∙_}
 use mathlib.Core.List.{List, [], _∷_}
-use mathlib.Core.Logic.{_↔_}
+use mathlib.Core.Bool.{true}
+use mathlib.Core.Logic.{_↔_, _⊎_, inl, inr}
 use mathlib.Core.Option.{Option, none, some, bind}
 use Prim.Native.Nat.{ℕ, zero, suc, _+_, _<_}
 use native.Mathlib.Omega.{arith}
@@ -10,7 +11,7 @@ use lib.ListN.{getElem?}
 use Rattle.semantics.specs.Run.{Action, stop, isTest}
 use Rattle.semantics.specs.TableFile.{NodeAction}
 use Rattle.semantics.specs.Tables.{actionAt, actionOrStop}
-use Rattle.semantics.proofs.Facts.{none-not-some}
+use Rattle.semantics.proofs.Facts.{true-not-false, none-not-some}
 use Rattle.schedules.specs.Nodes.{Node, sequence, parallel, while-do, if-else, continue-until, reset, reinitial, switch-to, stop-all, actionOf, nodeAction, listed, actionsFrom, actionsOf}
 use Rattle.schedules.specs.Compiling.{testsOf}
 use Rattle.schedules.specs.Files.{Schedule, ruleControl}
@@ -51,6 +52,33 @@ rule-action s n = node-action (s .nodes) n
 pub tests-of : (ns : List Node) (n : ℕ) → testsOf ns n ≡ isTest (nodeAction ns n)
 unfolding testsOf
 tests-of ns n = ap isTest (sym (node-action ns n))
+
+-- a node that tests is a WHILE or an IF
+pub tests-by-node : (ns : List Node) (n : ℕ) → (testsOf ns n ≡ true) ↔ (((t : List ℕ) × (getElem? ns n ≡ some (while-do t))) ⊎ ((t : List ℕ) × (getElem? ns n ≡ some (if-else t))))
+unfolding nodeAction bind actionOf isTest
+tests-by-node ns n = (λ h. there (getElem? ns n) refl (sym (tests-of ns n) ∙ h), λ k. tests-of ns n ∙ here k)
+  where
+    Tests : Type 0
+    Tests = ((t : List ℕ) × (getElem? ns n ≡ some (while-do t))) ⊎ ((t : List ℕ) × (getElem? ns n ≡ some (if-else t)))
+
+    of-node : (x : Node) → getElem? ns n ≡ some x → isTest (elim (actionOf x) [ none ↦ stop | some a ↦ a ]) ≡ true → Tests
+    of-node (sequence k) e h = true-not-false (sym h)
+    of-node (parallel k) e h = true-not-false (sym h)
+    of-node (while-do t) e h = inl (t, e)
+    of-node (if-else t) e h = inr (t, e)
+    of-node (continue-until t) e h = true-not-false (sym h)
+    of-node (reset v t) e h = true-not-false (sym h)
+    of-node (reinitial v t) e h = true-not-false (sym h)
+    of-node (switch-to s m) e h = true-not-false (sym h)
+    of-node stop-all e h = true-not-false (sym h)
+
+    there : (o : Option Node) → getElem? ns n ≡ o → isTest (nodeAction ns n) ≡ true → Tests
+    there none e h = true-not-false (sym h ∙ ap (λ o. isTest (elim (bind o actionOf) [ none ↦ stop | some a ↦ a ])) e)
+    there (some x) e h = of-node x e (sym (ap (λ o. isTest (elim (bind o actionOf) [ none ↦ stop | some a ↦ a ])) e) ∙ h)
+
+    here : Tests → isTest (nodeAction ns n) ≡ true
+    here (inl k) = ap (λ o. isTest (elim (bind o actionOf) [ none ↦ stop | some a ↦ a ])) (k .1)
+    here (inr k) = ap (λ o. isTest (elim (bind o actionOf) [ none ↦ stop | some a ↦ a ])) (k .1)
 
 -- ---- an action that is there is its node's own
 pub record Own (ns : List Node) (n : ℕ) : Type 0 where

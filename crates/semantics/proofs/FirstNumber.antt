@@ -1,8 +1,7 @@
 -- A call refuses with the first number of its list that applies, and accepts where none does.
-use mathlib.Core.Path.{_≡_, refl, sym, ap, _∙_}
+use mathlib.Core.Path.{_≡_, refl, ap, _∙_}
 use mathlib.Core.Bool.{Bool, true, false, not, _||_}
 use mathlib.Core.List.{List, [], _∷_, _++_}
-use mathlib.Core.Logic.{_⊎_, inl, inr}
 use mathlib.Core.Option.{Option, none, some, bind}
 use Prim.Native.Nat.{ℕ}
 use lib.ListN.{length, drop}
@@ -14,34 +13,12 @@ use Rattle.semantics.specs.Plant.{Plant, judgePlant, switchesRead, order
 use Rattle.semantics.specs.TableFile.{tableSectionsIn, actionsIn, locationsIn}
 use Rattle.semantics.specs.Tables.{Table, judgeTable, tableHeader, actionsFit, locationsFit}
 use Rattle.semantics.specs.Starts.{startIn, startFits}
-use Rattle.semantics.specs.Calls.{Program, Outcome, report, tableCounts, readTable, tableRun, judgeRun, tableProgram, wholeEvents, roomForRecords}
-use Rattle.semantics.specs.Conditions.{Condition, _if_, firstThat, anyApplies, given, is4, is5, is6, is7, is8, is12, plantConditions, plantIn, tableParts, tablePlant, is15, is16, is17, is18, is19, tableConditions, is20, is21, is22, runConditions, tableRunConditions}
+use Rattle.semantics.specs.Calls.{Program, Outcome, report, tableCounts, judgeRun, tableProgram, wholeEvents, roomForRecords}
+use Rattle.semantics.specs.Conditions.{Condition, _if_, anyApplies, given, is4, is5, is6, is7, is8, is12, plantConditions, plantIn, tableParts, tablePlant, is15, is16, is17, is18, is19, tableConditions, is20, is21, is22, runConditions, tableRunConditions}
 pub use Rattle.semantics.specs.Conditions.{First, here, further, Clear, none-left, one-clear, Firsts, refuses, accepts}
 use Rattle.semantics.proofs.Judging
 use Rattle.semantics.proofs.TablePassed.{table-passed}
 use Rattle.semantics.proofs.Judging.{accepted-is}
-
--- ---- the same as one number
-first-that : {n : ℕ} {l : List Condition} → First n l → firstThat l ≡ n
-unfolding firstThat
-first-that (here e h) = rw (e, firstThat) h
-first-that (further e f) = rw (e, firstThat) (first-that f)
-
-clear-that : {l : List Condition} → Clear l → firstThat l ≡ 0
-unfolding firstThat
-clear-that none-left = refl
-clear-that (one-clear e k) = rw (e, firstThat) (clear-that k)
-
-pub first-refusal : {A : Type 0} {j : Judged A} {l : List Condition} → Firsts j l → refusalOf j ≡ firstThat l
-unfolding refusalOf
-first-refusal (refuses f) = sym (first-that f)
-first-refusal (accepts k) = sym (clear-that k)
-
--- the call's number is the first that applies, or 0 where none does
-pub first-or-none : {A : Type 0} {j : Judged A} {l : List Condition} → Firsts j l → First (refusalOf j) l ⊎ ((refusalOf j ≡ 0) × Clear l)
-unfolding refusalOf
-first-or-none (refuses f) = inl f
-first-or-none (accepts k) = inr (refl, k)
 
 -- ---- steps of a call
 not-flip : (t : Bool) (b : Bool) → b ≡ not t → t ≡ true → b ≡ false
@@ -215,14 +192,3 @@ pub table-refusal : (j : Judged Table) → (tableCounts j) .refusal ≡ refusalO
 unfolding tableCounts refusalOf
 table-refusal (refused n) = refl
 table-refusal (accepted t) = refl
-
-pub read-table-first : (ed : Edition) (table : List ℕ) →
-    First ((readTable ed table) .refusal) (tableConditions ed table) ⊎ (((readTable ed table) .refusal ≡ 0) × Clear (tableConditions ed table))
-unfolding readTable
-read-table-first ed table = rw (table-refusal (judgeTable ed table)) (first-or-none (table-first ed table))
-
-pub run-table-first : (ed : Edition) (table start events buffer : List ℕ) →
-    First ((tableRun ed table start events buffer) .refusal) (tableRunConditions ed table start events buffer) ⊎
-    (((tableRun ed table start events buffer) .refusal ≡ 0) × Clear (tableRunConditions ed table start events buffer))
-unfolding tableRun
-run-table-first ed table start events buffer = rw (ran-refusal buffer (judgeRun ed (tableProgram ed table) start events buffer)) (first-or-none (table-run-first ed table start events buffer))

@@ -31,7 +31,9 @@ pub mod CallsHold
 -- bytes read just where they are a written form
 pub mod TakenBytes
 pub mod SectionForms
+pub mod SentenceSteps
 pub mod StartForms
 pub mod TableForms
 pub mod ProperForms
 pub mod TablesProper
+pub mod TableSentences

@@ -4,20 +4,20 @@ use mathlib.Core.Bool.{Bool, true, false, not, _&&_}
 use mathlib.Core.List.{List, [], _∷_, _++_, List·Memᴰ as Mem, List·Memᴰ·head as first, List·Memᴰ·tail as later, List·Memᴰ·not-nil, List·Memᴰ·cases-cons, List·Memᴰ·append-cases, Memᴰ·append-left, Memᴰ·append-right}
 use mathlib.Core.Logic.{_↔_, _⊎_, inl, inr}
 use mathlib.Core.Option.{Option, none, some}
-use Prim.Native.Nat.{ℕ, _<_}
+use Prim.Native.Nat.{ℕ, _≤_, _<_}
 use borrow.Author.Tests.{ltb-true, lt-ltb}
 use lib.Dec.{ltb}
 use lib.ListN.{length, getElem?}
 use lib.Signed.{leZ}
 use Rattle.semantics.specs.Bytes.{every, isSome}
 use Rattle.semantics.specs.Editions.{Edition}
-use Rattle.semantics.specs.Expressions.{numberIn, truthIn}
+use Rattle.semantics.specs.Expressions.{Number, constant, variable, operate, negation, Truth, compare, connect, opposite, always, numberBytes, truthBytes, numberDepth, truthDepth, numberKnown, truthKnown, numberIn, truthIn}
 use Rattle.semantics.specs.Sections.{Variable, Mode, Selector, Equation, steady, choice}
 use Rattle.semantics.specs.Plant.{Plant, ordered, rateNamed, switchNamed, modeNamed, equationNamed, among, apart, onceAfter, modeDrives, drives, modesOnce, drivenOnce, switchReads, equationReads, switchesRead, modeExists}
 use Rattle.semantics.specs.Writing.{AllBytes, InRange, ModeLimits, SelectorLimits, PayloadLimits, steady-within, choice-within, EquationLimits}
-use Rattle.semantics.specs.Proper.{IsTruth, IsNumber, NamedInMode, Named, named-steady, named-choice, Once, once-nil, once-cons, OnceInModes, once-steady, once-choice, Apart, apart-nil, apart-cons, DrivenOnce, TruthsInMode, Truths, truths-steady, truths-choice, ProperPlant, ModeThere}
+use Rattle.semantics.specs.Proper.{NamesKnown, known-constant, known-variable, known-operands, known-negation, TruthNamesKnown, known-numbers, known-truths, known-opposite, known-always, IsTruth, IsNumber, NamedInMode, Named, named-steady, named-choice, Once, once-nil, once-cons, OnceInModes, once-steady, once-choice, Apart, apart-nil, apart-cons, DrivenOnce, TruthsInMode, Truths, truths-steady, truths-choice, ProperPlant, ModeThere}
 use Rattle.semantics.proofs.Facts.{true-not-false, by-cases, and-left, and-right, and-both, every-all, all-every, among-mem, mem-among, All, all-nil, all-cons, all-map, all-mem}
-use Rattle.semantics.proofs.ExpressionBytes.{expression-bytes, truth-bytes}
+use Rattle.semantics.proofs.ExpressionBytes.{number-is, truth-is, expression-bytes, truth-bytes}
 
 -- ---- a test of each element, and a relation of each
 pub every-is : {A : Type 0} {P : A → Type 0} {F : A → Type 0} (t : A → Bool) → ((a : A) → F a → (t a ≡ true) ↔ P a) → {l : List A} → All F l → (every t l ≡ true) ↔ All P l
@@ -43,12 +43,63 @@ pub below : (n m : ℕ) → (ltb n m ≡ true) ↔ (n < m)
 below n m = (ltb-true n m, lt-ltb n m)
 
 -- ---- 12
+module _ (variables : ℕ) where
+  names-there : (e : Number) → numberKnown variables e ≡ true → NamesKnown variables e
+  unfolding numberKnown
+  names-there (constant z) h = known-constant h
+  names-there (variable v) h = known-variable (ltb-true v variables h)
+  names-there (operate o a b) h =
+      known-operands (names-there a (and-left (numberKnown variables a) (numberKnown variables b) h)) (names-there b (and-right (numberKnown variables a) (numberKnown variables b) h))
+  names-there (negation a) h = known-negation (names-there a h)
+
+  names-here : {e : Number} → NamesKnown variables e → numberKnown variables e ≡ true
+  unfolding numberKnown
+  names-here (known-constant h) = h
+  names-here (known-variable {v = v} h) = lt-ltb v variables h
+  names-here (known-operands h k) = and-both (names-here h) (names-here k)
+  names-here (known-negation h) = names-here h
+
+  truth-names-there : (e : Truth) → truthKnown variables e ≡ true → TruthNamesKnown variables e
+  unfolding truthKnown
+  truth-names-there (compare c a b) h =
+      known-numbers (names-there a (and-left (numberKnown variables a) (numberKnown variables b) h)) (names-there b (and-right (numberKnown variables a) (numberKnown variables b) h))
+  truth-names-there (connect c a b) h =
+      known-truths (truth-names-there a (and-left (truthKnown variables a) (truthKnown variables b) h)) (truth-names-there b (and-right (truthKnown variables a) (truthKnown variables b) h))
+  truth-names-there (opposite a) h = known-opposite (truth-names-there a h)
+  truth-names-there always h = known-always
+
+  truth-names-here : {e : Truth} → TruthNamesKnown variables e → truthKnown variables e ≡ true
+  unfolding truthKnown
+  truth-names-here (known-numbers h k) = and-both (names-here h) (names-here k)
+  truth-names-here (known-truths h k) = and-both (truth-names-here h) (truth-names-here k)
+  truth-names-here (known-opposite h) = truth-names-here h
+  truth-names-here known-always = refl
+
 module _ (ed : Edition) (variables : ℕ) where
+  -- bytes are read as this expression just where they are its encoding
+  pub number-written : (s : List ℕ) (e : Number) → AllBytes s → (numberIn ed variables s ≡ some e) ↔ ((numberBytes ed e ≡ s) × (numberDepth e ≤ 16) × NamesKnown variables e)
+  number-written s e z = let k = number-is ed variables s e z in (
+    λ h. (let i = k .0 h in (i .0, i .1, names-there variables e (i .2))),
+    λ h. k .1 (h .0, h .1, names-here variables (h .2)),
+  )
+
+  pub truth-written : (s : List ℕ) (e : Truth) → AllBytes s → (truthIn ed variables s ≡ some e) ↔ ((truthBytes ed e ≡ s) × (truthDepth e ≤ 16) × TruthNamesKnown variables e)
+  truth-written s e z = let k = truth-is ed variables s e z in (
+    λ h. (let i = k .0 h in (i .0, i .1, truth-names-there variables e (i .2))),
+    λ h. k .1 (h .0, h .1, truth-names-here variables (h .2)),
+  )
+
   pub truth-read : (s : List ℕ) → AllBytes s → (isSome (truthIn ed variables s) ≡ true) ↔ IsTruth ed variables s
-  truth-read s z = let k = truth-bytes ed variables s z in (λ h. (let i = k .0 h in record { truth = i .0; written = i .1; depth = i .2; known = i .3 }), λ h. k .1 (h .truth, h .written, h .depth, h .known))
+  truth-read s z = let k = truth-bytes ed variables s z in (
+    λ h. (let i = k .0 h in record { truth = i .0; written = i .1; depth = i .2; known = truth-names-there variables (i .0) (i .3) }),
+    λ h. k .1 (h .truth, h .written, h .depth, truth-names-here variables (h .known)),
+  )
 
   pub number-read : (s : List ℕ) → AllBytes s → (isSome (numberIn ed variables s) ≡ true) ↔ IsNumber ed variables s
-  number-read s z = let k = expression-bytes ed variables s z in (λ h. (let i = k .0 h in record { number = i .0; written = i .1; depth = i .2; known = i .3 }), λ h. k .1 (h .number, h .written, h .depth, h .known))
+  number-read s z = let k = expression-bytes ed variables s z in (
+    λ h. (let i = k .0 h in record { number = i .0; written = i .1; depth = i .2; known = names-there variables (i .0) (i .3) }),
+    λ h. k .1 (h .number, h .written, h .depth, names-here variables (h .known)),
+  )
 
 -- ---- 5
 pub ordered-is : (x : Variable) → (ordered x ≡ true) ↔ InRange x (x .initial)

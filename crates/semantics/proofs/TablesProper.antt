@@ -20,8 +20,8 @@ use Rattle.semantics.specs.TableFile.{NodeAction, Entry, FINISHED, HALTE
 use Rattle.semantics.specs.Tables.{Table, risingFrom, operandFits, actionFits, actionNodes, actionsFit, actionAt, goesOn, targetsFit, entryFits, entryNodes, locationFits, locationsFit, judgeTable}
 use Rattle.semantics.specs.Starts.{Start, startIn, startFits}
 use Rattle.semantics.specs.Conditions.{is20}
-use Rattle.semantics.specs.Writing.{AllBytes, ActionLimits, writeTable, TableLimits, startBytes, StartLimits}
-use Rattle.semantics.specs.Proper.{ProperAction, proper-test, proper-wait, proper-assign, proper-switch, proper-stop, Rising, rising-nil, rising-one, rising-more, GoesOn, FitTargets, fit-test, fit-wait, fit-assign, fit-switch, fit-stop, ProperEntry, ProperRow, ProperTable}
+use Rattle.semantics.specs.Writing.{AllBytes, ActionLimits, startBytes, StartLimits}
+use Rattle.semantics.specs.Proper.{ProperAction, proper-test, proper-wait, proper-assign, proper-switch, proper-stop, Rising, rising-nil, rising-one, rising-more, GoesOn, FitTargets, fit-test, fit-wait, fit-assign, fit-switch, fit-stop, ProperEntry, ProperRow, ProperActions, ProperLocations, TableWritten}
 use Rattle.semantics.proofs.Facts.{true-not-false, and-left, and-right, and-both, All, all-nil, all-cons, all-map}
 use Rattle.semantics.proofs.Judging.{accepted-is, passed-need, passed-ensure, go-need, go-ensure, go-then, go-only}
 use Rattle.semantics.proofs.TablePassed.{table-passed}
@@ -135,14 +135,9 @@ module _ (ed : Edition) (p : Plant) where
         λ h. and-both (lt-ltb (a .node) (ed .nodes) (h .node)) (action-here (l .bytes) (h .action)),
       )
 
-  pub record ProperActions (l : List NodeAction) : Type 0 where
-    pub rising : Rising (actionNodes l)
-    pub nodes : All (λ (a : NodeAction). a .node < ed .nodes) l
-    pub actions : All (λ (a : NodeAction). ProperAction ed p (a .action)) l
-
-  pub actions-proper : {l : List NodeAction} → All (ActionLimits ed) l → (actionsFit ed p l ≡ true) ↔ ProperActions l
+  pub actions-proper : {l : List NodeAction} → All (ActionLimits ed) l → (actionsFit ed p l ≡ true) ↔ ProperActions ed p l
   unfolding actionsFit
-  actions-proper {l} h = (there, λ k. and-both (rising-here (k .rising)) (each .1 (pair (k .nodes) (k .actions))))
+  actions-proper {l} h = (there, λ k. and-both (rising-here (k .rising)) (each .1 (pair (k .nodes) (k .operands))))
     where
       each : (every (actionFits ed p) l ≡ true) ↔ All ProperListed l
       each = every-is (actionFits ed p) listed-is h
@@ -151,12 +146,12 @@ module _ (ed : Edition) (p : Plant) where
       pair all-nil all-nil = all-nil
       pair (all-cons i j) (all-cons u v) = all-cons (record { node = i; action = u }) (pair j v)
 
-      there : (risingFrom 0 (actionNodes l) && every (actionFits ed p) l) ≡ true → ProperActions l
+      there : (risingFrom 0 (actionNodes l) && every (actionFits ed p) l) ≡ true → ProperActions ed p l
       there k =
           let a = risingFrom 0 (actionNodes l) in
           let b = every (actionFits ed p) l in
           let e = each .0 (and-right a b k) in
-          record { rising = rising-there 0 (actionNodes l) (and-left a b k); nodes = all-map (λ a i. i .node) e; actions = all-map (λ a i. i .action) e }
+          record { rising = rising-there 0 (actionNodes l) (and-left a b k); nodes = all-map (λ a i. i .node) e; operands = all-map (λ a i. i .action) e }
 
 -- ---- locations
 -- the action of a node that is listed
@@ -230,13 +225,13 @@ module _ (locations : ℕ) where
         let k = every-plain (entryFits locations acts) entry-is es in
         (λ h. record { rising = rising-there 0 (entryNodes es) (and-left a b h); entries = k .0 (and-right a b h) }, λ h. and-both (rising-here (h .rising)) (k .1 (h .entries)))
 
-pub locations-proper : (acts : List NodeAction) (l : List (List Entry)) → Rising (actionNodes acts) → (locationsFit acts l ≡ true) ↔ All (ProperRow acts (length l)) l
+pub locations-proper : (acts : List NodeAction) (l : List (List Entry)) → Rising (actionNodes acts) → (locationsFit acts l ≡ true) ↔ ProperLocations acts l
 unfolding locationsFit
 locations-proper acts l r = every-plain (locationFits (length l) acts) (row-is (length l) acts r) l
 
 -- ---- a table
 module _ (ed : Edition) where
-  accepted-there : (table : List ℕ) (t : Table) → AllBytes table → judgeTable ed table ≡ accepted t → (table ≡ writeTable ed t) × TableLimits ed t × ProperTable ed t
+  accepted-there : (table : List ℕ) (t : Table) → AllBytes table → judgeTable ed table ≡ accepted t → TableWritten ed table t
   accepted-there table t z h =
       let p = table-passed ed table h in
       let j = plant-judged ed (p .parts .variables) (p .parts .equations) (p .plant) in
@@ -253,22 +248,23 @@ module _ (ed : Edition) where
         },
       ) in
       let l = w .1 in
-      let a = (actions-proper ed (t .plant) (l .actions .each)) .0 (p .acts-fit) in (
-        w .0,
-        l,
-        record {
+      let a = (actions-proper ed (t .plant) (l .actions .each)) .0 (p .acts-fit) in
+      record {
+        bytes = w .0;
+        limits = l;
+        proper = record {
           plant = (plant-proper ed (t .plant) (l .plant .equations .each)) .0 (record { is-ordered = j .is-ordered; named = j .named; once = j .once; reads = p .switches });
-          rising = a .rising;
-          nodes = a .nodes;
-          actions = a .actions;
+          actions = a;
           locations = (locations-proper (t .actions) (t .locations) (a .rising)) .0 (p .locs-fit);
-        },
-      )
+        };
+      }
 
-  accepted-here : (table : List ℕ) (t : Table) → table ≡ writeTable ed t → TableLimits ed t → ProperTable ed t → AllBytes table × (judgeTable ed table ≡ accepted t)
+  accepted-here : (table : List ℕ) (t : Table) → TableWritten ed table t → AllBytes table × (judgeTable ed table ≡ accepted t)
   unfolding judgeTable
-  accepted-here table t e l h =
-      let w = (table-bytes ed table t) .1 (e, l) in
+  accepted-here table t k =
+      let l = k .limits in
+      let h = k .proper in
+      let w = (table-bytes ed table t) .1 (k .bytes, l) in
       let r = w .1 in
       let p = (plant-proper ed (t .plant) (l .plant .equations .each)) .1 (h .plant) in
       let plant = judged-plant ed (r .sections .variables) (r .sections .equations)
@@ -279,19 +275,19 @@ module _ (ed : Edition) where
             ∙ go-then _ (go-only 17 plant)
             ∙ go-ensure 17 _ (p .reads)
             ∙ go-need 18 _ (r .actions-read)
-            ∙ go-ensure 18 _ ((actions-proper ed (t .plant) (l .actions .each)) .1 (record { rising = h .rising; nodes = h .nodes; actions = h .actions }))
+            ∙ go-ensure 18 _ ((actions-proper ed (t .plant) (l .actions .each)) .1 (h .actions))
             ∙ go-need 19 _ (r .locations-read)
-            ∙ go-ensure 19 _ ((locations-proper (t .actions) (t .locations) (h .rising)) .1 (h .locations)),
+            ∙ go-ensure 19 _ ((locations-proper (t .actions) (t .locations) (h .actions .rising)) .1 (h .locations)),
       )
 
-  pub table-accepted : (table : List ℕ) (t : Table) → (AllBytes table × (judgeTable ed table ≡ accepted t)) ↔ ((table ≡ writeTable ed t) × TableLimits ed t × ProperTable ed t)
-  table-accepted table t = (λ h. accepted-there table t (h .0) (h .1), λ h. accepted-here table t (h .0) (h .1) (h .2))
+  pub table-accepted : (table : List ℕ) (t : Table) → (AllBytes table × (judgeTable ed table ≡ accepted t)) ↔ TableWritten ed table t
+  table-accepted table t = (λ h. accepted-there table t (h .0) (h .1), accepted-here table t)
 
   -- 20, of an accepted table
   pub starts-admitted : (table : List ℕ) (t : Table) → AllBytes table → judgeTable ed table ≡ accepted t → (start : List ℕ) (st : Start) →
       (AllBytes start × (startIn (t .plant) start ≡ some st) × (startFits (t .plant) st ≡ true)) ↔ ((start ≡ startBytes st) × StartLimits (t .plant) st)
-  starts-admitted table t z h = StartForms.starts-admitted (t .plant) ((accepted-there table t z h) .1 .plant)
+  starts-admitted table t z h = StartForms.starts-admitted (t .plant) ((accepted-there table t z h) .limits .plant)
 
   pub start-let-pass : (table : List ℕ) (t : Table) → AllBytes table → judgeTable ed table ≡ accepted t → (start events buffer : List ℕ) →
       (AllBytes start × (is20 ed (some (t .plant)) start events buffer ≡ false)) ↔ ((st : Start) × (start ≡ startBytes st) × StartLimits (t .plant) st)
-  start-let-pass table t z h = StartForms.start-let-pass (t .plant) ((accepted-there table t z h) .1 .plant) ed
+  start-let-pass table t z h = StartForms.start-let-pass (t .plant) ((accepted-there table t z h) .limits .plant) ed

@@ -1,5 +1,5 @@
--- Document 01, "When a file, table or event is turned away": the numbers of a call in their order, each with its sentence as a test of the input alone.
--- A number is given only where its sentence holds: what a call refuses is shown to be the first of its list that applies.
+-- Document 01, "When a file, table or event is turned away": the numbers of a call in their order, each as a test of the input alone, for the proofs of the code.
+-- What a number says as a proposition, with no reader and no test of a call, is in Sentences.
 use mathlib.Core.Path.{_≡_}
 use mathlib.Core.Bool.{Bool, true, false, not, _||_}
 use mathlib.Core.List.{List, [], _∷_, _++_}
@@ -39,11 +39,6 @@ pub data Clear : List Condition → Type 0 where
 pub data Firsts {A : Type 0} : Judged A → List Condition → Type 0 where
   refuses : {n : ℕ} {l : List Condition} → First n l → Firsts (refused n) l
   accepts : {a : A} {l : List Condition} → Clear l → Firsts (accepted a) l
-
--- the same as one number, 0 where none does
-unfoldable pub firstThat : List Condition → ℕ
-firstThat [] = 0
-firstThat (c ∷ l) = elim (c .applies) [ true ↦ c .refusal | false ↦ firstThat l ]
 
 unfoldable pub anyApplies : List Condition → Bool
 anyApplies [] = false

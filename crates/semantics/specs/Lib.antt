@@ -15,5 +15,6 @@ pub mod Writing
 pub mod Proper
 pub mod Calls
 pub mod Conditions
+pub mod Sentences
 pub mod Statements
 pub mod K1

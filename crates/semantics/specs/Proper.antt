@@ -8,26 +8,40 @@ use Prim.Native.Nat.{ℕ, _≤_, _<_}
 use lib.ListN.{length, getElem?}
 use Rattle.semantics.specs.Bytes.{All}
 use Rattle.semantics.specs.Editions.{Edition}
-use Rattle.semantics.specs.Expressions.{Number, Truth, numberBytes, truthBytes, numberDepth, truthDepth, numberKnown, truthKnown}
+use lib.IntN.{ℤ}
+use Rattle.semantics.specs.Expressions.{Number, constant, variable, operate, negation, Truth, compare, connect, opposite, always, Operation, Comparison, Connective, numberBytes, truthBytes, numberDepth, truthDepth, fits32}
 use Rattle.semantics.specs.Sections.{Variable, Rate, Switch, Mode, Selector, Equation, steady, choice}
 use Rattle.semantics.specs.Plant.{Plant, selectors, modeDrives, drives}
 use Rattle.semantics.specs.Run.{Action, test, wait, assign, switch, stop}
 use Rattle.semantics.specs.TableFile.{NodeAction, Entry}
 use Rattle.semantics.specs.Tables.{Table, actionNodes, entryNodes}
-use Rattle.semantics.specs.Writing.{InRange, HasMode}
+use Rattle.semantics.specs.Writing.{InRange, HasMode, writeTable, TableLimits}
 
 -- ---- 12: these bytes are a truth or number, of depth at most 16, that names no missing variable
+-- each variable that is named is one of so many; constants are "32-bit two's complement"
+pub data NamesKnown (variables : ℕ) : Number → Type 0 where
+  known-constant : {z : ℤ} → fits32 z ≡ true → NamesKnown variables (constant z)
+  known-variable : {v : ℕ} → v < variables → NamesKnown variables (variable v)
+  known-operands : {o : Operation} {a b : Number} → NamesKnown variables a → NamesKnown variables b → NamesKnown variables (operate o a b)
+  known-negation : {a : Number} → NamesKnown variables a → NamesKnown variables (negation a)
+
+pub data TruthNamesKnown (variables : ℕ) : Truth → Type 0 where
+  known-numbers : {c : Comparison} {a b : Number} → NamesKnown variables a → NamesKnown variables b → TruthNamesKnown variables (compare c a b)
+  known-truths : {c : Connective} {a b : Truth} → TruthNamesKnown variables a → TruthNamesKnown variables b → TruthNamesKnown variables (connect c a b)
+  known-opposite : {a : Truth} → TruthNamesKnown variables a → TruthNamesKnown variables (opposite a)
+  known-always : TruthNamesKnown variables always
+
 pub record IsTruth (ed : Edition) (variables : ℕ) (s : List ℕ) : Type 0 where
   pub truth : Truth
   pub written : truthBytes ed truth ≡ s
   pub depth : truthDepth truth ≤ 16
-  pub known : truthKnown variables truth ≡ true
+  pub known : TruthNamesKnown variables truth
 
 pub record IsNumber (ed : Edition) (variables : ℕ) (s : List ℕ) : Type 0 where
   pub number : Number
   pub written : numberBytes ed number ≡ s
   pub depth : numberDepth number ≤ 16
-  pub known : numberKnown variables number ≡ true
+  pub known : NamesKnown variables number
 
 -- ---- 7: "An equation names a missing variable or mode, truths left aside."
 pub record NamedInMode (variables modes : ℕ) (m : Mode) : Type 0 where
@@ -117,9 +131,23 @@ pub record ProperRow (acts : List NodeAction) (locations : ℕ) (es : List Entry
   pub rising : Rising (entryNodes es)
   pub entries : All (ProperEntry acts locations) es
 
+-- 18: "a node number above 63 or not rising, .. or operand wrong (.. 11 and 12 judge operands)"
+pub record ProperActions (ed : Edition) (p : Plant) (l : List NodeAction) : Type 0 where
+  pub rising : Rising (actionNodes l)
+  pub nodes : All (λ (a : NodeAction). a .node < ed .nodes) l
+  pub operands : All (λ (a : NodeAction). ProperAction ed p (a .action)) l
+
+-- 19: "a node unknown or not rising, a target unfit for its kind"
+abbrev pub ProperLocations : List NodeAction → List (List Entry) → Type 0
+ProperLocations acts l = All (ProperRow acts (length l)) l
+
 pub record ProperTable (ed : Edition) (t : Table) : Type 0 where
   pub plant : ProperPlant ed (t .plant)
-  pub rising : Rising (actionNodes (t .actions))
-  pub nodes : All (λ (a : NodeAction). a .node < ed .nodes) (t .actions)
-  pub actions : All (λ (a : NodeAction). ProperAction ed (t .plant) (a .action)) (t .actions)
-  pub locations : All (ProperRow (t .actions) (length (t .locations))) (t .locations)
+  pub actions : ProperActions ed (t .plant) (t .actions)
+  pub locations : ProperLocations (t .actions) (t .locations)
+
+-- what an accepted table is: the written form of its parts, within the printed limits
+pub record TableWritten (ed : Edition) (table : List ℕ) (t : Table) : Type 0 where
+  pub bytes : table ≡ writeTable ed t
+  pub limits : TableLimits ed t
+  pub proper : ProperTable ed t

@@ -2,3 +2,4 @@
 pub mod Index
 pub mod Ends
 pub mod Walks
+pub mod PaperNumbers

@@ -2,7 +2,7 @@ use mathlib.Core.Path.{_∙_}
 use borrow.Author.Needs.{needs}
 use Rattle.rule_run.specs.Called as ruled
 use Rattle.table_run.specs.Called as tabled
-use Rattle.exam.specs.Exam.{sameBytes}
+use Rattle.schedules.specs.Exam.{sameBytes}
 use Rattle.exam.proofs.Comparing.{refusals-differ, taken-differ, turned-away-differ, faulted-differ, numbers-same, same-is}
 use Rattle.exam.proofs.agreed.Statement.{statement}
 use Rattle.exam.proofs.agreed.Tie as tie

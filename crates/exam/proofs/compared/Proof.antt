@@ -2,7 +2,7 @@ use native.Mathlib.Omega.{arith}
 use borrow.Author.Needs.{needs}
 use Rattle.rule_run.specs.Called as ruled
 use Rattle.table_run.specs.Called as tabled
-use Rattle.exam.specs.Exam.{agreed, sameNumbers}
+use Rattle.schedules.specs.Exam.{agreed, sameNumbers}
 use Rattle.exam.proofs.Sizes.{front-length}
 use Rattle.exam.proofs.compared.Statement.{statement}
 use Rattle.exam.proofs.compared.Tie as tie

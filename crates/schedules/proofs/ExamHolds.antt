@@ -1,5 +1,5 @@
 -- Examining refuses with the first number that applies, leaves everything as it was where it refuses, and where it does not refuse the two runs agree.
-use mathlib.Core.Path.{_≡_, refl, sym, ap, _∙_}
+use mathlib.Core.Path.{_≡_, refl, sym, ap, subst, _∙_}
 use mathlib.Core.Bool.{true, false}
 use mathlib.Core.List.{List, [], _∷_, _++_, flatMap}
 use mathlib.Core.Logic.{_⊎_}
@@ -8,6 +8,7 @@ use Prim.Native.Nat.{ℕ, suc, _*_}
 use native.Mathlib.Omega.{arith}
 use lib.ListN.{length, take, drop}
 use lib.Seq.{take-append-seam}
+use borrow.Author.Tests.{leb-true, le-leb}
 use Rattle.semantics.specs.Bytes.{overwrite}
 use Rattle.semantics.specs.Editions.{Edition}
 use Rattle.semantics.specs.Refusals.{Judged, refused, accepted, _>>=_, refusalOf}
@@ -15,20 +16,27 @@ use Rattle.semantics.specs.Plant.{Plant}
 use Rattle.semantics.specs.Starts.{Start}
 use Rattle.semantics.specs.Run.{recordOf}
 use Rattle.semantics.specs.Calls.{Program, Ran, judgeRun, eventCount, recordSize, roomForRecords}
-use Rattle.semantics.specs.Conditions.{Condition, is20, is21, is22, runConditions}
+use Rattle.semantics.specs.Conditions.{Condition, _if_, is20, is21, is22, runConditions}
+use Rattle.semantics.specs.Writing.{AllBytes, PlantLimits}
+use Rattle.semantics.specs.Sentences.{Clause, FirstHolds, AnyHolds}
+use Rattle.semantics.proofs.SentenceSteps as Steps
+use Rattle.semantics.proofs.SentenceSteps.{Answers}
+use Rattle.semantics.proofs.TableSentences.{run-answers}
 use Rattle.semantics.proofs.Facts.{All, all-nil, all-cons, all-append}
 use Rattle.semantics.proofs.Judging as Judging
-use Rattle.semantics.proofs.FirstNumber.{First, Clear, none-left, one-clear, Firsts, refuses, accepts, by-then, by-ensure, by-end, given-some, run-first, first-or-none}
+use Rattle.semantics.proofs.FirstNumber.{Clear, none-left, one-clear, Firsts, refuses, accepts, by-then, by-ensure, by-end, given-some, run-first}
 use Rattle.schedules.specs.Residuals.{Residual}
 use Rattle.schedules.specs.Files.{Schedule, judgeFile, ruleControl}
 use Rattle.schedules.specs.Compiling.{judgeCompile}
 use Rattle.schedules.specs.Calls.{ruleProgram, ruleRun, compile}
 use Rattle.schedules.specs.Conditions.{filePlant, compileConditions}
 use Rattle.schedules.specs.Agreement.{RunsAgree}
 use Rattle.schedules.proofs.FirstNumber.{file-plant, compile-first, compiled-refusal}
 use Rattle.schedules.proofs.Agreement.{agreement, compile-taken, first-not-0, never-0}
-use Rattle.exam.specs.Exam.{Examined, judgeExam, agreed, refusedExam, reported, examTable, examined, examOf, examConditions, ExamHolds}
-use Rattle.exam.proofs.Comparing.{agreed-true}
+use Rattle.schedules.specs.Sentences.{FilePlant}
+use Rattle.schedules.specs.Exam.{Examined, judgeExam, agreed, refusedExam, reported, examTable, examined, examOf, examClauses, ExamHolds}
+use Rattle.schedules.proofs.SameRuns.{agreed-true}
+use Rattle.schedules.proofs.FileSentences.{compile-answers, plant-of-file}
 
 -- a call that is known to accept adds no number
 known : {A B : Type 0} {j : Judged A} {a : A} (f : A → Judged B) {l : List Condition} → j ≡ accepted a → Firsts (f a) l → Firsts (j >>= f) l
@@ -71,8 +79,17 @@ pub run-numbers : (ed : Edition) (plant : Option Plant) (start events buffer : L
 unfolding runConditions
 run-numbers ed plant start events buffer = all-cons (no-zero 19) (all-cons (no-zero 20) (all-cons (no-zero 21) all-nil))
 
+-- the same of sentences
+known-answers : {A B : Type 0} {j : Judged A} {a : A} (f : A → Judged B) {l : List Clause} → j ≡ accepted a → Answers (f a) l → Answers (j >>= f) l
+unfolding _>>=_
+known-answers f e h = rw e h
+
 module _ (ed : Edition) (file start events table records others : List ℕ) where
-  pub exam-judged : Firsts (judgeExam ed file start events table records others) (examConditions ed file start events table records others)
+  -- the call's tests in their order
+  unfoldable pub examConditions : List Condition
+  examConditions = compileConditions ed file table ++ (runConditions ed (filePlant ed file) start events records ++ ((22 if is22 ed (filePlant ed file) start events others) ∷ []))
+
+  pub exam-judged : Firsts (judgeExam ed file start events table records others) (examConditions)
   unfolding judgeExam examConditions is22
   exam-judged = by-then (compile-first ed file table) (λ t e.
       let k = compile-taken ed file table e in
@@ -82,7 +99,7 @@ module _ (ed : Edition) (file start events table records others : List ℕ) wher
       by-ensure 22 (roomForRecords ed (k .of .plant) events others) (given-some _ p) (λ h22. by-end _))))
 
   -- no number is 0
-  pub exam-numbers : All (λ (c : Condition). c .refusal ≡ 0 → ⊥) (examConditions ed file start events table records others)
+  pub exam-numbers : All (λ (c : Condition). c .refusal ≡ 0 → ⊥) (examConditions)
   unfolding examConditions
   exam-numbers = all-append (never-0 ed file table) (all-append (run-numbers ed (filePlant ed file) start events records) (all-cons (no-zero 21) all-nil))
 
@@ -91,11 +108,22 @@ module _ (ed : Edition) (file start events table records others : List ℕ) wher
   exam-refusal (refused n) = refl
   exam-refusal (accepted n) = refl
 
-  -- the refusal is the first of the call's numbers that applies, or 0 where none does; 15 to 19 are not among them
-  pub exam-first : First ((examOf ed file start events table records others) .refusal) (examConditions ed file start events table records others) ⊎
-      (((examOf ed file start events table records others) .refusal ≡ 0) × Clear (examConditions ed file start events table records others))
+  exam-answers : AllBytes file → AllBytes start → Answers (judgeExam ed file start events table records others) (examClauses ed file start events table records others)
+  unfolding judgeExam roomForRecords
+  exam-answers z y = Steps.by-then (compile-answers ed file z table) (λ t e.
+      let k = compile-taken ed file table e in
+      let q = plant-of-file ed file z (k .of-file) in
+      let n = eventCount ed events * recordSize ed (k .of .plant) in
+      known-answers _ (rule-program ed file (k .of-file))
+      (Steps.by-then (run-answers ed start events records y (Steps.by-end _) (λ g i.
+      subst (λ q. FilePlant ed file q × ((p : Plant) → FilePlant ed file p → q ≡ p) × PlantLimits q) (ap (λ (g : Program Residual). g .plant) (Judging.accepted-is i)) q)) (λ o i.
+      Steps.by-test (q .0) (q .1) 22 (roomForRecords ed (k .of .plant) events others) (leb-true n (length others), le-leb n (length others)) (λ h22. Steps.by-end _))))
+
+  -- the refusal is the number of the first sentence that holds, or 0 where none does
+  pub exam-first : AllBytes file → AllBytes start → FirstHolds ((examOf ed file start events table records others) .refusal) (examClauses ed file start events table records others) ⊎
+      (((examOf ed file start events table records others) .refusal ≡ 0) × (AnyHolds (examClauses ed file start events table records others) → ⊥))
   unfolding examOf
-  exam-first = rw (exam-refusal (judgeExam ed file start events table records others)) (first-or-none exam-judged)
+  exam-first z y = rw (exam-refusal (judgeExam ed file start events table records others)) (Steps.first-or-none (exam-answers z y))
 
   -- on a refusal: the number, and nothing written
   pub exam-refused : ((examOf ed file start events table records others) .refusal ≡ 0 → ⊥) →
@@ -128,7 +156,7 @@ module _ (ed : Edition) (file start events table records others : List ℕ) wher
   unfolding examOf examined refusedExam reported examTable runConditions examConditions
   exam-agrees = go (judgeExam ed file start events table records others) refl exam-judged
     where
-      go : (j : Judged ℕ) → judgeExam ed file start events table records others ≡ j → Firsts j (examConditions ed file start events table records others) →
+      go : (j : Judged ℕ) → judgeExam ed file start events table records others ≡ j → Firsts j (examConditions) →
           (examined ed file start events table records others j) .refusal ≡ 0 → ExamHolds ed file start events table records others
       go (refused n) e (refuses f) z = absurd (first-not-0 exam-numbers f z)
       go (accepted n) e (accepts c) z =

@@ -1,0 +1,48 @@
+-- Document 01's number and value for each case of the enums that this crate answers with.
+-- 203 for a fault, "Every result must lie in −2147483648..2147483647, or evaluation faults", whatever its side; 12 for bytes that 12 turns away; 0 for a value.
+use mathlib.Core.Bool.{Bool, true, false}
+use mathlib.Core.Option.{Option, none, some}
+use Prim.Native.Nat.{ℕ}
+use lib.IntN.{ℤ}
+use Rattle.expression.specs.declared.Number.{Number}
+use Rattle.expression.specs.declared.Number.the-variants as Numbers
+use Rattle.expression.specs.declared.Truth.{Truth}
+use Rattle.expression.specs.declared.Truth.the-variants as Truths
+use Rattle.expression.specs.declared.Found.{Found}
+use Rattle.expression.specs.declared.Found.the-variants.{ANumber, NumberFault, ATruth, TruthFault, Broken}
+
+-- a number's value
+unfoldable pub paperNumber : Number → ℕ
+paperNumber (Numbers.Is z) = 0
+paperNumber Numbers.Above = 203
+paperNumber Numbers.Below = 203
+paperNumber Numbers.Malformed = 12
+
+unfoldable pub paperValue : Number → Option ℤ
+paperValue (Numbers.Is z) = some z
+paperValue Numbers.Above = none
+paperValue Numbers.Below = none
+paperValue Numbers.Malformed = none
+
+-- a truth
+unfoldable pub paperTruthNumber : Truth → ℕ
+paperTruthNumber Truths.Yes = 0
+paperTruthNumber Truths.No = 0
+paperTruthNumber Truths.Above = 203
+paperTruthNumber Truths.Below = 203
+paperTruthNumber Truths.Malformed = 12
+
+unfoldable pub paperTruth : Truth → Option Bool
+paperTruth Truths.Yes = some true
+paperTruth Truths.No = some false
+paperTruth Truths.Above = none
+paperTruth Truths.Below = none
+paperTruth Truths.Malformed = none
+
+-- what stands at a position
+unfoldable pub paperFound : Found → ℕ
+paperFound (ANumber z n) = 0
+paperFound (NumberFault above n) = 203
+paperFound (ATruth b n) = 0
+paperFound (TruthFault above n) = 203
+paperFound Broken = 12
