@@ -3,7 +3,7 @@
 -- What each statement rules out is named by two wrong products that it does not let by.
 use mathlib.Core.Path.{_≡_, refl}
 use mathlib.Core.Bool.{Bool, true, false}
-use mathlib.Core.List.{List, _∷_, _++_, flatMap, List·Memᴰ as Mem, List·Permᴰ as Permuted}
+use mathlib.Core.List.{List, _∷_, _++_, flatMap, flatten, List·Memᴰ as Mem, List·Permᴰ as Permuted}
 use mathlib.Core.Logic.{_↔_, _⊎_}
 use mathlib.Core.Option.{some}
 use Prim.Native.Nat.{ℕ, _*_, _≤_, _<_}
@@ -44,7 +44,7 @@ use Rattle.schedules.specs.MoveRules.{Fresh, Acts, MoveRule, LeadsByRule}
 use Rattle.schedules.specs.Reached.{Leads, Of, Distinct, AsMany}
 use Rattle.schedules.specs.Files.{Schedule, judgeFile, ruleControl}
 use Rattle.schedules.specs.Compiling.{testsOf, tableOf}
-use Rattle.schedules.specs.Calls.{readSchedule, ruleRun, compile}
+use Rattle.schedules.specs.Calls.{readSchedule, size, ruleRun, compile}
 use Rattle.schedules.specs.Conditions.{fileSchedule}
 use Rattle.schedules.specs.Sentences.{fileClauses, compileClauses, ruleRunClauses}
 use Rattle.schedules.specs.Exam.{refusedExam, examOf, examClauses, ExamHolds}
@@ -70,6 +70,7 @@ use Rattle.schedules.proofs.FilesProper as FilesProper
 use Rattle.schedules.proofs.ByPencil as ByPencil
 use Rattle.schedules.proofs.LocationCount as LocationCount
 use Rattle.schedules.proofs.TableLength as TableLength
+use Rattle.schedules.proofs.SizeCall as SizeCall
 use Rattle.schedules.proofs.BranchOrder as BranchOrder
 use Rattle.schedules.proofs.ExchangedBytes as ExchangedBytes
 use Rattle.schedules.proofs.FileSentences as FileSentences
@@ -152,6 +153,16 @@ refused-13-by-size = LocationCount.refused-13-by-size
 pub taken-by-size : (ed : Edition) (file room : List ℕ) (s : Schedule) → judgeFile ed file ≡ accepted s → (sizeOf (s .root)) .locations ≤ locationLimit → tableLength ed s ≤ length room →
     ((compile ed file room) .refusal ≡ 0) × ((compile ed file room) .written ≡ tableLength ed s)
 taken-by-size = TableLength.taken-by-size
+
+-- the call "size" tells just these numbers before anything is compiled, and 1,025 exactly where compiling answers 13, whatever the room.
+-- Ruled out: a size of 1,024 told for a schedule that compiling refuses; one that counts entries of locations that no move reaches.
+pub size-13 : (ed : Edition) (file room : List ℕ) → ((compile ed file room) .refusal ≡ 13) ↔ (((size ed file) .refusal ≡ 0) × ((size ed file) .locations ≡ 1025))
+size-13 = SizeCall.size-13
+
+pub size-of-table : (ed : Edition) (file room : List ℕ) → (compile ed file room) .refusal ≡ 0 →
+    (t : Table) × (judgeTable ed (take ((compile ed file room) .written) ((compile ed file room) .table)) ≡ accepted t) ×
+    (size ed file ≡ record { refusal = 0; locations = length (t .locations); entries = length (flatten (t .locations)) })
+size-of-table = SizeCall.size-of-table
 
 -- the order in which the children of PARALLELs are listed: two files that differ in nothing else get the same number, 0 or a refusal's, for every room, and tables of the same length.
 -- Ruled out: a compiler that takes a schedule with its branches one way round and gives 13 the other way; one that gives 12 for the one and 11 for the other.
@@ -302,6 +313,9 @@ pub refused-read-schedule : (ed : Edition) (file : List ℕ) → ((readSchedule 
     readSchedule ed file ≡ record { refusal = (readSchedule ed file) .refusal; variables = 0; selectors = 0; nodes = 0 }
 refused-read-schedule = FileCalls.refused-read-schedule
 
+pub refused-size : (ed : Edition) (file : List ℕ) → ((size ed file) .refusal ≡ 0 → ⊥) → size ed file ≡ record { refusal = (size ed file) .refusal; locations = 0; entries = 0 }
+refused-size = SizeCall.refused-size
+
 pub refused-read-table : (ed : Edition) (table : List ℕ) → ((readTable ed table) .refusal ≡ 0 → ⊥) →
     readTable ed table ≡ record { refusal = (readTable ed table) .refusal; variables = 0; selectors = 0; actions = 0; locations = 0 }
 refused-read-table = TableCalls.refused-read-table
@@ -326,6 +340,10 @@ read-table-result ed table t = TableCalls.read-table-result ed table
 pub first-number-read-schedule : (ed : Edition) (file : List ℕ) → All (λ b. b < 256) file →
     FirstHolds ((readSchedule ed file) .refusal) (fileClauses ed file) ⊎ (((readSchedule ed file) .refusal ≡ 0) × (AnyHolds (fileClauses ed file) → ⊥))
 first-number-read-schedule = FileSentences.first-read-schedule
+
+-- the size of a schedule is refused as reading it is.
+pub first-number-size : (ed : Edition) (file : List ℕ) → (size ed file) .refusal ≡ (readSchedule ed file) .refusal
+first-number-size = SizeCall.size-refusal
 
 pub first-number-compile : (ed : Edition) (file room : List ℕ) → All (λ b. b < 256) file →
     FirstHolds ((compile ed file room) .refusal) (compileClauses ed file room) ⊎ (((compile ed file room) .refusal ≡ 0) × (AnyHolds (compileClauses ed file room) → ⊥))
