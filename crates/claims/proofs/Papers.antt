@@ -18,7 +18,7 @@ use Rattle.semantics.proofs.DepthPapers as DepthPapers
 use Rattle.semantics.proofs.Papers as Tables
 use Rattle.schedules.specs.Nodes.{sequence, parallel, while-do, if-else, continue-until, reset, stop-all}
 use Rattle.schedules.specs.Trees.{treeOf, branch, leaf}
-use Rattle.schedules.specs.Residuals.{fresh, in-branch, at as at-node}
+use Rattle.schedules.specs.Residuals.{fresh, in-branch, at-node}
 use Rattle.schedules.specs.Numbering.{locations}
 use Rattle.schedules.specs.Compiling.{testsOf}
 use Rattle.schedules.specs.Files.{Schedule, ruleControl}

@@ -12,7 +12,7 @@ use lib.Dec.{leb, ltb}
 use lib.IntN.{ℤ}
 use lib.ListN.{length, getD, take, drop, length-drop}
 use lib.Seq.{drop-cons, drop-drop, drop-nil, getD-drop}
-use Rattle.semantics.specs.Bytes.{be2, be4, signed, one-byte, Read, broken, read, Reader, after, _>>=_, give, fail, guard, from, byte, nat2, nat4, int4, number, bytes, section2, section4, just, whole, within}
+use Rattle.semantics.specs.Bytes.{be2, be4, signed, one-byte, Read, broken, read, Reader, andThen, _>>=_, give, fail, guard, from, byte, nat2, nat4, int4, number, bytes, section2, section4, just, whole, within}
 use Rattle.semantics.proofs.Facts.{none-not-some}
 use Rattle.codec.specs.Reading.{Took, Reads, reads-at, reads-none}
 
@@ -53,25 +53,25 @@ drop-some q s h = rw (add-one, drop-cons s q 0)
 -- ---- one reader after another
 module _ {A B X Y : Type 0} (f : A → Reader B) {K : A → X → Type 0} {L : B → Y → Type 0} {s : List ℕ} {p : ℕ} where
   pub then : {r : Reader A} {w : Option (ℕ × X)} {v : Option (ℕ × Y)} {q : ℕ} {x : X} → Reads r K s p w → w ≡ some (q, x) → ((t : Took r K s p q x) → Reads (f (t .value)) L s q v) → Reads (r >>= f) L s p v
-  unfolding _>>=_ after
+  unfolding _>>=_ andThen
   then k e h =
       let t = taken k e in
       moves (rw (t .got) refl) (h t)
 
   pub then-took : {r : Reader A} {v : Option (ℕ × Y)} {q : ℕ} {x : X} (t : Took r K s p q x) → Reads (f (t .value)) L s q v → Reads (r >>= f) L s p v
-  unfolding _>>=_ after
+  unfolding _>>=_ andThen
   then-took t h = moves (rw (t .got) refl) h
 
   pub broke : {r : Reader A} {w : Option (ℕ × X)} → Reads r K s p w → w ≡ none → Reads (r >>= f) L s p none
-  unfolding _>>=_ after
+  unfolding _>>=_ andThen
   broke k e = reads-none (rw (lost k e) refl)
 
 -- a reader that is put together, at the front of another
 pub assoc : {A B C X : Type 0} (r : Reader A) (f : A → Reader B) (g : B → Reader C) {L : C → X → Type 0} {s : List ℕ} {p : ℕ} {v : Option (ℕ × X)} → Reads (r >>= (λ a. f a >>= g)) L s p v → Reads ((r >>= f) >>= g) L s p v
-unfolding _>>=_ after
+unfolding _>>=_ andThen
 assoc {A} {B} {C} r f g {s = s} {p = p} k = moves (go (r (drop p s))) k
   where
-    go : (o : Read A) → after (after o f) g ≡ after o (λ a s. after (f a s) g)
+    go : (o : Read A) → andThen (andThen o f) g ≡ andThen o (λ a s. andThen (f a s) g)
     go broken = refl
     go (read a t) = refl
 
@@ -104,11 +104,11 @@ module _ {A X : Type 0} {K : A → X → Type 0} {s : List ℕ} {p : ℕ} where
 -- ---- a byte, and so many bytes
 module _ {B X : Type 0} (f : ℕ → Reader B) {L : B → X → Type 0} {s : List ℕ} {p : ℕ} where
   pub then-byte : {v : Option (ℕ × X)} → p < length s → Reads (f (getD s p 0)) L s (p + 1) v → Reads (byte >>= f) L s p v
-  unfolding _>>=_ after byte
+  unfolding _>>=_ andThen byte
   then-byte h k = moves (rw (drop-some p s) refl) k
 
   pub no-byte : length s ≤ p → Reads (byte >>= f) L s p none
-  unfolding _>>=_ after byte
+  unfolding _>>=_ andThen byte
   no-byte h = reads-none (rw (drop-past p s) refl)
 
   -- a count, length or number of edition 1
@@ -122,32 +122,32 @@ module _ {B X : Type 0} (f : ℕ → Reader B) {L : B → X → Type 0} {s : Lis
 
 module _ {B X : Type 0} (f : List ℕ → Reader B) {L : B → X → Type 0} {s : List ℕ} {p : ℕ} (n : ℕ) where
   pub then-bytes : {v : Option (ℕ × X)} → p + n ≤ length s → Reads (f (take n (drop p s))) L s (p + n) v → Reads (bytes n >>= f) L s p v
-  unfolding _>>=_ after bytes
+  unfolding _>>=_ andThen bytes
   then-bytes h k =
       let l : leb n (length (drop p s)) ≡ true = le-leb n (length (drop p s)) (omega (arith, length-drop p s)) in
       moves (rw l (rw drop-drop refl)) k
 
   pub no-bytes : length s < p + n → p ≤ length s → Reads (bytes n >>= f) L s p none
-  unfolding _>>=_ after bytes
+  unfolding _>>=_ andThen bytes
   no-bytes h i =
       let l : leb n (length (drop p s)) ≡ false = lt-leb n (length (drop p s)) (omega (arith, length-drop p s)) in
       reads-none (rw l refl)
 
 -- ---- numbers of two and four bytes
 pub nat2-some : (l : List ℕ) → 2 ≤ length l → nat2 l ≡ read (be2 (getD l 0 0) (getD l 1 0)) (drop 2 l)
-unfolding nat2 _>>=_ after byte give
+unfolding nat2 _>>=_ andThen byte give
 nat2-some [] h = absurd (omega arith)
 nat2-some (a ∷ []) h = absurd (omega arith)
 nat2-some (a ∷ b ∷ l) h = refl
 
 pub nat2-none : (l : List ℕ) → length l < 2 → nat2 l ≡ broken
-unfolding nat2 _>>=_ after byte give
+unfolding nat2 _>>=_ andThen byte give
 nat2-none [] h = refl
 nat2-none (a ∷ []) h = refl
 nat2-none (a ∷ b ∷ l) h = absurd (omega arith)
 
 pub nat4-some : (l : List ℕ) → 4 ≤ length l → nat4 l ≡ read (be4 (getD l 0 0) (getD l 1 0) (getD l 2 0) (getD l 3 0)) (drop 4 l)
-unfolding nat4 _>>=_ after byte give
+unfolding nat4 _>>=_ andThen byte give
 nat4-some [] h = absurd (omega arith)
 nat4-some (a ∷ []) h = absurd (omega arith)
 nat4-some (a ∷ b ∷ []) h = absurd (omega arith)
@@ -155,7 +155,7 @@ nat4-some (a ∷ b ∷ c ∷ []) h = absurd (omega arith)
 nat4-some (a ∷ b ∷ c ∷ d ∷ l) h = refl
 
 pub nat4-none : (l : List ℕ) → length l < 4 → nat4 l ≡ broken
-unfolding nat4 _>>=_ after byte give
+unfolding nat4 _>>=_ andThen byte give
 nat4-none [] h = refl
 nat4-none (a ∷ []) h = refl
 nat4-none (a ∷ b ∷ []) h = refl
@@ -187,96 +187,96 @@ module _ (s : List ℕ) (p : ℕ) where
   nat4-short h i = nat4-none (drop p s) (omega (arith, length-drop p s))
 
   pub int4-at : p + 4 ≤ length s → int4 (drop p s) ≡ read (signed (nat4At s p)) (drop (p + 4) s)
-  unfolding int4 _>>=_ after give
+  unfolding int4 _>>=_ andThen give
   int4-at h = rw (nat4-at h) refl
 
   pub int4-short : length s < p + 4 → p ≤ length s → int4 (drop p s) ≡ broken
-  unfolding int4 _>>=_ after
+  unfolding int4 _>>=_ andThen
   int4-short h i = rw (nat4-short h i) refl
 
 module _ {B X : Type 0} (f : ℕ → Reader B) {L : B → X → Type 0} {s : List ℕ} {p : ℕ} where
   pub then-nat2 : {v : Option (ℕ × X)} → p + 2 ≤ length s → Reads (f (nat2At s p)) L s (p + 2) v → Reads (nat2 >>= f) L s p v
-  unfolding _>>=_ after
+  unfolding _>>=_ andThen
   then-nat2 h k = moves (rw (nat2-at s p h) refl) k
 
   pub no-nat2 : length s < p + 2 → p ≤ length s → Reads (nat2 >>= f) L s p none
-  unfolding _>>=_ after
+  unfolding _>>=_ andThen
   no-nat2 h i = reads-none (rw (nat2-short s p h i) refl)
 
   pub then-nat4 : {v : Option (ℕ × X)} → p + 4 ≤ length s → Reads (f (nat4At s p)) L s (p + 4) v → Reads (nat4 >>= f) L s p v
-  unfolding _>>=_ after
+  unfolding _>>=_ andThen
   then-nat4 h k = moves (rw (nat4-at s p h) refl) k
 
   pub no-nat4 : length s < p + 4 → p ≤ length s → Reads (nat4 >>= f) L s p none
-  unfolding _>>=_ after
+  unfolding _>>=_ andThen
   no-nat4 h i = reads-none (rw (nat4-short s p h i) refl)
 
 module _ {B X : Type 0} (f : ℤ → Reader B) {L : B → X → Type 0} {s : List ℕ} {p : ℕ} where
   pub then-int4 : {v : Option (ℕ × X)} → p + 4 ≤ length s → Reads (f (signed (nat4At s p))) L s (p + 4) v → Reads (int4 >>= f) L s p v
-  unfolding _>>=_ after
+  unfolding _>>=_ andThen
   then-int4 h k = moves (rw (int4-at s p h) refl) k
 
   pub no-int4 : length s < p + 4 → p ≤ length s → Reads (int4 >>= f) L s p none
-  unfolding _>>=_ after
+  unfolding _>>=_ andThen
   no-int4 h i = reads-none (rw (int4-short s p h i) refl)
 
 -- ---- sections: the length, then the bytes
 module _ (s : List ℕ) (p n : ℕ) where
   pub section2-at : n ≡ nat2At s p → p + 2 + n ≤ length s → section2 (drop p s) ≡ read (take n (drop (p + 2) s)) (drop (p + 2 + n) s)
-  unfolding section2 _>>=_ after bytes
+  unfolding section2 _>>=_ andThen bytes
   section2-at e h =
       let l : leb n (length (drop (p + 2) s)) ≡ true = le-leb n (length (drop (p + 2) s)) (omega (arith, length-drop (p + 2) s)) in
       rw (nat2-at s p (omega arith), ← e, l, drop-drop n (p + 2) s) refl
 
   pub section2-cut : n ≡ nat2At s p → p + 2 ≤ length s → length s < p + 2 + n → section2 (drop p s) ≡ broken
-  unfolding section2 _>>=_ after bytes
+  unfolding section2 _>>=_ andThen bytes
   section2-cut e h i =
       let l : leb n (length (drop (p + 2) s)) ≡ false = lt-leb n (length (drop (p + 2) s)) (omega (arith, length-drop (p + 2) s)) in
       rw (nat2-at s p h, ← e, l) refl
 
   pub section4-at : n ≡ nat4At s p → p + 4 + n ≤ length s → section4 (drop p s) ≡ read (take n (drop (p + 4) s)) (drop (p + 4 + n) s)
-  unfolding section4 _>>=_ after bytes
+  unfolding section4 _>>=_ andThen bytes
   section4-at e h =
       let l : leb n (length (drop (p + 4) s)) ≡ true = le-leb n (length (drop (p + 4) s)) (omega (arith, length-drop (p + 4) s)) in
       rw (nat4-at s p (omega arith), ← e, l, drop-drop n (p + 4) s) refl
 
   pub section4-cut : n ≡ nat4At s p → p + 4 ≤ length s → length s < p + 4 + n → section4 (drop p s) ≡ broken
-  unfolding section4 _>>=_ after bytes
+  unfolding section4 _>>=_ andThen bytes
   section4-cut e h i =
       let l : leb n (length (drop (p + 4) s)) ≡ false = lt-leb n (length (drop (p + 4) s)) (omega (arith, length-drop (p + 4) s)) in
       rw (nat4-at s p h, ← e, l) refl
 
 pub section2-short : (s : List ℕ) (p : ℕ) → length s < p + 2 → p ≤ length s → section2 (drop p s) ≡ broken
-unfolding section2 _>>=_ after
+unfolding section2 _>>=_ andThen
 section2-short s p h i = rw (nat2-short s p h i) refl
 
 pub section4-short : (s : List ℕ) (p : ℕ) → length s < p + 4 → p ≤ length s → section4 (drop p s) ≡ broken
-unfolding section4 _>>=_ after
+unfolding section4 _>>=_ andThen
 section4-short s p h i = rw (nat4-short s p h i) refl
 
 module _ {B X : Type 0} (f : List ℕ → Reader B) {L : B → X → Type 0} {s : List ℕ} {p : ℕ} where
   pub then-section2 : (n : ℕ) {v : Option (ℕ × X)} → n ≡ nat2At s p → p + 2 + n ≤ length s → Reads (f (take n (drop (p + 2) s))) L s (p + 2 + n) v → Reads (section2 >>= f) L s p v
-  unfolding _>>=_ after
+  unfolding _>>=_ andThen
   then-section2 n e h k = moves (rw (section2-at s p n e h) refl) k
 
   pub cut-section2 : (n : ℕ) → n ≡ nat2At s p → p + 2 ≤ length s → length s < p + 2 + n → Reads (section2 >>= f) L s p none
-  unfolding _>>=_ after
+  unfolding _>>=_ andThen
   cut-section2 n e h i = reads-none (rw (section2-cut s p n e h i) refl)
 
   pub no-section2 : length s < p + 2 → p ≤ length s → Reads (section2 >>= f) L s p none
-  unfolding _>>=_ after
+  unfolding _>>=_ andThen
   no-section2 h i = reads-none (rw (section2-short s p h i) refl)
 
   pub then-section4 : (n : ℕ) {v : Option (ℕ × X)} → n ≡ nat4At s p → p + 4 + n ≤ length s → Reads (f (take n (drop (p + 4) s))) L s (p + 4 + n) v → Reads (section4 >>= f) L s p v
-  unfolding _>>=_ after
+  unfolding _>>=_ andThen
   then-section4 n e h k = moves (rw (section4-at s p n e h) refl) k
 
   pub cut-section4 : (n : ℕ) → n ≡ nat4At s p → p + 4 ≤ length s → length s < p + 4 + n → Reads (section4 >>= f) L s p none
-  unfolding _>>=_ after
+  unfolding _>>=_ andThen
   cut-section4 n e h i = reads-none (rw (section4-cut s p n e h i) refl)
 
   pub no-section4 : length s < p + 4 → p ≤ length s → Reads (section4 >>= f) L s p none
-  unfolding _>>=_ after
+  unfolding _>>=_ andThen
   no-section4 h i = reads-none (rw (section4-short s p h i) refl)
 
 -- ---- a whole slice

@@ -19,7 +19,7 @@ use Rattle.semantics.specs.Sections.{Variable}
 use Rattle.semantics.specs.Plant.{declared, allDeclared, added}
 use Rattle.semantics.specs.Run.{valued}
 use Rattle.semantics.proofs.Facts.{true-not-false}
-use Rattle.effects.specs.Told.{doneTold, stepTold, goesOn, orElse}
+use Rattle.effects.specs.Verdicts.{doneVerdict, stepVerdict, goesOn, orElse}
 use Rattle.effects.specs.Ranges.{rangesOf, rateIn, sums, advanced, Sized, firstSums, sumTold, staysIn, FirstStay, Until}
 use Rattle.effects.specs.declared.Verdict.{Verdict}
 use Rattle.effects.specs.declared.Verdict.the-variants.{Stay}
@@ -59,7 +59,7 @@ sums-at rs vs i h = let e : 0 + i ≡ i = omega arith in added-at (rateIn rs) 0 
 
 -- ---- what passes is what it was
 abbrev pub Passes : {A : Type 0} → Value A → Type 0
-Passes v = goesOn (stepTold (valued v)) ≡ true
+Passes v = goesOn (stepVerdict (valued v)) ≡ true
 
 module _ (l h z : ℤ) where
   pub record Inside : Type 0 where
@@ -68,7 +68,7 @@ module _ (l h z : ℤ) where
     pub same : ranged l h z ≡ ok z
 
   pub inside : Passes (ranged l h z) → Inside
-  unfolding ranged goesOn doneTold valued
+  unfolding ranged goesOn doneVerdict valued
   inside e = go (ltZ z l) (ltZ h z) refl refl e
     where
       go : (a b : Bool) → ltZ z l ≡ a → ltZ h z ≡ b → Passes (cond a (fault below) (cond b (fault above) (ok z))) → Inside
@@ -90,22 +90,22 @@ ranged-fits l h z fl fh e = let k = inside l h z e in fits-between l h z fl fh (
 abbrev from : List ℤ → List ℤ → List ℤ → List ℤ → ℕ → Value (List ℤ)
 from ls hs rs vs i = allDeclared (rangesOf (drop i ls) (drop i hs)) (added (rateIn rs) i (drop i vs))
 
-first-in : (x : Variable) (xs : List Variable) (z : ℤ) (zs : List ℤ) → Passes (declared x z) → stepTold (valued (allDeclared (x ∷ xs) (z ∷ zs))) ≡ stepTold (valued (allDeclared xs zs))
-unfolding allDeclared thenValue valued doneTold goesOn
+first-in : (x : Variable) (xs : List Variable) (z : ℤ) (zs : List ℤ) → Passes (declared x z) → stepVerdict (valued (allDeclared (x ∷ xs) (z ∷ zs))) ≡ stepVerdict (valued (allDeclared xs zs))
+unfolding allDeclared thenValue valued doneVerdict goesOn
 first-in x xs z zs e = go (declared x z) (allDeclared xs zs) e
   where
-    go : (v : Value ℤ) (w : Value (List ℤ)) → Passes v → stepTold (valued (thenValue v (λ y. thenValue w (λ ys. ok (y ∷ ys))))) ≡ stepTold (valued w)
+    go : (v : Value ℤ) (w : Value (List ℤ)) → Passes v → stepVerdict (valued (thenValue v (λ y. thenValue w (λ ys. ok (y ∷ ys))))) ≡ stepVerdict (valued w)
     go (ok y) (ok ys) e = refl
     go (ok y) (fault above) e = refl
     go (ok y) (fault below) e = refl
     go (fault above) w e = true-not-false (sym e)
     go (fault below) w e = true-not-false (sym e)
 
-first-out : (x : Variable) (xs : List Variable) (z : ℤ) (zs : List ℤ) → goesOn (stepTold (valued (declared x z))) ≡ false → stepTold (valued (allDeclared (x ∷ xs) (z ∷ zs))) ≡ stepTold (valued (declared x z))
-unfolding allDeclared thenValue valued doneTold goesOn
+first-out : (x : Variable) (xs : List Variable) (z : ℤ) (zs : List ℤ) → goesOn (stepVerdict (valued (declared x z))) ≡ false → stepVerdict (valued (allDeclared (x ∷ xs) (z ∷ zs))) ≡ stepVerdict (valued (declared x z))
+unfolding allDeclared thenValue valued doneVerdict goesOn
 first-out x xs z zs e = go (declared x z) (allDeclared xs zs) e
   where
-    go : (v : Value ℤ) (w : Value (List ℤ)) → goesOn (stepTold (valued v)) ≡ false → stepTold (valued (thenValue v (λ y. thenValue w (λ ys. ok (y ∷ ys))))) ≡ stepTold (valued v)
+    go : (v : Value ℤ) (w : Value (List ℤ)) → goesOn (stepVerdict (valued v)) ≡ false → stepVerdict (valued (thenValue v (λ y. thenValue w (λ ys. ok (y ∷ ys))))) ≡ stepVerdict (valued v)
     go (ok y) w e = true-not-false e
     go (fault above) w e = refl
     go (fault below) w e = refl
@@ -128,16 +128,16 @@ module _ (ls hs rs vs : List ℤ) (i : ℕ) (z : Sized ls hs rs vs) where
       let b = z .highs in
       rw (drop-cons ls i (pos 0) (omega arith), drop-cons hs i (pos 0) (omega arith), drop-cons vs i (pos 0) h, add-one i) refl
 
-  out : i < length vs → (r : Verdict) → r ≡ stepTold (valued (ranged (getD ls i (pos 0)) (getD hs i (pos 0)) s)) → goesOn r ≡ false → r ≡ stepTold (valued (from ls hs rs vs i))
+  out : i < length vs → (r : Verdict) → r ≡ stepVerdict (valued (ranged (getD ls i (pos 0)) (getD hs i (pos 0)) s)) → goesOn r ≡ false → r ≡ stepVerdict (valued (from ls hs rs vs i))
   unfolding declared
-  out h r e f = e ∙ sym (ap (λ v. stepTold (valued v)) (step h) ∙ first-out x (later (i + 1)) s (added (rateIn rs) (i + 1) (drop (i + 1) vs)) (ap goesOn (sym e) ∙ f))
+  out h r e f = e ∙ sym (ap (λ v. stepVerdict (valued v)) (step h) ∙ first-out x (later (i + 1)) s (added (rateIn rs) (i + 1) (drop (i + 1) vs)) (ap goesOn (sym e) ∙ f))
 
-  on : i < length vs → (r : Verdict) → r ≡ stepTold (valued (ranged (getD ls i (pos 0)) (getD hs i (pos 0)) s)) → goesOn r ≡ true → stepTold (valued (from ls hs rs vs i)) ≡ stepTold (valued (from ls hs rs vs (i + 1)))
+  on : i < length vs → (r : Verdict) → r ≡ stepVerdict (valued (ranged (getD ls i (pos 0)) (getD hs i (pos 0)) s)) → goesOn r ≡ true → stepVerdict (valued (from ls hs rs vs i)) ≡ stepVerdict (valued (from ls hs rs vs (i + 1)))
   unfolding declared
-  on h r e f = ap (λ v. stepTold (valued v)) (step h) ∙ first-in x (later (i + 1)) s (added (rateIn rs) (i + 1) (drop (i + 1) vs)) (ap goesOn (sym e) ∙ f)
+  on h r e f = ap (λ v. stepVerdict (valued v)) (step h) ∙ first-in x (later (i + 1)) s (added (rateIn rs) (i + 1) (drop (i + 1) vs)) (ap goesOn (sym e) ∙ f)
 
-  end : length vs ≤ i → Stay ≡ stepTold (valued (from ls hs rs vs i))
-  unfolding allDeclared rangesOf valued doneTold
+  end : length vs ≤ i → Stay ≡ stepVerdict (valued (from ls hs rs vs i))
+  unfolding allDeclared rangesOf valued doneVerdict
   end h = rw (drop-of-length-le ls {i = i} (omega (arith, z .lows))) refl
 
 -- ---- all of them
@@ -145,9 +145,9 @@ all-same : (xs : List Variable) (zs : List ℤ) → Passes (allDeclared xs zs) �
 unfolding allDeclared declared thenValue
 all-same [] zs e = refl
 all-same (x ∷ xs) [] e = refl
-all-same (x ∷ xs) (z ∷ zs) e = go (goesOn (stepTold (valued (declared x z)))) refl (all-same xs zs)
+all-same (x ∷ xs) (z ∷ zs) e = go (goesOn (stepVerdict (valued (declared x z)))) refl (all-same xs zs)
   where
-    go : (b : Bool) → goesOn (stepTold (valued (declared x z))) ≡ b → (Passes (allDeclared xs zs) → allDeclared xs zs ≡ ok zs) → allDeclared (x ∷ xs) (z ∷ zs) ≡ ok (z ∷ zs)
+    go : (b : Bool) → goesOn (stepVerdict (valued (declared x z))) ≡ b → (Passes (allDeclared xs zs) → allDeclared xs zs ≡ ok zs) → allDeclared (x ∷ xs) (z ∷ zs) ≡ ok (z ∷ zs)
     go true k ih = rw (inside (x .minimum) (x .maximum) z k .same, ih (ap goesOn (sym (first-in x xs z zs k)) ∙ e)) refl
     go false k ih = true-not-false (sym e ∙ ap goesOn (first-out x xs z zs k) ∙ k)
 
@@ -155,8 +155,8 @@ advanced-in : (ls hs rs vs : List ℤ) → Passes (advanced ls hs rs vs) → sum
 unfolding orElse
 advanced-in ls hs rs vs e = sym (ap (orElse vs) (all-same (rangesOf ls hs) (sums rs vs) e))
 
-advanced-out : {A : Type 0} (a : A) (v : Value A) → goesOn (stepTold (valued v)) ≡ false → a ≡ orElse a v
-unfolding orElse goesOn doneTold valued
+advanced-out : {A : Type 0} (a : A) (v : Value A) → goesOn (stepVerdict (valued v)) ≡ false → a ≡ orElse a v
+unfolding orElse goesOn doneVerdict valued
 advanced-out a (ok b) e = true-not-false e
 advanced-out a (fault s) e = refl
 
@@ -176,22 +176,22 @@ module _ (ls hs rs vs : List ℤ) where
       go v p (no q) = let same : v ≡ k = omega arith in ap (staysIn ls hs rs vs) same ∙ e
 
 module _ (ls hs rs vs : List ℤ) (z : Sized ls hs rs vs) where
-  told-from : (k : ℕ) → FirstStay ls hs rs vs k → stepTold (valued (advanced ls hs rs vs)) ≡ stepTold (valued (from ls hs rs vs k))
+  told-from : (k : ℕ) → FirstStay ls hs rs vs k → stepVerdict (valued (advanced ls hs rs vs)) ≡ stepVerdict (valued (from ls hs rs vs k))
   told-from zero f = refl
   told-from (suc k) f =
       let c = f .count in
       let e : k + 1 ≡ suc k = add-one k in
-      told-from k (fewer ls hs rs vs k f) ∙ on ls hs rs vs k z (omega arith) _ refl (f .each k (omega arith)) ∙ ap (λ (n : ℕ). stepTold (valued (from ls hs rs vs n))) e
+      told-from k (fewer ls hs rs vs k f) ∙ on ls hs rs vs k z (omega arith) _ refl (f .each k (omega arith)) ∙ ap (λ (n : ℕ). stepVerdict (valued (from ls hs rs vs n))) e
 
   -- variable k leaves its range: its side is the answer, and nothing is added
-  pub leaves-told : (k : ℕ) → Until ls hs rs vs k → k < length vs → (r : Verdict) → r ≡ sumTold ls hs rs vs k → r ≡ stepTold (valued (advanced ls hs rs vs))
+  pub leaves-told : (k : ℕ) → Until ls hs rs vs k → k < length vs → (r : Verdict) → r ≡ sumTold ls hs rs vs k → r ≡ stepVerdict (valued (advanced ls hs rs vs))
   leaves-told k u h r e = out ls hs rs vs k z h r e (ap goesOn e ∙ u .leaves h) ∙ sym (told-from k (u .first))
 
   pub leaves-values : (k : ℕ) → Until ls hs rs vs k → k < length vs → vs ≡ orElse vs (advanced ls hs rs vs)
   leaves-values k u h = advanced-out vs (advanced ls hs rs vs) (sym (ap goesOn (leaves-told k u h _ refl)) ∙ u .leaves h)
 
   -- all stay in their ranges: all add
-  pub all-told : (k : ℕ) → FirstStay ls hs rs vs k → length vs ≤ k → Stay ≡ stepTold (valued (advanced ls hs rs vs))
+  pub all-told : (k : ℕ) → FirstStay ls hs rs vs k → length vs ≤ k → Stay ≡ stepVerdict (valued (advanced ls hs rs vs))
   all-told k f h = end ls hs rs vs k z h ∙ sym (told-from k f)
 
   pub all-values : (k : ℕ) → FirstStay ls hs rs vs k → length vs ≤ k → firstSums rs vs k ≡ orElse vs (advanced ls hs rs vs)

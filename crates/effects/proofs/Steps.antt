@@ -18,7 +18,7 @@ use Rattle.semantics.proofs.Facts.{true-not-false}
 use Rattle.expression.specs.Answers.{truthOf, truthAnswer}
 use Rattle.expression.specs.declared.Truth.{Truth}
 use Rattle.expression.specs.declared.Truth.the-variants as Truths
-use Rattle.effects.specs.Told.{doneTold, stepTold, goesOn, truthTold}
+use Rattle.effects.specs.Verdicts.{doneVerdict, stepVerdict, goesOn, truthVerdict}
 use Rattle.effects.specs.declared.Verdict.{Verdict}
 use Rattle.effects.specs.declared.Verdict.the-variants.{Away, Above, Below, Stay, Move}
 use Rattle.effects.proofs.Verdict.{the-type}
@@ -41,52 +41,52 @@ byTruth y n Truths.Below = Below
 byTruth y n Truths.Malformed = Above
 
 module _ (y n : Verdict) where
-  by-value : (v : Value Bool) → byTruth y n (truthOf v) ≡ truthTold y n v
-  unfolding truthOf truthTold
+  by-value : (v : Value Bool) → byTruth y n (truthOf v) ≡ truthVerdict y n v
+  unfolding truthOf truthVerdict
   by-value (ok true) = refl
   by-value (ok false) = refl
   by-value (fault above) = refl
   by-value (fault below) = refl
 
-  pub asked : (vs : List ℤ) (s : List ℕ) (r t : Truth) → r ≡ truthAnswer vs (truthIn edition1 (length vs) s) → r ≡ t → byTruth y n t ≡ truthTold y n (truthValue edition1 vs s)
-  unfolding truthValue truthAnswer truthTold
+  pub asked : (vs : List ℤ) (s : List ℕ) (r t : Truth) → r ≡ truthAnswer vs (truthIn edition1 (length vs) s) → r ≡ t → byTruth y n t ≡ truthVerdict y n (truthValue edition1 vs s)
+  unfolding truthValue truthAnswer truthVerdict
   asked vs s r t e f = ap (byTruth y n) (sym f ∙ e) ∙ go (truthIn edition1 (length vs) s)
     where
-      go : (o : Option Forms.Truth) → byTruth y n (truthAnswer vs o) ≡ truthTold y n (elim o [ none ↦ fault above | some x ↦ holds vs x ])
+      go : (o : Option Forms.Truth) → byTruth y n (truthAnswer vs o) ≡ truthVerdict y n (elim o [ none ↦ fault above | some x ↦ holds vs x ])
       go none = refl
       go (some x) = by-value (holds vs x)
 
 -- ---- a range
 module _ (low high z : ℤ) where
-  pub below-it : ltZ z low ≡ true → Below ≡ stepTold (valued (ranged low high z))
-  unfolding ranged valued doneTold
+  pub below-it : ltZ z low ≡ true → Below ≡ stepVerdict (valued (ranged low high z))
+  unfolding ranged valued doneVerdict
   below-it e = rw e refl
 
-  pub above-it : ltZ z low ≡ false → ltZ high z ≡ true → Above ≡ stepTold (valued (ranged low high z))
-  unfolding ranged valued doneTold
+  pub above-it : ltZ z low ≡ false → ltZ high z ≡ true → Above ≡ stepVerdict (valued (ranged low high z))
+  unfolding ranged valued doneVerdict
   above-it e f = rw (e, f) refl
 
-  pub inside-it : ltZ z low ≡ false → ltZ high z ≡ false → Stay ≡ stepTold (valued (ranged low high z))
-  unfolding ranged valued doneTold
+  pub inside-it : ltZ z low ≡ false → ltZ high z ≡ false → Stay ≡ stepVerdict (valued (ranged low high z))
+  unfolding ranged valued doneVerdict
   inside-it e f = rw (e, f) refl
 
 -- ---- walks over truths
 module _ (n : ℕ) (vs : List ℤ) where
-  pub walk-out : (t : List ℕ) (ts : List (List ℕ)) (r : Verdict) → r ≡ truthTold (Away n) Stay (truthValue edition1 vs t) → goesOn r ≡ false → r ≡ stepTold (walk edition1 n vs (t ∷ ts))
-  unfolding walk truthTold doneTold goesOn valued allow _>>=_ _>>_
+  pub walk-out : (t : List ℕ) (ts : List (List ℕ)) (r : Verdict) → r ≡ truthVerdict (Away n) Stay (truthValue edition1 vs t) → goesOn r ≡ false → r ≡ stepVerdict (walk edition1 n vs (t ∷ ts))
+  unfolding walk truthVerdict doneVerdict goesOn valued allow _>>=_ _>>_
   walk-out t ts r e h = go (truthValue edition1 vs t) e
     where
-      go : (u : Value Bool) → r ≡ truthTold (Away n) Stay u → r ≡ stepTold (valued u >>= (λ b. allow n (not b) >> walk edition1 n vs ts))
+      go : (u : Value Bool) → r ≡ truthVerdict (Away n) Stay u → r ≡ stepVerdict (valued u >>= (λ b. allow n (not b) >> walk edition1 n vs ts))
       go (ok true) e = e
       go (ok false) e = true-not-false (sym (ap goesOn e) ∙ h)
       go (fault above) e = e
       go (fault below) e = e
 
-  pub walk-on : (t : List ℕ) (ts : List (List ℕ)) (r : Verdict) → r ≡ truthTold (Away n) Stay (truthValue edition1 vs t) → goesOn r ≡ true → walk edition1 n vs (t ∷ ts) ≡ walk edition1 n vs ts
-  unfolding walk truthTold goesOn valued allow _>>=_ _>>_
+  pub walk-on : (t : List ℕ) (ts : List (List ℕ)) (r : Verdict) → r ≡ truthVerdict (Away n) Stay (truthValue edition1 vs t) → goesOn r ≡ true → walk edition1 n vs (t ∷ ts) ≡ walk edition1 n vs ts
+  unfolding walk truthVerdict goesOn valued allow _>>=_ _>>_
   walk-on t ts r e h = go (truthValue edition1 vs t) e
     where
-      go : (u : Value Bool) → r ≡ truthTold (Away n) Stay u → (valued u >>= (λ b. allow n (not b) >> walk edition1 n vs ts)) ≡ walk edition1 n vs ts
+      go : (u : Value Bool) → r ≡ truthVerdict (Away n) Stay u → (valued u >>= (λ b. allow n (not b) >> walk edition1 n vs ts)) ≡ walk edition1 n vs ts
       go (ok true) e = true-not-false (sym h ∙ ap goesOn e)
       go (ok false) e = refl
       go (fault above) e = true-not-false (sym h ∙ ap goesOn e)
@@ -104,22 +104,22 @@ module _ (n : ℕ) (vs : List ℤ) where
       go (fault s) e = refl
 
 -- ---- a step that ends the event, and one after which it goes on
-module _ {A B : Type 0} (u : Run.Verdict A) (w : Run.Verdict B) (r : Verdict) (e : r ≡ stepTold u) where
-  pub then-out : goesOn r ≡ false → r ≡ stepTold (u >> w)
-  unfolding doneTold goesOn _>>_
+module _ {A B : Type 0} (u : Run.Verdict A) (w : Run.Verdict B) (r : Verdict) (e : r ≡ stepVerdict u) where
+  pub then-out : goesOn r ≡ false → r ≡ stepVerdict (u >> w)
+  unfolding doneVerdict goesOn _>>_
   then-out h = go u e
     where
-      go : (u : Run.Verdict A) → r ≡ stepTold u → r ≡ stepTold (u >> w)
+      go : (u : Run.Verdict A) → r ≡ stepVerdict u → r ≡ stepVerdict (u >> w)
       go (away n) e = e
       go (faulty above) e = e
       go (faulty below) e = e
       go (pass a) e = true-not-false (sym (ap goesOn e) ∙ h)
 
   pub then-on : goesOn r ≡ true → (u >> w) ≡ w
-  unfolding doneTold goesOn _>>_
+  unfolding doneVerdict goesOn _>>_
   then-on h = go u e
     where
-      go : (u : Run.Verdict A) → r ≡ stepTold u → (u >> w) ≡ w
+      go : (u : Run.Verdict A) → r ≡ stepVerdict u → (u >> w) ≡ w
       go (away n) e = true-not-false (sym h ∙ ap goesOn e)
       go (faulty above) e = true-not-false (sym h ∙ ap goesOn e)
       go (faulty below) e = true-not-false (sym h ∙ ap goesOn e)

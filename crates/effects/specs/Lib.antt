@@ -1,4 +1,4 @@
-pub mod Told
+pub mod Verdicts
 pub mod Ranges
-pub mod Deeds
+pub mod ActionForms
 pub mod PaperNumbers

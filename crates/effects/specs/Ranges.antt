@@ -10,7 +10,7 @@ use Rattle.semantics.specs.Expressions.{Value, ok, ranged, thenValue, numberVal
 use Rattle.semantics.specs.Sections.{Variable}
 use Rattle.semantics.specs.Plant.{Plant, declaredAt, allDeclared, added}
 use Rattle.semantics.specs.Run.{valued}
-use Rattle.effects.specs.Told.{stepTold, goesOn}
+use Rattle.effects.specs.Verdicts.{stepVerdict, goesOn}
 use Rattle.effects.specs.declared.Verdict.{Verdict}
 use Rattle.effects.specs.declared.Verdict.the-variants.{Stay}
 
@@ -55,7 +55,7 @@ firstSums rs vs k = take k (sums rs vs) ++ drop k vs
 
 -- variable v with its rate added: Stay, or the side on which it leaves its range
 abbrev pub sumTold : List ℤ → List ℤ → List ℤ → List ℤ → ℕ → Verdict
-sumTold ls hs rs vs v = stepTold (valued (ranged (getD ls v (pos 0)) (getD hs v (pos 0)) (getD vs v (pos 0) +ℤ getD rs v (pos 0))))
+sumTold ls hs rs vs v = stepVerdict (valued (ranged (getD ls v (pos 0)) (getD hs v (pos 0)) (getD vs v (pos 0) +ℤ getD rs v (pos 0))))
 
 -- the same for any number v: Stay where there is no such variable
 pub record Side (ls hs rs vs : List ℤ) (v : ℕ) (r : Verdict) : Type 0 where

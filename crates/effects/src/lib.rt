@@ -9,9 +9,9 @@ ghost use lib.IntN.{_+ℤ_};
 ghost use Rattle.semantics.specs.Editions.{edition1};
 ghost use Rattle.semantics.specs.Expressions.{ranged as rangedOf, truthValue};
 ghost use Rattle.semantics.specs.Run.{valued, act};
-ghost use Rattle.effects.specs.Told.{doneTold, stepTold, goesOn, truthTold, orElse, Left};
+ghost use Rattle.effects.specs.Verdicts.{doneVerdict, stepVerdict, goesOn, truthVerdict, orElse, Left};
 ghost use Rattle.effects.specs.Ranges.{Sized, Side, Until, FirstStay, firstSums, advanced, stored, assigned, rangesOnly};
-ghost use Rattle.effects.specs.Deeds.{kindOf, form, Fit};
+ghost use Rattle.effects.specs.ActionForms.{kindOf, form, Fit};
 
 // How an event is answered: turned away with a number, a fault on a side of its range, or taken, with nobody's move or with
 // the move of a node, on done or true, or on false.
@@ -35,7 +35,7 @@ pub fn goes_on(v: Verdict) -> bool
 
 // A truth: yes where it is true, no where it is false.
 pub fn ask(t: &[u8], values: &[i32], yes: Verdict, no: Verdict) -> Verdict
-    ensures { λ r. ⌜ r ≡ truthTold yes no (truthValue edition1 (now (values .entry)) (now (t .entry))) ⌝ }
+    ensures { λ r. ⌜ r ≡ truthVerdict yes no (truthValue edition1 (now (values .entry)) (now (t .entry))) ⌝ }
 {
     match expression::truth_value(t, values) {
         Truth::Yes => yes,
@@ -48,7 +48,7 @@ pub fn ask(t: &[u8], values: &[i32], yes: Verdict, no: Verdict) -> Verdict
 
 // A number in its range, or the side on which it lies outside.
 fn ranged(low: i32, high: i32, z: i64) -> Verdict
-    ensures { λ r. ⌜ r ≡ stepTold (valued (rangedOf low high z)) ⌝ }
+    ensures { λ r. ⌜ r ≡ stepVerdict (valued (rangedOf low high z)) ⌝ }
 {
     if z < (low as i64) {
         return Verdict::Below;
@@ -61,13 +61,13 @@ fn ranged(low: i32, high: i32, z: i64) -> Verdict
 
 // A value with its rate added: is the sum in its declared range?
 fn stays(low: i32, high: i32, x: i32, rate: i32) -> Verdict
-    ensures { λ r. ⌜ r ≡ stepTold (valued (rangedOf low high (x +ℤ rate))) ⌝ }
+    ensures { λ r. ⌜ r ≡ stepVerdict (valued (rangedOf low high (x +ℤ rate))) ⌝ }
 {
     ranged(low, high, (x as i64) + (rate as i64))
 }
 
 fn sum(low: i32, high: i32, x: i32, rate: i32) -> i32
-    requires { ⌜ goesOn (stepTold (valued (rangedOf low high (x +ℤ rate)))) ≡ true ⌝ }
+    requires { ⌜ goesOn (stepVerdict (valued (rangedOf low high (x +ℤ rate)))) ≡ true ⌝ }
     ensures { λ y. ⌜ y ≡ x +ℤ rate ⌝ }
 {
     x + rate
@@ -114,7 +114,7 @@ fn add_first(lows: &[i32], highs: &[i32], rates: &[i32], values: &mut [i32], k: 
 // Each value adds its rate, or none does.
 pub fn advance(lows: &[i32], highs: &[i32], rates: &[i32], values: &mut [i32]) -> Verdict
     requires { ⌜ Sized (now lows) (now highs) (now rates) (now values) ⌝ }
-    ensures { λ r. ⌜ (r ≡ stepTold (valued (advanced (now (lows .entry)) (now (highs .entry)) (now (rates .entry)) (now (values .entry))))) × (now (values .exit) ≡ orElse (now (values .entry)) (advanced (now (lows .entry)) (now (highs .entry)) (now (rates .entry)) (now (values .entry)))) ⌝ }
+    ensures { λ r. ⌜ (r ≡ stepVerdict (valued (advanced (now (lows .entry)) (now (highs .entry)) (now (rates .entry)) (now (values .entry))))) × (now (values .exit) ≡ orElse (now (values .entry)) (advanced (now (lows .entry)) (now (highs .entry)) (now (rates .entry)) (now (values .entry)))) ⌝ }
 {
     let k = staying(lows, highs, rates, values);
     let fit = side(lows, highs, rates, values, k);
@@ -141,7 +141,7 @@ fn store(
     done: Verdict,
 ) -> Verdict
     requires { ⌜ (v < length (now values)) × (length (now lows) ≡ length (now values)) × (length (now highs) ≡ length (now values)) ⌝ }
-    ensures { λ r. ⌜ (r ≡ doneTold done (valued (stored (now (lows .entry)) (now (highs .entry)) (now (values .entry)) v z))) × (now (values .exit) ≡ orElse (now (values .entry)) (stored (now (lows .entry)) (now (highs .entry)) (now (values .entry)) v z)) ⌝ }
+    ensures { λ r. ⌜ (r ≡ doneVerdict done (valued (stored (now (lows .entry)) (now (highs .entry)) (now (values .entry)) v z))) × (now (values .exit) ≡ orElse (now (values .entry)) (stored (now (lows .entry)) (now (highs .entry)) (now (values .entry)) v z)) ⌝ }
 {
     let r = ranged(lows[v], highs[v], z as i64);
     if goes_on(r) {
@@ -154,7 +154,7 @@ fn store(
 // An assignment: its operand is the variable, then the number.
 fn assign(t: &[u8], lows: &[i32], highs: &[i32], values: &mut [i32], done: Verdict) -> Verdict
     requires { ⌜ (1 ≤ length (now t)) × (getD (now t) 0 0 < length (now values)) × (length (now lows) ≡ length (now values)) × (length (now highs) ≡ length (now values)) ⌝ }
-    ensures { λ r. ⌜ (r ≡ doneTold done (valued (assigned (now (lows .entry)) (now (highs .entry)) (now (values .entry)) (getD (now (t .entry)) 0 0) (drop 1 (now (t .entry)))))) × (now (values .exit) ≡ orElse (now (values .entry)) (assigned (now (lows .entry)) (now (highs .entry)) (now (values .entry)) (getD (now (t .entry)) 0 0) (drop 1 (now (t .entry))))) ⌝ }
+    ensures { λ r. ⌜ (r ≡ doneVerdict done (valued (assigned (now (lows .entry)) (now (highs .entry)) (now (values .entry)) (getD (now (t .entry)) 0 0) (drop 1 (now (t .entry)))))) × (now (values .exit) ≡ orElse (now (values .entry)) (assigned (now (lows .entry)) (now (highs .entry)) (now (values .entry)) (getD (now (t .entry)) 0 0) (drop 1 (now (t .entry))))) ⌝ }
 {
     let v = wide(t[0]);
     match expression::number_value(&t[1..], values) {

@@ -1,3 +1,2 @@
 -- The call "examining": a schedule is compiled, run by the rules and run by its table, and the two runs are compared.
-pub mod Exam
 pub mod Examining

@@ -10,8 +10,8 @@ ghost use Rattle.semantics.specs.Calls.{recordSize};
 ghost use Rattle.schedules.specs.Files.{Schedule, judgeFile};
 ghost use Rattle.rule_run.specs.Called as ruled;
 ghost use Rattle.table_run.specs.Called as tabled;
-ghost use Rattle.exam.specs.Exam as Exam;
-ghost use Rattle.exam.specs.Exam.{judgeExam, sameBytes, sameNumbers, examOf};
+ghost use Rattle.schedules.specs.Exam as Exam;
+ghost use Rattle.schedules.specs.Exam.{judgeExam, sameBytes, sameNumbers, examOf};
 ghost use Rattle.exam.specs.Examining.{noExam, Returned, Room};
 
 // 0, or the number of the first condition that is broken; the other numbers are 0 then

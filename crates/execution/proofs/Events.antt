@@ -14,9 +14,9 @@ use Rattle.semantics.specs.Run.{Action, test, wait, assign, switch, stop, away,
 use Rattle.semantics.proofs.Facts.{true-not-false}
 use Rattle.nodeset.specs.Sets.{mem, members}
 use Rattle.nodeset.proofs.Members.{among-members}
-use Rattle.effects.specs.Told.{doneTold, stepTold, goesOn, movedTold, eventTold, valuesLeft, modesLeft, Left, orElse}
+use Rattle.effects.specs.Verdicts.{doneVerdict, stepVerdict, goesOn, movedVerdict, eventVerdict, valuesLeft, modesLeft, Left, orElse}
 use Rattle.effects.specs.Ranges.{rangesOf, advanced, rangesOnly}
-use Rattle.effects.specs.Deeds.{kindOf, form, Fit}
+use Rattle.effects.specs.ActionForms.{kindOf, form, Fit}
 use Rattle.execution.specs.Operands.{isWaitKind}
 use Rattle.modes.specs.Modes.{modesNow, laid, switchTaken}
 use Rattle.semantics.specs.Sections.{Mode}
@@ -30,11 +30,11 @@ use Rattle.execution.proofs.Lending.{modes-current, declared-same, adva
 -- ---- what is left
 module _ (vs : List ℤ) (ms : List ℕ) where
   pub left-away : {j : Run.Verdict Done} {n : ℕ} → j ≡ away n → Left j vs ms (Away n) vs ms
-  unfolding eventTold valuesLeft modesLeft
+  unfolding eventVerdict valuesLeft modesLeft
   left-away e = rw e (record { answer = refl; values = refl; modes = refl })
 
-  left-out : {A : Type 0} (u : Run.Verdict A) (w : Run.Verdict Done) {r : Verdict} → r ≡ stepTold u → goesOn r ≡ false → Left (u >> w) vs ms r vs ms
-  unfolding _>>_ doneTold goesOn eventTold valuesLeft modesLeft
+  left-out : {A : Type 0} (u : Run.Verdict A) (w : Run.Verdict Done) {r : Verdict} → r ≡ stepVerdict u → goesOn r ≡ false → Left (u >> w) vs ms r vs ms
+  unfolding _>>_ doneVerdict goesOn eventVerdict valuesLeft modesLeft
   left-out (away n) w e h = record { answer = e; values = refl; modes = refl }
   left-out (faulty above) w e h = record { answer = e; values = refl; modes = refl }
   left-out (faulty below) w e h = record { answer = e; values = refl; modes = refl }
@@ -47,8 +47,8 @@ module _ (vs : List ℤ) (ms : List ℕ) where
   abbrev ticked : Value (List ℤ) → Run.Verdict Done
   ticked u = valued u >>= (λ ys. pass (record { moved = nobody; values = ys; modes = ms }))
 
-  left-ticked : (u : Value (List ℤ)) {r : Verdict} {ys : List ℤ} → r ≡ stepTold (valued u) → ys ≡ orElse vs u → Left (ticked u) vs ms r ys ms
-  unfolding valued _>>=_ doneTold orElse movedTold eventTold valuesLeft modesLeft
+  left-ticked : (u : Value (List ℤ)) {r : Verdict} {ys : List ℤ} → r ≡ stepVerdict (valued u) → ys ≡ orElse vs u → Left (ticked u) vs ms r ys ms
+  unfolding valued _>>=_ doneVerdict orElse movedVerdict eventVerdict valuesLeft modesLeft
   left-ticked (ok a) e f = record { answer = e; values = f; modes = refl }
   left-ticked (fault above) e f = record { answer = e; values = f; modes = refl }
   left-ticked (fault below) e f = record { answer = e; values = f; modes = refl }
@@ -106,11 +106,11 @@ module _ (p : Plant) (f : ℕ → Action) (l : Lent) (ws : List ℕ) (vs : List 
   unfolding judgeTick allow _>>_
   tick-is e = rw (waiting-is, e) (ap₂ (λ a b. a >> (walk edition1 31 vs b >> ticked vs ms (advance p ms vs))) check-is (truths-are e))
 
-  module _ (h : waiting ≡ true) (r : Verdict) (e : r ≡ stepTold check) where
+  module _ (h : waiting ≡ true) (r : Verdict) (e : r ≡ stepVerdict check) where
     pub tick-28 : goesOn r ≡ false → Left tick vs ms r vs ms
     tick-28 g = left-eq vs ms (tick-is h) (left-out vs ms check (walked >> ticked vs ms (advance p ms vs)) e g)
 
-    module _ (g : goesOn r ≡ true) (w : Verdict) (d : w ≡ stepTold walked) where
+    module _ (g : goesOn r ≡ true) (w : Verdict) (d : w ≡ stepVerdict walked) where
       on : tick ≡ (walked >> ticked vs ms (advance p ms vs))
       on = tick-is h ∙ then-on check (walked >> ticked vs ms (advance p ms vs)) r e g
 
@@ -118,10 +118,10 @@ module _ (p : Plant) (f : ℕ → Action) (l : Lent) (ws : List ℕ) (vs : List 
       tick-31 k = left-eq vs ms on (left-out vs ms walked (ticked vs ms (advance p ms vs)) d k)
 
       pub tick-end : goesOn w ≡ true → (rs : List ℤ) → rs ≡ laid (l .steady) (flatMap (λ (m : Mode). m .rates) (modesNow (l .equations) (l .places) ms)) → {x : Verdict} {ys : List ℤ}
-          → x ≡ stepTold (valued (advanced (l .lows) (l .highs) rs vs)) → ys ≡ orElse vs (advanced (l .lows) (l .highs) rs vs) → Left tick vs ms x ys ms
+          → x ≡ stepVerdict (valued (advanced (l .lows) (l .highs) rs vs)) → ys ≡ orElse vs (advanced (l .lows) (l .highs) rs vs) → Left tick vs ms x ys ms
       tick-end k rs i a b =
           let u = advance-is p l (q .plant) vs ms (q .fits) rs i in
-          left-eq vs ms (on ∙ then-on walked (ticked vs ms (advance p ms vs)) w d k) (left-ticked vs ms (advance p ms vs) (a ∙ ap (λ v. stepTold (valued v)) u) (b ∙ ap (orElse vs) u))
+          left-eq vs ms (on ∙ then-on walked (ticked vs ms (advance p ms vs)) w d k) (left-ticked vs ms (advance p ms vs) (a ∙ ap (λ v. stepVerdict (valued v)) u) (b ∙ ap (orElse vs) u))
 
   -- ---- a pick
   module _ (n : ℕ) (small : n < 256) where
@@ -136,7 +136,7 @@ module _ (p : Plant) (f : ℕ → Action) (l : Lent) (ws : List ℕ) (vs : List 
     unfolding judgePick allow _>>_
     pick-is e = rw (among-members ws n small, e) (ap (λ a. a >> act edition1 p vs ms n (f n)) check-is)
 
-    module _ (h : mem ws n ≡ true) (r : Verdict) (e : r ≡ stepTold check) where
+    module _ (h : mem ws n ≡ true) (r : Verdict) (e : r ≡ stepVerdict check) where
       pub pick-28 : goesOn r ≡ false → Left pick vs ms r vs ms
       pick-28 g = left-eq vs ms (pick-is h) (left-out vs ms check (act edition1 p vs ms n (f n)) e g)
 

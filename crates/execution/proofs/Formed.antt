@@ -13,11 +13,11 @@ use Rattle.semantics.specs.Editions.{edition1}
 use Rattle.semantics.specs.Sections.{Selector}
 use Rattle.semantics.specs.Plant.{modeExists}
 use Rattle.semantics.specs.Run.{Action, test, wait, assign, switch, stop, isWait, waitTruth}
-use Rattle.semantics.specs.TableFile.{actionKind, actionOf, a-test, a-wait, an-assignment, a-switch, a-stop, no-kind}
+use Rattle.semantics.specs.TableFile.{actionKind, actionOfKind, a-test, a-wait, an-assignment, a-switch, a-stop, no-kind}
 use Rattle.semantics.specs.Tables.{operandFits}
 use Rattle.semantics.proofs.Facts.{true-not-false, none-not-some, some-is, at-below, and-left}
 use Rattle.nodeset.specs.Sets.{mem, membersFrom, members}
-use Rattle.effects.specs.Deeds.{kindOf, form, Fit}
+use Rattle.effects.specs.ActionForms.{kindOf, form, Fit}
 use Rattle.execution.specs.Ready.{actionNamed}
 
 -- ---- the five forms
@@ -45,12 +45,12 @@ unfolding noBytes
 stop-formed k [] e h = is-stop e (sym (some-is h))
 stop-formed k (x ∷ t) e h = none-not-some h
 
-pub formed : (k : ℕ) (t : List ℕ) (a : Action) → actionOf (actionKind k) t ≡ some a → Formed k t a
-unfolding actionKind actionOf
+pub formed : (k : ℕ) (t : List ℕ) (a : Action) → actionOfKind (actionKind k) t ≡ some a → Formed k t a
+unfolding actionKind actionOfKind
 formed k t a h = go (eqb k 1) (eqb k 2) (eqb k 3) (eqb k 4) (eqb k 5) refl refl refl refl refl h
   where
     go : (b c d e f : Bool) → eqb k 1 ≡ b → eqb k 2 ≡ c → eqb k 3 ≡ d → eqb k 4 ≡ e → eqb k 5 ≡ f
-        → actionOf (cond b a-test (cond c a-wait (cond d an-assignment (cond e a-switch (cond f a-stop no-kind))))) t ≡ some a → Formed k t a
+        → actionOfKind (cond b a-test (cond c a-wait (cond d an-assignment (cond e a-switch (cond f a-stop no-kind))))) t ≡ some a → Formed k t a
     go true c d e f p q r s u h = is-test (eqb-true k 1 p) (sym (some-is h))
     go false true d e f p q r s u h = is-wait (eqb-true k 2 q) (sym (some-is h))
     go false false true e f p q r s u h = assign-formed k t (eqb-true k 3 r) h

@@ -10,7 +10,7 @@ use Rattle.semantics.specs.Expressions.{above, below}
 use Rattle.semantics.specs.Run as Run
 use Rattle.semantics.specs.Run.{away, faulty, pass, Moved, nobody, mover, Done, Control, Answered, setNumber, actingSet, valueBytes, recordOf}
 use Rattle.nodeset.specs.Sets.{members}
-use Rattle.effects.specs.Told.{movedTold, eventTold, valuesLeft, modesLeft, Left}
+use Rattle.effects.specs.Verdicts.{movedVerdict, eventVerdict, valuesLeft, modesLeft, Left}
 use Rattle.effects.specs.declared.Verdict.{Verdict}
 use Rattle.effects.specs.declared.Verdict.the-variants.{Away, Above, Below, Stay, Move}
 
@@ -31,13 +31,13 @@ module _ (j : Run.Verdict Done) (vs : List ℤ) (ms : List ℕ) (vs' : List ℤ)
     of-stay : j ≡ pass (record { moved = nobody; values = vs'; modes = ms' }) → Heard Stay
     of-move : {n : ℕ} {b : Bool} → j ≡ pass (record { moved = mover n b; values = vs'; modes = ms' }) → Heard (Move n b)
 
-  moved-heard : (d : Done) (m : Moved) → d .moved ≡ m → j ≡ pass d → vs' ≡ d .values → ms' ≡ d .modes → Heard (movedTold m)
-  unfolding movedTold
+  moved-heard : (d : Done) (m : Moved) → d .moved ≡ m → j ≡ pass d → vs' ≡ d .values → ms' ≡ d .modes → Heard (movedVerdict m)
+  unfolding movedVerdict
   moved-heard d nobody e h f g = of-stay (h ∙ ap pass (done-is d e f g))
   moved-heard d (mover n b) e h f g = of-move (h ∙ ap pass (done-is d e f g))
 
-  heard-as : (v : Run.Verdict Done) → j ≡ v → vs' ≡ valuesLeft vs v → ms' ≡ modesLeft ms v → Heard (eventTold v)
-  unfolding eventTold valuesLeft modesLeft
+  heard-as : (v : Run.Verdict Done) → j ≡ v → vs' ≡ valuesLeft vs v → ms' ≡ modesLeft ms v → Heard (eventVerdict v)
+  unfolding eventVerdict valuesLeft modesLeft
   heard-as (away n) h f g = of-away (record { judged = h; values = f; modes = g })
   heard-as (faulty above) h f g = of-above (record { judged = h; values = f; modes = g })
   heard-as (faulty below) h f g = of-below (record { judged = h; values = f; modes = g })

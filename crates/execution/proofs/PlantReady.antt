@@ -49,13 +49,13 @@ module _ (vs es : List ℕ) {p : Plant} (h : judgePlant edition1 vs es ≡ accep
   pub highs-lent : take (plantOf vs es .variables) (plantOf vs es .highs) ≡ map (λ (x : Variable). x .maximum) (p .variables)
   highs-lent = ap (λ n. take n (plantOf vs es .highs)) (variables-of vs es h) ∙ ap (take (length (p .variables))) (highs-of vs es h) ∙ column-front (λ (x : Variable). x .maximum) (p .variables)
 
-  places-long : 128 ≤ length (plantOf vs es .places)
+  places-long : 128 ≤ length (plantOf vs es .«mode_offsets»)
   places-long = omega (arith, ap length (places-of vs es h), pad-long 128 0 (modePlaces 1 (p .equations)))
 
   steady-length : length (plantOf vs es .steady) ≡ 32
   steady-length = ap length (steady-of vs es h) ∙ put-length (steadyRates (p .equations)) (replicate 32 (pos 0)) ∙ length-replicate 32 (pos 0)
 
-  module _ (l : Lent) (equations : l .equations ≡ es) (places : l .places ≡ plantOf vs es .places) where
+  module _ (l : Lent) (equations : l .equations ≡ es) (places : l .places ≡ plantOf vs es .«mode_offsets») where
     mode-lent : (j : ℕ) (c : Selector) → getElem? (selectors p) j ≡ some c → (m : ℕ) → m < length (c .modes) → ModeLent l j c m
     unfolding selectors
     mode-lent j c g m i =

@@ -13,7 +13,7 @@ use Rattle.semantics.specs.Run.{walk}
 use Rattle.nodeset.specs.Sets.{mem, members, firstFrom}
 use Rattle.nodeset.proofs.Members.{no-more}
 use Rattle.nodeset.proofs.Firsts.{membersOn, on-start, on-first, on-member, first-in}
-use Rattle.effects.specs.Told.{doneTold, stepTold, goesOn, truthTold}
+use Rattle.effects.specs.Verdicts.{doneVerdict, stepVerdict, goesOn, truthVerdict}
 use Rattle.execution.specs.Operands.{isWaitKind}
 use Rattle.effects.specs.declared.Verdict.{Verdict}
 use Rattle.effects.specs.declared.Verdict.the-variants.{Away, Stay}
@@ -62,13 +62,13 @@ module _ (vs : List ℤ) (cut : ℕ → List ℕ) (ws : List ℕ) where
   pub still-start : {m : ℕ} → m ≡ firstFrom ws 0 256 → walk edition1 31 vs (map cut (members ws)) ≡ stillFrom m
   still-start e = ap asks (on-start ws ∙ on-first ws 0 (omega arith) e)
 
-  module _ (n : ℕ) (h : n < 64) (x : At ws n) (r : Verdict) (e : r ≡ truthTold (Away 31) Stay (truthValue edition1 vs (cut n))) where
-    pub still-out : goesOn r ≡ false → r ≡ stepTold (stillFrom n)
-    still-out f = walk-out 31 vs (cut n) (map cut (membersOn ws (n + 1))) r e f ∙ sym (ap (λ l. stepTold (asks l)) (on-member ws n (omega arith) (x .member (omega arith))))
+  module _ (n : ℕ) (h : n < 64) (x : At ws n) (r : Verdict) (e : r ≡ truthVerdict (Away 31) Stay (truthValue edition1 vs (cut n))) where
+    pub still-out : goesOn r ≡ false → r ≡ stepVerdict (stillFrom n)
+    still-out f = walk-out 31 vs (cut n) (map cut (membersOn ws (n + 1))) r e f ∙ sym (ap (λ l. stepVerdict (asks l)) (on-member ws n (omega arith) (x .member (omega arith))))
 
     pub still-on : {m : ℕ} → m ≡ firstFrom ws (n + 1) (256 - (n + 1)) → goesOn r ≡ true → stillFrom n ≡ stillFrom m
     still-on g f = ap asks (on-member ws n (omega arith) (x .member (omega arith))) ∙ walk-on 31 vs (cut n) (map cut (membersOn ws (n + 1))) r e f ∙ ap asks (on-first ws (n + 1) (omega arith) g)
 
-  pub still-end : (n : ℕ) → 64 ≤ n → ((m : ℕ) → mem ws m ≡ true → m < 64) → Stay ≡ stepTold (stillFrom n)
-  unfolding walk doneTold
-  still-end n e f = sym (ap (λ l. stepTold (asks l)) (on-end ws n e f))
+  pub still-end : (n : ℕ) → 64 ≤ n → ((m : ℕ) → mem ws m ≡ true → m < 64) → Stay ≡ stepVerdict (stillFrom n)
+  unfolding walk doneVerdict
+  still-end n e f = sym (ap (λ l. stepVerdict (asks l)) (on-end ws n e f))

@@ -11,7 +11,7 @@ use Rattle.semantics.specs.Events.{Event, eventIn}
 use Rattle.semantics.specs.Run as Run
 use Rattle.semantics.specs.Run.{away, faulty, pass, to, finished, halted, Done, Control, judge, at, over, faultAnswer, turnedAway, arrive, follow, settle, step, setNumber, actingSet}
 use Rattle.nodeset.specs.Sets.{members}
-use Rattle.effects.specs.Told.{valuesLeft, modesLeft, Left}
+use Rattle.effects.specs.Verdicts.{valuesLeft, modesLeft, Left}
 use Rattle.execution.specs.Ready.{Lent, Ready, Fits}
 use Rattle.effects.specs.declared.Verdict.{Verdict}
 use Rattle.effects.specs.declared.Verdict.the-variants.{Away, Above, Below, Stay, Move}

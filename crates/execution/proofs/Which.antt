@@ -7,13 +7,13 @@ use Prim.Native.Nat.{ℕ}
 use borrow.Author.Tests.{eq-eqb, ne-eqb}
 use lib.Dec.{eqb}
 use lib.IntN.{ℤ}
-use Rattle.semantics.specs.Bytes.{every, Read, broken, read, _>>=_, after, byte, number, fail, just, whole}
+use Rattle.semantics.specs.Bytes.{every, Read, broken, read, _>>=_, andThen, byte, number, fail, just, whole}
 use Rattle.semantics.specs.Editions.{edition1}
 use Rattle.semantics.specs.Plant.{Plant}
-use Rattle.semantics.specs.Events.{Event, tick, pick, take-switch, senseless, EventKind, no-kind, eventKind, unused, readKind, readEvent, eventIn}
+use Rattle.semantics.specs.Events.{Event, tick, pick, take-switch, senseless, EventKind, no-kind, eventKind, unused, readEventBody, readEvent, eventIn}
 use Rattle.semantics.specs.Run.{Action, judge, judgeTick, judgePick, judgeSwitch}
 use Rattle.semantics.specs.Run as Run
-use Rattle.effects.specs.Told.{Left}
+use Rattle.effects.specs.Verdicts.{Left}
 use Rattle.effects.specs.declared.Verdict.{Verdict}
 use Rattle.effects.specs.declared.Verdict.the-variants.{Away}
 use Rattle.execution.proofs.Events.{left-away, left-eq}
@@ -24,7 +24,7 @@ made e t = elim (just (cond {A = Read Event} t (read e []) broken)) [ none ↦ s
 
 -- an event of a kind
 abbrev kinded : List ℕ → EventKind → Event
-kinded s k = elim (just (readKind edition1 k s)) [ none ↦ senseless | some m ↦ m ]
+kinded s k = elim (just (readEventBody edition1 k s)) [ none ↦ senseless | some m ↦ m ]
 
 abbrev unusedZero : List ℕ → Bool
 unusedZero s = every (λ b. eqb b 0) s
@@ -42,27 +42,27 @@ module _ (a b c : ℕ) where
   event = eventIn edition1 (a ∷ b ∷ c ∷ [])
 
   is-tick : a ≡ 0 → b ≡ 0 → c ≡ 0 → event ≡ tick
-  unfolding eventIn readEvent readKind eventKind unused every _>>=_ after byte just whole
+  unfolding eventIn readEvent readEventBody eventKind unused every _>>=_ andThen byte just whole
   is-tick e f g = rw (e, f, g) refl
 
   no-tick : a ≡ 0 → unusedZero (b ∷ c ∷ []) ≡ false → event ≡ senseless
-  unfolding eventIn readEvent readKind eventKind unused _>>=_ after byte just whole
+  unfolding eventIn readEvent readEventBody eventKind unused _>>=_ andThen byte just whole
   no-tick e h = rw e (ap (made tick) h)
 
   is-pick : a ≡ 1 → c ≡ 0 → event ≡ pick b
-  unfolding eventIn readEvent readKind eventKind unused every _>>=_ after byte number just whole
+  unfolding eventIn readEvent readEventBody eventKind unused every _>>=_ andThen byte number just whole
   is-pick e g = rw (e, g) refl
 
   no-pick : a ≡ 1 → unusedZero (c ∷ []) ≡ false → event ≡ senseless
-  unfolding eventIn readEvent readKind eventKind unused _>>=_ after byte number just whole
+  unfolding eventIn readEvent readEventBody eventKind unused _>>=_ andThen byte number just whole
   no-pick e h = rw e (ap (made (pick b)) h)
 
   is-switch : a ≡ 2 → event ≡ take-switch b c
-  unfolding eventIn readEvent readKind eventKind unused every _>>=_ after byte just whole
+  unfolding eventIn readEvent readEventBody eventKind unused every _>>=_ andThen byte just whole
   is-switch e = rw e refl
 
   unknown : eventKind a ≡ no-kind → event ≡ senseless
-  unfolding eventIn readEvent readKind _>>=_ after byte fail just whole
+  unfolding eventIn readEvent readEventBody _>>=_ andThen byte fail just whole
   unknown e = ap (kinded (b ∷ c ∷ [])) e
 
 no-kind-of : (a : ℕ) → (a ≡ 0 → ⊥) → (a ≡ 1 → ⊥) → (a ≡ 2 → ⊥) → eventKind a ≡ no-kind

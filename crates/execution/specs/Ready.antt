@@ -12,7 +12,7 @@ use Rattle.semantics.specs.Sections.{Variable, Selector}
 use Rattle.semantics.specs.Plant.{Plant, equationNamed, drivenOnce, selectors, modeExists, noMode, rateAmong}
 use Rattle.semantics.specs.Starts.{modesFit}
 use Rattle.semantics.specs.Run.{Action, test, wait, assign, switch, stop}
-use Rattle.semantics.specs.TableFile.{actionKind, actionOf}
+use Rattle.semantics.specs.TableFile.{actionKind, actionOfKind}
 use Rattle.nodeset.specs.Sets.{mem}
 use Rattle.plant.specs.Equations.{steadyRates}
 use Rattle.execution.specs.Operands.{cutAt, Cut}
@@ -78,7 +78,7 @@ pub record NodeLent (p : Plant) (a : Action) (l : Lent) (n : ℕ) : Type 0 where
   pub below : n < 64
   pub kind : n < length (l .kinds)
   pub cut : Cut (l .operands) (l .starts) (l .ends) n
-  pub is : actionOf (actionKind (getD (l .kinds) n 0)) (operandAt l n) ≡ some a
+  pub is : actionOfKind (actionKind (getD (l .kinds) n 0)) (operandAt l n) ≡ some a
   pub named : actionNamed (length (p .variables)) (selectors p) a ≡ true
 
 -- ---- an event

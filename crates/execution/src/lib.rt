@@ -13,7 +13,7 @@ ghost use Rattle.semantics.specs.Events.{eventIn};
 ghost use Rattle.semantics.specs.Expressions.{truthValue};
 ghost use Rattle.semantics.specs.Run.{Action, walk, judgeTick, judgePick, judge as judgeOf};
 ghost use Rattle.nodeset.specs.Sets.{mem, members};
-ghost use Rattle.effects.specs.Told.{stepTold, truthTold, Left};
+ghost use Rattle.effects.specs.Verdicts.{stepVerdict, truthVerdict, Left};
 ghost use Rattle.effects.specs.declared.Verdict.the-variants.{Away, Stay};
 ghost use Rattle.execution.specs.Operands.{cutAt, Cut, isWaitKind};
 ghost use Rattle.execution.specs.Ready.{Ready, Promised, lent};
@@ -36,7 +36,7 @@ fn all_wait(kinds: &[u8], acting: NodeSet) -> bool
 // The truth of the wait n.
 fn still(ops: &[u8], starts: &[usize], ends: &[usize], values: &[i32], n: usize) -> Verdict
     requires { ⌜ Cut (now ops) (now starts) (now ends) n ⌝ }
-    ensures { λ r. ⌜ r ≡ truthTold (Away 31) Stay (truthValue edition1 (now (values .entry)) (cutAt (now (ops .entry)) (now (starts .entry)) (now (ends .entry)) n)) ⌝ }
+    ensures { λ r. ⌜ r ≡ truthVerdict (Away 31) Stay (truthValue edition1 (now (values .entry)) (cutAt (now (ops .entry)) (now (starts .entry)) (now (ends .entry)) n)) ⌝ }
 {
     let b = starts[n];
     let e = ends[n];
@@ -52,7 +52,7 @@ fn all_still(
     values: &[i32],
 ) -> Verdict
     requires { ⌜ ((n : ℕ) → mem (acting .words) n ≡ true → (n < 64) × Cut (now ops) (now starts) (now ends) n) ⌝ }
-    ensures { λ r. ⌜ r ≡ stepTold (walk edition1 31 (now (values .entry)) (map (cutAt (now (ops .entry)) (now (starts .entry)) (now (ends .entry))) (members (acting .words)))) ⌝ }
+    ensures { λ r. ⌜ r ≡ stepVerdict (walk edition1 31 (now (values .entry)) (map (cutAt (now (ops .entry)) (now (starts .entry)) (now (ends .entry))) (members (acting .words)))) ⌝ }
 {
     let mut n = nodeset::next(acting, 0);
     while n < 64 {

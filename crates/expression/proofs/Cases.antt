@@ -6,7 +6,7 @@ use Prim.Native.Nat.{ℕ}
 use lib.IntN.{ℤ}
 use types.Run.{OneOf, miss}
 use denote.Enum.Declared.{tagOf}
-use Rattle.expression.specs.Founds.{of-two, joined, negated, opposed}
+use Rattle.expression.specs.Evaluation.{of-two, joined, negated, opposed}
 use Rattle.expression.specs.declared.Found.{Found}
 use Rattle.expression.specs.declared.Found.the-variants.{ANumber, NumberFault, ATruth, TruthFault, Broken}
 use Rattle.expression.proofs.Found.{the-type}

@@ -6,7 +6,7 @@ use lib.Dec.{eqb}
 use borrow.Author.Tests.{eqb-true, eqb-false, ne-eqb}
 use Rattle.semantics.specs.Expressions.{Form, an-operation, a-comparison, a-connective, unknown, formOf}
 use Rattle.semantics.proofs.Facts.{by-cases}
-use Rattle.expression.specs.Founds.{operationOf, comparisonOf, connectiveOf}
+use Rattle.expression.specs.Evaluation.{operationOf, comparisonOf, connectiveOf}
 
 -- a law of the codes that follow, from the law of each
 step : (g : ℕ → Form) (c k : ℕ) → formOf k ≡ g k → ((c ≡ k → ⊥) → formOf c ≡ g c) → formOf c ≡ g c

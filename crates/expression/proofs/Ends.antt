@@ -9,7 +9,7 @@ use lib.ListN.{length, take, drop, length-append, take-append-drop}
 use lib.Seq.{drop-append-seam}
 use Rattle.semantics.specs.Bytes.{Read, broken, read, Reader, _>>=_, give, fail, guard, from, byte, nat4, int4}
 use Rattle.semantics.specs.Editions.{Edition}
-use Rattle.semantics.specs.Expressions.{Form, a-constant, a-variable, an-operation, a-negation, a-comparison, a-connective, an-opposite, a-true, unknown, formOf, Expression, readVariable, readNumber, readTruth, readForm, readExpression}
+use Rattle.semantics.specs.Expressions.{Form, a-constant, a-variable, an-operation, a-negation, a-comparison, a-connective, an-opposite, a-true, unknown, formOf, Expression, readVariableNumber, readNumber, readTruth, readForm, readExpression}
 use Rattle.semantics.proofs.Readers.{broken-not-read, split, given-rest, guarded, from-some, byte-read}
 
 pub record Leaves {A : Type 0} (r : Reader A) : Type 0 where
@@ -54,7 +54,7 @@ module _ (ed : Edition) (v : ℕ) where
   leaves-truth r h = leaves-then _ _ h λ e. leaves-from _
 
   leaves-form : (r : Reader Expression) → Leaves r → (f : Form) → Leaves (readForm ed v r f)
-  unfolding readForm readVariable
+  unfolding readForm readVariableNumber
   leaves-form r h a-constant = leaves-then _ _ leaves-int4 λ z. leaves-give _
   leaves-form r h a-variable = leaves-then _ _ leaves-byte λ n. leaves-guard _ _ (leaves-give _)
   leaves-form r h (an-operation o) = leaves-then _ _ (leaves-number r h) λ a. leaves-then _ _ (leaves-number r h) λ b. leaves-give _

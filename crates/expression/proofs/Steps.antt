@@ -11,11 +11,11 @@ use lib.IntN.{ℤ, pos, negℤ}
 use lib.ListN.{length, drop, getD, length-drop, drop-of-length-le}
 use lib.Seq.{drop-cons, getD-drop, drop-drop}
 use borrow.Author.Tests.{leb-true, leb-false, ltb-true, ltb-false}
-use Rattle.semantics.specs.Bytes.{be4, signed, Read, broken, read, Reader, _>>=_, after, give, fail, guard, from, byte, nat4, int4}
+use Rattle.semantics.specs.Bytes.{be4, signed, Read, broken, read, Reader, _>>=_, andThen, give, fail, guard, from, byte, nat4, int4}
 use Rattle.semantics.specs.Editions.{edition1}
-use Rattle.semantics.specs.Expressions.{Value, ok, fault, result, thenValue, operands, Operation, Comparison, applied, compared, connected, Number, constant, variable, operate, negation, Truth, compare, connect, opposite, valueOf, holds, Form, a-constant, a-variable, an-operation, a-negation, a-comparison, a-connective, an-opposite, a-true, unknown, formOf, Expression, a-number, a-truth, toNumber, toTruth, readVariable, readNumber, readTruth, readForm, readExpression}
+use Rattle.semantics.specs.Expressions.{Value, ok, fault, result, thenValue, operands, Operation, Comparison, applied, compared, connected, Number, constant, variable, operate, negation, Truth, compare, connect, opposite, valueOf, holds, Form, a-constant, a-variable, an-operation, a-negation, a-comparison, a-connective, an-opposite, a-true, unknown, formOf, Expression, a-number, a-truth, toNumber, toTruth, readVariableNumber, readNumber, readTruth, readForm, readExpression}
 use Rattle.semantics.proofs.Facts.{by-cases}
-use Rattle.expression.specs.Founds.{numberAt, truthAt, foundIn, found, nextOf, operationOf, comparisonOf, connectiveOf, wordAt, constantAt, variableAt, of-two, operated, related, joined, negated, opposed}
+use Rattle.expression.specs.Evaluation.{numberAt, truthAt, foundIn, found, nextOf, operationOf, comparisonOf, connectiveOf, wordAt, constantAt, variableAt, of-two, operated, related, joined, negated, opposed}
 use Rattle.expression.specs.declared.Found.{Found}
 use Rattle.expression.specs.declared.Found.the-variants.{NumberFault, ATruth, TruthFault, Broken}
 use Rattle.expression.proofs.Ends.{Ends, nothing, at-end, ends}
@@ -31,7 +31,7 @@ unfolding byte
 byte-past s p h = rw (drop-of-length-le s h) refl
 
 nat4-long : (t : List ℕ) → 4 ≤ length t → nat4 t ≡ read (be4 (getD t 0 0) (getD t 1 0) (getD t 2 0) (getD t 3 0)) (drop 4 t)
-unfolding nat4 byte _>>=_ after give
+unfolding nat4 byte _>>=_ andThen give
 nat4-long [] h = absurd (omega arith)
 nat4-long (a ∷ []) h = absurd (omega arith)
 nat4-long (a ∷ b ∷ []) h = absurd (omega arith)
@@ -39,7 +39,7 @@ nat4-long (a ∷ b ∷ c ∷ []) h = absurd (omega arith)
 nat4-long (a ∷ b ∷ c ∷ d ∷ t) h = refl
 
 nat4-short : (t : List ℕ) → length t < 4 → nat4 t ≡ broken
-unfolding nat4 byte _>>=_ after give
+unfolding nat4 byte _>>=_ andThen give
 nat4-short [] h = refl
 nat4-short (a ∷ []) h = refl
 nat4-short (a ∷ b ∷ []) h = refl
@@ -72,23 +72,23 @@ module _ (vs : List ℤ) (s : List ℕ) (R : Reader Expression) where
   form-at f p = foundIn vs (length s) (readForm edition1 (length vs) R f (drop p s))
 
   constant-is : (p : ℕ) → constantAt s p ≡ form-at a-constant p
-  unfolding foundIn readForm int4 _>>=_ after give valueOf
+  unfolding foundIn readForm int4 _>>=_ andThen give valueOf
   constant-is p = by-cases (leb (p + 4) (length s))
       (λ e.
       let h = leb-true (p + 4) (length s) e in
-      rw e (sym (ap (λ o. foundIn vs (length s) (after (after o (λ n. give (signed n))) (λ z. give (a-number (constant z))))) (nat4-at s p h)
+      rw e (sym (ap (λ o. foundIn vs (length s) (andThen (andThen o (λ n. give (signed n))) (λ z. give (a-number (constant z))))) (nat4-at s p h)
       ∙ ap (λ n. numberAt n (result (signed (wordAt s p)))) (after-at s (p + 4) h))))
       (λ e.
-      rw e (sym (ap (λ o. foundIn vs (length s) (after (after o (λ n. give (signed n))) (λ z. give (a-number (constant z))))) (nat4-past s p (leb-false (p + 4) (length s) e)))))
+      rw e (sym (ap (λ o. foundIn vs (length s) (andThen (andThen o (λ n. give (signed n))) (λ z. give (a-number (constant z))))) (nat4-past s p (leb-false (p + 4) (length s) e)))))
 
   variable-is : (p : ℕ) → variableAt vs s p ≡ form-at a-variable p
-  unfolding foundIn readForm readVariable _>>=_ after give valueOf guard fail
+  unfolding foundIn readForm readVariableNumber _>>=_ andThen give valueOf guard fail
   variable-is p = by-cases (ltb p (length s))
       (λ e.
       let h = ltb-true p (length s) e in
-      rw e (go (ltb (getD s p 0) (length vs)) h ∙ sym (ap (λ o. foundIn vs (length s) (after o (λ v. guard (ltb v (length vs)) (give (a-number (variable v)))))) (byte-at s p h))))
+      rw e (go (ltb (getD s p 0) (length vs)) h ∙ sym (ap (λ o. foundIn vs (length s) (andThen o (λ v. guard (ltb v (length vs)) (give (a-number (variable v)))))) (byte-at s p h))))
       (λ e.
-      rw e (sym (ap (λ o. foundIn vs (length s) (after o (λ v. guard (ltb v (length vs)) (give (a-number (variable v)))))) (byte-past s p (ltb-false p (length s) e)))))
+      rw e (sym (ap (λ o. foundIn vs (length s) (andThen o (λ v. guard (ltb v (length vs)) (give (a-number (variable v)))))) (byte-past s p (ltb-false p (length s) e)))))
     where
       go : (b : Bool) → p < length s →
           cond b (numberAt (p + 1) (result (getD vs (getD s p 0) (pos 0)))) Broken ≡ foundIn vs (length s) (guard b (give (a-number (variable (getD s p 0)))) (drop (p + 1) s))
@@ -114,16 +114,16 @@ module _ (k : ℤ → ℤ → ℕ → Found) (f : Bool → ℕ → Found) where
   module _ (vs : List ℤ) (s : List ℕ) (R : Reader Expression) (mk : Number → Number → Expression)
       (good : (a b : Number) (m : ℕ) (t : List ℕ) → foundIn vs (length s) (read (mk a b) t) ≡ of-two k f (numberAt m (valueOf vs a)) (numberAt (length s - length t) (valueOf vs b))) where
     second : (a : Number) (m : ℕ) (E : Read Expression) →
-        foundIn vs (length s) (after (after E (λ e. from (toNumber e))) (λ b. give (mk a b))) ≡ of-two k f (numberAt m (valueOf vs a)) (foundIn vs (length s) E)
-    unfolding foundIn after from give fail toNumber
+        foundIn vs (length s) (andThen (andThen E (λ e. from (toNumber e))) (λ b. give (mk a b))) ≡ of-two k f (numberAt m (valueOf vs a)) (foundIn vs (length s) E)
+    unfolding foundIn andThen from give fail toNumber
     second a m broken = no-right m (valueOf vs a)
     second a m (read (a-number b) t) = good a b m t
     second a m (read (a-truth b) t) = wrong-right m (length s - length t) (valueOf vs a) (holds vs b)
 
     two-numbers : (D : Read Expression) → Ends s D →
-        foundIn vs (length s) (after (after D (λ e. from (toNumber e))) (λ a. readNumber edition1 (length vs) R >>= λ b. give (mk a b)))
+        foundIn vs (length s) (andThen (andThen D (λ e. from (toNumber e))) (λ a. readNumber edition1 (length vs) R >>= λ b. give (mk a b)))
         ≡ of-two k f (foundIn vs (length s) D) (foundIn vs (length s) (R (drop (nextOf (foundIn vs (length s) D)) s)))
-    unfolding foundIn after from give fail toNumber readNumber _>>=_
+    unfolding foundIn andThen from give fail toNumber readNumber _>>=_
     two-numbers broken nothing = refl
     two-numbers (read (a-number a) t) (at-end e) =
         rw (number-next (length s - length t) (valueOf vs a), e) (second a (length s - length t) (R t))
@@ -154,16 +154,16 @@ module _ (c : ℕ) where
 
   module _ (vs : List ℤ) (s : List ℕ) (R : Reader Expression) where
     second-truth : (a : Truth) (m : ℕ) (E : Read Expression) →
-        foundIn vs (length s) (after (after E (λ e. from (toTruth e))) (λ b. give (a-truth (connect (connectiveOf c) a b)))) ≡ joined c (truthAt m (holds vs a)) (foundIn vs (length s) E)
-    unfolding foundIn after from give fail toTruth holds
+        foundIn vs (length s) (andThen (andThen E (λ e. from (toTruth e))) (λ b. give (a-truth (connect (connectiveOf c) a b)))) ≡ joined c (truthAt m (holds vs a)) (foundIn vs (length s) E)
+    unfolding foundIn andThen from give fail toTruth holds
     second-truth a m broken = no-right-truth m (holds vs a)
     second-truth a m (read (a-number b) t) = wrong-right-truth m (length s - length t) (holds vs a) (valueOf vs b)
     second-truth a m (read (a-truth b) t) = good-joined m (length s - length t) (holds vs a) (holds vs b)
 
     two-truths : (D : Read Expression) → Ends s D →
-        foundIn vs (length s) (after (after D (λ e. from (toTruth e))) (λ a. readTruth edition1 (length vs) R >>= λ b. give (a-truth (connect (connectiveOf c) a b))))
+        foundIn vs (length s) (andThen (andThen D (λ e. from (toTruth e))) (λ a. readTruth edition1 (length vs) R >>= λ b. give (a-truth (connect (connectiveOf c) a b))))
         ≡ joined c (foundIn vs (length s) D) (foundIn vs (length s) (R (drop (nextOf (foundIn vs (length s) D)) s)))
-    unfolding foundIn after from give fail toTruth readTruth _>>=_
+    unfolding foundIn andThen from give fail toTruth readTruth _>>=_
     two-truths broken nothing = refl
     two-truths (read (a-number a) t) (at-end e) = wrong-left-truth (length s - length t) (valueOf vs a) _
     two-truths (read (a-truth a) t) (at-end e) =
@@ -204,14 +204,14 @@ wrong-opposed : (n : ℕ) (v : Value ℤ) → Broken ≡ opposed (numberAt n v)
 wrong-opposed n (ok z) = refl
 wrong-opposed n (fault u) = refl
 
-one-number : (vs : List ℤ) (n : ℕ) (D : Read Expression) → foundIn vs n (after (after D (λ e. from (toNumber e))) (λ a. give (a-number (negation a)))) ≡ negated (foundIn vs n D)
-unfolding foundIn after from give fail toNumber valueOf
+one-number : (vs : List ℤ) (n : ℕ) (D : Read Expression) → foundIn vs n (andThen (andThen D (λ e. from (toNumber e))) (λ a. give (a-number (negation a)))) ≡ negated (foundIn vs n D)
+unfolding foundIn andThen from give fail toNumber valueOf
 one-number vs n broken = refl
 one-number vs n (read (a-number a) t) = good-negated (n - length t) (valueOf vs a)
 one-number vs n (read (a-truth a) t) = wrong-negated (n - length t) (holds vs a)
 
-one-truth : (vs : List ℤ) (n : ℕ) (D : Read Expression) → foundIn vs n (after (after D (λ e. from (toTruth e))) (λ a. give (a-truth (opposite a)))) ≡ opposed (foundIn vs n D)
-unfolding foundIn after from give fail toTruth holds
+one-truth : (vs : List ℤ) (n : ℕ) (D : Read Expression) → foundIn vs n (andThen (andThen D (λ e. from (toTruth e))) (λ a. give (a-truth (opposite a)))) ≡ opposed (foundIn vs n D)
+unfolding foundIn andThen from give fail toTruth holds
 one-truth vs n broken = refl
 one-truth vs n (read (a-number a) t) = wrong-opposed (n - length t) (valueOf vs a)
 one-truth vs n (read (a-truth a) t) = good-opposed (n - length t) (holds vs a)
@@ -234,15 +234,15 @@ module _ (vs : List ℤ) (s : List ℕ) (at d : ℕ) (deep : d ≡ 0 → ⊥) wh
       go (suc n) h = rw (sub-one (suc n)) refl
 
   pub past : length s ≤ at → Broken ≡ found vs s at d
-  unfolding foundIn _>>=_ after
-  past h = sym (ap (λ r. foundIn vs (length s) (r (drop at s))) unroll ∙ ap (λ o. foundIn vs (length s) (after o (λ c. readForm edition1 (length vs) R (formOf c)))) (byte-past s at h))
+  unfolding foundIn _>>=_ andThen
+  past h = sym (ap (λ r. foundIn vs (length s) (r (drop at s))) unroll ∙ ap (λ o. foundIn vs (length s) (andThen o (λ c. readForm edition1 (length vs) R (formOf c)))) (byte-past s at h))
 
   module _ (here : at < length s) where
     by-form : (f : Form) → formOf (getD s at 0) ≡ f → form-at vs s R f (at + 1) ≡ found vs s at d
-    unfolding _>>=_ after
+    unfolding _>>=_ andThen
     by-form f e = sym (
         ap (λ r. foundIn vs (length s) (r (drop at s))) unroll
-        ∙ ap (λ o. foundIn vs (length s) (after o (λ c. readForm edition1 (length vs) R (formOf c)))) (byte-at s at here)
+        ∙ ap (λ o. foundIn vs (length s) (andThen o (λ c. readForm edition1 (length vs) R (formOf c)))) (byte-at s at here)
         ∙ ap (λ f. form-at vs s R f (at + 1)) e)
 
     pub step-unknown : formOf (getD s at 0) ≡ unknown → Broken ≡ found vs s at d

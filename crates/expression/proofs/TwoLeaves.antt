@@ -9,7 +9,7 @@ use lib.IntN.{ℤ}
 use lib.ListN.{length, getD}
 use borrow.Author.Tests.{ltb-true, eqb-true}
 use Rattle.semantics.specs.Expressions.{applied, compared, connected, result}
-use Rattle.expression.specs.Founds.{numberAt, found, nextOf, operationOf, comparisonOf, connectiveOf, constantAt, variableAt, leafAt, related}
+use Rattle.expression.specs.Evaluation.{numberAt, found, nextOf, operationOf, comparisonOf, connectiveOf, constantAt, variableAt, leafAt, related}
 use Rattle.expression.specs.declared.Found.{Found}
 use Rattle.expression.specs.declared.Found.the-variants.{ANumber, NumberFault, ATruth, TruthFault, Broken}
 use Rattle.expression.proofs.Steps.{step-constant, step-variable, step-operation, step-comparison, step-connective}

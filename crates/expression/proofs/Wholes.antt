@@ -8,11 +8,11 @@ use borrow.Author.Tests.{eq-eqb, ne-eqb}
 use lib.Dec.{eqb}
 use lib.IntN.{ℤ}
 use lib.ListN.{length, drop, length-drop}
-use Rattle.semantics.specs.Bytes.{Read, broken, read, _>>=_, after, give, fail, from, just, whole}
+use Rattle.semantics.specs.Bytes.{Read, broken, read, _>>=_, andThen, give, fail, from, just, whole}
 use Rattle.semantics.specs.Editions.{edition1}
 use Rattle.semantics.specs.Expressions.{Value, ok, fault, above, below, valueOf, holds, Expression, a-number, a-truth, toNumber, toTruth, readNumber, readTruth, readExpression, numberIn, truthIn}
 use Rattle.expression.specs.Answers.{numberOf, truthOf, numberAnswer, truthAnswer}
-use Rattle.expression.specs.Founds.{sideOf, numberAt, truthAt, foundIn, found}
+use Rattle.expression.specs.Evaluation.{sideOf, numberAt, truthAt, foundIn, found}
 use Rattle.expression.specs.declared.Found.{Found}
 use Rattle.expression.specs.declared.Found.the-variants.{ANumber, NumberFault, ATruth, TruthFault, Broken}
 use Rattle.expression.specs.declared.Number.{Number}
@@ -72,15 +72,15 @@ module _ (m n : ℕ) where
   truth-said-other (fault u) = refl
 
 module _ (vs : List ℤ) (s : List ℕ) where
-  number-read : (D : Read Expression) → Ends s D → numberSaid (length s) (foundIn vs (length s) D) ≡ numberAnswer vs (just (after D (λ e. from (toNumber e))))
-  unfolding foundIn after from give fail just toNumber numberAnswer
+  number-read : (D : Read Expression) → Ends s D → numberSaid (length s) (foundIn vs (length s) D) ≡ numberAnswer vs (just (andThen D (λ e. from (toNumber e))))
+  unfolding foundIn andThen from give fail just toNumber numberAnswer
   number-read broken nothing = refl
   number-read (read (a-number e) []) (at-end k) = number-said-all (length s - 0) (length s) (omega arith) (valueOf vs e)
   number-read (read (a-number e) (x ∷ t)) (at-end k) = number-said-part (length s - suc (length t)) (length s) (left-over s x t k) (valueOf vs e)
   number-read (read (a-truth e) t) (at-end k) = number-said-other (length s - length t) (length s) (holds vs e)
 
-  truth-read : (D : Read Expression) → Ends s D → truthSaid (length s) (foundIn vs (length s) D) ≡ truthAnswer vs (just (after D (λ e. from (toTruth e))))
-  unfolding foundIn after from give fail just toTruth truthAnswer
+  truth-read : (D : Read Expression) → Ends s D → truthSaid (length s) (foundIn vs (length s) D) ≡ truthAnswer vs (just (andThen D (λ e. from (toTruth e))))
+  unfolding foundIn andThen from give fail just toTruth truthAnswer
   truth-read broken nothing = refl
   truth-read (read (a-number e) t) (at-end k) = truth-said-other (length s - length t) (length s) (valueOf vs e)
   truth-read (read (a-truth e) []) (at-end k) = truth-said-all (length s - 0) (length s) (omega arith) (holds vs e)

@@ -1,3 +1,3 @@
 pub mod Answers
-pub mod Founds
+pub mod Evaluation
 pub mod PaperNumbers

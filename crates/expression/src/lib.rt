@@ -7,7 +7,7 @@ ghost use Rattle.semantics.specs.Bytes.{be4, signed as signedOf, isSome};
 ghost use Rattle.semantics.specs.Editions.{edition1};
 ghost use Rattle.semantics.specs.Expressions.{ok, fault, applied, compared, connected, result, numberIn, truthIn};
 ghost use Rattle.expression.specs.Answers.{numberOf, truthOf, numberAnswer, truthAnswer};
-ghost use Rattle.expression.specs.Founds.{sideOf, found, wordAt, numberAt, nextOf, operationOf, comparisonOf, connectiveOf, constantAt, variableAt, leafAt, operated, related, joined, negated, opposed};
+ghost use Rattle.expression.specs.Evaluation.{sideOf, found, wordAt, numberAt, nextOf, operationOf, comparisonOf, connectiveOf, constantAt, variableAt, leafAt, operated, related, joined, negated, opposed};
 
 // "Depth is at most 16"
 const DEPTH: usize = 16;

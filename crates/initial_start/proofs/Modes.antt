@@ -9,7 +9,7 @@ use lib.Dec.{eqb}
 use lib.ListN.{length, getD, drop, length-append}
 use lib.Seq.{append-snoc}
 use Rattle.semantics.specs.Bytes.{Read, broken, read, times, fail}
-use Rattle.semantics.specs.Sections.{Selector, Mode, Equation, steady, choice, readMode, readChoice, readKind, readEquation}
+use Rattle.semantics.specs.Sections.{Selector, Mode, Equation, steady, choice, readMode, readChoice, readEquationBody, readEquation}
 use Rattle.semantics.specs.Plant.{selectorsOf}
 use Rattle.semantics.proofs.Readers.{broken-not-read, guarded}
 use Rattle.codec.specs.Writing.{Wrote}
@@ -39,8 +39,8 @@ first-in s p h =
     record { modes = c .value; is = sym (c .made); fits = i })
     (λ j. not-past _ s (p + 1 + 1) j a)) (λ i. not-past _ s (p + 1) i h)
 
-pub first-mode : (s : List ℕ) (p : ℕ) {q : Equation} {e : List ℕ} → readKind (drop p s) ≡ read q e → (getD s p 0 ≡ 1 → ⊥) → FirstMode s p q
-unfolding readKind fail
+pub first-mode : (s : List ℕ) (p : ℕ) {q : Equation} {e : List ℕ} → readEquationBody (drop p s) ≡ read q e → (getD s p 0 ≡ 1 → ⊥) → FirstMode s p q
+unfolding readEquationBody fail
 first-mode s p {q} {e} h k = go (eqb (getD s p 0) 2) refl (rw (ne-eqb (getD s p 0) 1 k) at (after-byte _ s p (kind-before s p h) h))
   where
     go : (b : Bool) → eqb (getD s p 0) 2 ≡ b → cond b readChoice fail (drop (p + 1) s) ≡ read q e → FirstMode s p q
@@ -70,7 +70,7 @@ module _ {s : List ℕ} {es : List Equation} {d₀ d : List ℕ} {i at p left : 
   pub here-fits : p + 2 < length s
   here-fits = equation-fits s p left (a .rest) l
 
-  here : Stands readKind s (p + 2)
+  here : Stands readEquationBody s (p + 2)
   here = equation-kind s p left (a .rest) l
 
   pub place-fits : i + 16 ≤ length d → at + 1 ≤ length d

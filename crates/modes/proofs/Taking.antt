@@ -13,7 +13,7 @@ use Rattle.semantics.specs.Sections.{Switch, Mode, readSwitch}
 use Rattle.semantics.specs.Run.{pass, _>>=_, _>>_, allow, find, valued, nobody}
 use Rattle.semantics.proofs.Facts.{true-not-false, at-exists}
 use Rattle.codec.proofs.Known.{times-length, past-end}
-use Rattle.effects.specs.Told.{goesOn, truthTold, movedTold, eventTold, valuesLeft, modesLeft, Left}
+use Rattle.effects.specs.Verdicts.{goesOn, truthVerdict, movedVerdict, eventVerdict, valuesLeft, modesLeft, Left}
 use Rattle.modes.specs.Modes.{modeAt, Stands, SwitchAt, modesFrom, modesNow, placeAt, switchTaken}
 use Rattle.effects.specs.declared.Verdict.{Verdict}
 use Rattle.effects.specs.declared.Verdict.the-variants.{Away, Stay}
@@ -53,38 +53,38 @@ module _ (es places ms : List ℕ) (s : ℕ) where
 -- ---- what it does
 module _ (modes : List Mode) (vs : List ℤ) (ms : List ℕ) (s k : ℕ) where
   pub no-selector-left : getElem? modes s ≡ none → Left (switchTaken modes vs ms s k) vs ms (Away 26) vs ms
-  unfolding switchTaken find _>>=_ eventTold valuesLeft modesLeft
+  unfolding switchTaken find _>>=_ eventVerdict valuesLeft modesLeft
   no-selector-left e = rw e (record { answer = refl; values = refl; modes = refl })
 
   module _ (m : Mode) (e : getElem? modes s ≡ some m) where
     pub no-switch-left : getElem? (m .switches) k ≡ none → Left (switchTaken modes vs ms s k) vs ms (Away 26) vs ms
-    unfolding switchTaken find _>>=_ eventTold valuesLeft modesLeft
+    unfolding switchTaken find _>>=_ eventVerdict valuesLeft modesLeft
     no-switch-left f = rw (e, f) (record { answer = refl; values = refl; modes = refl })
 
-    module _ (w : Switch) (f : getElem? (m .switches) k ≡ some w) (r : Verdict) (g : r ≡ truthTold Stay (Away 30) (truthValue edition1 vs (w .truth))) where
+    module _ (w : Switch) (f : getElem? (m .switches) k ≡ some w) (r : Verdict) (g : r ≡ truthVerdict Stay (Away 30) (truthValue edition1 vs (w .truth))) where
       pub not-taken-left : goesOn r ≡ false → Left (switchTaken modes vs ms s k) vs ms r vs ms
-      unfolding switchTaken find _>>=_ _>>_ valued allow truthTold goesOn movedTold eventTold valuesLeft modesLeft
+      unfolding switchTaken find _>>=_ _>>_ valued allow truthVerdict goesOn movedVerdict eventVerdict valuesLeft modesLeft
       not-taken-left h = rw (e, f) (go (truthValue edition1 vs (w .truth)) g)
         where
-          go : (u : Value Bool) → r ≡ truthTold Stay (Away 30) u → Left (valued u >>= (λ b. allow 30 b >> pass (record { moved = nobody; values = vs; modes = set ms s (w .target) }))) vs ms r vs ms
+          go : (u : Value Bool) → r ≡ truthVerdict Stay (Away 30) u → Left (valued u >>= (λ b. allow 30 b >> pass (record { moved = nobody; values = vs; modes = set ms s (w .target) }))) vs ms r vs ms
           go (ok true) g = true-not-false (sym (ap goesOn g) ∙ h)
           go (ok false) g = record { answer = g; values = refl; modes = refl }
           go (fault above) g = record { answer = g; values = refl; modes = refl }
           go (fault below) g = record { answer = g; values = refl; modes = refl }
 
       pub taken-left : goesOn r ≡ true → {t : ℕ} → t ≡ w .target → Left (switchTaken modes vs ms s k) vs ms r vs (set ms s t)
-      unfolding switchTaken find _>>=_ _>>_ valued allow truthTold goesOn movedTold eventTold valuesLeft modesLeft
+      unfolding switchTaken find _>>=_ _>>_ valued allow truthVerdict goesOn movedVerdict eventVerdict valuesLeft modesLeft
       taken-left h {t} q = rw (e, f) (go (truthValue edition1 vs (w .truth)) g)
         where
-          go : (u : Value Bool) → r ≡ truthTold Stay (Away 30) u → Left (valued u >>= (λ b. allow 30 b >> pass (record { moved = nobody; values = vs; modes = set ms s (w .target) }))) vs ms r vs (set ms s t)
+          go : (u : Value Bool) → r ≡ truthVerdict Stay (Away 30) u → Left (valued u >>= (λ b. allow 30 b >> pass (record { moved = nobody; values = vs; modes = set ms s (w .target) }))) vs ms r vs (set ms s t)
           go (ok true) g = record { answer = g; values = refl; modes = ap (set ms s) q }
           go (ok false) g = true-not-false (sym h ∙ ap goesOn g)
           go (fault above) g = true-not-false (sym h ∙ ap goesOn g)
           go (fault below) g = true-not-false (sym h ∙ ap goesOn g)
 
 -- ---- its truth is asked at its place
-pub asked-at : (vs : List ℤ) (es : List ℕ) (q : ℕ) (w : Switch) → SwitchAt es q w → (i : ℕ) → i ≡ getD es q 0 → (r : Verdict) → r ≡ truthTold Stay (Away 30) (truthValue edition1 vs (take (q + 1 + i - (q + 2)) (drop (q + 2) es)))
-    → r ≡ truthTold Stay (Away 30) (truthValue edition1 vs (w .truth))
+pub asked-at : (vs : List ℤ) (es : List ℕ) (q : ℕ) (w : Switch) → SwitchAt es q w → (i : ℕ) → i ≡ getD es q 0 → (r : Verdict) → r ≡ truthVerdict Stay (Away 30) (truthValue edition1 vs (take (q + 1 + i - (q + 2)) (drop (q + 2) es)))
+    → r ≡ truthVerdict Stay (Away 30) (truthValue edition1 vs (w .truth))
 asked-at vs es q w s i e r h =
     let n : q + 1 + i - (q + 2) ≡ getD es q 0 - 1 = omega arith in
-    h ∙ ap (λ t. truthTold Stay (Away 30) (truthValue edition1 vs t)) (ap (λ j. take j (drop (q + 2) es)) n ∙ sym (s .truth))
+    h ∙ ap (λ t. truthVerdict Stay (Away 30) (truthValue edition1 vs t)) (ap (λ j. take j (drop (q + 2) es)) n ∙ sym (s .truth))

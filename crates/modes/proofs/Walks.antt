@@ -20,7 +20,7 @@ use Rattle.semantics.specs.Run as Run
 use Rattle.semantics.specs.Run.{_>>_, walk}
 use Rattle.semantics.proofs.Facts.{true-not-false, some-is}
 use Rattle.codec.proofs.Reading.{nat4At}
-use Rattle.effects.specs.Told.{doneTold, stepTold, goesOn, truthTold}
+use Rattle.effects.specs.Verdicts.{doneVerdict, stepVerdict, goesOn, truthVerdict}
 use Rattle.modes.specs.Modes.{modeAt, Stands, SwitchAt, modesFrom, placeAt, Driving, laid}
 use Rattle.effects.specs.declared.Verdict.{Verdict}
 use Rattle.effects.specs.declared.Verdict.the-variants.{Away, Stay}
@@ -109,24 +109,24 @@ module _ {n : ℕ} {vs : List ℤ} {es : List ℕ} {k p : ℕ} {ws : List Switch
       let x = next-switch (l .ahead) h in
       l .same ∙ ap (λ z. walk edition1 n vs (map (λ (w : Switch). w .truth) z)) (x .is) ∙ ap (λ t. walk edition1 n vs (t ∷ map (λ (w : Switch). w .truth) (x .tail))) (x .here .truth)
 
-  module _ (h : 0 < k) (i : ℕ) (q : i ≡ getD es p 0) (r : Verdict) (e : r ≡ truthTold (Away n) Stay (truthValue edition1 vs (take (p + 1 + i - (p + 2)) (drop (p + 2) es)))) where
+  module _ (h : 0 < k) (i : ℕ) (q : i ≡ getD es p 0) (r : Verdict) (e : r ≡ truthVerdict (Away n) Stay (truthValue edition1 vs (take (p + 1 + i - (p + 2)) (drop (p + 2) es)))) where
     abbrev cut : List ℕ
     cut = take (getD es p 0 - 1) (drop (p + 2) es)
 
-    told : r ≡ truthTold (Away n) Stay (truthValue edition1 vs cut)
-    told = e ∙ ap (λ t. truthTold (Away n) Stay (truthValue edition1 vs t)) (cut-is es p i q)
+    told : r ≡ truthVerdict (Away n) Stay (truthValue edition1 vs cut)
+    told = e ∙ ap (λ t. truthVerdict (Away n) Stay (truthValue edition1 vs t)) (cut-is es p i q)
 
-    pub walk-stops : goesOn r ≡ false → r ≡ stepTold (walk edition1 n vs (map (λ (w : Switch). w .truth) ws))
-    walk-stops f = walk-out n vs cut (map (λ (w : Switch). w .truth) (next-switch (l .ahead) h .tail)) r told f ∙ sym (ap stepTold (truths-are h))
+    pub walk-stops : goesOn r ≡ false → r ≡ stepVerdict (walk edition1 n vs (map (λ (w : Switch). w .truth) ws))
+    walk-stops f = walk-out n vs cut (map (λ (w : Switch). w .truth) (next-switch (l .ahead) h .tail)) r told f ∙ sym (ap stepVerdict (truths-are h))
 
     pub walk-next : goesOn r ≡ true → Walking n vs es (k - 1) (p + 1 + i) ws
     walk-next f =
         let x = next-switch (l .ahead) h in
         record { switches = x .tail; ahead = rw q (x .ahead); same = truths-are h ∙ walk-on n vs cut (map (λ (w : Switch). w .truth) (x .tail)) r told f }
 
-  pub walk-end : k ≡ 0 → Stay ≡ stepTold (walk edition1 n vs (map (λ (w : Switch). w .truth) ws))
-  unfolding walk doneTold
-  walk-end h = sym (ap stepTold (l .same ∙ ap (λ z. walk edition1 n vs (map (λ (w : Switch). w .truth) z)) (none-ahead (l .ahead) h)))
+  pub walk-end : k ≡ 0 → Stay ≡ stepVerdict (walk edition1 n vs (map (λ (w : Switch). w .truth) ws))
+  unfolding walk doneVerdict
+  walk-end h = sym (ap stepVerdict (l .same ∙ ap (λ z. walk edition1 n vs (map (λ (w : Switch). w .truth) z)) (none-ahead (l .ahead) h)))
 
 -- ---- one switch of a mode: i more are passed over
 pub record Seeking (es : List ℕ) (i p : ℕ) (ws : List Switch) (k : ℕ) : Type 0 where
@@ -190,16 +190,16 @@ module _ (vs : List ℤ) (es places ms : List ℕ) (j : ℕ) (h : j < length ms)
   unfolding flatMap
   check-more = ap (λ z. walk edition1 28 vs (flatMap switchTruths z)) (modes-more es places ms j h) ∙ walk-then 28 vs (switchTruths (modeAt es (placeAt places ms j))) (flatMap switchTruths (modesFrom es places (j + 1) (drop (j + 1) ms)))
 
-  module _ (r : Verdict) (e : r ≡ stepTold (walk edition1 28 vs (switchTruths (modeAt es (placeAt places ms j))))) where
-    pub check-stops : goesOn r ≡ false → r ≡ stepTold (checkFrom vs es places ms j)
-    check-stops f = then-out (walk edition1 28 vs (switchTruths (modeAt es (placeAt places ms j)))) (checkFrom vs es places ms (j + 1)) r e f ∙ sym (ap stepTold check-more)
+  module _ (r : Verdict) (e : r ≡ stepVerdict (walk edition1 28 vs (switchTruths (modeAt es (placeAt places ms j))))) where
+    pub check-stops : goesOn r ≡ false → r ≡ stepVerdict (checkFrom vs es places ms j)
+    check-stops f = then-out (walk edition1 28 vs (switchTruths (modeAt es (placeAt places ms j)))) (checkFrom vs es places ms (j + 1)) r e f ∙ sym (ap stepVerdict check-more)
 
     pub check-next : goesOn r ≡ true → checkFrom vs es places ms j ≡ checkFrom vs es places ms (j + 1)
     check-next f = check-more ∙ then-on (walk edition1 28 vs (switchTruths (modeAt es (placeAt places ms j)))) (checkFrom vs es places ms (j + 1)) r e f
 
-pub check-end : (vs : List ℤ) (es places ms : List ℕ) (j : ℕ) → length ms ≤ j → Stay ≡ stepTold (checkFrom vs es places ms j)
-unfolding walk flatMap doneTold
-check-end vs es places ms j h = sym (ap (λ z. stepTold (walk edition1 28 vs (flatMap switchTruths z))) (modes-end es places ms j h))
+pub check-end : (vs : List ℤ) (es places ms : List ℕ) (j : ℕ) → length ms ≤ j → Stay ≡ stepVerdict (checkFrom vs es places ms j)
+unfolding walk flatMap doneVerdict
+check-end vs es places ms j h = sym (ap (λ z. stepVerdict (walk edition1 28 vs (flatMap switchTruths z))) (modes-end es places ms j h))
 
 -- ---- the rates in force
 abbrev pub ratesFrom : List ℕ → List ℕ → List ℕ → ℕ → List Rate

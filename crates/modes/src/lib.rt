@@ -11,7 +11,7 @@ ghost use Rattle.semantics.specs.Bytes.{every};
 ghost use Rattle.semantics.specs.Sections.{Mode, Switch};
 ghost use Rattle.semantics.specs.Plant.{rateNamed, switchTruths};
 ghost use Rattle.semantics.specs.Run.{walk};
-ghost use Rattle.effects.specs.Told.{stepTold, Left};
+ghost use Rattle.effects.specs.Verdicts.{stepVerdict, Left};
 ghost use Rattle.modes.specs.Modes.{modeAt, Stands, SwitchAt, placeAt, modesNow, Current, Driving, laid, switchTaken};
 
 // The place of a mode's switch count: past its rates, of 5 bytes each.
@@ -25,7 +25,7 @@ fn switches_at(es: &[u8], at: usize) -> usize
 // The switches of the mode at a place, up to the first that is true or faults.
 fn mode_check(es: &[u8], at: usize, values: &[i32]) -> Verdict
     requires { ⌜ Stands (now es) at (modeAt (now es) at) ⌝ }
-    ensures { λ r. ⌜ r ≡ stepTold (walk edition1 28 (now (values .entry)) (switchTruths (modeAt (now (es .entry)) at))) ⌝ }
+    ensures { λ r. ⌜ r ≡ stepVerdict (walk edition1 28 (now (values .entry)) (switchTruths (modeAt (now (es .entry)) at))) ⌝ }
 {
     let count = switches_at(es, at);
     let mut left = effects::wide(es[count]);
@@ -55,7 +55,7 @@ fn place(places: &[usize], modes: &[u8], j: usize) -> usize
 // The switches of all current modes, selectors rising.
 pub fn switch_check(es: &[u8], places: &[usize], values: &[i32], modes: &[u8]) -> Verdict
     requires { ⌜ Current (now es) (now places) (now modes) ⌝ }
-    ensures { λ r. ⌜ r ≡ stepTold (walk edition1 28 (now (values .entry)) (flatMap switchTruths (modesNow (now (es .entry)) (now (places .entry)) (now (modes .entry))))) ⌝ }
+    ensures { λ r. ⌜ r ≡ stepVerdict (walk edition1 28 (now (values .entry)) (flatMap switchTruths (modesNow (now (es .entry)) (now (places .entry)) (now (modes .entry))))) ⌝ }
 {
     let mut j = 0;
     while j < modes.len() {

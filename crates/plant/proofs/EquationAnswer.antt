@@ -64,8 +64,8 @@ module _ (s : List ℕ) (variables : ℕ) (t : Taken s variables) where
   unfolding equationsOf answerTo
   answer-is = rw (t .judged) refl
 
-  pub answer-taken : {r : Cases} {rates : List ℤ} → ((t : SectionStands s) → CasesOf (t .equations) r) → ((t : Stands (times (getD s 0 0) readEquation) s 1) → rates ≡ putRates (steadyRates (t .value)) (replicate 32 (pos 0))) → record { refusal = 0; selectors = r .count; modes = r .modes; places = r .places; steady = rates } ≡ equationsOf s variables
+  pub answer-taken : {r : Cases} {rates : List ℤ} → ((t : SectionStands s) → CasesOf (t .equations) r) → ((t : Stands (times (getD s 0 0) readEquation) s 1) → rates ≡ putRates (steadyRates (t .value)) (replicate 32 (pos 0))) → record { refusal = 0; selectors = r .count; modes = r .modes; «mode_offsets» = r .«mode_offsets»; steady = rates } ≡ equationsOf s variables
   unfolding equationsOf answerTo acceptedEquations
   answer-taken f g =
       let a = f (t .section) in
-      rw (t .judged, a .count, a .modes, a .places, g (equations-stand s (t .section))) refl
+      rw (t .judged, a .count, a .modes, a .«mode_offsets», g (equations-stand s (t .section))) refl

@@ -7,7 +7,7 @@ use native.Mathlib.Omega.{arith}
 use lib.ListN.{length, getD, drop, set, replicate, length-append, length-map}
 use lib.Seq.{sets, append-snoc}
 use Rattle.semantics.specs.Bytes.{read, times}
-use Rattle.semantics.specs.Sections.{Selector, Equation, choice, readMode, readKind, readEquation, readEquations, equationsIn}
+use Rattle.semantics.specs.Sections.{Selector, Equation, choice, readMode, readEquationBody, readEquation, readEquations, equationsIn}
 use Rattle.semantics.specs.Plant.{selectorsOf}
 use Rattle.semantics.proofs.Facts.{within-high}
 use Rattle.semantics.proofs.Readers.{guarded, whole-read}
@@ -76,7 +76,7 @@ module _ {s : List ℕ} {es : List Equation} {count : ℕ} {modes places : List 
   pub here-fits : p + 2 < length s
   here-fits = equation-fits s p left (a .rest) i
 
-  here : Stands readKind s (p + 2)
+  here : Stands readEquationBody s (p + 2)
   here = equation-kind s p left (a .rest) i
 
   pub count-fits : count < 16
@@ -207,7 +207,7 @@ module _ {s : List ℕ} {es : List Equation} {count : ℕ} {modes places : List 
 pub noted-as : {s : List ℕ} {es : List Equation} {count count′ : ℕ} {modes modes′ places places′ : List ℕ} {p left : ℕ} → count ≡ count′ → modes ≡ modes′ → places ≡ places′ → Noted s es count′ modes′ places′ p left → Noted s es count modes places p left
 noted-as e f g a = rw (e, f, g) a
 
-pub noted-end : {s : List ℕ} {es : List Equation} {count : ℕ} {modes places : List ℕ} {p left : ℕ} → Noted s es count modes places p left → left ≡ 0 → CasesOf es (record { count = count; modes = modes; places = places })
+pub noted-end : {s : List ℕ} {es : List Equation} {count : ℕ} {modes places : List ℕ} {p left : ℕ} → Noted s es count modes places p left → left ≡ 0 → CasesOf es (record { count = count; modes = modes; «mode_offsets» = places })
 unfolding selectorsOf modePlaces
 noted-end {es = es} {p = p} {left = left} a e =
     let n = none-left readEquation left e (a .rest) in
@@ -215,5 +215,5 @@ noted-end {es = es} {p = p} {left = left} a e =
     record {
       count = sym (a .counted) ∙ ap length d;
       modes = a .modes-are ∙ ap (λ z. pad 16 0 (map modeCount z)) d;
-      places = a .places-are ∙ ap (pad 128 0) (sym (append-nil (a .noted)) ∙ ap (λ z. a .noted ++ modePlaces p z) (sym n) ∙ a .placed);
+      «mode_offsets» = a .places-are ∙ ap (pad 128 0) (sym (append-nil (a .noted)) ∙ ap (λ z. a .noted ++ modePlaces p z) (sym n) ∙ a .placed);
     }

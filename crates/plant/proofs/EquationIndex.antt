@@ -9,7 +9,7 @@ use native.Mathlib.Numerals.{add-one}
 use Rattle.codec.proofs.Reading.{nat2At, nat4At}
 use lib.IntN.{ℤ, pos}
 use Rattle.semantics.specs.Bytes.{signed, Reader, read, times}
-use Rattle.semantics.specs.Sections.{Equation, steady, choice, readSwitch, readMode, readKind, readEquation}
+use Rattle.semantics.specs.Sections.{Equation, steady, choice, readSwitch, readMode, readEquationBody, readEquation}
 use Rattle.semantics.proofs.Readers.{given}
 use Rattle.plant.specs.Equations.{sizes, switchSize, modeSize, equationSize, startsFrom, putRates, steadyRates, Stands}
 use Rattle.plant.proofs.EquationSizes.{Cuts, cuts-switch, cuts-equation}
@@ -103,7 +103,7 @@ module _ (s : List ℕ) (p : ℕ) where
   mode-fits t = mode-at s p (t .got) .inside
 
 -- ---- the rate of one equation
-module _ (s : List ℕ) (p : ℕ) (t : Stands readKind s p) where
+module _ (s : List ℕ) (p : ℕ) (t : Stands readEquationBody s p) where
   pub kind-fits : p < length s
   kind-fits = kind-before s p (t .got)
 
@@ -129,7 +129,7 @@ module _ (s : List ℕ) (p n : ℕ) (t : Stands (times n readEquation) s p) (i :
   pub equation-fits : p + 2 < length s
   equation-fits = equation-at s p (first-equation .got) .head
 
-  pub equation-kind : Stands readKind s (p + 2)
+  pub equation-kind : Stands readEquationBody s (p + 2)
   equation-kind = record { value = first-equation .head; rest = _; got = equation-at s p (first-equation .got) .kind }
 
   module _ (k : ℕ) (e : k ≡ nat2At s p) where
@@ -166,7 +166,7 @@ pub steady-none : {s : List ℕ} {p : ℕ} (n : ℕ) → n ≡ 0 → (t : Stands
 unfolding putRates steadyRates
 steady-none n e t = rw (none-left readEquation n e t) refl
 
-pub steady-more : (s : List ℕ) (p n : ℕ) (i : 0 < n) (k : ℕ) (e : k ≡ nat2At s p) {rates out : List ℤ} → ((t : Stands (times (n - 1) readEquation) s (p + 2 + k)) → rates ≡ putRates (steadyRates (t .value)) zeros) → ((t : Stands readKind s (p + 2)) → out ≡ putRates (steadyRates (t .value ∷ [])) rates) → (t : Stands (times n readEquation) s p) → out ≡ putRates (steadyRates (t .value)) zeros
+pub steady-more : (s : List ℕ) (p n : ℕ) (i : 0 < n) (k : ℕ) (e : k ≡ nat2At s p) {rates out : List ℤ} → ((t : Stands (times (n - 1) readEquation) s (p + 2 + k)) → rates ≡ putRates (steadyRates (t .value)) zeros) → ((t : Stands readEquationBody s (p + 2)) → out ≡ putRates (steadyRates (t .value ∷ [])) rates) → (t : Stands (times n readEquation) s p) → out ≡ putRates (steadyRates (t .value)) zeros
 steady-more s p n i k e {rates} {out} f g t =
     let q = equation-kind s p n t i in
     let l = equations-left s p n t i k e in

@@ -25,7 +25,7 @@ use Rattle.plant.specs.declared.equations.Seen.the-variants.{Kept, Lost}
 
 -- a value that is made of another, with the answer of that
 pub made : {A B X : Type 0} {r : Reader A} (g : A → B) {K : A → X → Type 0} {L : B → X → Type 0} {s : List ℕ} {p : ℕ} {w : Option (ℕ × X)} → ((a : A) (x : X) → K a x → L (g a) x) → Reads r K s p w → Reads (Bytes._>>=_ r (λ a. give (g a))) L s p w
-unfolding Bytes._>>=_ Bytes.after
+unfolding Bytes._>>=_ Bytes.andThen
 made g h (reads-at t) = then-took _ t (gives (g (t .value)) (t .inside) (h (t .value) _ (t .means)))
 made g h (reads-none e) = reads-none (rw e refl)
 

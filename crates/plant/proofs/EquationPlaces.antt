@@ -9,8 +9,8 @@ use borrow.Author.Tests.{ne-eqb, leb-true}
 use lib.Dec.{eqb}
 use lib.ListN.{length, getD, take, drop, length-drop, take-append-drop}
 use lib.Seq.{drop-drop, length-take-le}
-use Rattle.semantics.specs.Bytes.{signed, Reader, broken, read, after, _>>=_, byte, fail, times}
-use Rattle.semantics.specs.Sections.{Rate, Switch, Mode, Equation, steady, choice, readRate, readSwitch, readMode, readSteady, readChoice, readKind, readEquation, equationIn}
+use Rattle.semantics.specs.Bytes.{signed, Reader, broken, read, andThen, _>>=_, byte, fail, times}
+use Rattle.semantics.specs.Sections.{Rate, Switch, Mode, Equation, steady, choice, readRate, readSwitch, readMode, readSteady, readChoice, readEquationBody, readEquation, equationIn}
 use Rattle.semantics.proofs.Readers.{broken-not-read, read-value, split, given, guarded, from-some, whole-read}
 use Rattle.semantics.proofs.Facts.{within-high}
 use Rattle.codec.proofs.Reading.{nat2At, nat4At, drop-past, either}
@@ -57,16 +57,16 @@ before-end : {A : Type 0} (r : Reader A) (s : List ℕ) (p : ℕ) {a : A} {e : L
 before-end r s p i h = either p (length s) (λ l. l) (λ l. broken-not-read (sym i ∙ ap r (sym (drop-past p s l)) ∙ h))
 
 pub switch-before : (s : List ℕ) (p : ℕ) {w : Switch} {e : List ℕ} → readSwitch (drop p s) ≡ read w e → p < length s
-unfolding readSwitch _>>=_ after byte
+unfolding readSwitch _>>=_ andThen byte
 switch-before s p h = before-end readSwitch s p refl h
 
 pub mode-before : (s : List ℕ) (p : ℕ) {m : Mode} {e : List ℕ} → readMode (drop p s) ≡ read m e → p < length s
-unfolding readMode _>>=_ after byte
+unfolding readMode _>>=_ andThen byte
 mode-before s p h = before-end readMode s p refl h
 
-pub kind-before : (s : List ℕ) (p : ℕ) {q : Equation} {e : List ℕ} → readKind (drop p s) ≡ read q e → p < length s
-unfolding readKind _>>=_ after byte
-kind-before s p h = before-end readKind s p refl h
+pub kind-before : (s : List ℕ) (p : ℕ) {q : Equation} {e : List ℕ} → readEquationBody (drop p s) ≡ read q e → p < length s
+unfolding readEquationBody _>>=_ andThen byte
+kind-before s p h = before-end readEquationBody s p refl h
 
 -- ---- a switch: its length, its target, its truth
 pub record SwitchStands (s : List ℕ) (p : ℕ) (w : Switch) : Type 0 where
@@ -138,7 +138,7 @@ module _ (s : List ℕ) (p : ℕ) {m : Mode} {e : List ℕ} where
 -- ---- an equation: its length, and what it is
 pub record EquationAt (s : List ℕ) (p : ℕ) (q : Equation) (e : List ℕ) : Type 0 where
   pub head : p + 2 < length s
-  pub kind : readKind (drop (p + 2) s) ≡ read q e
+  pub kind : readEquationBody (drop (p + 2) s) ≡ read q e
   pub next : p + 2 + nat2At s p ≡ p + equationSize q
 
 three-bytes : (q : Equation) → 3 ≤ equationSize q
@@ -152,10 +152,10 @@ module _ (s : List ℕ) (p n : ℕ) {q : Equation} {e : List ℕ} (i : p + 2 < l
   equation-in m h j =
       let l : length (take n (drop (p + 2) s)) ≡ n = length-take-le n (drop (p + 2) s) (omega (arith, length-drop (p + 2) s)) in
       let z = kind-size (take n (drop (p + 2) s)) h in
-      let f = cuts-kind .cuts (take n (drop (p + 2) s)) q [] (whole-read readKind (take n (drop (p + 2) s)) h) in
+      let f = cuts-kind .cuts (take n (drop (p + 2) s)) q [] (whole-read readEquationBody (take n (drop (p + 2) s)) h) in
       record {
         head = i;
-        kind = ap readKind (sym (take-append-drop n (drop (p + 2) s))) ∙ f .cut .more (drop n (drop (p + 2) s)) ∙ ap (read q) (drop-drop n (p + 2) s ∙ j);
+        kind = ap readEquationBody (sym (take-append-drop n (drop (p + 2) s))) ∙ f .cut .more (drop n (drop (p + 2) s)) ∙ ap (read q) (drop-drop n (p + 2) s ∙ j);
         next = omega arith;
       }
 
@@ -222,15 +222,15 @@ choice-in s p h =
     choice-made s p (getD s (p + 1) 0) (c .value) (p + 1 + 1) (p + 1 + 1 + 1) (omega arith) (omega arith) j (within-high 1 8 _ (g .0)) (c .got) (sym (c .made)))
     (λ j. not-past _ s (p + 1 + 1) j a)) (λ i. not-past _ s (p + 1) i h)
 
-module _ (s : List ℕ) (p : ℕ) {q : Equation} {e : List ℕ} (h : readKind (drop p s) ≡ read q e) where
+module _ (s : List ℕ) (p : ℕ) {q : Equation} {e : List ℕ} (h : readEquationBody (drop p s) ≡ read q e) where
   pub steady-at : getD s p 0 ≡ 1 → SteadyAt s p q
-  unfolding readKind readSteady
+  unfolding readEquationBody readSteady
   steady-at k =
       let c = last readRate steady (rw k at (after-byte _ s p (kind-before s p h) h)) in
       record { rate = c .value; is = sym (c .made); stands = rate-at s (p + 1) (c .got) }
 
   pub choice-at : (getD s p 0 ≡ 1 → ⊥) → ChoiceAt s p q e
-  unfolding readKind fail
+  unfolding readEquationBody fail
   choice-at k = go (eqb (getD s p 0) 2) refl (rw (ne-eqb (getD s p 0) 1 k) at (after-byte _ s p (kind-before s p h) h))
     where
       go : (b : Bool) → eqb (getD s p 0) 2 ≡ b → cond b readChoice fail (drop (p + 1) s) ≡ read q e → ChoiceAt s p q e

@@ -9,8 +9,8 @@ use borrow.Author.Tests.{leb-true, le-leb}
 use lib.Dec.{leb, eqb}
 use lib.ListN.{length, take, drop, length-append, length-drop}
 use lib.Seq.{drop-drop, drop-append-le, take-append-le, length-take-le}
-use Rattle.semantics.specs.Bytes.{Read, broken, read, Reader, after, _>>=_, give, fail, guard, from, byte, nat2, nat4, int4, bytes, times, section2}
-use Rattle.semantics.specs.Sections.{Equation, readRate, readSwitch, readMode, readSteady, readChoice, readKind, readEquation, equationIn}
+use Rattle.semantics.specs.Bytes.{Read, broken, read, Reader, andThen, _>>=_, give, fail, guard, from, byte, nat2, nat4, int4, bytes, times, section2}
+use Rattle.semantics.specs.Sections.{Equation, readRate, readSwitch, readMode, readSteady, readChoice, readEquationBody, readEquation, equationIn}
 use Rattle.semantics.proofs.Readers.{broken-not-read, read-value, read-rest, split, whole-read}
 use Rattle.plant.specs.Equations.{sizes, switchSize, modeSize, equationSize}
 
@@ -31,7 +31,7 @@ pub record Cuts {A : Type 0} (r : Reader A) (P : A → ℕ → Type 0) : Type 0 
 
 -- ---- one law for each way to put readers together
 cut-then : {A B : Type 0} (r : Reader A) (f : A → Reader B) {n k : ℕ} {l m t : List ℕ} {a : A} {b : B} → Cut r n l a m → Cut (f a) k m b t → Cut (r >>= f) (n + k) l b t
-unfolding _>>=_ after
+unfolding _>>=_ andThen
 cut-then r f {n} {k} {l} {m} c d =
     let e : length m ≡ length l - n = ap length (c .rest) ∙ length-drop n l in
     let i = c .few in
@@ -157,14 +157,14 @@ more-by-one {n} {r} i c = record { cuts = go }
     go l a t h = let f = c .cuts l a t h in record { count = f .count; fits = let e = f .fits in omega arith; cut = f .cut }
 
 -- without the two bytes of its length
-pub cuts-kind : Cuts readKind (λ e n. 2 + n ≡ equationSize e)
-unfolding readKind
+pub cuts-kind : Cuts readEquationBody (λ e n. 2 + n ≡ equationSize e)
+unfolding readEquationBody
 cuts-kind = cuts-then byte _ cuts-byte (λ k i e. cuts-cond (eqb k 1) (more-by-one e cuts-steady) (cuts-cond (eqb k 2) (more-by-one e cuts-choice) cuts-fail))
 
 pub kind-size : (b : List ℕ) {e : Equation} → equationIn b ≡ some e → 2 + length b ≡ equationSize e
 unfolding equationIn
 kind-size b {e} h =
-    let f = cuts-kind .cuts b e [] (whole-read readKind b h) in
+    let f = cuts-kind .cuts b e [] (whole-read readEquationBody b h) in
     let i = f .fits in
     let j = f .cut .few in
     let k : 0 ≡ length b - f .count = ap length (f .cut .rest) ∙ length-drop (f .count) b in

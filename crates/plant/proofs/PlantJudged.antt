@@ -56,7 +56,7 @@ equations-refusal s n = go (judgeEquations s n)
 -- ---- the code's returns
 -- the fields of the two answers
 abbrev pub gathered : Variables → Equations → PlantRead
-gathered v e = record { refusal = 0; variables = v .count; lows = v .lows; highs = v .highs; selectors = e .selectors; modes = e .modes; places = e .places; steady = e .steady }
+gathered v e = record { refusal = 0; variables = v .count; lows = v .lows; highs = v .highs; selectors = e .selectors; modes = e .modes; «mode_offsets» = e .«mode_offsets»; steady = e .steady }
 
 fields : {v : Variables} {e : Equations} (xs : List Variable) (qs : List Equation) → v ≡ answer 0 xs → e ≡ acceptedEquations qs → gathered v e ≡ acceptedPlant (record { variables = xs; equations = qs })
 unfolding answer acceptedEquations acceptedPlant selectors

@@ -103,9 +103,9 @@ module _ (vs es : List ℕ) {p : Plant} (h : judgePlant edition1 vs es ≡ accep
   unfolding acceptedPlant acceptedEquations selectors
   modes-of = ap (λ (r : PlantRead). r .modes) answered
 
-  pub places-of : plantOf vs es .places ≡ pad 128 0 (modePlaces 1 (p .equations))
+  pub places-of : plantOf vs es .«mode_offsets» ≡ pad 128 0 (modePlaces 1 (p .equations))
   unfolding acceptedPlant acceptedEquations
-  places-of = ap (λ (r : PlantRead). r .places) answered
+  places-of = ap (λ (r : PlantRead). r .«mode_offsets») answered
 
   pub steady-of : plantOf vs es .steady ≡ putRates (steadyRates (p .equations)) (replicate 32 (pos 0))
   unfolding acceptedPlant acceptedEquations

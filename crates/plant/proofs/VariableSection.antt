@@ -14,7 +14,7 @@ use mir.Val.{toZ, ofZ}
 use mir.ValLaws.{toZ-ofZ}
 use lib.ListN.{length, getD, set, drop, replicate, getElem?, length-append, length-map, List·getD-append}
 use lib.Seq.{set-at}
-use Rattle.semantics.specs.Bytes.{every, within, signed, read, after, _>>=_, give, guard, byte, times, just, whole}
+use Rattle.semantics.specs.Bytes.{every, within, signed, read, andThen, _>>=_, give, guard, byte, times, just, whole}
 use Rattle.semantics.specs.Editions.{edition1}
 use Rattle.semantics.specs.Sections.{Variable, readVariable, readVariables, variablesIn}
 use Rattle.semantics.specs.Plant.{ordered}
@@ -65,12 +65,12 @@ abbrev pub variableAt : List ℕ → ℕ → Variable
 variableAt s p = record { minimum = signed (nat4At s p); maximum = signed (nat4At s (p + 4)); initial = signed (nat4At s (p + 4 + 4)) }
 
 pub variable-at : (s : List ℕ) (p : ℕ) → p + 12 ≤ length s → readVariable edition1 (drop p s) ≡ read (variableAt s p) (drop (p + 4 + 4 + 4) s)
-unfolding readVariable _>>=_ after give
+unfolding readVariable _>>=_ andThen give
 variable-at s p h = rw (int4-at s p (omega arith), int4-at s (p + 4) (omega arith), int4-at s (p + 4 + 4) (omega arith)) refl
 
 -- n variables from a place on are there where their bytes are
 many : (s : List ℕ) (n p : ℕ) → p + 12 * n ≤ length s → (vs : List Variable) × (times n (readVariable edition1) (drop p s) ≡ read vs (drop (p + 12 * n) s))
-unfolding times _>>=_ after give
+unfolding times _>>=_ andThen give
 many s zero p h = ([], rw add-zero refl)
 many s (suc n) p h =
     let m = many s n (p + 4 + 4 + 4) (omega arith) in
@@ -83,7 +83,7 @@ pub record Section (s : List ℕ) (n : ℕ) (vs : List Variable) : Type 0 where
   pub is : variablesIn edition1 s ≡ some vs
 
 section-is : (n : ℕ) (l : List ℕ) {vs : List Variable} → within 1 32 n ≡ true → times n (readVariable edition1) l ≡ read vs [] → variablesIn edition1 (n ∷ l) ≡ some vs
-unfolding variablesIn readVariables whole just _>>=_ after byte guard
+unfolding variablesIn readVariables whole just _>>=_ andThen byte guard
 section-is n l w g = rw (w, g) refl
 
 pub section-of : (s : List ℕ) (n : ℕ) → Sized s n → (vs : List Variable) × Section s n vs

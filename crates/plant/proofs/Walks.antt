@@ -10,8 +10,8 @@ use borrow.Author.Tests.{leb-true, eqb-true}
 use lib.Dec.{leb, eqb}
 use lib.ListN.{length, getD, take, drop, length-drop}
 use lib.Seq.{drop-drop}
-use Rattle.semantics.specs.Bytes.{within, Reader, read, after, _>>=_, give, fail, guard, byte, int4, bytes, times, section2}
-use Rattle.semantics.specs.Sections.{Rate, Switch, Mode, Selector, Equation, steady, choice, readRate, readSwitch, readMode, readSteady, readChoice, readKind, equationIn, readEquation, readEquations, equationsIn}
+use Rattle.semantics.specs.Bytes.{within, Reader, read, andThen, _>>=_, give, fail, guard, byte, int4, bytes, times, section2}
+use Rattle.semantics.specs.Sections.{Rate, Switch, Mode, Selector, Equation, steady, choice, readRate, readSwitch, readMode, readSteady, readChoice, readEquationBody, equationIn, readEquation, readEquations, equationsIn}
 use Rattle.semantics.proofs.Facts.{by-cases}
 use Rattle.semantics.proofs.Readers.{broken-not-read, split, given, given-rest, guarded, from-some, whole-read}
 use Rattle.codec.proofs.Reading.{nat2At, section2-short, either}
@@ -172,7 +172,7 @@ pub data Shape (s : List ℕ) (q : Equation) : Type 0 where
 
 module _ (s : List ℕ) {q : Equation} where
   steady-shape : getD s 0 0 ≡ 1 → readSteady (drop 1 s) ≡ read q [] → Shape s q
-  unfolding readSteady times _>>=_ after give
+  unfolding readSteady times _>>=_ andThen give
   steady-shape e h =
       let k = last readRate steady h in
       is-steady (k .value) e (sym (k .made)) (rw (k .got) refl)
@@ -191,9 +191,9 @@ module _ (s : List ℕ) {q : Equation} where
       second i k = either 2 (length s) (λ j. third j (after-byte _ s 2 j k)) (λ j. not-past _ s 2 j k)
 
   pub shape-of : equationIn s ≡ some q → (1 ≤ length s) × Shape s q
-  unfolding equationIn readKind fail
+  unfolding equationIn readEquationBody fail
   shape-of h =
-      let g = whole-read readKind s h in
+      let g = whole-read readEquationBody s h in
       either 0 (length s) (λ i. (i, kind (getD s 0 0) refl (after-byte _ s 0 i g))) (λ i. not-past _ s 0 i g)
     where
       kind : (k : ℕ) → getD s 0 0 ≡ k → cond (eqb k 1) readSteady (cond (eqb k 2) readChoice fail) (drop 1 s) ≡ read q [] → Shape s q

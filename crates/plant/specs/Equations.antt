@@ -76,14 +76,14 @@ putRates (r ∷ rs) l = set (putRates rs l) (r .driven) (r .rate)
 
 -- ---- the answer
 unfoldable pub refusedEquations : ℕ → Equations
-refusedEquations n = record { refusal = n; selectors = 0; modes = replicate 16 0; places = replicate 128 0; steady = replicate 32 (pos 0) }
+refusedEquations n = record { refusal = n; selectors = 0; modes = replicate 16 0; «mode_offsets» = replicate 128 0; steady = replicate 32 (pos 0) }
 
 unfoldable pub acceptedEquations : List Equation → Equations
 acceptedEquations es = record {
   refusal = 0;
   selectors = length (selectorsOf es);
   modes = pad 16 0 (map modeCount (selectorsOf es));
-  places = pad 128 0 (modePlaces 1 es);
+  «mode_offsets» = pad 128 0 (modePlaces 1 es);
   steady = putRates (steadyRates es) (replicate 32 (pos 0));
 }
 
@@ -120,7 +120,7 @@ pub record SectionStands (s : List ℕ) : Type 0 where
 pub record CasesOf (es : List Equation) (r : Cases) : Type 0 where
   pub count : r .count ≡ length (selectorsOf es)
   pub modes : r .modes ≡ pad 16 0 (map modeCount (selectorsOf es))
-  pub places : r .places ≡ pad 128 0 (modePlaces 1 es)
+  pub «mode_offsets» : r .«mode_offsets» ≡ pad 128 0 (modePlaces 1 es)
 
 -- ---- the answers of the code's own readers
 -- a reader's answer as Reading has it

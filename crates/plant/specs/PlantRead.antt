@@ -19,7 +19,7 @@ refusedPlant n = record {
   highs = replicate 32 (pos 0);
   selectors = 0;
   modes = replicate 16 0;
-  places = replicate 128 0;
+  «mode_offsets» = replicate 128 0;
   steady = replicate 32 (pos 0);
 }
 
@@ -32,7 +32,7 @@ acceptedPlant p = record {
   highs = column (λ (v : Variable). v .maximum) (p .variables);
   selectors = length (selectors p);
   modes = acceptedEquations (p .equations) .modes;
-  places = acceptedEquations (p .equations) .places;
+  «mode_offsets» = acceptedEquations (p .equations) .«mode_offsets»;
   steady = acceptedEquations (p .equations) .steady;
 }
 

@@ -17,7 +17,7 @@ pub struct Equations {
     pub refusal: u8,
     pub selectors: usize,
     pub modes: [usize; 16],
-    pub places: [usize; 128],
+    pub mode_offsets: [usize; 128],
     pub steady: [i32; 32],
 }
 
@@ -25,7 +25,7 @@ pub struct Equations {
 struct Cases {
     count: usize,
     modes: [usize; 16],
-    places: [usize; 128],
+    mode_offsets: [usize; 128],
 }
 
 // the place after what was read, and whether its names are there
@@ -196,7 +196,7 @@ fn choice(s: &[u8], at: usize, variables: usize) -> Step
 
 // the kind, then an equation of that kind
 fn kind(s: &[u8], variables: usize) -> Step
-    ensures { λ r. ⌜ Reads sections.readKind (Says (names.equationNamed variables)) (now (s .entry)) 0 (view r) ⌝ }
+    ensures { λ r. ⌜ Reads sections.readEquationBody (Says (names.equationNamed variables)) (now (s .entry)) 0 (view r) ⌝ }
 {
     if s.len() < 1 {
         return Step::Broken;
@@ -353,7 +353,7 @@ fn selectors(s: &[u8]) -> Cases
     Cases {
         count,
         modes,
-        places,
+        mode_offsets: places,
     }
 }
 
@@ -368,8 +368,8 @@ fn put_rate(rates: &mut [i32], v: usize, z: i32)
 
 // the rates with that of an equation of kind 1 put in
 fn with_steady(s: &[u8], at: usize, rates: [i32; 32]) -> [i32; 32]
-    requires { ⌜ Stands sections.readKind (now s) at ⌝ }
-    ensures { λ r. ⌜ ((t : Stands sections.readKind (now (s .entry)) at) → r ≡ putRates (steadyRates (t .value ∷ [])) rates) ⌝ }
+    requires { ⌜ Stands sections.readEquationBody (now s) at ⌝ }
+    ensures { λ r. ⌜ ((t : Stands sections.readEquationBody (now (s .entry)) at) → r ≡ putRates (steadyRates (t .value ∷ [])) rates) ⌝ }
 {
     if s[at] != 1 {
         return rates;
@@ -399,7 +399,7 @@ fn refused(number: u8) -> Equations
         refusal: number,
         selectors: 0,
         modes: [0usize; 16],
-        places: [0usize; 128],
+        mode_offsets: [0usize; 128],
         steady: [0i32; 32],
     }
 }
@@ -415,13 +415,13 @@ pub fn read(s: &[u8], variables: usize) -> Equations
     let found = selectors(s);
     let selectors = found.count;
     let modes = found.modes;
-    let places = found.places;
+    let places = found.mode_offsets;
     let steady = steady_rates(s, 1, s[0]);
     Equations {
         refusal: 0,
         selectors,
         modes,
-        places,
+        mode_offsets: places,
         steady,
     }
 }

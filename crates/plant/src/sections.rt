@@ -12,7 +12,7 @@ pub struct PlantRead {
     pub highs: [i32; 32],
     pub selectors: usize,
     pub modes: [usize; 16],
-    pub places: [usize; 128],
+    pub mode_offsets: [usize; 128],
     pub steady: [i32; 32],
 }
 
@@ -26,7 +26,7 @@ fn refused(n: u8) -> PlantRead
         highs: [0; 32],
         selectors: 0,
         modes: [0; 16],
-        places: [0; 128],
+        mode_offsets: [0; 128],
         steady: [0; 32],
     }
 }
@@ -53,7 +53,7 @@ pub fn read(vs: &[u8], es: &[u8]) -> PlantRead
     let highs = v.highs;
     let selectors = e.selectors;
     let modes = e.modes;
-    let places = e.places;
+    let places = e.mode_offsets;
     let steady = e.steady;
     PlantRead {
         refusal: 0,
@@ -62,7 +62,7 @@ pub fn read(vs: &[u8], es: &[u8]) -> PlantRead
         highs,
         selectors,
         modes,
-        places,
+        mode_offsets: places,
         steady,
     }
 }

@@ -58,7 +58,7 @@ places-few at (choice c ∷ qs) h =
     let e = length-pad 8 0 row (omega (arith, starts-length modeSize (at + 5) (c .modes), h 0 c refl)) in
     omega (arith, length-append (pad 8 0 row) (modePlaces (at + equationSize (choice c)) qs), places-few (at + equationSize (choice c)) qs (λ j x k. h (suc j) x k))
 
-places-full : (vs es : List ℕ) {p : Plant} → judgePlant edition1 vs es ≡ accepted p → length (plantOf vs es .places) ≡ 128
+places-full : (vs es : List ℕ) {p : Plant} → judgePlant edition1 vs es ≡ accepted p → length (plantOf vs es .«mode_offsets») ≡ 128
 places-full vs es {p} h =
     let e = passed-all vs es h .equations in
     ap length (places-of vs es h) ∙ length-pad 128 0 (modePlaces 1 (p .equations)) (omega (arith, places-few 1 (p .equations) (λ j c g. few-modes-each es e j g), few-selectors es e))
@@ -70,7 +70,7 @@ room-as e a = rw e a
 pub record Sized (f : List ℕ) (ix : ScheduleIndex) (asked : Admitted) : Type 0 where
   pub equations : Inside f (ix .parts .«equations_from») (ix .parts .«equations_to»)
   pub schedule : Inside f (ix .parts .«schedule_from») (ix .parts .«schedule_to»)
-  pub places : length (ix .plant .places) ≡ 128
+  pub places : length (ix .plant .«mode_offsets») ≡ 128
   pub lows : ix .plant .variables ≤ length (ix .plant .lows)
   pub highs : ix .plant .variables ≤ length (ix .plant .highs)
   pub count : ix .nodes .count ≤ 64
@@ -83,7 +83,7 @@ pub record Sized (f : List ℕ) (ix : ScheduleIndex) (asked : Admitted) : Type 0
 
 -- ---- the arrays that are lent
 pub lent-from : (f : List ℕ) (ix : ScheduleIndex) {acts : List ℕ} → acts ≡ actionNumbers (ix .nodes .kinds) (ix .nodes .count) →
-    LentFrom f ix (lent (take (ix .parts .«equations_to» - ix .parts .«equations_from») (drop (ix .parts .«equations_from») f)) (ix .plant .places) (ix .plant .steady) (take (ix .plant .variables) (ix .plant .lows)) (take (ix .plant .variables) (ix .plant .highs))
+    LentFrom f ix (lent (take (ix .parts .«equations_to» - ix .parts .«equations_from») (drop (ix .parts .«equations_from») f)) (ix .plant .«mode_offsets») (ix .plant .steady) (take (ix .plant .variables) (ix .plant .lows)) (take (ix .plant .variables) (ix .plant .highs))
     (take (ix .parts .«schedule_to» - ix .parts .«schedule_from») (drop (ix .parts .«schedule_from») f)) acts (ix .nodes .starts) (ix .nodes .ends))
 lent-from f ix e = record { equations = refl; places = refl; steady = refl; lows = refl; highs = refl; operands = refl; kinds = e; starts = refl; ends = refl }
 
@@ -121,7 +121,7 @@ module _ (f : List ℕ) {ix : ScheduleIndex} (h : ix ≡ scheduleIndex f) {asked
       record {
         equations = p .equations .inside;
         schedule = p .schedule .inside;
-        places = ap (λ (x : PlantRead). length (x .places)) (p .plant) ∙ places-full _ _ (p .plant-judged);
+        places = ap (λ (x : PlantRead). length (x .«mode_offsets»)) (p .plant) ∙ places-full _ _ (p .plant-judged);
         lows = r .lows-there;
         highs = r .highs-there;
         count = p .nodes .few;

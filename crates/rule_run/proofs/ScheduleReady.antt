@@ -36,7 +36,7 @@ use Rattle.rule_step.specs.Situations.{ScheduleLent}
 -- what is lent, by the file and its index
 pub record LentFrom (f : List ℕ) (ix : ScheduleIndex) (l : Lent) : Type 0 where
   pub equations : l .equations ≡ take (ix .parts .«equations_to» - ix .parts .«equations_from») (drop (ix .parts .«equations_from») f)
-  pub places : l .places ≡ ix .plant .places
+  pub places : l .places ≡ ix .plant .«mode_offsets»
   pub steady : l .steady ≡ ix .plant .steady
   pub lows : l .lows ≡ take (ix .plant .variables) (ix .plant .lows)
   pub highs : l .highs ≡ take (ix .plant .variables) (ix .plant .highs)
@@ -74,7 +74,7 @@ module _ {f : List ℕ} {ix : ScheduleIndex} {s : Schedule} (p : Promised f ix s
     operands-are = q .operands ∙ p .schedule .is
 
     plant-of : PlantLent (s .plant) l
-    plant-of = plant-lent (s .sections .variables) (s .sections .equations) (p .plant-judged) l equations-are (q .places ∙ ap (λ (x : PlantRead). x .places) (p .plant)) (q .steady ∙ ap (λ (x : PlantRead). x .steady) (p .plant))
+    plant-of = plant-lent (s .sections .variables) (s .sections .equations) (p .plant-judged) l equations-are (q .places ∙ ap (λ (x : PlantRead). x .«mode_offsets») (p .plant)) (q .steady ∙ ap (λ (x : PlantRead). x .steady) (p .plant))
         (q .lows ∙ ap (λ (x : PlantRead). take (x .variables) (x .lows)) (p .plant)) (q .highs ∙ ap (λ (x : PlantRead). take (x .variables) (x .highs)) (p .plant))
 
     -- a node that acts is there
@@ -97,8 +97,8 @@ module _ {f : List ℕ} {ix : ScheduleIndex} {s : Schedule} (p : Promised f ix s
         cut-at : getD (ix .nodes .starts) n 0 ≤ getD (ix .nodes .ends) n 0 → getD (ix .nodes .ends) n 0 ≤ length (s .sections .schedule) → n < length (ix .nodes .starts) → n < length (ix .nodes .ends) → Cut (l .operands) (l .starts) (l .ends) n
         cut-at a b c d = rw (operands-are, q .starts, q .ends) (record { start = c; end = d; low = a; high = b })
 
-        payload-is : TableFile.actionOf (actionKind (getD (actionNumbers (ix .nodes .kinds) (ix .nodes .count)) n 0)) (cutAt (s .sections .schedule) (ix .nodes .starts) (ix .nodes .ends) n) ≡ some a →
-            TableFile.actionOf (actionKind (getD (l .kinds) n 0)) (cutAt (l .operands) (l .starts) (l .ends) n) ≡ some a
+        payload-is : TableFile.actionOfKind (actionKind (getD (actionNumbers (ix .nodes .kinds) (ix .nodes .count)) n 0)) (cutAt (s .sections .schedule) (ix .nodes .starts) (ix .nodes .ends) n) ≡ some a →
+            TableFile.actionOfKind (actionKind (getD (l .kinds) n 0)) (cutAt (l .operands) (l .starts) (l .ends) n) ≡ some a
         payload-is e = rw (q .kinds, operands-are, q .starts, q .ends) e
 
     or-stop : (n : ℕ) {a : Action} → actionAt (actionsOf (s .nodes)) n ≡ some a → a ≡ nodeAction (s .nodes) n

@@ -55,7 +55,7 @@ fn lend(
     let plant = ix.plant;
     let variables = plant.variables;
     let selectors = plant.selectors;
-    let places = plant.places;
+    let places = plant.mode_offsets;
     let steady = plant.steady;
     let lows = plant.lows;
     let highs = plant.highs;

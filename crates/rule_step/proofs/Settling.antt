@@ -27,7 +27,7 @@ use Rattle.moves.specs.declared.How.the-variants.{To, Finished, Halted}
 use Rattle.moves.proofs.Callers.{standing, led-on, led-to-finish, led-to-halt}
 use Rattle.execution.specs.Ready.{Lent, Fits, Ready}
 use Rattle.execution.specs.Ready as Judged
-use Rattle.effects.specs.Told.{Left}
+use Rattle.effects.specs.Verdicts.{Left}
 use Rattle.effects.specs.declared.Verdict.{Verdict}
 use Rattle.effects.specs.declared.Verdict.the-variants.{Away, Above, Below, Stay, Move}
 use Rattle.execution.proofs.Outcomes.{heard-move}

@@ -15,7 +15,7 @@ ghost use Rattle.schedules.specs.Residuals.{Residual, move};
 ghost use Rattle.schedules.specs.Files.{Schedule, ruleControl};
 ghost use Rattle.nodeset.specs.Sets.{members};
 ghost use Rattle.moves.specs.Contracts.{Charted, Standing};
-ghost use Rattle.effects.specs.Told.{Left};
+ghost use Rattle.effects.specs.Verdicts.{Left};
 ghost use Rattle.execution.specs.Ready.{lent, Fits};
 ghost use Rattle.rule_step.specs.Situations.{goingOn, ended, Here, Arrives, Movable, StandsFor, ScheduleLent, Promised, Steps};
 

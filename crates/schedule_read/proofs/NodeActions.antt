@@ -70,8 +70,8 @@ count-acts f h (k ∷ []) {x} e = go (leb 1 k) e
     go false e = none-not-some e
 count-acts f h (k ∷ l ∷ b) e = none-not-some e
 
-pub action-made : (k : Kind) (b : List ℕ) {x : Node} → nodeOf k b ≡ some x → TableFile.actionOf (actionKind (actionNumber k)) b ≡ actionOf x
-unfolding nodeOf actionOf TableFile.actionOf actionKind actionNumber byteAndRest twoBytes noBytes
+pub action-made : (k : Kind) (b : List ℕ) {x : Node} → nodeOf k b ≡ some x → TableFile.actionOfKind (actionKind (actionNumber k)) b ≡ actionOf x
+unfolding nodeOf actionOf TableFile.actionOfKind actionKind actionNumber byteAndRest twoBytes noBytes
 action-made a-sequence b e = count-acts sequence (λ k. refl) b e
 action-made a-parallel b e = count-acts parallel (λ k. refl) b e
 action-made a-while b e = ap actionOf (some-is e)
@@ -108,21 +108,21 @@ module _ (kinds : List ℕ) (count : ℕ) (few : count ≤ 64) (full : count ≤
 -- what stands at a node that is there, and at any other number
 module _ {s kinds starts ends : List ℕ} {count : ℕ} {ns : List Node} (d : NodesAt s kinds starts ends count ns) where
   pub action-is : (n : ℕ) → n < count →
-      TableFile.actionOf (actionKind (getD (actionNumbers kinds count) n 0)) (take (getD ends n 0 - getD starts n 0) (drop (getD starts n 0) s)) ≡ actionAt (actionsOf ns) n
+      TableFile.actionOfKind (actionKind (getD (actionNumbers kinds count) n 0)) (take (getD ends n 0 - getD starts n 0) (drop (getD starts n 0) s)) ≡ actionAt (actionsOf ns) n
   unfolding bind
   action-is n h = go (getElem? ns n) refl
     where
       kind-is : getD (actionNumbers kinds count) n 0 ≡ actionNumber (kindOf (getD kinds n 0))
       kind-is = kind-number kinds count (d .few) (omega (arith, d .few, d .kinds-full)) n h
 
-      go : (o : Option Node) → getElem? ns n ≡ o → TableFile.actionOf (actionKind (getD (actionNumbers kinds count) n 0)) (take (getD ends n 0 - getD starts n 0) (drop (getD starts n 0) s)) ≡ actionAt (actionsOf ns) n
+      go : (o : Option Node) → getElem? ns n ≡ o → TableFile.actionOfKind (actionKind (getD (actionNumbers kinds count) n 0)) (take (getD ends n 0 - getD starts n 0) (drop (getD starts n 0) s)) ≡ actionAt (actionsOf ns) n
       go none e = absurd (past-end ns n e (omega (arith, d .counted)))
         where
           past-end : (l : List Node) (i : ℕ) → getElem? l i ≡ none → i < length l → ⊥
           past-end [] i e h = omega arith
           past-end (x ∷ l) zero e h = none-not-some (sym e)
           past-end (x ∷ l) (suc i) e h = past-end l i e (omega arith)
-      go (some x) e = ap (λ k. TableFile.actionOf (actionKind k) (take (getD ends n 0 - getD starts n 0) (drop (getD starts n 0) s))) kind-is
+      go (some x) e = ap (λ k. TableFile.actionOfKind (actionKind k) (take (getD ends n 0 - getD starts n 0) (drop (getD starts n 0) s))) kind-is
           ∙ action-made _ _ (d .entries n h .node ∙ e) ∙ sym (action-of-node ns n ∙ ap (λ o. bind o actionOf) e)
 
   pub action-beyond : (n : ℕ) → count ≤ n → actionAt (actionsOf ns) n ≡ none

@@ -8,7 +8,7 @@ use native.Mathlib.Omega.{arith}
 use borrow.Author.Tests.{leb-true, le-leb, lt-leb, not-false}
 use lib.Dec.{leb, eqb}
 use lib.ListN.{length, getD, take, drop}
-use Rattle.semantics.specs.Bytes.{broken, read, after, _>>=_, give, section2, just, whole}
+use Rattle.semantics.specs.Bytes.{broken, read, andThen, _>>=_, give, section2, just, whole}
 use Rattle.semantics.specs.Editions.{edition1}
 use Rattle.semantics.proofs.Facts.{and-left}
 use Rattle.semantics.proofs.Readers.{read-value, read-rest, split, given, whole-read}
@@ -76,17 +76,17 @@ broken-sections l e = rw e refl
 
 module _ (f : List ℕ) where
   pub no-variables : section2 (drop 3 f) ≡ broken → fileSectionsIn (drop 3 f) ≡ none
-  unfolding readFileSections _>>=_ after
+  unfolding readFileSections _>>=_ andThen
   no-variables k = broken-sections _ (rw k refl)
 
   module _ {v : ℕ} (vs : Section 2 section2 f 3 v) where
     pub no-equations : section2 (drop v f) ≡ broken → fileSectionsIn (drop 3 f) ≡ none
-    unfolding readFileSections _>>=_ after
+    unfolding readFileSections _>>=_ andThen
     no-equations k = broken-sections _ (rw (vs .got, k) refl)
 
     module _ {e : ℕ} (es : Section 2 section2 f v e) where
       pub no-schedule : section2 (drop e f) ≡ broken → fileSectionsIn (drop 3 f) ≡ none
-      unfolding readFileSections _>>=_ after
+      unfolding readFileSections _>>=_ andThen
       no-schedule k = broken-sections _ (rw (vs .got, es .got, k) refl)
 
       module _ {s : ℕ} (ns : Section 2 section2 f e s) where
@@ -94,7 +94,7 @@ module _ (f : List ℕ) where
         sections = record { variables = vs .value; equations = es .value; schedule = ns .value }
 
         all-read : readFileSections (drop 3 f) ≡ read sections (drop s f)
-        unfolding readFileSections _>>=_ after give sections
+        unfolding readFileSections _>>=_ andThen give sections
         all-read = rw (vs .got, es .got, ns .got) refl
 
         pub left-over : s < length f → fileSectionsIn (drop 3 f) ≡ none

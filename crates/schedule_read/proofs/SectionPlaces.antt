@@ -8,7 +8,7 @@ use native.Mathlib.Omega.{arith}
 use borrow.Author.Tests.{eqb-true, eqb-false, eq-eqb, ne-eqb}
 use lib.Dec.{eqb}
 use lib.ListN.{length, drop}
-use Rattle.semantics.specs.Bytes.{broken, section2, nat2, byte, after, _>>=_}
+use Rattle.semantics.specs.Bytes.{broken, section2, nat2, byte, andThen, _>>=_}
 use Rattle.schedules.specs.FileSections.{fileSectionsIn}
 use Rattle.codec.specs.Ends.{endOf, endIn}
 use Rattle.codec.proofs.Reading.{drop-past}
@@ -28,7 +28,7 @@ module _ (f : List ℕ) (p : ℕ) where
   end-there n = rw (ne-eqb p 0 n) refl
 
   pub none-beyond : length f < p → 0 ≡ sectionEnd f p
-  unfolding sectionEnd endOf endIn section2 nat2 byte after _>>=_
+  unfolding sectionEnd endOf endIn section2 nat2 byte andThen _>>=_
   none-beyond h = rw (ne-eqb p 0 (λ e. absurd (omega arith)), drop-past p f (omega arith)) refl
 
 -- ---- the three

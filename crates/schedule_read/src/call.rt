@@ -47,7 +47,7 @@ fn no_plant() -> PlantRead
         highs: [0; 32],
         selectors: 0,
         modes: [0; 16],
-        places: [0; 128],
+        mode_offsets: [0; 128],
         steady: [0; 32],
     }
 }

@@ -7,7 +7,7 @@ use native.Mathlib.Omega.{arith}
 use lib.ListN.{length, length-append}
 use Rattle.semantics.proofs.Facts.{All, all-cons}
 use Rattle.schedules.specs.Nodes.{Node, parallel}
-use Rattle.schedules.specs.Preorder.{howMany}
+use Rattle.schedules.specs.Preorder.{forestLength}
 use Rattle.schedules.specs.Sizes.{Size, sizeOf}
 use Rattle.schedules.specs.Reordered.{OneTree, Reordered, unchanged, swapped}
 use Rattle.schedules.proofs.PreorderSizes.{stackOf, written-stack, all-stack, sizes-length, stack-written}
@@ -60,7 +60,7 @@ module _ (before after : List Node) (k : ℕ) where
       subst (λ ns. Reordered ns (with f (b ∷ ds))) (sym (step f a cs)) (subst (Reordered (with (f ++ a) cs)) (ap (λ c. with (f ++ c) ds) i ∙ sym (step f b ds)) r)
   any-from f {l} e (all-cons {x = a} t (all-cons {x = b} u p)) (perm-swap {a′ = c} {b′ = d} {l = cs} i j) h =
       let s = stack-written 0 f e in
-      let n : howMany (s .trees) ≡ length l = sym (sizes-length (s .trees)) ∙ ap length (s .sizes) in
+      let n : forestLength (s .trees) ≡ length l = sym (sizes-length (s .trees)) ∙ ap length (s .sizes) in
       swapped unchanged (record {
         before = before;
         first = f;

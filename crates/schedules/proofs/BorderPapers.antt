@@ -12,7 +12,7 @@ use Rattle.semantics.specs.TableFile.{locationLimit}
 use Rattle.semantics.proofs.Judging.{accepted-is}
 use Rattle.schedules.specs.Nodes.{sequence, reset, continue-until}
 use Rattle.schedules.specs.Trees.{leaf, seq, cons, nil}
-use Rattle.schedules.specs.Preorder.{howMany, a-sequence, a-reset, a-continue, no-tree, one-tree}
+use Rattle.schedules.specs.Preorder.{forestLength, a-sequence, a-reset, a-continue, no-tree, one-tree}
 use Rattle.schedules.specs.Numbering.{locations}
 use Rattle.schedules.specs.Files.{Schedule, judgeFile}
 use Rattle.schedules.specs.Calls.{compile}
@@ -50,7 +50,7 @@ K8-two-before room = refused-13-by-size edition1 (fileWith (resetsBefore 2)) roo
 
 -- ---- the order of a PARALLEL's children
 pub reset-first-or-last : SameButOrder edition1 reset-first-file reset-last-file
-unfolding schedules reset-first-file reset-last-file howMany
+unfolding schedules reset-first-file reset-last-file forestLength
 reset-first-or-last = record {
   same-header = refl;
   same-length = refl;

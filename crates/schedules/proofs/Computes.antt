@@ -27,7 +27,7 @@ unfolding Trees.children Trees.ofNone Trees.ofOne Trees.ofTwo Trees.ofSome Trees
 trees = tt
 
 unfoldable pub residuals : Unit {0}
-unfolding Residuals.fresh Residuals.actingAt Residuals.acting Residuals.only Residuals.moveAt Residuals.inside Residuals.after Residuals.allFinished Residuals.joined Residuals.orElse Residuals.move Residuals.same?
+unfolding Residuals.fresh Residuals.actingAt Residuals.acting Residuals.whenNode Residuals.moveAt Residuals.inside Residuals.nextChild Residuals.allFinished Residuals.joined Residuals.orElse Residuals.move Residuals.same?
 residuals = tt
 
 unfoldable pub numbering : Unit {0}

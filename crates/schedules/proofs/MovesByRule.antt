@@ -13,7 +13,7 @@ use Rattle.semantics.proofs.Facts.{true-not-false, none-not-some, some-is, by-c
 use Rattle.semantics.specs.Tables.{risingFrom}
 use Rattle.schedules.specs.Nodes.{Node}
 use Rattle.schedules.specs.Trees.{Tree, Forest, leaf, halt, loop, branch, seq, par, nil, cons, treeOf}
-use Rattle.schedules.specs.Residuals.{Residual, Parts, at, in-loop, in-branch, in-seq, in-par, no-part, finished-part, part, fresh, freshParts, acting, actingAt, actingParts, only, moveAt, inside, after, allFinished, joined, orElse, move, moveParts}
+use Rattle.schedules.specs.Residuals.{Residual, Parts, at-node, in-loop, in-branch, in-seq, in-par, no-part, finished-part, part, fresh, freshParts, acting, actingAt, actingParts, whenNode, moveAt, inside, nextChild, allFinished, joined, orElse, move, moveParts}
 use Rattle.schedules.specs.Reached.{Of, Leads, stays, goes, Distinct, distinct-nil, distinct-cons}
 use Rattle.schedules.specs.MoveRules.{Fresh, AllFresh, fresh-sequence, fresh-parallel, fresh-leaf, fresh-stop, fresh-while, fresh-if, no-child, one-child, Child, this-child, past-child, past-finished, Becomes, goes-here, finishes-here, stays-child, stays-finished, AllFinished, none-left, one-finished, Acts, leaf-acts, stop-acts, while-acts, if-acts, body-acts, branch-acts, sequence-acts, parallel-acts, MoveRule, leaf-finishes, stop-halts, body-halts, branch-halts, sequence-halts, parallel-halts, while-true, while-false, body-finished, body-goes, if-true, if-false, branch-finished, branch-goes, gives-way, last-finished, sequence-goes, child-finished, all-finished, child-goes, LeadsByRule, rule-stays, rule-goes}
 use Rattle.schedules.proofs.MovesFit.{no-move, never-idle}
@@ -79,7 +79,7 @@ rule-acts (parallel-acts c h) = child-acts c (rule-acts h)
 data ChildActs (n : ℕ) (ps : Parts) : Type 0 where
   child-acting : {r : Residual} → Child r ps → Acts n r → ChildActs n ps
 
-at-ruled : (n : ℕ) (t : Tree) → Mem n (actingAt t) → Acts n (at t)
+at-ruled : (n : ℕ) (t : Tree) → Mem n (actingAt t) → Acts n (at-node t)
 unfolding actingAt
 at-ruled n (leaf m) k = rw (List·Memᴰ·eq-of-singleton k) leaf-acts
 at-ruled n (halt m) k = rw (List·Memᴰ·eq-of-singleton k) stop-acts
@@ -101,7 +101,7 @@ mutual
   unfolding acting
 
   acts-ruled : {n : ℕ} (r : Residual) → Mem n (acting r) → Acts n r
-  acts-ruled {n} (at t) k = at-ruled n t k
+  acts-ruled {n} (at-node t) k = at-ruled n t k
   acts-ruled (in-loop m t r) k = body-acts (acts-ruled r k)
   acts-ruled (in-branch r) k = branch-acts (acts-ruled r k)
   acts-ruled (in-seq r ts) k = sequence-acts (acts-ruled r k)
@@ -125,15 +125,15 @@ data Ruled (r : Residual) (n : ℕ) (b : Bool) : Next Residual → Type 0 where
   ruled : {x : Next Residual} → MoveRule r n b x → Ruled r n b x
   unmoved : Ruled r n b idle
 
-only-ruled : (m n : ℕ) {t : Tree} {b : Bool} {x : Next Residual} → (m ≡ n → MoveRule (at t) n b x) → Ruled (at t) n b (only m n x)
-unfolding only
+only-ruled : (m n : ℕ) {t : Tree} {b : Bool} {x : Next Residual} → (m ≡ n → MoveRule (at-node t) n b x) → Ruled (at-node t) n b (whenNode m n x)
+unfolding whenNode
 only-ruled m n {t} {b} {x} f = go (eqb m n) refl
   where
-    go : (c : Bool) → eqb m n ≡ c → Ruled (at t) n b (cond c x idle)
+    go : (c : Bool) → eqb m n ≡ c → Ruled (at-node t) n b (cond c x idle)
     go true e = ruled (f (eqb-true m n e))
     go false e = unmoved
 
-at-move : (t : Tree) (n : ℕ) (b : Bool) → Ruled (at t) n b (moveAt t n b)
+at-move : (t : Tree) (n : ℕ) (b : Bool) → Ruled (at-node t) n b (moveAt t n b)
 unfolding moveAt
 at-move (leaf m) n b = only-ruled m n (λ e. rw e leaf-finishes)
 at-move (halt m) n b = only-ruled m n (λ e. rw e stop-halts)
@@ -145,7 +145,7 @@ at-move (seq t ts) n b = unmoved
 at-move (par t ts) n b = unmoved
 
 module _ {n : ℕ} {b : Bool} where
-  body-move : (m : ℕ) (t : Tree) {r : Residual} {x : Next Residual} → Ruled r n b x → Ruled (in-loop m t r) n b (inside (in-loop m t) (to (at (loop m t))) x)
+  body-move : (m : ℕ) (t : Tree) {r : Residual} {x : Next Residual} → Ruled r n b x → Ruled (in-loop m t r) n b (inside (in-loop m t) (to (at-node (loop m t))) x)
   unfolding inside
   body-move m t {x = to s} (ruled h) = ruled (body-goes h)
   body-move m t {x = finished} (ruled h) = ruled (body-finished h)
@@ -159,12 +159,12 @@ module _ {n : ℕ} {b : Bool} where
   branch-move {x = halted} (ruled h) = ruled (branch-halts h)
   branch-move {x = idle} h = unmoved
 
-  after-move : (ts : Forest) {r : Residual} → MoveRule r n b finished → Ruled (in-seq r ts) n b (after ts)
-  unfolding after
+  after-move : (ts : Forest) {r : Residual} → MoveRule r n b finished → Ruled (in-seq r ts) n b (nextChild ts)
+  unfolding nextChild
   after-move nil h = ruled (last-finished h)
   after-move (cons t ts) h = ruled (gives-way h (fresh-ruled t))
 
-  sequence-move : (ts : Forest) {r : Residual} {x : Next Residual} → Ruled r n b x → Ruled (in-seq r ts) n b (inside (λ s. in-seq s ts) (after ts) x)
+  sequence-move : (ts : Forest) {r : Residual} {x : Next Residual} → Ruled r n b x → Ruled (in-seq r ts) n b (inside (λ s. in-seq s ts) (nextChild ts) x)
   unfolding inside
   sequence-move ts {x = to s} (ruled h) = ruled (sequence-goes h)
   sequence-move ts {x = finished} (ruled h) = after-move ts h
@@ -236,7 +236,7 @@ mutual
   unfolding move
 
   move-ruled : (r : Residual) (n : ℕ) (b : Bool) → Ruled r n b (move r n b)
-  move-ruled (at t) n b = at-move t n b
+  move-ruled (at-node t) n b = at-move t n b
   move-ruled (in-loop m t r) n b = body-move m t (move-ruled r n b)
   move-ruled (in-branch r) n b = branch-move (move-ruled r n b)
   move-ruled (in-seq r ts) n b = sequence-move ts (move-ruled r n b)
@@ -340,12 +340,12 @@ joined-end : (qs : Parts) → AllFinished qs → joined (to qs) ≡ finished
 unfolding joined
 joined-end qs f = rw (finished-all f, joined) refl
 
-only-one : (n : ℕ) (x : Next Residual) → only n n x ≡ x
-unfolding only
+only-one : (n : ℕ) (x : Next Residual) → whenNode n n x ≡ x
+unfolding whenNode
 only-one n x = rw (eq-eqb n n refl) refl
 
 rule-move : {r : Residual} {n : ℕ} {b : Bool} {x : Next Residual} → MoveRule r n b x → Distinct (acting r) → move r n b ≡ x
-unfolding move moveAt inside after joined acting
+unfolding move moveAt inside nextChild joined acting
 rule-move (leaf-finishes {n = n}) d = only-one n _
 rule-move (stop-halts {n = n}) d = only-one n _
 rule-move (body-halts h) d = ap (inside _ _) (rule-move h d)

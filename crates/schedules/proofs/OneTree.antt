@@ -10,7 +10,7 @@ use lib.ListN.{length, length-append}
 use Rattle.semantics.proofs.Facts.{none-not-some, some-is}
 use Rattle.schedules.specs.Nodes.{Node, sequence, parallel, while-do, if-else, continue-until, reset, reinitial, switch-to, stop-all}
 use Rattle.schedules.specs.Trees.{Tree, Forest, nil, cons, children, ofNone, ofOne, ofTwo, ofSome, treeFrom, Walked, lost, walked, onward, found, readForest, readTree, noneLeft, treeOf}
-use Rattle.schedules.specs.Preorder.{howMany, Written, WrittenAll, a-continue, a-reset, a-reinitial, a-switch, a-stop, a-while, an-if, a-sequence, a-parallel, no-tree, one-tree as next-tree}
+use Rattle.schedules.specs.Preorder.{forestLength, Written, WrittenAll, a-continue, a-reset, a-reinitial, a-switch, a-stop, a-while, an-if, a-sequence, a-parallel, no-tree, one-tree as next-tree}
 
 -- ---- a walk taken apart
 lost-not-walked : {A C : Type 0} {a : A} {m : ℕ} {ms : List Node} → lost ≡ walked a m ms → C
@@ -55,7 +55,7 @@ none-left (walked t m (x ∷ ms)) h = none-not-some h
 -- ---- a node and its children, written
 -- the children of a node are as many as it says, and make its tree
 pub record Rooted (t : Tree) (n : ℕ) (x : Node) (ts : Forest) : Type 0 where
-  pub many : howMany ts ≡ children x
+  pub many : forestLength ts ≡ children x
   pub made : treeFrom n x ts ≡ some t
 
 pub only-one : {t : Tree} {n : ℕ} {ns : List Node} → WrittenAll (cons t nil) n ns → Written t n ns
@@ -97,11 +97,11 @@ record Headed (t : Tree) (n : ℕ) (ns : List Node) : Type 0 where
   rooted : Rooted t n node trees
   written : WrittenAll trees (suc n) rest
 
-headed : {t : Tree} {n : ℕ} {x : Node} {ts : Forest} {ns : List Node} → howMany ts ≡ children x → treeFrom n x ts ≡ some t → WrittenAll ts (suc n) ns → Headed t n (x ∷ ns)
+headed : {t : Tree} {n : ℕ} {x : Node} {ts : Forest} {ns : List Node} → forestLength ts ≡ children x → treeFrom n x ts ≡ some t → WrittenAll ts (suc n) ns → Headed t n (x ∷ ns)
 headed {x = x} {ts = ts} {ns = ns} e f w = record { node = x; trees = ts; rest = ns; split = refl; rooted = record { many = e; made = f }; written = w }
 
 written-headed : {t : Tree} {n : ℕ} {ns : List Node} → Written t n ns → Headed t n ns
-unfolding howMany children treeFrom ofNone ofOne ofTwo ofSome
+unfolding forestLength children treeFrom ofNone ofOne ofTwo ofSome
 written-headed a-continue = headed refl refl no-tree
 written-headed a-reset = headed refl refl no-tree
 written-headed a-reinitial = headed refl refl no-tree
@@ -134,18 +134,18 @@ joined {t} {ts} {us} {n} {m} {l} {k} {ns} {ms} {ls} {ks} e f g p q = record {
 }
 
 pub forest-sound : (r : ℕ → List Node → Walked Tree) → Sound r → (k n : ℕ) (ns : List Node) {ts : Forest} {m : ℕ} {ms : List Node} → readForest r k n ns ≡ walked ts m ms →
-    (howMany ts ≡ k) × Front (WrittenAll ts n) n ns m ms
-unfolding readForest howMany
+    (forestLength ts ≡ k) × Front (WrittenAll ts n) n ns m ms
+unfolding readForest forestLength
 forest-sound r s zero n ns h =
     let e : nil ≡ _ = walked-value h in
-    (ap howMany (sym e), record { nodes = []; parted = walked-rest h; numbered = let e = walked-number h in omega arith; written = subst (λ ts. WrittenAll ts n []) e no-tree })
+    (ap forestLength (sym e), record { nodes = []; parted = walked-rest h; numbered = let e = walked-number h in omega arith; written = subst (λ ts. WrittenAll ts n []) e no-tree })
 forest-sound r s (suc k) n ns {ts} {m} {ms} h =
     let a = went-on (r n ns) _ h in
     let b = went-on (readForest r k (a .number) (a .rest)) _ (a .then) in
     let e : cons (a .value) (b .value) ≡ ts = walked-value (b .then) in
     let f = s n ns _ _ _ (a .first) in
     let g = forest-sound r s k _ _ (b .first) in
-    (ap howMany (sym e) ∙ ap suc (g .0), joined e f (g .1) (walked-number (b .then)) (walked-rest (b .then)))
+    (ap forestLength (sym e) ∙ ap suc (g .0), joined e f (g .1) (walked-number (b .then)) (walked-rest (b .then)))
 
 pub read-written : (d : ℕ) → Sound (readTree d)
 unfolding readTree
@@ -171,8 +171,8 @@ abbrev pub Complete : ℕ → (ℕ → List Node → Walked Tree) → Type 0
 Complete d r = (t : Tree) (n : ℕ) (ps ms : List Node) → Written t n ps → length ps ≤ d → r n (ps ++ ms) ≡ walked t (n + length ps) ms
 
 pub forest-complete : (d : ℕ) (r : ℕ → List Node → Walked Tree) → Complete d r → {ts : Forest} {n : ℕ} {ps : List Node} (ms : List Node) → WrittenAll ts n ps → length ps ≤ d →
-    readForest r (howMany ts) n (ps ++ ms) ≡ walked ts (n + length ps) ms
-unfolding readForest howMany
+    readForest r (forestLength ts) n (ps ++ ms) ≡ walked ts (n + length ps) ms
+unfolding readForest forestLength
 forest-complete d r c {n = n} ms no-tree h = ap (λ k. walked nil k ms) (omega arith)
 forest-complete d r c {n = n} {ps = l} ms (next-tree {t = t} {ts = ts} {ms = ps} {ns = qs} w ws e) h =
     let u : length l ≡ length ps + length qs = ap length e ∙ length-append ps qs in
@@ -181,7 +181,7 @@ forest-complete d r c {n = n} {ps = l} ms (next-tree {t = t} {ts = ts} {ms = ps}
     go-on _ i ∙ go-on _ j ∙ ap (λ k. walked (cons t ts) k ms) (omega arith)
 
 headed-read : {t : Tree} {n : ℕ} {x : Node} {ts : Forest} (d : ℕ) (ps ms : List Node) → Rooted t n x ts →
-    readForest (readTree d) (howMany ts) (suc n) (ps ++ ms) ≡ walked ts (suc n + length ps) ms → readTree (suc d) n (x ∷ ps ++ ms) ≡ walked t (n + suc (length ps)) ms
+    readForest (readTree d) (forestLength ts) (suc n) (ps ++ ms) ≡ walked ts (suc n + length ps) ms → readTree (suc d) n (x ∷ ps ++ ms) ≡ walked t (n + suc (length ps)) ms
 unfolding readTree found
 headed-read {t} {n} {x} {ts} d ps ms r h =
     let i : readForest (readTree d) (children x) (suc n) (ps ++ ms) ≡ walked ts (suc n + length ps) ms = rw (← r .many) h in

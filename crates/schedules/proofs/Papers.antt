@@ -13,7 +13,7 @@ use Rattle.schedules.specs.Examples.{locationCount, stopOrWait}
 use Rattle.schedules.specs.FileSections.{FileSections}
 use Rattle.schedules.specs.Nodes.{parallel, while-do, if-else, reset}
 use Rattle.schedules.specs.Trees.{Tree, treeOf, par, halt, leaf, branch, cons, nil}
-use Rattle.schedules.specs.Residuals.{fresh, in-branch, at as at-node}
+use Rattle.schedules.specs.Residuals.{fresh, in-branch, at-node}
 use Rattle.schedules.specs.Numbering.{locations}
 use Rattle.schedules.specs.Files.{Schedule, ruleControl}
 use Rattle.schedules.specs.Compiling.{testsOf}

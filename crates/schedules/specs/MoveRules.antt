@@ -7,7 +7,7 @@ use mathlib.Core.Option.{Option, none, some}
 use Prim.Native.Nat.{ℕ}
 use Rattle.semantics.specs.Run.{Next, to, finished, halted}
 use Rattle.schedules.specs.Trees.{Tree, Forest, leaf, halt, loop, branch, seq, par, nil, cons}
-use Rattle.schedules.specs.Residuals.{Residual, Parts, at, in-loop, in-branch, in-seq, in-par, no-part, finished-part, part}
+use Rattle.schedules.specs.Residuals.{Residual, Parts, at-node, in-loop, in-branch, in-seq, in-par, no-part, finished-part, part}
 
 -- ---- "Fresh"
 mutual
@@ -17,10 +17,10 @@ mutual
     -- "a PARALLEL has all children fresh"
     fresh-parallel : {t : Tree} {ts : Forest} {ps : Parts} → AllFresh (cons t ts) ps → Fresh (par t ts) (in-par ps)
     -- "any other node stands at itself and acts"
-    fresh-leaf : {n : ℕ} → Fresh (leaf n) (at (leaf n))
-    fresh-stop : {n : ℕ} → Fresh (halt n) (at (halt n))
-    fresh-while : {n : ℕ} {t : Tree} → Fresh (loop n t) (at (loop n t))
-    fresh-if : {n : ℕ} {t u : Tree} → Fresh (branch n t u) (at (branch n t u))
+    fresh-leaf : {n : ℕ} → Fresh (leaf n) (at-node (leaf n))
+    fresh-stop : {n : ℕ} → Fresh (halt n) (at-node (halt n))
+    fresh-while : {n : ℕ} {t : Tree} → Fresh (loop n t) (at-node (loop n t))
+    fresh-if : {n : ℕ} {t u : Tree} → Fresh (branch n t u) (at-node (branch n t u))
 
   pub data AllFresh : Forest → Parts → Type 0 where
     no-child : AllFresh nil no-part
@@ -47,10 +47,10 @@ pub data AllFinished : Parts → Type 0 where
 -- ---- who acts
 pub data Acts (n : ℕ) : Residual → Type 0 where
   -- a node that "stands at itself and acts"
-  leaf-acts : Acts n (at (leaf n))
-  stop-acts : Acts n (at (halt n))
-  while-acts : {t : Tree} → Acts n (at (loop n t))
-  if-acts : {t u : Tree} → Acts n (at (branch n t u))
+  leaf-acts : Acts n (at-node (leaf n))
+  stop-acts : Acts n (at-node (halt n))
+  while-acts : {t : Tree} → Acts n (at-node (loop n t))
+  if-acts : {t u : Tree} → Acts n (at-node (branch n t u))
   -- and what acts in a part acts in the whole
   body-acts : {m : ℕ} {t : Tree} {r : Residual} → Acts n r → Acts n (in-loop m t r)
   branch-acts : {r : Residual} → Acts n r → Acts n (in-branch r)
@@ -60,23 +60,23 @@ pub data Acts (n : ℕ) : Residual → Type 0 where
 -- ---- "A move is one acting node's": the residual, the node, its outcome (true also for done), and what comes of it
 pub data MoveRule : Residual → ℕ → Bool → Next Residual → Type 0 where
   -- "CONTINUE, assignments and SWITCH finish their node": they have one outcome only, so it is not asked for
-  leaf-finishes : {n : ℕ} {b : Bool} → MoveRule (at (leaf n)) n b finished
+  leaf-finishes : {n : ℕ} {b : Bool} → MoveRule (at-node (leaf n)) n b finished
   -- "STOP halts the whole."
-  stop-halts : {n : ℕ} {b : Bool} → MoveRule (at (halt n)) n b halted
+  stop-halts : {n : ℕ} {b : Bool} → MoveRule (at-node (halt n)) n b halted
   body-halts : {n m : ℕ} {b : Bool} {t : Tree} {r : Residual} → MoveRule r n b halted → MoveRule (in-loop m t r) n b halted
   branch-halts : {n : ℕ} {b : Bool} {r : Residual} → MoveRule r n b halted → MoveRule (in-branch r) n b halted
   sequence-halts : {n : ℕ} {b : Bool} {r : Residual} {ts : Forest} → MoveRule r n b halted → MoveRule (in-seq r ts) n b halted
   parallel-halts : {n : ℕ} {b : Bool} {r : Residual} {ps : Parts} → Child r ps → MoveRule r n b halted → MoveRule (in-par ps) n b halted
   -- "WHILE true: its body, fresh."
-  while-true : {n : ℕ} {t : Tree} {r : Residual} → Fresh t r → MoveRule (at (loop n t)) n true (to (in-loop n t r))
+  while-true : {n : ℕ} {t : Tree} {r : Residual} → Fresh t r → MoveRule (at-node (loop n t)) n true (to (in-loop n t r))
   -- "False: it finishes."
-  while-false : {n : ℕ} {t : Tree} → MoveRule (at (loop n t)) n false finished
+  while-false : {n : ℕ} {t : Tree} → MoveRule (at-node (loop n t)) n false finished
   -- "Its body finished: it acts again."
-  body-finished : {n m : ℕ} {b : Bool} {t : Tree} {r : Residual} → MoveRule r n b finished → MoveRule (in-loop m t r) n b (to (at (loop m t)))
+  body-finished : {n m : ℕ} {b : Bool} {t : Tree} {r : Residual} → MoveRule r n b finished → MoveRule (in-loop m t r) n b (to (at-node (loop m t)))
   body-goes : {n m : ℕ} {b : Bool} {t : Tree} {r s : Residual} → MoveRule r n b (to s) → MoveRule (in-loop m t r) n b (to (in-loop m t s))
   -- "IF: the first child on true, else the second, fresh"
-  if-true : {n : ℕ} {t u : Tree} {r : Residual} → Fresh t r → MoveRule (at (branch n t u)) n true (to (in-branch r))
-  if-false : {n : ℕ} {t u : Tree} {r : Residual} → Fresh u r → MoveRule (at (branch n t u)) n false (to (in-branch r))
+  if-true : {n : ℕ} {t u : Tree} {r : Residual} → Fresh t r → MoveRule (at-node (branch n t u)) n true (to (in-branch r))
+  if-false : {n : ℕ} {t u : Tree} {r : Residual} → Fresh u r → MoveRule (at-node (branch n t u)) n false (to (in-branch r))
   -- "the child finished, it finishes"
   branch-finished : {n : ℕ} {b : Bool} {r : Residual} → MoveRule r n b finished → MoveRule (in-branch r) n b finished
   branch-goes : {n : ℕ} {b : Bool} {r s : Residual} → MoveRule r n b (to s) → MoveRule (in-branch r) n b (to (in-branch s))

@@ -6,9 +6,9 @@ use lib.ListN.{length}
 use Rattle.schedules.specs.Nodes.{Node, sequence, parallel, while-do, if-else, continue-until, reset, reinitial, switch-to, stop-all}
 use Rattle.schedules.specs.Trees.{Tree, Forest, leaf, halt, loop, branch, seq, par, nil, cons}
 
-unfoldable pub howMany : Forest → ℕ
-howMany nil = 0
-howMany (cons t ts) = suc (howMany ts)
+unfoldable pub forestLength : Forest → ℕ
+forestLength nil = 0
+forestLength (cons t ts) = suc (forestLength ts)
 
 mutual
   -- the tree, the number of its first node, and its nodes
@@ -22,9 +22,9 @@ mutual
     an-if : {n : ℕ} {t : List ℕ} {a b : Tree} {ms ns l : List Node} → Written a (suc n) ms → Written b (suc n + length ms) ns →
         l ≡ ms ++ ns → Written (branch n a b) n (if-else t ∷ l)
     a-sequence : {n k : ℕ} {t : Tree} {ts : Forest} {ns : List Node} → WrittenAll (cons t ts) (suc n) ns →
-        k ≡ howMany (cons t ts) → Written (seq t ts) n (sequence k ∷ ns)
+        k ≡ forestLength (cons t ts) → Written (seq t ts) n (sequence k ∷ ns)
     a-parallel : {n k : ℕ} {t : Tree} {ts : Forest} {ns : List Node} → WrittenAll (cons t ts) (suc n) ns →
-        k ≡ howMany (cons t ts) → Written (par t ts) n (parallel k ∷ ns)
+        k ≡ forestLength (cons t ts) → Written (par t ts) n (parallel k ∷ ns)
 
   pub data WrittenAll : Forest → ℕ → List Node → Type 0 where
     no-tree : {n : ℕ} → WrittenAll nil n []

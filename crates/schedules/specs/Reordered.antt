@@ -8,7 +8,7 @@ use Rattle.semantics.specs.Editions.{Edition}
 use Rattle.schedules.specs.FileSections.{FileSections, fileSectionsIn}
 use Rattle.schedules.specs.Nodes.{Node, parallel, nodesIn}
 use Rattle.schedules.specs.Trees.{Tree, Forest}
-use Rattle.schedules.specs.Preorder.{howMany, Written, WrittenAll}
+use Rattle.schedules.specs.Preorder.{forestLength, Written, WrittenAll}
 use Rattle.schedules.specs.Files.{fileHeader, fileLength}
 
 -- the nodes of one tree, in preorder; from which number on they are counted does not matter
@@ -29,7 +29,7 @@ pub record Swapped (ns ms : List Node) : Type 0 where
   pub one-tree : OneTree one
   pub other-tree : OneTree other
   -- both are children of it
-  pub both : howMany first-trees + 2 ≤ count
+  pub both : forestLength first-trees + 2 ≤ count
   pub here : ns ≡ before ++ (parallel count ∷ (first ++ (one ++ (other ++ after))))
   pub there : ms ≡ before ++ (parallel count ∷ (first ++ (other ++ (one ++ after))))
 

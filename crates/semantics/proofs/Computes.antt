@@ -14,19 +14,19 @@ use Rattle.semantics.specs.Calls as Calls
 use mathlib.Core.List.{flatMap}
 
 unfoldable pub bytes : Unit {0}
-unfolding Bytes.be2 Bytes.be4 Bytes.signed Bytes.unsigned Bytes.out2 Bytes.out4 Bytes.bigEndian Bytes.widthOf Bytes.out Bytes.every Bytes.isSome Bytes.within Bytes.overwrite Bytes.after Bytes._>>=_ Bytes.give Bytes.fail Bytes.guard Bytes.from Bytes.byte Bytes.nat2 Bytes.nat4 Bytes.int4 Bytes.number Bytes.bytes Bytes.times Bytes.section2 Bytes.section4 Bytes.just Bytes.whole Bytes.noBytes Bytes.twoBytes Bytes.byteAndRest
+unfolding Bytes.be2 Bytes.be4 Bytes.signed Bytes.unsigned Bytes.out2 Bytes.out4 Bytes.bigEndian Bytes.widthOf Bytes.out Bytes.every Bytes.isSome Bytes.within Bytes.overwrite Bytes.andThen Bytes._>>=_ Bytes.give Bytes.fail Bytes.guard Bytes.from Bytes.byte Bytes.nat2 Bytes.nat4 Bytes.int4 Bytes.number Bytes.bytes Bytes.times Bytes.section2 Bytes.section4 Bytes.just Bytes.whole Bytes.noBytes Bytes.twoBytes Bytes.byteAndRest
 bytes = tt
 
 unfoldable pub refusals : Unit {0}
-unfolding Refusals._>>=_ Refusals._>>_ Refusals.ensure Refusals.need Refusals.only Refusals.refusalOf
+unfolding Refusals._>>=_ Refusals._>>_ Refusals.ensure Refusals.need Refusals.oneNumber Refusals.refusalOf
 refusals = tt
 
 unfoldable pub expressions : Unit {0}
-unfolding Expressions.numberDepth Expressions.truthDepth Expressions.ranged Expressions.result Expressions.thenValue Expressions.operands Expressions.applied Expressions.eqZ Expressions.compared Expressions.connected Expressions.valueOf Expressions.holds Expressions.formOf Expressions.operationCode Expressions.comparisonCode Expressions.connectiveCode Expressions.numberBytes Expressions.truthBytes Expressions.fits32 Expressions.numberKnown Expressions.truthKnown Expressions.toNumber Expressions.toTruth Expressions.readVariable Expressions.readNumber Expressions.readTruth Expressions.readForm Expressions.readExpression Expressions.numberIn Expressions.truthIn Expressions.numberValue Expressions.truthValue
+unfolding Expressions.numberDepth Expressions.truthDepth Expressions.ranged Expressions.result Expressions.thenValue Expressions.operands Expressions.applied Expressions.eqZ Expressions.compared Expressions.connected Expressions.valueOf Expressions.holds Expressions.formOf Expressions.operationCode Expressions.comparisonCode Expressions.connectiveCode Expressions.numberBytes Expressions.truthBytes Expressions.fits32 Expressions.numberKnown Expressions.truthKnown Expressions.toNumber Expressions.toTruth Expressions.readVariableNumber Expressions.readNumber Expressions.readTruth Expressions.readForm Expressions.readExpression Expressions.numberIn Expressions.truthIn Expressions.numberValue Expressions.truthValue
 expressions = tt
 
 unfoldable pub sections : Unit {0}
-unfolding Sections.readVariable Sections.readVariables Sections.variablesIn Sections.readRate Sections.readSwitch Sections.readMode Sections.readSteady Sections.readChoice Sections.readKind Sections.equationIn Sections.readEquation Sections.readEquations Sections.equationsIn
+unfolding Sections.readVariable Sections.readVariables Sections.variablesIn Sections.readRate Sections.readSwitch Sections.readMode Sections.readSteady Sections.readChoice Sections.readEquationBody Sections.equationIn Sections.readEquation Sections.readEquations Sections.equationsIn
 sections = tt
 
 unfoldable pub plant : Unit {0}
@@ -34,7 +34,7 @@ unfolding Plant.ordered Plant.rateNamed Plant.switchNamed Plant.modeNamed Plant.
 plant = tt
 
 unfoldable pub events : Unit {0}
-unfolding Events.eventKind Events.unused Events.readKind Events.readEvent Events.eventIn Events.eventsIn
+unfolding Events.eventKind Events.unused Events.readEventBody Events.readEvent Events.eventIn Events.eventsIn
 events = tt
 
 unfoldable pub run : Unit {0}
@@ -42,7 +42,7 @@ unfolding Run.isTest Run.possible Run._>>=_ Run._>>_ Run.allow Run.find Run.valu
 run = tt
 
 unfoldable pub tableFile : Unit {0}
-unfolding TableFile.FINISHED TableFile.HALTED TableFile.NONE TableFile.actionKind TableFile.actionOf TableFile.readTableSections TableFile.tableSectionsIn TableFile.readAction TableFile.readActions TableFile.actionsIn TableFile.readEntry TableFile.readLocation TableFile.readLocations TableFile.locationsIn TableFile.actionBytes TableFile.inSection2 TableFile.inSection4 TableFile.writeAction TableFile.writeActions TableFile.writeEntry TableFile.writeLocation TableFile.writeLocations TableFile.tableBody TableFile.tableBytes
+unfolding TableFile.FINISHED TableFile.HALTED TableFile.NONE TableFile.actionKind TableFile.actionOfKind TableFile.readTableSections TableFile.tableSectionsIn TableFile.readAction TableFile.readActions TableFile.actionsIn TableFile.readEntry TableFile.readLocation TableFile.readLocations TableFile.locationsIn TableFile.actionBytes TableFile.inSection2 TableFile.inSection4 TableFile.writeAction TableFile.writeActions TableFile.writeEntry TableFile.writeLocation TableFile.writeLocations TableFile.tableBody TableFile.tableBytes
 tableFile = tt
 
 unfoldable pub tables : Unit {0}

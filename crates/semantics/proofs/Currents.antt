@@ -15,7 +15,7 @@ use Rattle.semantics.specs.Editions.{Edition}
 use Rattle.semantics.specs.Expressions.{ok, truthValue}
 use Rattle.semantics.specs.Sections.{Rate, Switch, Mode, Selector, Equation, steady, choice}
 use Rattle.semantics.specs.Plant.{Plant, selectorsOf, selectors, noMode, currentOf, currentModes, switchTruths, currentTruths, ratesOf, rateAmong, rateOf, added}
-use Rattle.semantics.specs.Rules.{CaseAt, this-case, past-case, past-rate, CurrentSwitch, CurrentRate, own-rate, mode-rate, Before, lower-selector, listed-before, Found, a-fault, Walks, walk-ends, walk-on, stops-at-truth, stops-at-fault, Stops, by-truth, by-fault, Checks, check-ends, check-stops, Added}
+use Rattle.semantics.specs.Rules.{CaseAt, this-case, past-case, past-rate, CurrentSwitch, CurrentRate, own-rate, mode-rate, Before, lower-selector, listed-before, Found, found-fault, Walks, walk-ends, walk-on, stops-at-truth, stops-at-fault, Stops, by-truth, by-fault, Checks, check-ends, check-stops, Added}
 use Rattle.semantics.proofs.Facts.{none-not-some, some-is}
 use Rattle.semantics.proofs.StepParts.{found-walk, added-length, added-each, added-only}
 
@@ -140,7 +140,7 @@ module _ (ed : Edition) (vs : List ℤ) where
   stops-once (by-truth e) (by-truth h) = refl
   stops-once (by-truth e) (by-fault h) = let z : _≡_ {A = ℕ} 0 1 = cc in absurd (omega arith)
   stops-once (by-fault e) (by-truth h) = let z : _≡_ {A = ℕ} 0 1 = cc in absurd (omega arith)
-  stops-once (by-fault {side = a} e) (by-fault {side = b} h) = let z : a ≡ b = cc in ap a-fault z
+  stops-once (by-fault {side = a} e) (by-fault {side = b} h) = let z : a ≡ b = cc in ap found-fault z
 
   in-once : {l : List (List Switch)} {s t k j : ℕ} {w u : Switch} → In l s k w → In l t j u → s ≡ t → k ≡ j → w ≡ u
   in-once (in-first e) (in-first h) a b = some-is (sym e ∙ (rw b h))

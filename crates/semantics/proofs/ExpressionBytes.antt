@@ -10,7 +10,7 @@ use borrow.Author.Tests.{eqb-true}
 use lib.Dec.{ltb, eqb}
 use Rattle.semantics.specs.Bytes.{Reader, read, _>>=_, give, fail, from, byte, int4, isSome}
 use Rattle.semantics.specs.Editions.{Edition}
-use Rattle.semantics.specs.Expressions.{Operation, sum, difference, product, Comparison, at-most, less, equal, unequal, Connective, both, either, Number, constant, variable, operate, negation, Truth, compare, connect, opposite, always, numberDepth, truthDepth, Form, a-constant, a-variable, an-operation, a-negation, a-comparison, a-connective, an-opposite, a-true, unknown, formOf, operationCode, comparisonCode, connectiveCode, numberBytes, truthBytes, numberKnown, truthKnown, Expression, a-number, a-truth, toNumber, toTruth, readVariable, readNumber, readTruth, readForm, readExpression, numberIn, truthIn}
+use Rattle.semantics.specs.Expressions.{Operation, sum, difference, product, Comparison, at-most, less, equal, unequal, Connective, both, either, Number, constant, variable, operate, negation, Truth, compare, connect, opposite, always, numberDepth, truthDepth, Form, a-constant, a-variable, an-operation, a-negation, a-comparison, a-connective, an-opposite, a-true, unknown, formOf, operationCode, comparisonCode, connectiveCode, numberBytes, truthBytes, numberKnown, truthKnown, Expression, a-number, a-truth, toNumber, toTruth, readVariableNumber, readNumber, readTruth, readForm, readExpression, numberIn, truthIn}
 use Rattle.semantics.proofs.Facts.{some-is, none-not-some, by-cases, and-left, and-right, and-both, is-some, some-of, All, all-cons}
 use Rattle.semantics.proofs.Readers.{broken-not-read, split, given, given-rest, guarded, from-some, byte-read, whole-read, Reads, reads-then, reads-last, reads-give, reads-byte, reads-guard, reads-from, whole-reads}
 use Rattle.semantics.proofs.SignedBytes.{Bytes, reads-int4, int4-read}
@@ -80,7 +80,7 @@ module _ (ed : Edition) (v : ℕ) where
   reads-as-truth r h = reads-sort r toTruth refl h
 
   pub reads-number : (e : Number) (d : ℕ) → numberDepth e ≤ d → numberKnown v e ≡ true → Reads (readExpression ed v d) (numberBytes ed e) (a-number e)
-  unfolding numberDepth numberKnown numberBytes readForm readVariable formOf
+  unfolding numberDepth numberKnown numberBytes readForm readVariableNumber formOf
   reads-number (constant z) zero h k = absurd (omega arith)
   reads-number (constant z) (suc d) h k = reads-form d 0x01 a-constant refl (reads-last int4 (λ z. a-number (constant z)) (reads-int4 z k))
   reads-number (variable n) zero h k = absurd (omega arith)
@@ -206,7 +206,7 @@ module _ (ed : Edition) (v : ℕ) where
 
   decoded-form : {d : ℕ} (r : Reader Expression) → Decodes ed v d r → (c : ℕ) (f : Form) → Stands c f →
       (s : List ℕ) {x : Expression} {t : List ℕ} → Bytes s → readForm ed v r f s ≡ read x t → Decoded ed v (suc d) (c ∷ s) x t
-  unfolding readForm readVariable fail numberBytes truthBytes numberDepth truthDepth numberKnown truthKnown
+  unfolding readForm readVariableNumber fail numberBytes truthBytes numberDepth truthDepth numberKnown truthKnown
   decoded-form r h c a-constant e s p k =
       let q = split int4 _ k in
       let i = int4-read s p (q .first) in

@@ -15,9 +15,9 @@ use Rattle.semantics.specs.Sections.{Switch}
 use Rattle.semantics.specs.Plant.{Plant, among}
 use Rattle.semantics.specs.Events.{tick, pick, take-switch}
 use Rattle.semantics.specs.Run.{wait, Next, Control, Situation, Answered, at, over, step}
-use Rattle.semantics.specs.Rules.{SaysTick, SaysPick, SaysSwitch, Found, nothing, a-truth, a-fault, Waits, Goes, goes-on, finishes, Rule, when-over, when-senseless, pick-idle, pick-switch-true, pick-switch-fault, pick-test, pick-test-fault, pick-wait, pick-wait-false, pick-wait-fault, pick-assign, pick-assign-fault, pick-assign-outside, pick-switch, pick-stop, switch-missing, switch-taken, switch-false, switch-fault, tick-busy, tick-switch-true, tick-switch-fault, tick-wait-true, tick-wait-fault, tick-taken, tick-outside, Sentence, is-over, is-senseless, is-idle, is-missing, is-busy, is-checked-pick, is-checked-tick, is-early, is-false, is-due, CheckFaults, pick-check, tick-check, Decides, CurrentSwitch, Checks, Standing, Sound}
+use Rattle.semantics.specs.Rules.{SaysTick, SaysPick, SaysSwitch, Found, nothing, found-true, found-fault, Waits, Goes, goes-on, finishes, Rule, when-over, when-senseless, pick-idle, pick-switch-true, pick-switch-fault, pick-test, pick-test-fault, pick-wait, pick-wait-false, pick-wait-fault, pick-assign, pick-assign-fault, pick-assign-outside, pick-switch, pick-stop, switch-missing, switch-taken, switch-false, switch-fault, tick-busy, tick-switch-true, tick-switch-fault, tick-wait-true, tick-wait-fault, tick-taken, tick-outside, Sentence, is-over, is-senseless, is-idle, is-missing, is-busy, is-checked-pick, is-checked-tick, is-early, is-false, is-due, CheckFaults, pick-check, tick-check, Decides, CurrentSwitch, Checks, Standing, Sound}
 use Rattle.semantics.proofs.Facts.{true-not-false, by-cases, among-mem, mem-among, within-high}
-use Rattle.semantics.proofs.Hearing.{heard-tick, heard-pick, heard-switch}
+use Rattle.semantics.proofs.EventDecoding.{decoded-tick, decoded-pick, decoded-switch}
 use Rattle.semantics.proofs.StepParts.{foundAs, walk-found, Waiting, all-wait, one-acts, waiting, waits-not-acts}
 use Rattle.semantics.proofs.Currents.{check-walk, found-check}
 use Rattle.semantics.proofs.StepRules.{step-of, rule-of}
@@ -43,29 +43,29 @@ switch-number h = cc
 
 module _ {ed : Edition} {e : List ℕ} where
   tick-not-pick : {C : Type 0} {n : ℕ} → SaysTick ed e → SaysPick ed e n → C
-  tick-not-pick v w = tick-no-pick (sym (heard-tick ed v) ∙ heard-pick ed w)
+  tick-not-pick v w = tick-no-pick (sym (decoded-tick ed v) ∙ decoded-pick ed w)
 
   tick-not-switch : {C : Type 0} {s k : ℕ} → SaysTick ed e → SaysSwitch ed e s k → C
-  tick-not-switch v w = tick-no-switch (sym (heard-tick ed v) ∙ heard-switch ed w)
+  tick-not-switch v w = tick-no-switch (sym (decoded-tick ed v) ∙ decoded-switch ed w)
 
   pick-not-switch : {C : Type 0} {n s k : ℕ} → SaysPick ed e n → SaysSwitch ed e s k → C
-  pick-not-switch v w = pick-no-switch (sym (heard-pick ed v) ∙ heard-switch ed w)
+  pick-not-switch v w = pick-no-switch (sym (decoded-pick ed v) ∙ decoded-switch ed w)
 
   one-pick : {m n : ℕ} → SaysPick ed e m → SaysPick ed e n → m ≡ n
-  one-pick v w = pick-is (sym (heard-pick ed v) ∙ heard-pick ed w)
+  one-pick v w = pick-is (sym (decoded-pick ed v) ∙ decoded-pick ed w)
 
   one-selector : {s k t l : ℕ} → SaysSwitch ed e s k → SaysSwitch ed e t l → s ≡ t
-  one-selector v w = switch-selector (sym (heard-switch ed v) ∙ heard-switch ed w)
+  one-selector v w = switch-selector (sym (decoded-switch ed v) ∙ decoded-switch ed w)
 
   one-number : {s k t l : ℕ} → SaysSwitch ed e s k → SaysSwitch ed e t l → k ≡ l
-  one-number v w = switch-number (sym (heard-switch ed v) ∙ heard-switch ed w)
+  one-number v w = switch-number (sym (decoded-switch ed v) ∙ decoded-switch ed w)
 
 -- ---- the switch check stops at one thing
-quiet-no-truth : {C : Type 0} {ed : Edition} {vs : List ℤ} {p : Plant} {ms : List ℕ} → Checks ed vs (CurrentSwitch p ms) nothing → Checks ed vs (CurrentSwitch p ms) a-truth → C
+quiet-no-truth : {C : Type 0} {ed : Edition} {vs : List ℤ} {p : Plant} {ms : List ℕ} → Checks ed vs (CurrentSwitch p ms) nothing → Checks ed vs (CurrentSwitch p ms) found-true → C
 unfolding foundAs
 quiet-no-truth w k = let e = sym (walk-found (check-walk w) 28) ∙ walk-found (check-walk k) 28 in let z : _≡_ {A = ℕ} 0 1 = cc in absurd (omega arith)
 
-quiet-no-fault : {C : Type 0} {ed : Edition} {vs : List ℤ} {p : Plant} {ms : List ℕ} {side : Side} → Checks ed vs (CurrentSwitch p ms) nothing → Checks ed vs (CurrentSwitch p ms) (a-fault side) → C
+quiet-no-fault : {C : Type 0} {ed : Edition} {vs : List ℤ} {p : Plant} {ms : List ℕ} {side : Side} → Checks ed vs (CurrentSwitch p ms) nothing → Checks ed vs (CurrentSwitch p ms) (found-fault side) → C
 unfolding foundAs
 quiet-no-fault w k = let e = sym (walk-found (check-walk w) 28) ∙ walk-found (check-walk k) 28 in let z : _≡_ {A = ℕ} 0 1 = cc in absurd (omega arith)
 
@@ -84,12 +84,12 @@ module _ {S : Type 0} (ed : Edition) (p : Plant) (c : Control S) where
   -- ---- what a sentence says of a pick, of a tick and of a switch event
   data OfPick (x : S) (vs : List ℤ) (ms : List ℕ) (n : ℕ) : ℕ → Type 0 where
     of-idle : (Mem n (c .acting x) → ⊥) → OfPick x vs ms n 25
-    of-checked-pick : Checks ed vs (CurrentSwitch p ms) a-truth → OfPick x vs ms n 28
+    of-checked-pick : Checks ed vs (CurrentSwitch p ms) found-true → OfPick x vs ms n 28
     of-early : OfPick x vs ms n 29
 
   data OfTick (x : S) (vs : List ℤ) (ms : List ℕ) : ℕ → Type 0 where
     of-busy : {n : ℕ} → Mem n (c .acting x) → ((t : List ℕ) → c .action n ≡ wait t → ⊥) → OfTick x vs ms 27
-    of-checked-tick : Checks ed vs (CurrentSwitch p ms) a-truth → OfTick x vs ms 28
+    of-checked-tick : Checks ed vs (CurrentSwitch p ms) found-true → OfTick x vs ms 28
     of-due : OfTick x vs ms 31
 
   data OfSwitch (ms : List ℕ) (s k : ℕ) : ℕ → Type 0 where
@@ -238,15 +238,15 @@ module _ {S : Type 0} (ed : Edition) (p : Plant) (c : Control S) where
   acts {x} {n = n} w f = by-cases (among n (c .acting x)) (λ h. among-mem n (c .acting x) h)
       (λ h. absurd (f (is-idle w (λ m. true-not-false (sym (mem-among n (c .acting x) m) ∙ h)))))
 
-  quiet : (vs : List ℤ) (ms : List ℕ) → (Checks ed vs (CurrentSwitch p ms) a-truth → ⊥) → ((side : Side) → Checks ed vs (CurrentSwitch p ms) (a-fault side) → ⊥) → Checks ed vs (CurrentSwitch p ms) nothing
+  quiet : (vs : List ℤ) (ms : List ℕ) → (Checks ed vs (CurrentSwitch p ms) found-true → ⊥) → ((side : Side) → Checks ed vs (CurrentSwitch p ms) (found-fault side) → ⊥) → Checks ed vs (CurrentSwitch p ms) nothing
   quiet vs ms f g = let w = found-check ed p vs ms in go (w .0) (w .1)
     where
       go : (d : Found) → Checks ed vs (CurrentSwitch p ms) d → Checks ed vs (CurrentSwitch p ms) nothing
       go nothing w = w
-      go a-truth w = absurd (f w)
-      go (a-fault side) w = absurd (g side w)
+      go found-true w = absurd (f w)
+      go (found-fault side) w = absurd (g side w)
 
-  checked-tick : {x : S} {vs : List ℤ} {ms e : List ℕ} → SaysTick ed e → Checks ed vs (CurrentSwitch p ms) a-truth → (Sentence ed p c 27 (at x vs ms) e → ⊥) →
+  checked-tick : {x : S} {vs : List ℤ} {ms e : List ℕ} → SaysTick ed e → Checks ed vs (CurrentSwitch p ms) found-true → (Sentence ed p c 27 (at x vs ms) e → ⊥) →
       Waiting (c .action) (c .acting x) → Rule ed p c (at x vs ms) e 28 (at x vs ms)
   checked-tick w k f (all-wait q) = tick-switch-true w q k
   checked-tick w k f (one-acts m g) = absurd (f (is-busy w m g))

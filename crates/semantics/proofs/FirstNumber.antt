@@ -7,14 +7,14 @@ use Prim.Native.Nat.{ℕ}
 use lib.ListN.{length, drop}
 use Rattle.semantics.specs.Bytes.{every, isSome}
 use Rattle.semantics.specs.Editions.{Edition}
-use Rattle.semantics.specs.Refusals.{Judged, refused, accepted, _>>=_, _>>_, ensure, need, only, refusalOf}
+use Rattle.semantics.specs.Refusals.{Judged, refused, accepted, _>>=_, _>>_, ensure, need, oneNumber, refusalOf}
 use Rattle.semantics.specs.Sections.{variablesIn, equationsIn}
 use Rattle.semantics.specs.Plant.{Plant, judgePlant, switchesRead, ordered, equationNamed, drivenOnce}
 use Rattle.semantics.specs.TableFile.{tableSectionsIn, actionsIn, locationsIn}
 use Rattle.semantics.specs.Tables.{Table, judgeTable, tableHeader, actionsFit, locationsFit}
 use Rattle.semantics.specs.Starts.{startIn, startFits}
 use Rattle.semantics.specs.Calls.{Program, Outcome, report, tableCounts, judgeRun, tableProgram, wholeEvents, roomForRecords}
-use Rattle.semantics.specs.Conditions.{Condition, _if_, anyApplies, given, is4, is5, is6, is7, is8, is12, plantConditions, plantIn, tableParts, tablePlant, is15, is16, is17, is18, is19, tableConditions, is20, is21, is22, runConditions, tableRunConditions}
+use Rattle.semantics.specs.Conditions.{Condition, _if_, anyApplies, given, is4, is5, is6, is7, is8, is12Switches, plantConditions, plantIn, tableParts, tablePlant, is15, is16, is17, is18, is19, tableConditions, is20, is21, is22, runConditions, tableRunConditions}
 pub use Rattle.semantics.specs.Conditions.{First, here, further, Clear, none-left, one-clear, Firsts, refuses, accepts}
 use Rattle.semantics.proofs.Judging
 use Rattle.semantics.proofs.TablePassed.{table-passed}
@@ -104,8 +104,8 @@ module _ (ed : Edition) (vs es : List ℕ) where
   plant-in h = let k = plant-is h in bind-some _ (k .0) ∙ bind-some _ (k .1)
 
   -- 12 of the two sections, where they are read as p
-  plant-reads : {p : Plant} → judgePlant ed vs es ≡ accepted p → is12 ed vs es ≡ not (switchesRead ed p)
-  unfolding is12 switchesRead
+  plant-reads : {p : Plant} → judgePlant ed vs es ≡ accepted p → is12Switches ed vs es ≡ not (switchesRead ed p)
+  unfolding is12Switches switchesRead
   plant-reads h = let k = plant-is h in given-some _ (k .0) ∙ given-some _ (k .1)
 
 first-any : {n : ℕ} {l : List Condition} → First n l → anyApplies l ≡ true
@@ -120,8 +120,8 @@ clear-any (one-clear e k) = rw (e, anyApplies) (clear-any k)
 
 -- one number for a whole list, then the rest
 by-only : {A B : Type 0} (n : ℕ) {j : Judged A} {f : A → Judged B} {b : Bool} {k l : List Condition} → Firsts j k → (anyApplies k ≡ true → b ≡ true) →
-    ((a : A) → j ≡ accepted a → anyApplies k ≡ false → Firsts (f a) ((n if b) ∷ l)) → Firsts (only n j >>= f) ((n if b) ∷ l)
-unfolding only _>>=_
+    ((a : A) → j ≡ accepted a → anyApplies k ≡ false → Firsts (f a) ((n if b) ∷ l)) → Firsts (oneNumber n j >>= f) ((n if b) ∷ l)
+unfolding oneNumber _>>=_
 by-only n (refuses g) h f = refuses (here (h (first-any g)) refl)
 by-only n (accepts {a = a} c) h f = f a refl (clear-any c)
 

@@ -9,7 +9,7 @@ pub mod TablePassed
 pub mod Papers
 pub mod DepthPapers
 -- the step and the rules
-pub mod Hearing
+pub mod EventDecoding
 pub mod StepParts
 pub mod Currents
 pub mod OneRate

@@ -10,7 +10,7 @@ use borrow.Author.Tests.{leb-true, le-leb}
 use lib.Dec.{leb}
 use lib.ListN.{length, take, drop, length-append}
 use lib.Seq.{length-take-le, take-append-seam, drop-append-seam}
-use Rattle.semantics.specs.Bytes.{be2, be4, out2, out4, out, Width, one-byte, two-bytes, Read, broken, read, Reader, after, _>>=_, give, fail, guard, from, byte, nat2, nat4, number, bytes, times, just, whole}
+use Rattle.semantics.specs.Bytes.{be2, be4, out2, out4, out, Width, one-byte, two-bytes, Read, broken, read, Reader, andThen, _>>=_, give, fail, guard, from, byte, nat2, nat4, number, bytes, times, just, whole}
 use Rattle.semantics.proofs.Facts.{none-not-some, some-is, All, all-nil, all-cons}
 
 pub broken-not-read : {A C : Type 0} {a : A} {s : List ℕ} → broken ≡ read a s → C
@@ -30,10 +30,10 @@ pub record Split {A B : Type 0} (r : Reader A) (f : A → Reader B) (s : List �
   pub then : f value rest ≡ read b t
 
 pub split : {A B : Type 0} (r : Reader A) (f : A → Reader B) {s : List ℕ} {b : B} {t : List ℕ} → (r >>= f) s ≡ read b t → Split r f s b t
-unfolding _>>=_ after
+unfolding _>>=_ andThen
 split {A} {B} r f {s} {b} {t} h = go (r s) refl h
   where
-    go : (o : Read A) → r s ≡ o → after o f ≡ read b t → Split r f s b t
+    go : (o : Read A) → r s ≡ o → andThen o f ≡ read b t → Split r f s b t
     go broken e h = broken-not-read h
     go (read a u) e h = record { value = a; rest = u; first = e; then = h }
 
@@ -96,11 +96,11 @@ pub record Reads {A : Type 0} (r : Reader A) (w : List ℕ) (a : A) : Type 0 whe
   pub back : (s : List ℕ) → r (w ++ s) ≡ read a s
 
 pub reads-then : {A B : Type 0} (r : Reader A) (f : A → Reader B) {w v : List ℕ} {a : A} {b : B} → Reads r w a → Reads (f a) v b → Reads (r >>= f) (w ++ v) b
-unfolding _>>=_ after
+unfolding _>>=_ andThen
 reads-then r f {w} {v} h k = record { back = λ s. rw (append-assoc w v s, h .back (v ++ s)) (k .back s) }
 
 pub reads-last : {A B : Type 0} (r : Reader A) (g : A → B) {w : List ℕ} {a : A} → Reads r w a → Reads (r >>= λ x. give (g x)) w (g a)
-unfolding _>>=_ after give
+unfolding _>>=_ andThen give
 reads-last r g h = record { back = λ s. rw (h .back s) refl }
 
 pub reads-give : {A : Type 0} (a : A) → Reads (give a) [] a
@@ -112,11 +112,11 @@ unfolding byte
 reads-byte n = record { back = λ s. refl }
 
 pub reads-nat2 : (n : ℕ) → Reads nat2 (out2 n) n
-unfolding nat2 out2 byte _>>=_ after give be2
+unfolding nat2 out2 byte _>>=_ andThen give be2
 reads-nat2 n = record { back = λ s. rw (div-add-mod' n 256) refl }
 
 pub reads-nat4 : (n : ℕ) → Reads nat4 (out4 n) n
-unfolding nat4 out4 byte _>>=_ after give be4
+unfolding nat4 out4 byte _>>=_ andThen give be4
 reads-nat4 n = record { back = λ s. rw (digits n) refl }
   where
     digits : (n : ℕ) → ((n / 0x100_0000 * 256 + n / 0x1_0000 % 256) * 256 + n / 256 % 256) * 256 + n % 256 ≡ n

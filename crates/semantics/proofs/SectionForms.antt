@@ -14,7 +14,7 @@ use Rattle.semantics.specs.Bytes.{within, byte, int4, bytes, times, sect
 use Rattle.semantics.specs.Editions.{Edition}
 use Rattle.semantics.specs.Expressions.{fits32}
 use Rattle.semantics.specs.Run.{valueBytes}
-use Rattle.semantics.specs.Sections.{Variable, Rate, Switch, Mode, Equation, steady, choice, readVariable, readVariables, variablesIn, readRate, readSwitch, readMode, readSteady, readChoice, readKind, equationIn, readEquation, readEquations, equationsIn}
+use Rattle.semantics.specs.Sections.{Variable, Rate, Switch, Mode, Equation, steady, choice, readVariable, readVariables, variablesIn, readRate, readSwitch, readMode, readSteady, readChoice, readEquationBody, equationIn, readEquation, readEquations, equationsIn}
 use Rattle.semantics.specs.TableFile.{inSection2}
 use Rattle.semantics.specs.Writing.{AllBytes, SectionLimits, writeVariable, writeVariables, VariableLimits, VariablesLimits, writeRate, writeSwitch, writeMode, equationBytes, writeEquation, writeEquations, RateLimits, SwitchLimits, ModeLimits, PayloadLimits, steady-within, choice-within, EquationLimits, EquationsLimits}
 use Rattle.semantics.proofs.Facts.{by-cases, within-low, within-high, within-both, all-cons, all-append, all-map, all-flat}
@@ -128,8 +128,8 @@ mode-written m h =
     all-cons (h .rate-count) (all-append (all-flat writeRate (all-map rate-written (h .rates))) (all-cons (h .switch-count) (all-flat writeSwitch (all-map switch-written (h .switches)))))
 
 -- ---- equations
-kind-taken : Takes readKind (Is equationBytes PayloadLimits)
-unfolding readKind readSteady readChoice equationBytes
+kind-taken : Takes readEquationBody (Is equationBytes PayloadLimits)
+unfolding readEquationBody readSteady readChoice equationBytes
 kind-taken = takes-then byte _ takes-byte (λ k h. by-cases (eqb k 1)
     (λ e. rw (e, cond) (takes-last readRate steady rate-taken (λ r i. record { written = ap (λ k. k ∷ writeRate r) (eqb-true k 1 e); fits = steady-within i })))
     (λ e. rw (e, cond) (by-cases (eqb k 2)
@@ -140,8 +140,8 @@ kind-taken = takes-then byte _ takes-byte (λ k h. by-cases (eqb k 1)
     }))))))
     (λ f. rw (f, cond) takes-fail))))
 
-kind-back : (e : Equation) → PayloadLimits e → Reads readKind (equationBytes e) e
-unfolding readKind readSteady readChoice equationBytes
+kind-back : (e : Equation) → PayloadLimits e → Reads readEquationBody (equationBytes e) e
+unfolding readEquationBody readSteady readChoice equationBytes
 kind-back (steady r) (steady-within h) = reads-then byte _ (reads-byte 1) (reads-last readRate steady (rate-back r h))
 kind-back (choice c) (choice-within h) =
     let n = length (c .modes) in
@@ -163,7 +163,7 @@ equation-taken = takes-from section2 equationIn takes-section2 (λ b e h k.
 
 equation-back : (e : Equation) → EquationLimits e → Reads readEquation (writeEquation e) e
 unfolding readEquation equationIn writeEquation
-equation-back e h = reads-nothing-more section2 _ (reads-section2 (equationBytes e)) (reads-from (whole-reads readKind (kind-back e (h .payload))))
+equation-back e h = reads-nothing-more section2 _ (reads-section2 (equationBytes e)) (reads-from (whole-reads readEquationBody (kind-back e (h .payload))))
 
 equation-written : (e : Equation) → EquationLimits e → AllBytes (writeEquation e)
 unfolding writeEquation

@@ -5,7 +5,7 @@ use mathlib.Core.List.{List, [], _∷_, _++_}
 use mathlib.Core.Logic.{_↔_, _⊎_, inl, inr}
 use mathlib.Core.Option.{Option, none, some}
 use Prim.Native.Nat.{ℕ}
-use Rattle.semantics.specs.Refusals.{Judged, refused, accepted, _>>=_, _>>_, ensure, need, only, refusalOf}
+use Rattle.semantics.specs.Refusals.{Judged, refused, accepted, _>>=_, _>>_, ensure, need, oneNumber, refusalOf}
 use Rattle.semantics.specs.Sentences.{Clause, _when_, FirstHolds, holds-here, holds-further, AnyHolds, Fails}
 use Rattle.semantics.proofs.Facts.{true-not-false, none-not-some, some-is}
 
@@ -86,8 +86,8 @@ by-then {B = B} {f = f} {l = l} (answers-none {a = a} {l = k} c) h = go (h a ref
 
 -- one number for a whole list, then the rest
 pub by-only : {A B : Type 0} (n : ℕ) {j : Judged A} {f : A → Judged B} {P : Type 0} {k l : List Clause} → Answers j k → (AnyHolds k → P) →
-    ((a : A) → j ≡ accepted a → (AnyHolds k → ⊥) → Answers (f a) ((n when P) ∷ l)) → Answers (only n j >>= f) ((n when P) ∷ l)
-unfolding only _>>=_
+    ((a : A) → j ≡ accepted a → (AnyHolds k → ⊥) → Answers (f a) ((n when P) ∷ l)) → Answers (oneNumber n j >>= f) ((n when P) ∷ l)
+unfolding oneNumber _>>=_
 by-only n (answers-first g) h f = answers-first (holds-here refl (h (any-first g)))
 by-only n (answers-none {a = a} c) h f = f a refl c
 

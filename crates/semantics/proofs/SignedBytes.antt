@@ -8,7 +8,7 @@ use borrow.Author.Tests.{leb-true, le-leb, ltb-true, ltb-false, lt-ltb, le-ltb}
 use lib.Dec.{ltb}
 use lib.IntN.{ℤ, pos, negsuc}
 use lib.Signed.{leZ}
-use Rattle.semantics.specs.Bytes.{be4, signed, unsigned, out4, read, _>>=_, after, give, byte, nat4, int4}
+use Rattle.semantics.specs.Bytes.{be4, signed, unsigned, out4, read, _>>=_, andThen, give, byte, nat4, int4}
 use Rattle.semantics.specs.Expressions.{fits32}
 use Rattle.semantics.proofs.Facts.{by-cases, and-left, and-right, and-both, All, all-nil, all-cons}
 use Rattle.semantics.proofs.Readers.{broken-not-read, read-value, read-rest, split, given, given-rest, Reads, reads-last, reads-nat4}
@@ -92,7 +92,7 @@ pub record Bytes4 (s : List ℕ) (n : ℕ) (t : List ℕ) : Type 0 where
   pub left : Bytes t
 
 pub nat4-read : (s : List ℕ) {n : ℕ} {t : List ℕ} → Bytes s → nat4 s ≡ read n t → Bytes4 s n t
-unfolding nat4 byte _>>=_ after give
+unfolding nat4 byte _>>=_ andThen give
 nat4-read [] all-nil h = broken-not-read h
 nat4-read (a ∷ []) p h = broken-not-read h
 nat4-read (a ∷ b ∷ []) p h = broken-not-read h

@@ -16,14 +16,14 @@ use Rattle.semantics.specs.Expressions.{Side, Value, ok, fault, ranged, 
 use Rattle.semantics.specs.Sections.{Variable}
 use Rattle.semantics.specs.Plant.{declared, allDeclared, added}
 use Rattle.semantics.specs.Run.{Action, test, wait, assign, switch, stop, isWait, waitTruth, Verdict, away, faulty, pass, _>>=_, _>>_, allow, valued, walk}
-use Rattle.semantics.specs.Rules.{Found, nothing, a-truth, a-fault, Walks, walk-ends, walk-on, stops-at-truth, stops-at-fault, Waits, none-waits, one-waits, Inside, inside, Outside, too-low, too-high, AllInside, FirstOutside}
+use Rattle.semantics.specs.Rules.{Found, nothing, found-true, found-fault, Walks, walk-ends, walk-on, stops-at-truth, stops-at-fault, Waits, none-waits, one-waits, Inside, inside, Outside, too-low, too-high, AllInside, FirstOutside}
 use Rattle.semantics.proofs.Facts.{true-not-false, none-not-some, some-is, by-cases, every-all, all-mem}
 
 -- ---- walks
 unfoldable pub foundAs : ℕ → Found → Verdict (Unit {0})
 foundAs n nothing = pass tt
-foundAs n a-truth = away n
-foundAs n (a-fault s) = faulty s
+foundAs n found-true = away n
+foundAs n (found-fault s) = faulty s
 
 pub walk-found : {ed : Edition} {vs : List ℤ} {ts : List (List ℕ)} {f : Found} → Walks ed vs ts f → (n : ℕ) → walk ed n vs ts ≡ foundAs n f
 unfolding walk foundAs _>>=_ _>>_ allow valued
@@ -38,9 +38,9 @@ found-walk ed vs [] = (nothing, walk-ends)
 found-walk ed vs (t ∷ ts) = go (truthValue ed vs t) refl (found-walk ed vs ts)
   where
     go : (v : Value Bool) → truthValue ed vs t ≡ v → ((f : Found) × Walks ed vs ts f) → (f : Found) × Walks ed vs (t ∷ ts) f
-    go (ok true) e w = (a-truth, stops-at-truth e)
+    go (ok true) e w = (found-true, stops-at-truth e)
     go (ok false) e w = (w .0, walk-on e (w .1))
-    go (fault s) e w = (a-fault s, stops-at-fault e)
+    go (fault s) e w = (found-fault s, stops-at-fault e)
 
 -- ---- waits
 pub waits-every : {action : ℕ → Action} {ns : List ℕ} {ts : List (List ℕ)} → Waits action ns ts → every (λ n. isWait (action n)) ns ≡ true

@@ -14,9 +14,9 @@ use Rattle.semantics.specs.Sections.{Variable, Switch, Mode}
 use Rattle.semantics.specs.Plant.{Plant, among, currentModes, declared, declaredAt, advance, added, rateOf}
 use Rattle.semantics.specs.Events.{Event, senseless, eventIn}
 use Rattle.semantics.specs.Run.{Action, test, wait, assign, switch, stop, isTest, possible, Next, to, finished, halted, idle, Control, Verdict, away, pass, _>>=_, _>>_, allow, find, valued, nobody, Done, walk, switchCheck, act, judgePick, judgeSwitch, judgeTick, judge, Situation, Answered, at, over, faultAnswer, turnedAway, arrive, follow, settle, step, answers}
-use Rattle.semantics.specs.Rules.{SaysTick, SaysPick, SaysSwitch, Found, nothing, a-truth, a-fault, Walks, Waits, Inside, Added, AllInside, FirstOutside, Goes, goes-on, finishes, Rule, when-over, when-senseless, pick-idle, pick-switch-true, pick-switch-fault, pick-test, pick-test-fault, pick-wait, pick-wait-false, pick-wait-fault, pick-assign, pick-assign-fault, pick-assign-outside, pick-switch, pick-stop, switch-missing, switch-taken, switch-false, switch-fault, tick-busy, tick-switch-true, tick-switch-fault, tick-wait-true, tick-wait-fault, tick-taken, tick-outside, Derives, no-events, one-event, CurrentSwitch, Checks, Comes, by-move, Standing, stands-at, stands-over, Sound, Stopping}
+use Rattle.semantics.specs.Rules.{SaysTick, SaysPick, SaysSwitch, Found, nothing, found-true, found-fault, Walks, Waits, Inside, Added, AllInside, FirstOutside, Goes, goes-on, finishes, Rule, when-over, when-senseless, pick-idle, pick-switch-true, pick-switch-fault, pick-test, pick-test-fault, pick-wait, pick-wait-false, pick-wait-fault, pick-assign, pick-assign-fault, pick-assign-outside, pick-switch, pick-stop, switch-missing, switch-taken, switch-false, switch-fault, tick-busy, tick-switch-true, tick-switch-fault, tick-wait-true, tick-wait-fault, tick-taken, tick-outside, Derives, no-events, one-event, CurrentSwitch, Checks, Comes, by-move, Standing, stands-at, stands-over, Sound, Stopping}
 use Rattle.semantics.proofs.Facts.{true-not-false, none-not-some, some-is, by-cases, among-mem, mem-among, at-exists}
-use Rattle.semantics.proofs.Hearing.{heard-tick, heard-pick, heard-switch, Said, says-tick, says-pick, says-switch, says-nothing, said-of}
+use Rattle.semantics.proofs.EventDecoding.{decoded-tick, decoded-pick, decoded-switch, Said, says-tick, says-pick, says-switch, says-nothing, said-of}
 use Rattle.semantics.proofs.Currents.{check-walk, found-check, is-current, current-is, rates-added, added-rates}
 use Rattle.semantics.proofs.StepParts.{foundAs, walk-found, found-walk, waits-every, waits-truths, Waiting, all-wait, one-acts, waiting, acts-every, inside-declared, outside-declared, Lies, lies-inside, lies-outside, lies, AllLie, all-inside, first-outside, all-lie, inside-all, outside-first}
 
@@ -122,23 +122,23 @@ module _ {S : Type 0} (ed : Edition) (p : Plant) (c : Control S) where
   by-pick : (x : S) (vs : List ℤ) (ms : List ℕ) {e : List ℕ} {n : ℕ} {f : Found} → SaysPick ed e n → Mem n (c .acting x) → Checks ed vs (CurrentSwitch p ms) f →
       step ed p c (at x vs ms) e ≡ settle c x (at x vs ms) (foundAs 28 f >> act ed p vs ms n (c .action n))
   unfolding judge
-  by-pick x vs ms {e} w m k = by-event x vs ms e (heard-pick ed w) (pick-verdict ed p (c .action) (c .acting x) vs ms m k)
+  by-pick x vs ms {e} w m k = by-event x vs ms e (decoded-pick ed w) (pick-verdict ed p (c .action) (c .acting x) vs ms m k)
 
   by-tick : (x : S) (vs : List ℤ) (ms : List ℕ) {e : List ℕ} {ts : List (List ℕ)} {f : Found} → SaysTick ed e → Waits (c .action) (c .acting x) ts → Checks ed vs (CurrentSwitch p ms) f →
       step ed p c (at x vs ms) e ≡ settle c x (at x vs ms) (foundAs 28 f >> (walk ed 31 vs ts >> moveOn p vs ms))
   unfolding judge
-  by-tick x vs ms {e} w q k = by-event x vs ms e (heard-tick ed w) (tick-verdict ed p (c .action) (c .acting x) vs ms q k)
+  by-tick x vs ms {e} w q k = by-event x vs ms e (decoded-tick ed w) (tick-verdict ed p (c .action) (c .acting x) vs ms q k)
 
   by-switch : (x : S) (vs : List ℤ) (ms : List ℕ) {e : List ℕ} {s k : ℕ} {w : Switch} → SaysSwitch ed e s k → CurrentSwitch p ms s k w →
       step ed p c (at x vs ms) e ≡ settle c x (at x vs ms) (switched ed vs ms s w)
   unfolding judge
-  by-switch x vs ms {e} {s} {k} h c = by-event x vs ms e (heard-switch ed h) (switch-verdict ed p vs ms s k c)
+  by-switch x vs ms {e} {s} {k} h c = by-event x vs ms e (decoded-switch ed h) (switch-verdict ed p vs ms s k c)
 
   pub rule-step : {s t : Situation S} {e : List ℕ} {a : ℕ} → StopsHalt c s → Rule ed p c s e a t → step ed p c s e ≡ record { answer = a; left = t }
   unfolding step judge settle turnedAway follow arrive foundAs _>>_ _>>=_ valued allow act moveOn switched
   rule-step y when-over = refl
   rule-step y (when-senseless {x = x} {vs} {ms} {e} f g h) = by-event x vs ms e (senseless-event ed e f g h) refl
-  rule-step y (pick-idle {x = x} {vs} {ms} {e} w f) = by-event x vs ms e (heard-pick ed w) (idle-verdict ed p (c .action) (c .acting x) vs ms f)
+  rule-step y (pick-idle {x = x} {vs} {ms} {e} w f) = by-event x vs ms e (decoded-pick ed w) (idle-verdict ed p (c .action) (c .acting x) vs ms f)
   rule-step y (pick-switch-true {x = x} {vs} {ms} w m k) = by-pick x vs ms w m k
   rule-step y (pick-switch-fault {x = x} {vs} {ms} {side = side} w m k) = by-pick x vs ms w m k ∙ faulted side vs ms
   rule-step y (pick-test {x = x} {vs} {ms} w m k a h g) = rw (by-pick x vs ms w m k, a, h) (goes-arrive g _)
@@ -153,11 +153,11 @@ module _ {S : Type 0} (ed : Edition) (p : Plant) (c : Control S) where
       rw (by-pick x vs ms w m k, a, h, declared-at (p .variables) v z d, outside-declared o) (faulted side vs ms)
   rule-step y (pick-switch {x = x} {vs} {ms} w m k a g) = rw (by-pick x vs ms w m k, a) (goes-arrive g _)
   rule-step y (pick-stop {x = x} {vs} {ms} {n = n} w m k a) = rw (by-pick x vs ms w m k, a, y x refl n m a) refl
-  rule-step y (switch-missing {x = x} {vs} {ms} {e} {s} {k} w f) = by-event x vs ms e (heard-switch ed w) (missing-verdict ed p vs ms s k f)
+  rule-step y (switch-missing {x = x} {vs} {ms} {e} {s} {k} w f) = by-event x vs ms e (decoded-switch ed w) (missing-verdict ed p vs ms s k f)
   rule-step y (switch-taken {x = x} {vs} {ms} w c g) = rw (by-switch x vs ms w c, g) refl
   rule-step y (switch-false {x = x} {vs} {ms} w c g) = rw (by-switch x vs ms w c, g) refl
   rule-step y (switch-fault {x = x} {vs} {ms} {side = side} w c g) = rw (by-switch x vs ms w c, g) (faulted side vs ms)
-  rule-step y (tick-busy {x = x} {vs} {ms} {e} w m f) = by-event x vs ms e (heard-tick ed w) (busy-verdict ed p (c .action) (c .acting x) vs ms m f)
+  rule-step y (tick-busy {x = x} {vs} {ms} {e} w m f) = by-event x vs ms e (decoded-tick ed w) (busy-verdict ed p (c .action) (c .acting x) vs ms m f)
   rule-step y (tick-switch-true {x = x} {vs} {ms} w q k) = by-tick x vs ms w q k
   rule-step y (tick-switch-fault {x = x} {vs} {ms} {side = side} w q k) = by-tick x vs ms w q k ∙ faulted side vs ms
   rule-step y (tick-wait-true {x = x} {vs} {ms} w q k l) = rw (by-tick x vs ms w q k, walk-found l 31) refl
@@ -249,8 +249,8 @@ module _ {S : Type 0} (ed : Edition) (p : Plant) (c : Control S) where
       where
         checked : Mem n (c .acting x) → (f : Found) → Checks ed vs (CurrentSwitch p ms) f → Ruled (at x vs ms) e
         checked m nothing k = ruled-act w m k (c .action n) refl
-        checked m a-truth k = ruled (pick-switch-true w m k)
-        checked m (a-fault s) k = ruled (pick-switch-fault w m k)
+        checked m found-true k = ruled (pick-switch-true w m k)
+        checked m (found-fault s) k = ruled (pick-switch-fault w m k)
 
         acting : Mem n (c .acting x) → ((f : Found) × Checks ed vs (CurrentSwitch p ms) f) → Ruled (at x vs ms) e
         acting m f = checked m (f .0) (f .1)
@@ -284,13 +284,13 @@ module _ {S : Type 0} (ed : Edition) (p : Plant) (c : Control S) where
 
         checked : {ts : List (List ℕ)} → Waits (c .action) (c .acting x) ts → Checks ed vs (CurrentSwitch p ms) nothing → (f : Found) → Walks ed vs ts f → Ruled (at x vs ms) e
         checked q k nothing l = moving q k l (added (rateOf p ms) 0 vs) (rates-added p ms vs (sound .one-rate ms)) (all-lie (p .variables) (added (rateOf p ms) 0 vs))
-        checked q k a-truth l = ruled (tick-wait-true w q k l)
-        checked q k (a-fault s) l = ruled (tick-wait-fault w q k l)
+        checked q k found-true l = ruled (tick-wait-true w q k l)
+        checked q k (found-fault s) l = ruled (tick-wait-fault w q k l)
 
         quiet : (ts : List (List ℕ)) → Waits (c .action) (c .acting x) ts → (f : Found) → Checks ed vs (CurrentSwitch p ms) f → Ruled (at x vs ms) e
         quiet ts q nothing k = let l = found-walk ed vs ts in checked q k (l .0) (l .1)
-        quiet ts q a-truth k = ruled (tick-switch-true w q k)
-        quiet ts q (a-fault s) k = ruled (tick-switch-fault w q k)
+        quiet ts q found-true k = ruled (tick-switch-true w q k)
+        quiet ts q (found-fault s) k = ruled (tick-switch-fault w q k)
 
         go : Waiting (c .action) (c .acting x) → ((f : Found) × Checks ed vs (CurrentSwitch p ms) f) → Ruled (at x vs ms) e
         go (all-wait {ts = ts} q) f = quiet ts q (f .0) (f .1)

@@ -7,12 +7,12 @@ use Prim.Native.Nat.{ℕ, suc, _+_, _-_, _*_, _/_, _%_, _≤_}
 use native.Mathlib.Omega.{arith}
 use borrow.Author.Tests.{eq-eqb, le-leb}
 use lib.ListN.{length, drop}
-use Rattle.semantics.specs.Bytes.{be4, out4, widthOf, Reader, after, _>>=_, give, from, byte, nat2, nat4, number, bytes, section2, section4, noBytes, twoBytes, byteAndRest}
+use Rattle.semantics.specs.Bytes.{be4, out4, widthOf, Reader, andThen, _>>=_, give, from, byte, nat2, nat4, number, bytes, section2, section4, noBytes, twoBytes, byteAndRest}
 use Rattle.semantics.specs.Editions.{Edition}
 use Rattle.semantics.specs.Refusals.{accepted}
 use Rattle.semantics.specs.Plant.{Plant, judgePlant, switchesRead}
 use Rattle.semantics.specs.Run.{Action, test, wait, assign, switch, stop}
-use Rattle.semantics.specs.TableFile.{NodeAction, Entry, locationLimit, actionKind, actionOf, readTableSections, tableSectionsIn, readAction, readActions, actionsIn, readEntry, readLocation, readLocations, locationsIn, actionBytes, inSection2, inSection4, writeAction, writeActions, writeEntry, writeLocation, writeLocations, tableBody, tableBytes}
+use Rattle.semantics.specs.TableFile.{NodeAction, Entry, locationLimit, actionKind, actionOfKind, readTableSections, tableSectionsIn, readAction, readActions, actionsIn, readEntry, readLocation, readLocations, locationsIn, actionBytes, inSection2, inSection4, writeAction, writeActions, writeEntry, writeLocation, writeLocations, tableBody, tableBytes}
 use Rattle.semantics.specs.Tables.{tableHeader, actionsFit, locationsFit, judgeTable}
 use Rattle.semantics.proofs.Facts.{and-both, within-both, All, all-nil, all-cons}
 use Rattle.semantics.proofs.Judging.{go-then, go-need, go-ensure, go-only}
@@ -20,7 +20,7 @@ use Rattle.semantics.proofs.Readers.{Reads, reads-then, reads-last, rea
 
 -- a second reader that takes no bytes
 pub reads-nothing-more : {A B : Type 0} (r : Reader A) (f : A → Reader B) {w : List ℕ} {a : A} {b : B} → Reads r w a → Reads (f a) [] b → Reads (r >>= f) w b
-unfolding _>>=_ after
+unfolding _>>=_ andThen
 reads-nothing-more r f h k = record { back = λ s. rw (h .back s) (k .back s) }
 
 -- of every list
@@ -42,10 +42,10 @@ pub record Coded (a : Action) : Type 0 where
   pub kind : ℕ
   pub operand : List ℕ
   pub coded : actionBytes a ≡ kind ∷ operand
-  pub decoded : actionOf (actionKind kind) operand ≡ some a
+  pub decoded : actionOfKind (actionKind kind) operand ≡ some a
 
 pub action-back : (a : Action) → Coded a
-unfolding actionBytes actionOf actionKind noBytes twoBytes byteAndRest
+unfolding actionBytes actionOfKind actionKind noBytes twoBytes byteAndRest
 action-back (test t) = record { kind = 1; operand = t; coded = refl; decoded = refl }
 action-back (wait t) = record { kind = 2; operand = t; coded = refl; decoded = refl }
 action-back (assign v e) = record { kind = 3; operand = v ∷ e; coded = refl; decoded = refl }
@@ -59,11 +59,11 @@ Short a = length (actionBytes (a .action)) ≤ 200
 module _ (ed : Edition) where
   -- from the kind on
   reads-coded : (a : NodeAction) (c : Coded (a .action)) (l : ℕ) → l ≡ length (c .operand) →
-      Reads (byte >>= λ k. bytes l >>= λ b. from (actionOf (actionKind k) b) >>= λ x. give (record { node = a .node; action = x })) (actionBytes (a .action)) a
+      Reads (byte >>= λ k. bytes l >>= λ b. from (actionOfKind (actionKind k) b) >>= λ x. give (record { node = a .node; action = x })) (actionBytes (a .action)) a
   reads-coded a c l e =
       let o = c .operand in
       rw (c .coded, e)
-      (reads-then byte _ (reads-byte (c .kind)) (reads-nothing-more (bytes (length o)) _ (reads-bytes o) (reads-last (from (actionOf (actionKind (c .kind)) o)) _ (reads-from (c .decoded)))))
+      (reads-then byte _ (reads-byte (c .kind)) (reads-nothing-more (bytes (length o)) _ (reads-bytes o) (reads-last (from (actionOfKind (actionKind (c .kind)) o)) _ (reads-from (c .decoded)))))
 
   pub reads-action : (a : NodeAction) → Short a → Reads (readAction ed) (writeAction ed a) a
   unfolding readAction writeAction

@@ -12,7 +12,7 @@ use lib.ListN.{length, drop}
 use Rattle.semantics.specs.Bytes.{be4, out4, widthOf, within, from, byte, nat2, number, bytes, section2, section4, noBytes, twoBytes, byteAndRest}
 use Rattle.semantics.specs.Editions.{Edition}
 use Rattle.semantics.specs.Run.{Action}
-use Rattle.semantics.specs.TableFile.{NodeAction, Entry, TableSections, ActionKind, a-test, a-wait, an-assignment, a-switch, a-stop, no-kind, actionKind, actionOf, readTableSections, tableSectionsIn, readAction, readActions, actionsIn, readEntry, readLocation, readLocations, locationsIn, actionBytes, writeAction, writeActions, writeEntry, writeLocation, writeLocations, tableBody, tableBytes}
+use Rattle.semantics.specs.TableFile.{NodeAction, Entry, TableSections, ActionKind, a-test, a-wait, an-assignment, a-switch, a-stop, no-kind, actionKind, actionOfKind, readTableSections, tableSectionsIn, readAction, readActions, actionsIn, readEntry, readLocation, readLocations, locationsIn, actionBytes, writeAction, writeActions, writeEntry, writeLocation, writeLocations, tableBody, tableBytes}
 use Rattle.semantics.specs.Tables.{Table, tableHeader}
 use Rattle.semantics.specs.Writing.{AllBytes, writeVariables, writeEquations, writeTable, ActionLimits, ActionsLimits, EntryLimits, RowLimits, LocationsLimits, TableLimits, TableReadAs, writeTableSections, TableSectionsLimits}
 use Rattle.semantics.proofs.Facts.{none-not-some, some-is, true-not-false, by-cases, and-left, and-right, within-low, within-high, within-both, all-cons, all-append, all-map, all-flat}
@@ -46,8 +46,8 @@ kind-stands k = code k 1 _ _ (λ e. e) (code k 2 _ _ (λ e. e) (code k 3 _ _ (λ
 is-action : {n k : ℕ} {b : List ℕ} {x a : Action} → k ≡ n → some x ≡ some a → n ∷ b ≡ actionBytes x → k ∷ b ≡ actionBytes a
 is-action {b = b} h e f = ap (λ n. n ∷ b) h ∙ f ∙ ap actionBytes (some-is e)
 
-action-coded : (k : ℕ) (c : ActionKind) → Stands k c → (b : List ℕ) {a : Action} → actionOf c b ≡ some a → k ∷ b ≡ actionBytes a
-unfolding actionOf actionBytes noBytes twoBytes byteAndRest
+action-coded : (k : ℕ) (c : ActionKind) → Stands k c → (b : List ℕ) {a : Action} → actionOfKind c b ≡ some a → k ∷ b ≡ actionBytes a
+unfolding actionOfKind actionBytes noBytes twoBytes byteAndRest
 action-coded k a-test h b e = is-action h e refl
 action-coded k a-wait h b e = is-action h e refl
 action-coded k an-assignment h [] e = none-not-some e
@@ -68,7 +68,7 @@ module _ (ed : Edition) where
       let m = widthOf w in
       takes-then (number w) _ (takes-number w) (λ l h. takes-guard (within (m + 1) (m + 200) l) _ (λ g.
       takes-then (number w) _ (takes-number w) (λ n i. takes-then byte _ takes-byte (λ k j. takes-then (bytes (l - (m + 1))) _ (takes-bytes (l - (m + 1))) (λ b c.
-      takes-last (from (actionOf (actionKind k) b)) _ (takes-option (actionOf (actionKind k) b)) (λ a e.
+      takes-last (from (actionOfKind (actionKind k) b)) _ (takes-option (actionOfKind (actionKind k) b)) (λ a e.
       let f = action-coded k (actionKind k) (kind-stands k) b e in
       let low = within-low (m + 1) (m + 200) l g in
       let high = within-high (m + 1) (m + 200) l g in

@@ -6,7 +6,7 @@ use mathlib.Core.Option.{some}
 use Prim.Native.Nat.{ℕ}
 use lib.ListN.{drop}
 use Rattle.semantics.specs.Editions.{Edition}
-use Rattle.semantics.specs.Refusals.{accepted, only}
+use Rattle.semantics.specs.Refusals.{accepted, oneNumber}
 use Rattle.semantics.specs.Plant.{judgePlant, switchesRead}
 use Rattle.semantics.specs.TableFile.{TableSections, tableSectionsIn, actionsIn, locationsIn}
 use Rattle.semantics.specs.Tables.{Table, judgeTable, tableHeader, actionsFit, locationsFit}
@@ -28,7 +28,7 @@ unfolding judgeTable
 table-passed ed table h =
     let a = passed-ensure 15 _ _ h in
     let b = passed-need 16 (tableSectionsIn (drop 5 table)) _ (a .1) in
-    let c = passed-then (only 17 (judgePlant ed (b .0 .variables) (b .0 .equations))) _ (b .2) in
+    let c = passed-then (oneNumber 17 (judgePlant ed (b .0 .variables) (b .0 .equations))) _ (b .2) in
     let d = passed-ensure 17 _ _ (c .2) in
     let g = passed-need 18 (actionsIn ed (b .0 .actions)) _ (d .1) in
     let i = passed-ensure 18 _ _ (g .2) in

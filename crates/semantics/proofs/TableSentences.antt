@@ -12,7 +12,7 @@ use lib.Dec.{leb, eqb}
 use lib.ListN.{length, drop, getD}
 use Rattle.semantics.specs.Bytes.{every, be4}
 use Rattle.semantics.specs.Editions.{Edition}
-use Rattle.semantics.specs.Refusals.{Judged, accepted, _>>=_, _>>_, only}
+use Rattle.semantics.specs.Refusals.{Judged, accepted, _>>=_, _>>_, oneNumber}
 use Rattle.semantics.specs.Sections.{Variable, Equation, variablesIn, equationsIn}
 use Rattle.semantics.specs.Plant.{Plant, judgePlant, switchesRead, ordered, equationNamed, drivenOnce}
 use Rattle.semantics.specs.TableFile.{NodeAction, Entry, TableSections, tableSectionsIn, actionsIn, locationsIn}

@@ -14,11 +14,11 @@ use Rattle.semantics.specs.Bytes.{overwrite, be2, be4, signed, Width, on
 use Rattle.semantics.specs.Editions.{Edition, capacity}
 use Rattle.semantics.specs.Refusals as Refusals
 use Rattle.semantics.specs.Refusals.{Judged, refused, accepted}
-use Rattle.semantics.specs.Sections.{Rate, Selector, Equation, steady, choice, readVariable, readVariables, variablesIn, readRate, readSwitch, readMode, readSteady, readChoice, readKind, equationIn, readEquation, readEquations, equationsIn}
+use Rattle.semantics.specs.Sections.{Rate, Selector, Equation, steady, choice, readVariable, readVariables, variablesIn, readRate, readSwitch, readMode, readSteady, readChoice, readEquationBody, equationIn, readEquation, readEquations, equationsIn}
 use Rattle.semantics.specs.Plant.{Plant, judgePlant, selectors, selectorsOf}
 use Rattle.semantics.specs.Starts.{Start, readStart, startIn}
 use Rattle.semantics.specs.Run.{at, Action, stop}
-use Rattle.semantics.specs.TableFile.{NodeAction, TableSections, ActionKind, a-test, a-wait, an-assignment, a-switch, a-stop, no-kind, actionKind, actionOf, readTableSections, tableSectionsIn, readAction, readActions, actionsIn, actionBytes}
+use Rattle.semantics.specs.TableFile.{NodeAction, TableSections, ActionKind, a-test, a-wait, an-assignment, a-switch, a-stop, no-kind, actionKind, actionOfKind, readTableSections, tableSectionsIn, readAction, readActions, actionsIn, actionBytes}
 use Rattle.semantics.specs.Tables.{Table, judgeTable, actionAt, actionOrStop, tableControl}
 use Rattle.semantics.specs.Calls.{Program, Outcome, runFrom, outcomeOf, judgeRun, report, tableProgram, tableRun}
 use Rattle.semantics.proofs.Facts.{all-mem, none-not-some, some-is, All, all-nil, all-cons, all-append}
@@ -171,8 +171,8 @@ makes-choice =
     makes-then byte _ makes-byte (λ f h. makes-then byte _ makes-byte (λ n k. makes-guard (within 1 8 n) _ (λ g.
     makes-then (times n readMode) _ (makes-times n readMode makes-mode) (λ ms q. makes-give _ (choice-bytes (q .each))))))
 
-makes-kind : Makes readKind EquationBytes
-unfolding readKind
+makes-kind : Makes readEquationBody EquationBytes
+unfolding readEquationBody
 makes-kind = makes-then byte _ makes-byte (λ k h. makes-either (eqb k 1) makes-steady (makes-either (eqb k 2) makes-choice makes-fail))
 
 makes-equation : Makes readEquation EquationBytes
@@ -216,8 +216,8 @@ start-bytes p s e h = whole-makes (makes-start p) s h e
 abbrev pub ActionWritten : NodeAction → Type 0
 ActionWritten a = All Byte (actionBytes (a .action))
 
-action-bytes : (k : ActionKind) (b : List ℕ) {a : Action} → All Byte b → actionOf k b ≡ some a → All Byte (actionBytes a)
-unfolding actionOf actionBytes noBytes twoBytes byteAndRest
+action-bytes : (k : ActionKind) (b : List ℕ) {a : Action} → All Byte b → actionOfKind k b ≡ some a → All Byte (actionBytes a)
+unfolding actionOfKind actionBytes noBytes twoBytes byteAndRest
 action-bytes a-test b h e = subst (λ a. All Byte (actionBytes a)) (some-is e) (all-cons (lit< tt) h)
 action-bytes a-wait b h e = subst (λ a. All Byte (actionBytes a)) (some-is e) (all-cons (lit< tt) h)
 action-bytes an-assignment [] h e = none-not-some e
@@ -237,7 +237,7 @@ module _ (ed : Edition) where
       makes-then (number (ed .width)) _ (makes-number (ed .width)) (λ l h. makes-guard _ _ (λ g.
       makes-then (number (ed .width)) _ (makes-number (ed .width)) (λ n i.
       makes-then byte _ makes-byte (λ k j. makes-then (bytes (l - (widthOf (ed .width) + 1))) _ (makes-bytes _) (λ b c.
-      makes-then (from (actionOf (actionKind k) b)) _ (makes-from {P = λ a. All Byte (actionBytes a)} _ (λ a e. action-bytes (actionKind k) b c e)) (λ a w. makes-give _ w))))))
+      makes-then (from (actionOfKind (actionKind k) b)) _ (makes-from {P = λ a. All Byte (actionBytes a)} _ (λ a e. action-bytes (actionKind k) b c e)) (λ a w. makes-give _ w))))))
 
   makes-actions : Makes (readActions ed) (All ActionWritten)
   unfolding readActions

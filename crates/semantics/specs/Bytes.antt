@@ -76,13 +76,13 @@ pub data Read (A : Type 0) : Type 0 where
 abbrev pub Reader : Type 0 → Type 0
 Reader A = List ℕ → Read A
 
-unfoldable pub after : {A B : Type 0} → Read A → (A → Reader B) → Read B
-after broken f = broken
-after (read a s) f = f a s
+unfoldable pub andThen : {A B : Type 0} → Read A → (A → Reader B) → Read B
+andThen broken f = broken
+andThen (read a s) f = f a s
 
 infixl 1 _>>=_
 unfoldable pub _>>=_ : {A B : Type 0} → Reader A → (A → Reader B) → Reader B
-_>>=_ r f s = after (r s) f
+_>>=_ r f s = andThen (r s) f
 
 unfoldable pub give : {A : Type 0} → A → Reader A
 give a s = read a s

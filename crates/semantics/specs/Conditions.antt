@@ -72,8 +72,8 @@ module _ (ed : Edition) (vs es : List ℕ) where
   is8 = given (equationsIn es) (λ eqs. not (drivenOnce [] eqs))
 
   -- 12: "A truth or number is cut, overlong, too deep, of the wrong sort, has an unknown code or names a missing variable.": the switches' truths
-  unfoldable pub is12 : Bool
-  is12 = given (variablesIn ed vs) (λ xs. given (equationsIn es) (λ eqs. not (every (equationReads ed (length xs)) eqs)))
+  unfoldable pub is12Switches : Bool
+  is12Switches = given (variablesIn ed vs) (λ xs. given (equationsIn es) (λ eqs. not (every (equationReads ed (length xs)) eqs)))
 
   unfoldable pub plantConditions : List Condition
   plantConditions = (4 if is4) ∷ (5 if is5) ∷ (6 if is6) ∷ (7 if is7) ∷ (8 if is8) ∷ []
@@ -100,7 +100,7 @@ module _ (ed : Edition) (table : List ℕ) where
 
   -- 17: "Its first two sections break 4..8 or 12."
   unfoldable pub is17 : Bool
-  is17 = given tableParts (λ parts. anyApplies (plantConditions ed (parts .variables) (parts .equations)) || is12 ed (parts .variables) (parts .equations))
+  is17 = given tableParts (λ parts. anyApplies (plantConditions ed (parts .variables) (parts .equations)) || is12Switches ed (parts .variables) (parts .equations))
 
   -- 18: "An action count is outside 1..64, a node number above 63 or not rising, or a kind, length or operand wrong (..),
   -- or bytes are missing or left over."

@@ -27,21 +27,21 @@ unfoldable pub unused : Event → Reader Event
 unused e s = cond (every (λ b. eqb b 0) s) (read e []) broken
 
 module _ (ed : Edition) where
-  unfoldable pub readKind : EventKind → Reader Event
-  readKind a-tick = unused tick
-  readKind a-pick = do
+  unfoldable pub readEventBody : EventKind → Reader Event
+  readEventBody a-tick = unused tick
+  readEventBody a-pick = do
     n ← number (ed .width)
     unused (pick n)
-  readKind a-switch = do
+  readEventBody a-switch = do
     s ← byte
     k ← byte
     unused (take-switch s k)
-  readKind no-kind = fail
+  readEventBody no-kind = fail
 
   unfoldable pub readEvent : Reader Event
   readEvent = do
     k ← byte
-    readKind (eventKind k)
+    readEventBody (eventKind k)
 
   unfoldable pub eventIn : List ℕ → Event
   eventIn e = elim (whole readEvent e) [ none ↦ senseless | some m ↦ m ]

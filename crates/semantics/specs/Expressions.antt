@@ -186,8 +186,8 @@ toTruth (a-number e) = none
 toTruth (a-truth t) = some t
 
 module _ (ed : Edition) (variables : ℕ) where
-  unfoldable pub readVariable : Reader Expression
-  readVariable = do
+  unfoldable pub readVariableNumber : Reader Expression
+  readVariableNumber = do
     v ← byte
     guard (ltb v variables) (give (a-number (variable v)))
 
@@ -206,7 +206,7 @@ module _ (ed : Edition) (variables : ℕ) where
   readForm operand a-constant = do
     z ← int4
     give (a-number (constant z))
-  readForm operand a-variable = readVariable
+  readForm operand a-variable = readVariableNumber
   readForm operand (an-operation o) = do
     a ← readNumber operand
     b ← readNumber operand

@@ -27,9 +27,9 @@ need n none = refused n
 need n (some a) = accepted a
 
 -- one number for all refusals
-unfoldable pub only : {A : Type 0} → ℕ → Judged A → Judged A
-only n (refused m) = refused n
-only n (accepted a) = accepted a
+unfoldable pub oneNumber : {A : Type 0} → ℕ → Judged A → Judged A
+oneNumber n (refused m) = refused n
+oneNumber n (accepted a) = accepted a
 
 -- the number that a call returns: 0 where it accepts
 unfoldable pub refusalOf : {A : Type 0} → Judged A → ℕ

@@ -59,8 +59,8 @@ pub data Before (s k t l : ℕ) : Type 0 where
 
 -- what a walk over truths stops at
 pub data Found : Type 0 where
-  nothing a-truth : Found
-  a-fault : Side → Found
+  nothing found-true : Found
+  found-fault : Side → Found
 
 module _ (ed : Edition) where
   -- "0,0,0 tick"
@@ -87,13 +87,13 @@ module _ (ed : Edition) where
   pub data Walks (vs : List ℤ) : List (List ℕ) → Found → Type 0 where
     walk-ends : Walks vs [] nothing
     walk-on : {t : List ℕ} {ts : List (List ℕ)} {f : Found} → truthValue ed vs t ≡ ok false → Walks vs ts f → Walks vs (t ∷ ts) f
-    stops-at-truth : {t : List ℕ} {ts : List (List ℕ)} → truthValue ed vs t ≡ ok true → Walks vs (t ∷ ts) a-truth
-    stops-at-fault : {t : List ℕ} {ts : List (List ℕ)} {s : Side} → truthValue ed vs t ≡ fault s → Walks vs (t ∷ ts) (a-fault s)
+    stops-at-truth : {t : List ℕ} {ts : List (List ℕ)} → truthValue ed vs t ≡ ok true → Walks vs (t ∷ ts) found-true
+    stops-at-fault : {t : List ℕ} {ts : List (List ℕ)} {s : Side} → truthValue ed vs t ≡ fault s → Walks vs (t ∷ ts) (found-fault s)
 
   -- a truth that is true or faults
   pub data Stops (vs : List ℤ) (t : List ℕ) : Found → Type 0 where
-    by-truth : truthValue ed vs t ≡ ok true → Stops vs t a-truth
-    by-fault : {side : Side} → truthValue ed vs t ≡ fault side → Stops vs t (a-fault side)
+    by-truth : truthValue ed vs t ≡ ok true → Stops vs t found-true
+    by-fault : {side : Side} → truthValue ed vs t ≡ fault side → Stops vs t (found-fault side)
 
   -- "The switch check evaluates the switches of all current modes, .., and stops at the first that is true or faults.": all before it are false
   pub data Checks (vs : List ℤ) (current : ℕ → ℕ → Switch → Type 0) : Found → Type 0 where
@@ -153,9 +153,9 @@ module _ {S : Type 0} (ed : Edition) (p : Plant) (c : Control S) where
         (Mem n (c .acting x) → ⊥) → Rule (at x vs ms) e 25 (at x vs ms)
     -- 28: "The switch check of a pick or tick stops at a true switch."
     pick-switch-true : {x : S} {vs : List ℤ} {ms e : List ℕ} {n : ℕ} → SaysPick ed e n → Mem n (c .acting x) →
-        Checks ed vs (CurrentSwitch p ms) a-truth → Rule (at x vs ms) e 28 (at x vs ms)
+        Checks ed vs (CurrentSwitch p ms) found-true → Rule (at x vs ms) e 28 (at x vs ms)
     pick-switch-fault : {x : S} {vs : List ℤ} {ms e : List ℕ} {n : ℕ} {side : Side} → SaysPick ed e n → Mem n (c .acting x) →
-        Checks ed vs (CurrentSwitch p ms) (a-fault side) → Rule (at x vs ms) e 203 (over vs ms)
+        Checks ed vs (CurrentSwitch p ms) (found-fault side) → Rule (at x vs ms) e 203 (over vs ms)
     -- a WHILE or an IF
     pick-test : {x : S} {vs : List ℤ} {ms e t : List ℕ} {n a : ℕ} {b : Bool} {after : Situation S} → SaysPick ed e n → Mem n (c .acting x) →
         Checks ed vs (CurrentSwitch p ms) nothing → c .action n ≡ test t → truthValue ed vs t ≡ ok b →
@@ -214,14 +214,14 @@ module _ {S : Type 0} (ed : Edition) (p : Plant) (c : Control S) where
         ((t : List ℕ) → c .action n ≡ wait t → ⊥) → Rule (at x vs ms) e 27 (at x vs ms)
     -- 28
     tick-switch-true : {x : S} {vs : List ℤ} {ms e : List ℕ} {ts : List (List ℕ)} → SaysTick ed e → Waits (c .action) (c .acting x) ts →
-        Checks ed vs (CurrentSwitch p ms) a-truth → Rule (at x vs ms) e 28 (at x vs ms)
+        Checks ed vs (CurrentSwitch p ms) found-true → Rule (at x vs ms) e 28 (at x vs ms)
     tick-switch-fault : {x : S} {vs : List ℤ} {ms e : List ℕ} {ts : List (List ℕ)} {side : Side} → SaysTick ed e → Waits (c .action) (c .acting x) ts →
-        Checks ed vs (CurrentSwitch p ms) (a-fault side) → Rule (at x vs ms) e 203 (over vs ms)
+        Checks ed vs (CurrentSwitch p ms) (found-fault side) → Rule (at x vs ms) e 203 (over vs ms)
     -- 31: "A tick whose walk over the CONTINUE truths stops at a true one."
     tick-wait-true : {x : S} {vs : List ℤ} {ms e : List ℕ} {ts : List (List ℕ)} → SaysTick ed e → Waits (c .action) (c .acting x) ts →
-        Checks ed vs (CurrentSwitch p ms) nothing → Walks ed vs ts a-truth → Rule (at x vs ms) e 31 (at x vs ms)
+        Checks ed vs (CurrentSwitch p ms) nothing → Walks ed vs ts found-true → Rule (at x vs ms) e 31 (at x vs ms)
     tick-wait-fault : {x : S} {vs : List ℤ} {ms e : List ℕ} {ts : List (List ℕ)} {side : Side} → SaysTick ed e → Waits (c .action) (c .acting x) ts →
-        Checks ed vs (CurrentSwitch p ms) nothing → Walks ed vs ts (a-fault side) → Rule (at x vs ms) e 203 (over vs ms)
+        Checks ed vs (CurrentSwitch p ms) nothing → Walks ed vs ts (found-fault side) → Rule (at x vs ms) e 203 (over vs ms)
     tick-taken : {x : S} {vs ys : List ℤ} {ms e : List ℕ} {ts : List (List ℕ)} → SaysTick ed e → Waits (c .action) (c .acting x) ts →
         Checks ed vs (CurrentSwitch p ms) nothing → Walks ed vs ts nothing → Added p ms vs ys → AllInside (p .variables) ys →
         Rule (at x vs ms) e 200 (at x ys ms)
@@ -246,9 +246,9 @@ module _ {S : Type 0} (ed : Edition) (p : Plant) (c : Control S) where
         ((t : List ℕ) → c .action n ≡ wait t → ⊥) → Sentence 27 (at x vs ms) e
     -- 28: "The switch check of a pick or tick stops at a true switch."
     is-checked-pick : {x : S} {vs : List ℤ} {ms e : List ℕ} {n : ℕ} → SaysPick ed e n →
-        Checks ed vs (CurrentSwitch p ms) a-truth → Sentence 28 (at x vs ms) e
+        Checks ed vs (CurrentSwitch p ms) found-true → Sentence 28 (at x vs ms) e
     is-checked-tick : {x : S} {vs : List ℤ} {ms e : List ℕ} → SaysTick ed e →
-        Checks ed vs (CurrentSwitch p ms) a-truth → Sentence 28 (at x vs ms) e
+        Checks ed vs (CurrentSwitch p ms) found-true → Sentence 28 (at x vs ms) e
     -- 29: "The CONTINUE is not yet true."
     is-early : {x : S} {vs : List ℤ} {ms e t : List ℕ} {n : ℕ} → SaysPick ed e n → c .action n ≡ wait t →
         truthValue ed vs t ≡ ok false → Sentence 29 (at x vs ms) e
@@ -257,14 +257,14 @@ module _ {S : Type 0} (ed : Edition) (p : Plant) (c : Control S) where
         CurrentSwitch p ms s k w → truthValue ed vs (w .truth) ≡ ok false → Sentence 30 (at x vs ms) e
     -- 31: "A tick whose walk over the CONTINUE truths stops at a true one."
     is-due : {x : S} {vs : List ℤ} {ms e : List ℕ} {ts : List (List ℕ)} → SaysTick ed e → Waits (c .action) (c .acting x) ts →
-        Walks ed vs ts a-truth → Sentence 31 (at x vs ms) e
+        Walks ed vs ts found-true → Sentence 31 (at x vs ms) e
 
   -- the switch check of this pick or tick would fault: "a fault in the switch check is 203 before 29 or 31 is looked at"
   pub data CheckFaults : Situation S → List ℕ → Type 0 where
     pick-check : {x : S} {vs : List ℤ} {ms e : List ℕ} {n : ℕ} {side : Side} → SaysPick ed e n →
-        Checks ed vs (CurrentSwitch p ms) (a-fault side) → CheckFaults (at x vs ms) e
+        Checks ed vs (CurrentSwitch p ms) (found-fault side) → CheckFaults (at x vs ms) e
     tick-check : {x : S} {vs : List ℤ} {ms e : List ℕ} {side : Side} → SaysTick ed e →
-        Checks ed vs (CurrentSwitch p ms) (a-fault side) → CheckFaults (at x vs ms) e
+        Checks ed vs (CurrentSwitch p ms) (found-fault side) → CheckFaults (at x vs ms) e
 
   -- the whole list, "from the start to its last event"
   pub data Derives : Situation S → List (List ℕ) → List (Answered S) → Type 0 where

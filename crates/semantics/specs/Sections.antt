@@ -95,13 +95,13 @@ readChoice = do
     ms ← times n readMode
     give (choice (record { initial = first; modes = ms })))
 
-unfoldable pub readKind : Reader Equation
-readKind = do
+unfoldable pub readEquationBody : Reader Equation
+readEquationBody = do
   k ← byte
   cond (eqb k 1) readSteady (cond (eqb k 2) readChoice fail)
 
 unfoldable pub equationIn : List ℕ → Option Equation
-equationIn = whole readKind
+equationIn = whole readEquationBody
 
 -- "records with a 2-byte length first"
 unfoldable pub readEquation : Reader Equation

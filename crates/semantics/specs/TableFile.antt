@@ -48,13 +48,13 @@ actionKind k =
     cond (eqb k 1) a-test (cond (eqb k 2) a-wait (cond (eqb k 3) an-assignment
     (cond (eqb k 4) a-switch (cond (eqb k 5) a-stop no-kind))))
 
-unfoldable pub actionOf : ActionKind → List ℕ → Option Action
-actionOf a-test t = some (test t)
-actionOf a-wait t = some (wait t)
-actionOf an-assignment b = byteAndRest assign b
-actionOf a-switch b = twoBytes switch b
-actionOf a-stop b = noBytes stop b
-actionOf no-kind b = none
+unfoldable pub actionOfKind : ActionKind → List ℕ → Option Action
+actionOfKind a-test t = some (test t)
+actionOfKind a-wait t = some (wait t)
+actionOfKind an-assignment b = byteAndRest assign b
+actionOfKind a-switch b = twoBytes switch b
+actionOfKind a-stop b = noBytes stop b
+actionOfKind no-kind b = none
 
 -- "the variable and equation sections copied, then: actions (2-byte length) ..; locations (4-byte length) .."
 unfoldable pub readTableSections : Reader TableSections
@@ -78,7 +78,7 @@ module _ (ed : Edition) where
       n ← number (ed .width)
       k ← byte
       b ← bytes (l - (widthOf (ed .width) + 1))
-      a ← from (actionOf (actionKind k) b)
+      a ← from (actionOfKind (actionKind k) b)
       give (record { node = n; action = a }))
 
   -- 18: "An action count is outside 1..64"

@@ -8,7 +8,7 @@ use lib.Dec.{leb, ltb, eqb}
 use Rattle.semantics.specs.Bytes.{be4, every, isSome}
 use Rattle.semantics.specs.Editions.{Edition}
 use Rattle.semantics.specs.Expressions.{numberIn, truthIn}
-use Rattle.semantics.specs.Refusals.{Judged, accepted, _>>=_, _>>_, ensure, need, only}
+use Rattle.semantics.specs.Refusals.{Judged, accepted, _>>=_, _>>_, ensure, need, oneNumber}
 use Rattle.semantics.specs.Sections.{Selector}
 use Rattle.semantics.specs.Plant.{Plant, judgePlant, switchesRead, selectors, modeExists}
 use Rattle.semantics.specs.Run.{Action, test, wait, assign, switch, stop, Next, to, finished, halted, idle, Control}
@@ -82,7 +82,7 @@ judgeTable ed t = do
   ensure 15 (tableHeader ed t)
   parts ← need 16 (tableSectionsIn (drop 5 t))
   -- 17: "Its first two sections break 4..8 or 12."
-  p ← only 17 (judgePlant ed (parts .variables) (parts .equations))
+  p ← oneNumber 17 (judgePlant ed (parts .variables) (parts .equations))
   ensure 17 (switchesRead ed p)
   acts ← need 18 (actionsIn ed (parts .actions))
   ensure 18 (actionsFit ed p acts)

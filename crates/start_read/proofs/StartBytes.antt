@@ -14,7 +14,7 @@ use lib.Seq.{take-all}
 use mir.Syntax.{w32}
 use mir.Val.{SFits, toZ, ofZ}
 use mir.ValLaws.{toZ-ofZ}
-use Rattle.semantics.specs.Bytes.{read, after, _>>=_, give, byte, int4, times, just, whole}
+use Rattle.semantics.specs.Bytes.{read, andThen, _>>=_, give, byte, int4, times, just, whole}
 use Rattle.semantics.specs.Expressions.{Value, ok, fault, ranged, thenValue}
 use Rattle.semantics.specs.Sections.{Variable, Selector}
 use Rattle.semantics.specs.Plant.{Plant, selectors, declared, allDeclared}
@@ -89,7 +89,7 @@ mode-at k m h cs c r e = rw (r .modes k e) at h
 
 -- ---- the bytes
 values-read : (s : List ℕ) (n k : ℕ) → 4 * (k + n) ≤ length s → times n int4 (drop (4 * k) s) ≡ read (entries (valueAt s) k n) (drop (4 * (k + n)) s)
-unfolding times _>>=_ after give entries
+unfolding times _>>=_ andThen give entries
 values-read s zero k h = rw add-zero refl
 values-read s (suc n) k h =
     let e : 4 * k + 4 ≡ 4 * suc k = omega arith in
@@ -98,7 +98,7 @@ values-read s (suc n) k h =
     rw (int4-at s (4 * k) (omega arith), m) refl
 
 modes-read : (s : List ℕ) (n k : ℕ) → k + n ≤ length s → times n byte (drop k s) ≡ read (entries (modeAt s) k n) (drop (k + n) s)
-unfolding times _>>=_ after give byte entries
+unfolding times _>>=_ andThen give byte entries
 modes-read s zero k h = rw add-zero refl
 modes-read s (suc n) k h =
     let e : k + 1 ≡ suc k = omega arith in
@@ -107,7 +107,7 @@ modes-read s (suc n) k h =
     rw (drop-some k s (omega arith), m) refl
 
 start-from : (p : Plant) (s : List ℕ) {vs : List ℤ} {ms l : List ℕ} → times (length (p .variables)) int4 s ≡ read vs l → times (length (selectors p)) byte l ≡ read ms [] → startIn p s ≡ some (record { values = vs; modes = ms })
-unfolding startIn readStart whole just _>>=_ after give
+unfolding startIn readStart whole just _>>=_ andThen give
 start-from p s a b = rw (a, b) refl
 
 start-size : (p : Plant) (s : List ℕ) {st : Start} → startIn p s ≡ some st → length s ≡ 4 * length (p .variables) + length (selectors p)

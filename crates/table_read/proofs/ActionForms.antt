@@ -11,7 +11,7 @@ use lib.ListN.{length, getD, take, drop, length-drop}
 use Rattle.semantics.specs.Bytes.{widthOf, isSome, Reader, read, from, _>>=_, noBytes, twoBytes, byteAndRest}
 use Rattle.semantics.specs.Editions.{edition1}
 use Rattle.semantics.specs.Run.{Action, assign, switch, stop}
-use Rattle.semantics.specs.TableFile.{NodeAction, ActionKind, a-test, a-wait, an-assignment, a-switch, a-stop, no-kind, actionKind, actionOf, readAction}
+use Rattle.semantics.specs.TableFile.{NodeAction, ActionKind, a-test, a-wait, an-assignment, a-switch, a-stop, no-kind, actionKind, actionOfKind, readAction}
 use Rattle.semantics.proofs.Facts.{within-both, within-low, true-not-false, none-not-some}
 use Rattle.semantics.proofs.Readers.{guarded, from-some, split, given, given-rest}
 use Rattle.codec.specs.Reading.{Took, Reads}
@@ -59,7 +59,7 @@ module _ (s : List ℕ) (p : ℕ) (i : p < length s) where
         (either (p + 1) (length s) (λ m. then-number _ m
         (either (p + 1 + 1) (length s) (λ k. then-byte _ k (no-bytes _ _ (omega arith) (omega arith))) (λ k. no-byte _ k))) (λ m. no-number _ m)))) refl)
 
-    module _ (j : p + 1 + getD s p 0 ≤ length s) {x : Bool} (e : x ≡ isSome (actionOf (actionKind (getD s (p + 1 + 1) 0)) (take (p + 1 + 1 + 1 + (getD s p 0 - 2) - (p + 1 + 1 + 1)) (drop (p + 1 + 1 + 1) s)))) where
+    module _ (j : p + 1 + getD s p 0 ≤ length s) {x : Bool} (e : x ≡ isSome (actionOfKind (actionKind (getD s (p + 1 + 1) 0)) (take (p + 1 + 1 + 1 + (getD s p 0 - 2) - (p + 1 + 1 + 1)) (drop (p + 1 + 1 + 1) s)))) where
       part : p + 1 + 1 + 1 + (getD s p 0 - 2) - (p + 1 + 1 + 1) ≡ getD s p 0 - 2
       part = omega arith
 
@@ -88,7 +88,7 @@ pub record Was (s : List ℕ) (p : ℕ) (a : NodeAction) (e : List ℕ) : Type 0
   pub low : 2 ≤ getD s p 0
   pub inside : p + 1 + getD s p 0 ≤ length s
   pub node : getD s (p + 1) 0 ≡ a .node
-  pub is : actionOf (actionKind (getD s (p + 1 + 1) 0)) (take (getD s p 0 - 2) (drop (p + 1 + 1 + 1) s)) ≡ some (a .action)
+  pub is : actionOfKind (actionKind (getD s (p + 1 + 1) 0)) (take (getD s p 0 - 2) (drop (p + 1 + 1 + 1) s)) ≡ some (a .action)
   pub rest : drop (p + 1 + 1 + 1 + (getD s p 0 - 2)) s ≡ e
 
 pub was : (s : List ℕ) (p : ℕ) {a : NodeAction} {e : List ℕ} → readAction edition1 (drop p s) ≡ read a e → Was s p a e
@@ -102,7 +102,7 @@ was s p {a} {e} h = either p (length s) (λ i.
     let d = after-byte _ s (p + 1 + 1) k b in
     either (length s) (p + 1 + 1 + 1 + (getD s p 0 - 2)) (λ l. not-short _ s (p + 1 + 1 + 1) (getD s p 0 - 2) (omega arith) l d)
     (λ l.
-    let f = split (from (actionOf (actionKind (getD s (p + 1 + 1) 0)) (take (getD s p 0 - 2) (drop (p + 1 + 1 + 1) s)))) _ (after-bytes _ s (p + 1 + 1 + 1) (getD s p 0 - 2) l d) in
+    let f = split (from (actionOfKind (actionKind (getD s (p + 1 + 1) 0)) (take (getD s p 0 - 2) (drop (p + 1 + 1 + 1) s)))) _ (after-bytes _ s (p + 1 + 1 + 1) (getD s p 0 - 2) l d) in
     let m = from-some _ (f .first) in
     record {
       low = low;
@@ -130,8 +130,8 @@ codeOf a-switch = 4
 codeOf a-stop = 5
 codeOf no-kind = 0
 
-coded : (k : ActionKind) (b : List ℕ) {a : Action} → actionOf k b ≡ some a → kindCode (some a) ≡ codeOf k
-unfolding actionOf byteAndRest twoBytes noBytes kindCode codeOf
+coded : (k : ActionKind) (b : List ℕ) {a : Action} → actionOfKind k b ≡ some a → kindCode (some a) ≡ codeOf k
+unfolding actionOfKind byteAndRest twoBytes noBytes kindCode codeOf
 coded a-test b h = ap kindCode (sym h)
 coded a-wait b h = ap kindCode (sym h)
 coded an-assignment [] h = none-not-some h
@@ -144,12 +144,12 @@ coded a-stop [] h = ap kindCode (sym h)
 coded a-stop (x ∷ b) h = none-not-some h
 coded no-kind b h = none-not-some h
 
-known : (k : ℕ) (b : List ℕ) {a : Action} → actionOf (actionKind k) b ≡ some a → codeOf (actionKind k) ≡ k
-unfolding actionKind actionOf codeOf
+known : (k : ℕ) (b : List ℕ) {a : Action} → actionOfKind (actionKind k) b ≡ some a → codeOf (actionKind k) ≡ k
+unfolding actionKind actionOfKind codeOf
 known k b {a} h = go (eqb k 1) (eqb k 2) (eqb k 3) (eqb k 4) (eqb k 5) refl refl refl refl refl h
   where
     go : (c d e f g : Bool) → eqb k 1 ≡ c → eqb k 2 ≡ d → eqb k 3 ≡ e → eqb k 4 ≡ f → eqb k 5 ≡ g →
-        actionOf (cond c a-test (cond d a-wait (cond e an-assignment (cond f a-switch (cond g a-stop no-kind))))) b ≡ some a →
+        actionOfKind (cond c a-test (cond d a-wait (cond e an-assignment (cond f a-switch (cond g a-stop no-kind))))) b ≡ some a →
         codeOf (cond c a-test (cond d a-wait (cond e an-assignment (cond f a-switch (cond g a-stop no-kind))))) ≡ k
     go true d e f g i j l m n h = sym (eqb-true k 1 i)
     go false true e f g i j l m n h = sym (eqb-true k 2 j)
@@ -158,5 +158,5 @@ known k b {a} h = go (eqb k 1) (eqb k 2) (eqb k 3) (eqb k 4) (eqb k 5) refl refl
     go false false false false true i j l m n h = sym (eqb-true k 5 n)
     go false false false false false i j l m n h = none-not-some h
 
-pub kind-is : (k : ℕ) (b : List ℕ) {a : Action} → actionOf (actionKind k) b ≡ some a → kindCode (some a) ≡ k
+pub kind-is : (k : ℕ) (b : List ℕ) {a : Action} → actionOfKind (actionKind k) b ≡ some a → kindCode (some a) ≡ k
 kind-is k b h = coded (actionKind k) b h ∙ known k b h

@@ -9,7 +9,7 @@ use native.Mathlib.Omega.{arith}
 use borrow.Author.Tests.{leb-true, ltb-true, lt-ltb, le-ltb, le-leb, lt-leb}
 use lib.Dec.{leb, ltb}
 use lib.ListN.{length, getD, set, drop, replicate, length-drop}
-use Rattle.semantics.specs.Bytes.{number, broken, read, after, _>>=_, byte, give, guard, times, just, whole}
+use Rattle.semantics.specs.Bytes.{number, broken, read, andThen, _>>=_, byte, give, guard, times, just, whole}
 use Rattle.semantics.specs.Editions.{edition1}
 use Rattle.semantics.specs.TableFile.{NodeAction, readAction, readActions, actionsIn}
 use Rattle.semantics.specs.Tables.{actionNodes, actionAt}
@@ -82,7 +82,7 @@ unfolding actionsIn readActions
 in-times {s} c e = rw (c .is) (guarded _ _ (after-number _ s 0 (c .some-bytes) (whole-read (readActions edition1) s e)) .1)
 
 times-in : (s : List ℕ) {l : List NodeAction} → 0 < length s → 1 ≤ getD s 0 0 → getD s 0 0 ≤ 64 → times (getD s 0 0) (readAction edition1) (drop 1 s) ≡ read l [] → actionsIn edition1 s ≡ some l
-unfolding actionsIn readActions whole just _>>=_ after number byte guard
+unfolding actionsIn readActions whole just _>>=_ andThen number byte guard
 times-in [] i g h e = absurd (omega arith)
 times-in (a ∷ s) i g h e = rw (within-both 1 64 a g h, e) refl
 

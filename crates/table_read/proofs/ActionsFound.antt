@@ -12,7 +12,7 @@ use lib.Seq.{drop-drop}
 use Rattle.semantics.specs.Bytes.{every, read, give, times}
 use Rattle.semantics.specs.Editions.{edition1}
 use Rattle.semantics.specs.Run.{Action, test, wait, assign, switch, stop}
-use Rattle.semantics.specs.TableFile.{NodeAction, actionKind, actionOf, readAction, readActions, actionsIn}
+use Rattle.semantics.specs.TableFile.{NodeAction, actionKind, actionOfKind, readAction, readActions, actionsIn}
 use Rattle.semantics.specs.Tables.{risingFrom, actionNodes, actionAt}
 use Rattle.semantics.proofs.Facts.{All, all-nil, all-cons, every-all, none-not-some, some-is, and-right}
 use Rattle.semantics.proofs.Readers.{read-value, guarded, whole-read}
@@ -105,7 +105,7 @@ module _ (s : List ℕ) (n : ℕ) where
 
 -- the operand of the action at a place: its kind, its start and its end
 operand-at : (s : List ℕ) (p : ℕ) {n : ℕ} {a : Action} {e : List ℕ} {k st en : ℕ} → readAction edition1 (drop p s) ≡ read (record { node = n; action = a }) e →
-    k ≡ kindCode (some a) → st ≡ p + 3 → en ≡ p + 1 + getD s p 0 → (st ≤ en) × (en ≤ length s) × (actionOf (actionKind k) (take (en - st) (drop st s)) ≡ some a)
+    k ≡ kindCode (some a) → st ≡ p + 3 → en ≡ p + 1 + getD s p 0 → (st ≤ en) × (en ≤ length s) × (actionOfKind (actionKind k) (take (en - st) (drop st s)) ≡ some a)
 operand-at s p {a = a} {k = k} {st = st} {en = en} h i j l =
     let w = was s p h in
     let low = w .low in
@@ -119,7 +119,7 @@ operand-at s p {a = a} {k = k} {st = st} {en = en} h i j l =
 pub data Here (s : List ℕ) (x : Actions) (o : Option Action) (n : ℕ) : Type 0 where
   no-action : o ≡ none → getD (x .kinds) n 0 ≡ 0 → getD (x .starts) n 0 ≡ 0 → getD (x .ends) n 0 ≡ 0 → Here s x o n
   one-action : {a : Action} → o ≡ some a → getD (x .kinds) n 0 ≡ kindCode (some a) → getD (x .starts) n 0 ≤ getD (x .ends) n 0 → getD (x .ends) n 0 ≤ length s →
-      actionOf (actionKind (getD (x .kinds) n 0)) (take (getD (x .ends) n 0 - getD (x .starts) n 0) (drop (getD (x .starts) n 0) s)) ≡ some a → Here s x o n
+      actionOfKind (actionKind (getD (x .kinds) n 0)) (take (getD (x .ends) n 0 - getD (x .starts) n 0) (drop (getD (x .starts) n 0) s)) ≡ some a → Here s x o n
 
 times-of : (s : List ℕ) {l : List NodeAction} → actionsIn edition1 s ≡ some l → (1 ≤ length s) × (times (length l) (readAction edition1) (drop 1 s) ≡ read l [])
 unfolding actionsIn readActions
@@ -183,10 +183,10 @@ module _ (s : List ℕ) {l : List NodeAction} (e : actionsIn edition1 s ≡ some
       go (one-action {a = a} j z b c o) = absurd (omega (arith, code-some a))
 
   -- and else the action of its kind and its operand
-  pub operand-is : (getD (actionsOf s .kinds) n 0 ≡ 0 → ⊥) → actionOf (actionKind (getD (actionsOf s .kinds) n 0)) (take (getD (actionsOf s .ends) n 0 - getD (actionsOf s .starts) n 0) (drop (getD (actionsOf s .starts) n 0) s)) ≡ actionAt l n
+  pub operand-is : (getD (actionsOf s .kinds) n 0 ≡ 0 → ⊥) → actionOfKind (actionKind (getD (actionsOf s .kinds) n 0)) (take (getD (actionsOf s .ends) n 0 - getD (actionsOf s .starts) n 0) (drop (getD (actionsOf s .starts) n 0) s)) ≡ actionAt l n
   operand-is i = go (action-here s e h n k)
     where
-      go : Here s (actionsOf s) (actionAt l n) n → actionOf (actionKind (getD (actionsOf s .kinds) n 0)) (take (getD (actionsOf s .ends) n 0 - getD (actionsOf s .starts) n 0) (drop (getD (actionsOf s .starts) n 0) s)) ≡ actionAt l n
+      go : Here s (actionsOf s) (actionAt l n) n → actionOfKind (actionKind (getD (actionsOf s .kinds) n 0)) (take (getD (actionsOf s .ends) n 0 - getD (actionsOf s .starts) n 0) (drop (getD (actionsOf s .starts) n 0) s)) ≡ actionAt l n
       go (no-action j z st en) = absurd (i z)
       go (one-action j z b c o) = o ∙ sym j
 

@@ -8,7 +8,7 @@ use native.Mathlib.Numerals.{add-one}
 use native.Mathlib.Omega.{arith}
 use lib.ListN.{length, set, drop, replicate, length-append, length-drop}
 use lib.Seq.{set-at}
-use Rattle.semantics.specs.Bytes.{every, read, after, _>>=_, give, guard, times, just, whole}
+use Rattle.semantics.specs.Bytes.{every, read, andThen, _>>=_, give, guard, times, just, whole}
 use Rattle.semantics.specs.Editions.{edition1}
 use Rattle.semantics.specs.TableFile.{NodeAction, Entry, readLocation, readLocations, locationsIn}
 use Rattle.semantics.specs.Tables.{locationFits, locationsFit}
@@ -87,7 +87,7 @@ unfolding locationsIn readLocations
 in-times {s} c e = rw (c .is) (guarded _ _ (after-nat2 _ s 0 (c .room) (whole-read (readLocations edition1) s e)) .1)
 
 times-in : {s : List ℕ} {n : ℕ} {ls : List (List Entry)} → Count s n → times n (readLocation edition1) (drop 2 s) ≡ read ls [] → locationsIn edition1 s ≡ some ls
-unfolding locationsIn readLocations whole just _>>=_ after guard
+unfolding locationsIn readLocations whole just _>>=_ andThen guard
 times-in {s} c e =
     let l = c .low in
     let h = c .high in

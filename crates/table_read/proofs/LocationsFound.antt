@@ -7,7 +7,7 @@ use Prim.Native.Nat.{ℕ, zero, suc, _+_, _-_, _*_, _≤_, _<_}
 use native.Mathlib.Omega.{arith}
 use borrow.Author.Tests.{leb-true}
 use lib.ListN.{length, getD, drop, replicate, getElem?, length-append, length-replicate, List·getD-append}
-use Rattle.semantics.specs.Bytes.{read, broken, byte, after, _>>=_, give, times}
+use Rattle.semantics.specs.Bytes.{read, broken, byte, andThen, _>>=_, give, times}
 use Rattle.semantics.specs.Editions.{edition1}
 use Rattle.semantics.specs.TableFile.{NodeAction, Entry, readEntry, readLocation, readLocations, locationsIn}
 use Rattle.semantics.specs.Tables.{locationsFit}
@@ -75,7 +75,7 @@ unfolding readLocation
 takes-location = takes-then takes-byte (λ n. takes-guard _ (takes-times n takes-entry))
 
 nothing-there : readLocation edition1 [] ≡ broken
-unfolding readLocation _>>=_ after byte
+unfolding readLocation _>>=_ andThen byte
 nothing-there = refl
 
 -- ---- location k

@@ -15,7 +15,7 @@ use Rattle.semantics.specs.Expressions.{numberIn, truthIn}
 use Rattle.semantics.specs.Sections.{Selector}
 use Rattle.semantics.specs.Plant.{modeExists}
 use Rattle.semantics.specs.Run.{Action}
-use Rattle.semantics.specs.TableFile.{NodeAction, an-assignment, a-switch, a-stop, no-kind, actionKind, actionOf, actionsIn}
+use Rattle.semantics.specs.TableFile.{NodeAction, an-assignment, a-switch, a-stop, no-kind, actionKind, actionOfKind, actionsIn}
 use Rattle.semantics.specs.Tables.{operandFits, actionAt}
 use Rattle.semantics.proofs.Facts.{true-not-false, at-exists, by-cases}
 use Rattle.codec.proofs.Known.{past-end}
@@ -43,62 +43,62 @@ module _ {counts : List ℕ} {n : ℕ} {cs : List Selector} (d : ModesAt counts 
 
 -- ---- the forms of an operand
 module _ (v : ℕ) (cs : List Selector) where
-  pub assigns-nothing : (b : List ℕ) → length b < 1 → true ≡ fitsHere v cs (actionOf an-assignment b)
-  unfolding actionOf byteAndRest fitsHere
+  pub assigns-nothing : (b : List ℕ) → length b < 1 → true ≡ fitsHere v cs (actionOfKind an-assignment b)
+  unfolding actionOfKind byteAndRest fitsHere
   assigns-nothing [] h = refl
   assigns-nothing (x ∷ b) h = absurd (omega arith)
 
-  pub assigns-missing : (b : List ℕ) → 1 ≤ length b → v ≤ getD b 0 0 → false ≡ fitsHere v cs (actionOf an-assignment b)
-  unfolding actionOf byteAndRest fitsHere operandFits
+  pub assigns-missing : (b : List ℕ) → 1 ≤ length b → v ≤ getD b 0 0 → false ≡ fitsHere v cs (actionOfKind an-assignment b)
+  unfolding actionOfKind byteAndRest fitsHere operandFits
   assigns-missing [] h k = absurd (omega arith)
   assigns-missing (x ∷ b) h k = rw (le-ltb x v k) refl
 
-  pub assigns-known : (b : List ℕ) {r : Bool} → 1 ≤ length b → getD b 0 0 < v → r ≡ isSome (numberIn edition1 v (take (length b - 1) (drop 1 b))) → r ≡ fitsHere v cs (actionOf an-assignment b)
-  unfolding actionOf byteAndRest fitsHere operandFits
+  pub assigns-known : (b : List ℕ) {r : Bool} → 1 ≤ length b → getD b 0 0 < v → r ≡ isSome (numberIn edition1 v (take (length b - 1) (drop 1 b))) → r ≡ fitsHere v cs (actionOfKind an-assignment b)
+  unfolding actionOfKind byteAndRest fitsHere operandFits
   assigns-known [] h k e = absurd (omega arith)
   assigns-known (x ∷ b) h k e = e ∙ rw (lt-ltb x v k) (ap (λ z. isSome (numberIn edition1 v z)) (take-all (suc (length b) - 1) b (omega arith)))
 
-  pub switches-nothing : (b : List ℕ) → (length b ≡ 2 → ⊥) → true ≡ fitsHere v cs (actionOf a-switch b)
-  unfolding actionOf twoBytes fitsHere
+  pub switches-nothing : (b : List ℕ) → (length b ≡ 2 → ⊥) → true ≡ fitsHere v cs (actionOfKind a-switch b)
+  unfolding actionOfKind twoBytes fitsHere
   switches-nothing [] h = refl
   switches-nothing (x ∷ []) h = refl
   switches-nothing (x ∷ y ∷ []) h = absurd (h refl)
   switches-nothing (x ∷ y ∷ z ∷ b) h = refl
 
-  pub switches-to : (b : List ℕ) {r : Bool} → length b ≡ 2 → r ≡ modeExists cs (getD b 0 0) (getD b 1 0) → r ≡ fitsHere v cs (actionOf a-switch b)
-  unfolding actionOf twoBytes fitsHere operandFits
+  pub switches-to : (b : List ℕ) {r : Bool} → length b ≡ 2 → r ≡ modeExists cs (getD b 0 0) (getD b 1 0) → r ≡ fitsHere v cs (actionOfKind a-switch b)
+  unfolding actionOfKind twoBytes fitsHere operandFits
   switches-to [] h e = absurd (omega arith)
   switches-to (x ∷ []) h e = absurd (omega arith)
   switches-to (x ∷ y ∷ []) h e = e
   switches-to (x ∷ y ∷ z ∷ b) h e = absurd (omega arith)
 
   module _ {k : ℕ} (b : List ℕ) {r : Bool} where
-    pub fits-test : k ≡ 1 → r ≡ isSome (truthIn edition1 v b) → r ≡ fitsHere v cs (actionOf (actionKind k) b)
-    unfolding actionKind actionOf fitsHere operandFits
+    pub fits-test : k ≡ 1 → r ≡ isSome (truthIn edition1 v b) → r ≡ fitsHere v cs (actionOfKind (actionKind k) b)
+    unfolding actionKind actionOfKind fitsHere operandFits
     fits-test e h = rw e h
 
-    pub fits-wait : k ≡ 2 → r ≡ isSome (truthIn edition1 v b) → r ≡ fitsHere v cs (actionOf (actionKind k) b)
-    unfolding actionKind actionOf fitsHere operandFits
+    pub fits-wait : k ≡ 2 → r ≡ isSome (truthIn edition1 v b) → r ≡ fitsHere v cs (actionOfKind (actionKind k) b)
+    unfolding actionKind actionOfKind fitsHere operandFits
     fits-wait e h = rw e h
 
-    pub fits-assignment : k ≡ 3 → r ≡ fitsHere v cs (actionOf an-assignment b) → r ≡ fitsHere v cs (actionOf (actionKind k) b)
+    pub fits-assignment : k ≡ 3 → r ≡ fitsHere v cs (actionOfKind an-assignment b) → r ≡ fitsHere v cs (actionOfKind (actionKind k) b)
     unfolding actionKind
     fits-assignment e h = rw e h
 
-    pub fits-switch : k ≡ 4 → r ≡ fitsHere v cs (actionOf a-switch b) → r ≡ fitsHere v cs (actionOf (actionKind k) b)
+    pub fits-switch : k ≡ 4 → r ≡ fitsHere v cs (actionOfKind a-switch b) → r ≡ fitsHere v cs (actionOfKind (actionKind k) b)
     unfolding actionKind
     fits-switch e h = rw e h
 
-  stop-fits : (b : List ℕ) → true ≡ fitsHere v cs (actionOf a-stop b)
-  unfolding actionOf noBytes fitsHere operandFits
+  stop-fits : (b : List ℕ) → true ≡ fitsHere v cs (actionOfKind a-stop b)
+  unfolding actionOfKind noBytes fitsHere operandFits
   stop-fits [] = refl
   stop-fits (x ∷ b) = refl
 
-  no-kind-fits : (b : List ℕ) → true ≡ fitsHere v cs (actionOf no-kind b)
-  unfolding actionOf fitsHere
+  no-kind-fits : (b : List ℕ) → true ≡ fitsHere v cs (actionOfKind no-kind b)
+  unfolding actionOfKind fitsHere
   no-kind-fits b = refl
 
-  pub fits-other : (k : ℕ) (b : List ℕ) → (k ≡ 1 → ⊥) → (k ≡ 2 → ⊥) → (k ≡ 3 → ⊥) → (k ≡ 4 → ⊥) → true ≡ fitsHere v cs (actionOf (actionKind k) b)
+  pub fits-other : (k : ℕ) (b : List ℕ) → (k ≡ 1 → ⊥) → (k ≡ 2 → ⊥) → (k ≡ 3 → ⊥) → (k ≡ 4 → ⊥) → true ≡ fitsHere v cs (actionOfKind (actionKind k) b)
   unfolding actionKind
   fits-other k b e f g h = by-cases (eqb k 5)
       (λ i. rw (actionKind, ne-eqb k 1 e, ne-eqb k 2 f, ne-eqb k 3 g, ne-eqb k 4 h, i) (stop-fits b))
@@ -112,11 +112,11 @@ module _ (s : List ℕ) {x : Actions} (q : x ≡ actionsOf s) (z : x .refusal �
   here : {l : List NodeAction} → actionsIn edition1 s ≡ some l → Here s x (actionAt l n) n
   here {l} e = subst (λ x. Here s x (actionAt l n) n) (sym q) (action-here s e (sym (ap (λ (x : Actions). x .refusal) q) ∙ z) n k)
 
-  pub operand-of : {l : List NodeAction} → actionsIn edition1 s ≡ some l → actionOf (actionKind (getD (x .kinds) n 0)) (operandOf s x n) ≡ actionAt l n
-  unfolding actionKind actionOf
+  pub operand-of : {l : List NodeAction} → actionsIn edition1 s ≡ some l → actionOfKind (actionKind (getD (x .kinds) n 0)) (operandOf s x n) ≡ actionAt l n
+  unfolding actionKind actionOfKind
   operand-of {l} e = go (here e)
     where
-      go : Here s x (actionAt l n) n → actionOf (actionKind (getD (x .kinds) n 0)) (operandOf s x n) ≡ actionAt l n
+      go : Here s x (actionAt l n) n → actionOfKind (actionKind (getD (x .kinds) n 0)) (operandOf s x n) ≡ actionAt l n
       go (no-action i j st en) = rw j (sym i)
       go (one-action i j b c o) = o ∙ sym i
 
@@ -136,7 +136,7 @@ AllFit s v n counts r = (cs : List Selector) → ModesAt counts n cs → (l : Li
 pub fit-start : {s : List ℕ} {v n : ℕ} {counts : List ℕ} → Fitting s v n counts 0
 fit-start = record { of = λ cs d l e m h. absurd (omega arith) }
 
-module _ (s : List ℕ) {x : Actions} (q : x ≡ actionsOf s) (z : x .refusal ≡ 0) (v n : ℕ) (counts : List ℕ) {i : ℕ} {r : Bool} (k : i < 64) (t : (cs : List Selector) → ModesAt counts n cs → r ≡ fitsHere v cs (actionOf (actionKind (getD (x .kinds) i 0)) (operandOf s x i))) where
+module _ (s : List ℕ) {x : Actions} (q : x ≡ actionsOf s) (z : x .refusal ≡ 0) (v n : ℕ) (counts : List ℕ) {i : ℕ} {r : Bool} (k : i < 64) (t : (cs : List Selector) → ModesAt counts n cs → r ≡ fitsHere v cs (actionOfKind (actionKind (getD (x .kinds) i 0)) (operandOf s x i))) where
   told : (cs : List Selector) → ModesAt counts n cs → {l : List NodeAction} → actionsIn edition1 s ≡ some l → r ≡ fitsHere v cs (actionAt l i)
   told cs d e = t cs d ∙ ap (fitsHere v cs) (operand-of s q z i k e)
 

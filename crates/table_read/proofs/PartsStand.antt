@@ -9,7 +9,7 @@ use borrow.Author.Tests.{leb-true, le-leb, lt-leb, eq-eqb, ne-eqb}
 use lib.Dec.{leb, eqb}
 use lib.ListN.{length, getD, take, drop, length-drop}
 use lib.Seq.{drop-drop}
-use Rattle.semantics.specs.Bytes.{broken, read, after, _>>=_, give, section2, section4, just, whole}
+use Rattle.semantics.specs.Bytes.{broken, read, andThen, _>>=_, give, section2, section4, just, whole}
 use Rattle.semantics.specs.Editions.{edition1}
 use Rattle.semantics.specs.TableFile.{TableSections, readTableSections, tableSectionsIn}
 use Rattle.semantics.specs.Tables.{tableHeader}
@@ -82,22 +82,22 @@ broken-sections l e = rw e refl
 
 module _ (t : List ℕ) where
   pub no-variables : section2 (drop 5 t) ≡ broken → tableSectionsIn (drop 5 t) ≡ none
-  unfolding readTableSections _>>=_ after
+  unfolding readTableSections _>>=_ andThen
   no-variables k = broken-sections _ (rw k refl)
 
   module _ {v : ℕ} (vs : Took section2 anything t 5 v tt) where
     pub no-equations : section2 (drop v t) ≡ broken → tableSectionsIn (drop 5 t) ≡ none
-    unfolding readTableSections _>>=_ after
+    unfolding readTableSections _>>=_ andThen
     no-equations k = broken-sections _ (rw (vs .got, k) refl)
 
     module _ {e : ℕ} (es : Took section2 anything t v e tt) where
       pub no-actions : section2 (drop e t) ≡ broken → tableSectionsIn (drop 5 t) ≡ none
-      unfolding readTableSections _>>=_ after
+      unfolding readTableSections _>>=_ andThen
       no-actions k = broken-sections _ (rw (vs .got, es .got, k) refl)
 
       module _ {a : ℕ} (acts : Took section2 anything t e a tt) where
         pub no-locations : section4 (drop a t) ≡ broken → tableSectionsIn (drop 5 t) ≡ none
-        unfolding readTableSections _>>=_ after
+        unfolding readTableSections _>>=_ andThen
         no-locations k = broken-sections _ (rw (vs .got, es .got, acts .got, k) refl)
 
         module _ {l : ℕ} (ls : Took section4 anything t a l tt) where
@@ -105,7 +105,7 @@ module _ (t : List ℕ) where
           sections = record { variables = vs .value; equations = es .value; actions = acts .value; locations = ls .value }
 
           all-read : readTableSections (drop 5 t) ≡ read sections (drop l t)
-          unfolding readTableSections _>>=_ after give sections
+          unfolding readTableSections _>>=_ andThen give sections
           all-read = rw (vs .got, es .got, acts .got, ls .got) refl
 
           pub left-over : l < length t → tableSectionsIn (drop 5 t) ≡ none

@@ -13,7 +13,7 @@ use Rattle.semantics.specs.Editions.{edition1}
 use Rattle.semantics.specs.Refusals.{Judged, refused, accepted, refusalOf}
 use Rattle.semantics.specs.Plant.{Plant, judgePlant, switchesRead, selectors}
 use Rattle.semantics.specs.Run.{Action, test, wait, assign, switch, stop, isTest, possible}
-use Rattle.semantics.specs.TableFile.{NodeAction, Entry, FINISHED, HALTED, NONE, actionKind, actionOf, actionsIn, locationsIn}
+use Rattle.semantics.specs.TableFile.{NodeAction, Entry, FINISHED, HALTED, NONE, actionKind, actionOfKind, actionsIn, locationsIn}
 use Rattle.semantics.specs.Tables.{Table, risingFrom, operandFits, actionNodes, actionAt, goesOn, targetsFit, entryFits, entryNodes, locationFits, locationsFit, judgeTable}
 use Rattle.semantics.specs.Conditions.{Condition, First, here, further, Firsts, refuses, accepts, _if_, is15, is16, is17, is18, is19, tableConditions}
 use Rattle.semantics.proofs.Facts.{All, all-nil, all-cons, all-map, every-all, by-cases, true-not-false, none-not-some, some-is, and-left, and-right}
@@ -147,7 +147,7 @@ pub record ActionPromised (s : List ℕ) (x : Actions) (p : Plant) (n : ℕ) (a 
   pub below : n < 64
   pub ordered : getD (x .starts) n 0 ≤ getD (x .ends) n 0
   pub inside : getD (x .ends) n 0 ≤ length s
-  pub is : actionOf (actionKind (getD (x .kinds) n 0)) (operandOf s x n) ≡ some a
+  pub is : actionOfKind (actionKind (getD (x .kinds) n 0)) (operandOf s x n) ≡ some a
   pub fits : operandFits edition1 (length (p .variables)) (selectors p) a ≡ true
 
 nodes-below : (l : List NodeAction) (n : ℕ) {a : Action} → actionsLaid l ≡ true → actionAt l n ≡ some a → n < 64

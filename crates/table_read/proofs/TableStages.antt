@@ -8,7 +8,7 @@ use native.Mathlib.Omega.{arith}
 use lib.ListN.{length, take, drop, length-map}
 use Rattle.semantics.specs.Bytes.{every}
 use Rattle.semantics.specs.Editions.{edition1}
-use Rattle.semantics.specs.Refusals.{Judged, refused, accepted, only, need, ensure, _>>=_, _>>_}
+use Rattle.semantics.specs.Refusals.{Judged, refused, accepted, oneNumber, need, ensure, _>>=_, _>>_}
 use Rattle.semantics.specs.Sections.{Selector, Equation, equationsIn}
 use Rattle.semantics.specs.Plant.{Plant, judgePlant, switchesRead, equationReads, selectorsOf, selectors}
 use Rattle.semantics.specs.TableFile.{NodeAction, Entry, TableSections, tableSectionsIn, actionsIn, locationsIn}
@@ -87,7 +87,7 @@ module _ (p : Parts) (vs es ops locs : List ℕ) {q : PlantRead} (h : q ≡ plan
   refuses e = index-refused p (sectionsFrom vs es ops locs) e
 
   pub by-plant : (q .refusal ≡ 0 → ⊥) → noTable 17 ≡ sectionsIndex p vs es ops locs
-  unfolding judgeSections plantOf plantAnswer acceptedPlant only _>>=_
+  unfolding judgeSections plantOf plantAnswer acceptedPlant oneNumber _>>=_
   by-plant z = go (judgePlant edition1 vs es) refl
     where
       go : (j : Judged Plant) → judgePlant edition1 vs es ≡ j → noTable 17 ≡ sectionsIndex p vs es ops locs

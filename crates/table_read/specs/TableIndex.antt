@@ -2,7 +2,7 @@
 use mathlib.Core.List.{List}
 use Prim.Native.Nat.{ℕ}
 use Rattle.semantics.specs.Editions.{edition1}
-use Rattle.semantics.specs.Refusals.{Judged, refused, accepted, _>>=_, _>>_, ensure, need, only}
+use Rattle.semantics.specs.Refusals.{Judged, refused, accepted, _>>=_, _>>_, ensure, need, oneNumber}
 use Rattle.semantics.specs.Plant.{judgePlant, switchesRead}
 use Rattle.semantics.specs.TableFile.{TableSections, actionsIn, locationsIn}
 use Rattle.semantics.specs.Tables.{Table, actionsFit, locationsFit, judgeTable}
@@ -42,7 +42,7 @@ tableIndex t = indexOf (partsOf t) (sectionsAt t (partsOf t)) (judgeTable editio
 -- 17 to 19, as judgeTable has them after 16
 unfoldable pub judgeSections : TableSections → Judged Table
 judgeSections parts = do
-  p ← only 17 (judgePlant edition1 (parts .variables) (parts .equations))
+  p ← oneNumber 17 (judgePlant edition1 (parts .variables) (parts .equations))
   ensure 17 (switchesRead edition1 p)
   acts ← need 18 (actionsIn edition1 (parts .actions))
   ensure 18 (actionsFit edition1 p acts)

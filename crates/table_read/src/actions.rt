@@ -4,7 +4,7 @@ ghost use Prim.Native.Nat.{_≤_};
 ghost use lib.ListN.{length};
 ghost use Rattle.semantics.specs.Bytes.{isSome};
 ghost use Rattle.semantics.specs.Editions.{edition1};
-ghost use Rattle.semantics.specs.TableFile.{actionKind, actionOf, readAction};
+ghost use Rattle.semantics.specs.TableFile.{actionKind, actionOfKind, readAction};
 ghost use Rattle.table_read.specs.Ends.{Ends, EndsWith, follows};
 ghost use Rattle.table_read.specs.ActionIndex.{nodeOf, nodeExists, Counted, actionsOf, noActions};
 
@@ -34,7 +34,7 @@ pub fn refused() -> Actions
 
 // whether the operand has the form of its kind
 fn operand(k: u8, b: &[u8]) -> bool
-    ensures { λ r. ⌜ r ≡ isSome (actionOf (actionKind k) (now (b .entry))) ⌝ }
+    ensures { λ r. ⌜ r ≡ isSome (actionOfKind (actionKind k) (now (b .entry))) ⌝ }
 {
     match k {
         1 => true,

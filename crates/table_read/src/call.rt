@@ -41,7 +41,7 @@ fn no_plant(n: u8) -> PlantRead
         highs: [0; 32],
         selectors: 0,
         modes: [0; 16],
-        places: [0; 128],
+        mode_offsets: [0; 128],
         steady: [0; 32],
     }
 }

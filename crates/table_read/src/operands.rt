@@ -9,7 +9,7 @@ ghost use Rattle.semantics.specs.Bytes.{every};
 ghost use Rattle.semantics.specs.Editions.{edition1};
 ghost use Rattle.semantics.specs.Sections.{Selector};
 ghost use Rattle.semantics.specs.Plant.{modeExists};
-ghost use Rattle.semantics.specs.TableFile.{NodeAction, an-assignment, a-switch, actionKind, actionOf, actionsIn};
+ghost use Rattle.semantics.specs.TableFile.{NodeAction, an-assignment, a-switch, actionKind, actionOfKind, actionsIn};
 ghost use Rattle.semantics.specs.Tables.{operandFits};
 ghost use Rattle.table_read.specs.ActionIndex.{actionsOf};
 ghost use Rattle.table_read.specs.OperandForms.{ModesAt, fitsHere};
@@ -34,7 +34,7 @@ fn mode_exists(c: usize, m: usize, selectors: usize, modes: &[usize]) -> bool
 // a variable, then a number
 fn assigns(b: &[u8], variables: usize) -> bool
     requires { ⌜ variables ≤ 32 ⌝ }
-    ensures { λ r. ⌜ ((cs : List Selector) → r ≡ fitsHere variables cs (actionOf an-assignment (now (b .entry)))) ⌝ }
+    ensures { λ r. ⌜ ((cs : List Selector) → r ≡ fitsHere variables cs (actionOfKind an-assignment (now (b .entry)))) ⌝ }
 {
     if b.len() < 1 {
         return true;
@@ -48,7 +48,7 @@ fn assigns(b: &[u8], variables: usize) -> bool
 // a selector, then a mode
 fn switches(b: &[u8], selectors: usize, modes: &[usize]) -> bool
     requires { ⌜ selectors ≤ length (now modes) ⌝ }
-    ensures { λ r. ⌜ ((cs : List Selector) → ModesAt (now (modes .entry)) selectors cs → (variables : ℕ) → r ≡ fitsHere variables cs (actionOf a-switch (now (b .entry)))) ⌝ }
+    ensures { λ r. ⌜ ((cs : List Selector) → ModesAt (now (modes .entry)) selectors cs → (variables : ℕ) → r ≡ fitsHere variables cs (actionOfKind a-switch (now (b .entry)))) ⌝ }
 {
     if b.len() != 2 {
         return true;
@@ -59,7 +59,7 @@ fn switches(b: &[u8], selectors: usize, modes: &[usize]) -> bool
 // one operand; true where the kind is none or the operand has not its form
 fn fits(k: u8, b: &[u8], variables: usize, selectors: usize, modes: &[usize]) -> bool
     requires { ⌜ (variables ≤ 32) × (selectors ≤ length (now modes)) ⌝ }
-    ensures { λ r. ⌜ ((cs : List Selector) → ModesAt (now (modes .entry)) selectors cs → r ≡ fitsHere variables cs (actionOf (actionKind k) (now (b .entry)))) ⌝ }
+    ensures { λ r. ⌜ ((cs : List Selector) → ModesAt (now (modes .entry)) selectors cs → r ≡ fitsHere variables cs (actionOfKind (actionKind k) (now (b .entry)))) ⌝ }
 {
     match k {
         1 => expression::truth_reads(b, variables),

@@ -54,7 +54,7 @@ places-few at (choice c ∷ qs) h =
     let e = length-pad 8 0 row (omega (arith, starts-length modeSize (at + 5) (c .modes), h 0 c refl)) in
     omega (arith, length-append (pad 8 0 row) (modePlaces (at + equationSize (choice c)) qs), places-few (at + equationSize (choice c)) qs (λ j x k. h (suc j) x k))
 
-rows-full : (vs es : List ℕ) {p : Plant} → judgePlant edition1 vs es ≡ accepted p → length (plantOf vs es .places) ≡ 128
+rows-full : (vs es : List ℕ) {p : Plant} → judgePlant edition1 vs es ≡ accepted p → length (plantOf vs es .«mode_offsets») ≡ 128
 rows-full vs es {p} h =
     let e = passed-all vs es h .equations in
     ap length (places-of vs es h) ∙ length-pad 128 0 (modePlaces 1 (p .equations)) (omega (arith, places-few 1 (p .equations) (λ j c g. few-modes-each es e j g), few-selectors es e))
@@ -75,7 +75,7 @@ pub record Sized (f : List ℕ) (ix : TableIndex) (asked : Admitted) : Type 0 wh
   pub equations : Inside f (ix .parts .equations) (ix .parts .«equations_end»)
   pub actions : Inside f (ix .parts .actions) (ix .parts .«actions_end»)
   pub locations : Inside f (ix .parts .locations) (ix .parts .«locations_end»)
-  pub rows : length (ix .plant .places) ≡ 128
+  pub rows : length (ix .plant .«mode_offsets») ≡ 128
   pub lows : ix .plant .variables ≤ length (ix .plant .lows)
   pub highs : ix .plant .variables ≤ length (ix .plant .highs)
   pub kinds : length (ix .actions .kinds) ≡ 64
@@ -88,7 +88,7 @@ pub record Sized (f : List ℕ) (ix : TableIndex) (asked : Admitted) : Type 0 wh
 -- ---- the arrays that are lent
 abbrev pub lentOf : List ℕ → TableIndex → Lent
 lentOf f ix =
-    lent (cutFrom f (ix .parts .equations) (ix .parts .«equations_end»)) (ix .plant .places) (ix .plant .steady) (take (ix .plant .variables) (ix .plant .lows)) (take (ix .plant .variables) (ix .plant .highs))
+    lent (cutFrom f (ix .parts .equations) (ix .parts .«equations_end»)) (ix .plant .«mode_offsets») (ix .plant .steady) (take (ix .plant .variables) (ix .plant .lows)) (take (ix .plant .variables) (ix .plant .highs))
     (cutFrom f (ix .parts .actions) (ix .parts .«actions_end»)) (ix .actions .kinds) (ix .actions .starts) (ix .actions .ends)
 
 lent-from : (f : List ℕ) (ix : TableIndex) → LentFrom f ix (lentOf f ix)
@@ -128,7 +128,7 @@ module _ (f : List ℕ) {ix : TableIndex} (h : ix ≡ tableIndex f) {asked : Adm
         equations = record { ordered = x .ordered; inside = x .inside };
         actions = record { ordered = y .ordered; inside = y .inside };
         locations = record { ordered = z .ordered; inside = z .inside };
-        rows = ap (λ (x : PlantRead). length (x .places)) (plant-is f h j) ∙ rows-full _ _ (plant-judged f h j);
+        rows = ap (λ (x : PlantRead). length (x .«mode_offsets»)) (plant-is f h j) ∙ rows-full _ _ (plant-judged f h j);
         lows = r .lows-there;
         highs = r .highs-there;
         kinds = kinds-full f h j;

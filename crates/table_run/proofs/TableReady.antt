@@ -14,7 +14,7 @@ use Rattle.semantics.specs.Refusals.{accepted}
 use Rattle.semantics.specs.Sections.{Selector}
 use Rattle.semantics.specs.Plant.{judgePlant}
 use Rattle.semantics.specs.Run.{Action, test, wait, assign, switch, stop}
-use Rattle.semantics.specs.TableFile.{TableSections, actionKind, actionOf}
+use Rattle.semantics.specs.TableFile.{TableSections, actionKind, actionOfKind}
 use Rattle.semantics.specs.Tables.{Table, operandFits, actionAt, entriesAt, judgeTable}
 use Rattle.semantics.proofs.Facts.{and-left}
 use Rattle.plant.specs.PlantRead.{plantOf}
@@ -40,7 +40,7 @@ cutFrom f a b = take (b - a) (drop a f)
 -- what is lent, by the table's bytes and its index
 pub record LentFrom (f : List ℕ) (ix : TableIndex) (l : Lent) : Type 0 where
   pub equations : l .equations ≡ cutFrom f (ix .parts .equations) (ix .parts .«equations_end»)
-  pub places : l .places ≡ ix .plant .places
+  pub places : l .places ≡ ix .plant .«mode_offsets»
   pub steady : l .steady ≡ ix .plant .steady
   pub lows : l .lows ≡ take (ix .plant .variables) (ix .plant .lows)
   pub highs : l .highs ≡ take (ix .plant .variables) (ix .plant .highs)
@@ -125,7 +125,7 @@ module _ (f : List ℕ) {ix : TableIndex} (h : ix ≡ tableIndex f) {t : Table} 
 
   module _ {l : Lent} (q : LentFrom f ix l) where
     plant-of : PlantLent (t .plant) l
-    plant-of = plant-lent (sections .variables) (sections .equations) plant-judged l (q .equations ∙ equations-at) (q .places ∙ ap (λ (x : PlantRead). x .places) plant-is) (q .steady ∙ ap (λ (x : PlantRead). x .steady) plant-is)
+    plant-of = plant-lent (sections .variables) (sections .equations) plant-judged l (q .equations ∙ equations-at) (q .places ∙ ap (λ (x : PlantRead). x .«mode_offsets») plant-is) (q .steady ∙ ap (λ (x : PlantRead). x .steady) plant-is)
         (q .lows ∙ ap (λ (x : PlantRead). take (x .variables) (x .lows)) plant-is) (q .highs ∙ ap (λ (x : PlantRead). take (x .variables) (x .highs)) plant-is)
 
     operands-are : l .operands ≡ sections .actions
@@ -146,7 +146,7 @@ module _ (f : List ℕ) {ix : TableIndex} (h : ix ≡ tableIndex f) {t : Table} 
         cut-at : getD (ix .actions .starts) n 0 ≤ getD (ix .actions .ends) n 0 → getD (ix .actions .ends) n 0 ≤ length (sections .actions) → n < length (ix .actions .starts) → n < length (ix .actions .ends) → Cut (l .operands) (l .starts) (l .ends) n
         cut-at a b c d = rw (operands-are, q .starts, q .ends) (record { start = c; end = d; low = a; high = b })
 
-        operand-is : actionOf (actionKind (getD (ix .actions .kinds) n 0)) (operandOf (sections .actions) (ix .actions) n) ≡ some a → actionOf (actionKind (getD (l .kinds) n 0)) (cutAt (l .operands) (l .starts) (l .ends) n) ≡ some a
+        operand-is : actionOfKind (actionKind (getD (ix .actions .kinds) n 0)) (operandOf (sections .actions) (ix .actions) n) ≡ some a → actionOfKind (actionKind (getD (l .kinds) n 0)) (cutAt (l .operands) (l .starts) (l .ends) n) ≡ some a
         operand-is e = rw (q .kinds, operands-are, q .starts, q .ends) e
 
     pub table-lent : TableLent t l (cutFrom f (ix .parts .locations) (ix .parts .«locations_end»)) (ix .locations .places)

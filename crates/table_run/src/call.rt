@@ -47,7 +47,7 @@ fn lend(ix: TableIndex, asked: Admitted, table: &[u8], events: &[u8], records: &
     let plant = ix.plant;
     let variables = plant.variables;
     let selectors = plant.selectors;
-    let rows = plant.places;
+    let rows = plant.mode_offsets;
     let steady = plant.steady;
     let lows = plant.lows;
     let highs = plant.highs;

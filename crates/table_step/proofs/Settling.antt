@@ -24,7 +24,7 @@ use Rattle.nodeset.proofs.Membership.{words-empty}
 use Rattle.table_read.specs.Promised.{Leads, leads-to, finishes, halts}
 use Rattle.execution.specs.Ready.{Lent, Fits, Ready}
 use Rattle.execution.specs.Ready as Judged
-use Rattle.effects.specs.Told.{Left}
+use Rattle.effects.specs.Verdicts.{Left}
 use Rattle.effects.specs.declared.Verdict.{Verdict}
 use Rattle.effects.specs.declared.Verdict.the-variants.{Away, Above, Below, Stay, Move}
 use Rattle.execution.proofs.Outcomes.{heard-move}

@@ -12,7 +12,7 @@ ghost use Rattle.semantics.specs.Events.{eventIn};
 ghost use Rattle.semantics.specs.Run.{judge};
 ghost use Rattle.semantics.specs.Tables.{Table, tableControl};
 ghost use Rattle.nodeset.specs.Sets.{members};
-ghost use Rattle.effects.specs.Told.{Left};
+ghost use Rattle.effects.specs.Verdicts.{Left};
 ghost use Rattle.execution.specs.Ready.{lent, Fits};
 ghost use Rattle.effects.specs.declared.Verdict.the-variants.{Move};
 ghost use Rattle.table_step.specs.Situations.{goingOn, ended, Here, Movable, Moving, Arrives, StandsFor, TableLent, Promised, Steps};

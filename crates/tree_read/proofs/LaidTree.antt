@@ -13,7 +13,7 @@ use Rattle.semantics.proofs.Facts.{true-not-false, some-is, some-of, at-below}
 use Rattle.schedules.specs.Nodes.{Node, nodesIn}
 use Rattle.schedules.specs.Trees.{Tree, Forest, treeOf}
 use Rattle.schedules.specs.Preorder.{Written, WrittenAll, a-continue, a-reset, a-reinitial, a-switch, a-stop, a-while, an-if, a-sequence, a-parallel, no-tree, one-tree as next-tree}
-use Rattle.schedules.specs.Laid.{Row, Plain, Laid, LaidF, laid-leaf, laid-halt, laid-loop, laid-branch, laid-seq, laid-par, laid-nil, laid-cons, Lies}
+use Rattle.schedules.specs.Laid.{NodeRow, Plain, Laid, LaidF, laid-leaf, laid-halt, laid-loop, laid-branch, laid-seq, laid-par, laid-nil, laid-cons, Lies}
 use Rattle.schedules.proofs.OneTree.{one-tree}
 use Rattle.tree_read.specs.Index.{pad, nodesOf}
 use Rattle.tree_read.specs.Ends.{treeSize, forestSize, treeEnds, forestEnds, subtreesOf, treeIn}
@@ -71,7 +71,7 @@ mutual
   all-size (next-tree {ms = ms} {ns = ns} v w e) = omega (arith, ap length e ∙ length-append ms ns, written-size v, all-size w)
 
 -- ---- the tree lies where its nodes and ends stand
-row : {ks es : List ℕ} {n k v e : ℕ} {vs ws : List ℕ} → Held ks n (k ∷ vs) → Held es n (v ∷ ws) → v ≡ e → Row ks es n k e
+row : {ks es : List ℕ} {n k v e : ℕ} {vs ws : List ℕ} → Held ks n (k ∷ vs) → Held es n (v ∷ ws) → v ≡ e → NodeRow ks es n k e
 row (held-cons a b h) (held-cons c d g) q = record { in-kinds = a; in-ends = c; kind = b; ends = d ∙ q }
 
 held-rest : {l : List ℕ} {n v : ℕ} {vs : List ℕ} → Held l n (v ∷ vs) → Held l (suc n) vs

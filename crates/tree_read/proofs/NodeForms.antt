@@ -9,7 +9,7 @@ use borrow.Author.Tests.{le-leb, ne-eqb}
 use lib.Dec.{leb, eqb}
 use lib.ListN.{length, getD, take, drop, length-drop}
 use lib.Seq.{drop-drop}
-use Rattle.semantics.specs.Bytes.{isSome, read, from, give, fail, guard, after, _>>=_, number, byte, bytes, noBytes, twoBytes, byteAndRest}
+use Rattle.semantics.specs.Bytes.{isSome, read, from, give, fail, guard, andThen, _>>=_, number, byte, bytes, noBytes, twoBytes, byteAndRest}
 use Rattle.semantics.specs.Editions.{edition1}
 use Rattle.semantics.proofs.Facts.{within-both, within-low}
 use Rattle.semantics.proofs.Readers.{guarded, from-some}
@@ -94,7 +94,7 @@ module _ (s : List ℕ) (p : ℕ) (i : p < length s) where
 
     -- what is left is to make a node of the kind and the payload
     opened : p + 1 + getD s p 0 ≤ length s → readNode edition1 (drop p s) ≡ from (nodeOf (kindOf (getD s (p + 1) 0)) (take (getD s p 0 - 1) (drop (p + 1 + 1) s))) (drop (p + 1 + 1 + (getD s p 0 - 1)) s)
-    unfolding readNode number _>>=_ after byte bytes guard
+    unfolding readNode number _>>=_ andThen byte bytes guard
     opened j =
         let l : leb (getD s p 0 - 1) (length (drop (p + 1 + 1) s)) ≡ true = le-leb (getD s p 0 - 1) (length (drop (p + 1 + 1) s)) (omega (arith, length-drop (p + 1 + 1) s)) in
         let k : p + 1 < length s = omega arith in

@@ -6,7 +6,7 @@ use mathlib.Core.Option.{Option, none, some}
 use Prim.Native.Nat.{ℕ, _+_, _-_, _≤_, _<_}
 use native.Mathlib.Omega.{arith}
 use lib.ListN.{length, getD, drop, set, replicate}
-use Rattle.semantics.specs.Bytes.{Read, broken, read, after, _>>=_, guard, fail, byte, number, times, just, whole, within}
+use Rattle.semantics.specs.Bytes.{Read, broken, read, andThen, _>>=_, guard, fail, byte, number, times, just, whole, within}
 use Rattle.semantics.specs.Editions.{edition1}
 use Rattle.semantics.proofs.Facts.{true-not-false, within-both, within-low, within-high}
 use Rattle.semantics.proofs.Readers.{split, guarded, byte-read, whole-read}
@@ -34,22 +34,22 @@ unfolding nodesOf
 nodes-some s e = rw (e, nodesOf) refl
 
 pub no-section : (s : List ℕ) → length s ≤ 0 → nodesIn edition1 s ≡ none
-unfolding nodesIn readNodes whole just number _>>=_ after byte
+unfolding nodesIn readNodes whole just number _>>=_ andThen byte
 no-section [] h = refl
 no-section (a ∷ s) h = absurd (omega arith)
 
 pub too-few : (s : List ℕ) → 0 < length s → getD s 0 0 < 1 → nodesIn edition1 s ≡ none
-unfolding nodesIn readNodes whole just number _>>=_ after byte guard fail
+unfolding nodesIn readNodes whole just number _>>=_ andThen byte guard fail
 too-few [] i h = absurd (omega arith)
 too-few (a ∷ s) i h = rw (within-below 1 64 a h) refl
 
 pub too-many : (s : List ℕ) → 0 < length s → 64 < getD s 0 0 → nodesIn edition1 s ≡ none
-unfolding nodesIn readNodes whole just number _>>=_ after byte guard fail
+unfolding nodesIn readNodes whole just number _>>=_ andThen byte guard fail
 too-many [] i h = absurd (omega arith)
 too-many (a ∷ s) i h = rw (within-above 1 64 a h) refl
 
 section-is : (s : List ℕ) → 0 < length s → 1 ≤ getD s 0 0 → getD s 0 0 ≤ 64 → nodesIn edition1 s ≡ just (times (getD s 0 0) (readNode edition1) (drop 1 s))
-unfolding nodesIn readNodes whole number _>>=_ after byte guard
+unfolding nodesIn readNodes whole number _>>=_ andThen byte guard
 section-is [] i h k = absurd (omega arith)
 section-is (a ∷ s) i h k = rw (within-both 1 64 a h k) refl
 

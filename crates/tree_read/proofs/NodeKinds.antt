@@ -12,7 +12,7 @@ use Rattle.semantics.specs.Bytes.{noBytes, twoBytes, byteAndRest}
 use Rattle.semantics.proofs.Facts.{none-not-some, some-is}
 use Rattle.schedules.specs.Nodes.{Node, sequence, parallel, while-do, if-else, continue-until, reset, reinitial, switch-to, stop-all, Kind, a-sequence, a-parallel, a-while, an-if, a-continue, a-reset, a-reinitial, a-switch, a-stop, no-kind, kindOf, childCount, nodeOf}
 use Rattle.schedules.specs.Trees.{Tree, Forest, nil, cons, children, ofNone, ofOne, ofTwo, ofSome, treeFrom}
-use Rattle.schedules.specs.Preorder.{howMany}
+use Rattle.schedules.specs.Preorder.{forestLength}
 use Rattle.tree_read.specs.Walks.{childrenOf, Parent}
 
 -- the number of a node's kind in the file
@@ -54,26 +54,26 @@ numbered k =
     (this-or 7 n-reinitial (this-or 8 n-switch (this-or 9 n-stop n-none))))))))
 
 -- ---- a tree of a node's children
-none-made : (t : Tree) (ts : Forest) → howMany ts ≡ 0 → (u : Tree) × (ofNone t ts ≡ some u)
-unfolding howMany ofNone
+none-made : (t : Tree) (ts : Forest) → forestLength ts ≡ 0 → (u : Tree) × (ofNone t ts ≡ some u)
+unfolding forestLength ofNone
 none-made t nil h = (t, refl)
 none-made t (cons u us) h = absurd (omega arith)
 
-one-made : (f : Tree → Tree) (ts : Forest) → howMany ts ≡ 1 → (u : Tree) × (ofOne f ts ≡ some u)
-unfolding howMany ofOne
+one-made : (f : Tree → Tree) (ts : Forest) → forestLength ts ≡ 1 → (u : Tree) × (ofOne f ts ≡ some u)
+unfolding forestLength ofOne
 one-made f nil h = absurd (omega arith)
 one-made f (cons t nil) h = (f t, refl)
 one-made f (cons t (cons u us)) h = absurd (omega arith)
 
-two-made : (f : Tree → Tree → Tree) (ts : Forest) → howMany ts ≡ 2 → (u : Tree) × (ofTwo f ts ≡ some u)
-unfolding howMany ofTwo
+two-made : (f : Tree → Tree → Tree) (ts : Forest) → forestLength ts ≡ 2 → (u : Tree) × (ofTwo f ts ≡ some u)
+unfolding forestLength ofTwo
 two-made f nil h = absurd (omega arith)
 two-made f (cons t nil) h = absurd (omega arith)
 two-made f (cons t (cons u nil)) h = (f t u, refl)
 two-made f (cons t (cons u (cons v vs))) h = absurd (omega arith)
 
-some-made : (f : Tree → Forest → Tree) {k : ℕ} (ts : Forest) → 1 ≤ k → howMany ts ≡ k → (u : Tree) × (ofSome f ts ≡ some u)
-unfolding howMany ofSome
+some-made : (f : Tree → Forest → Tree) {k : ℕ} (ts : Forest) → 1 ≤ k → forestLength ts ≡ k → (u : Tree) × (ofSome f ts ≡ some u)
+unfolding forestLength ofSome
 some-made f nil l h = absurd (omega arith)
 some-made f (cons t ts) l h = (f t ts, refl)
 

@@ -8,7 +8,7 @@ use lib.Dec.{leb, eqb}
 use lib.ListN.{drop, getElem?}
 use Rattle.schedules.specs.Nodes.{Node}
 use Rattle.schedules.specs.Trees.{Tree, Forest, children, treeFrom, Walked, lost, walked}
-use Rattle.schedules.specs.Preorder.{howMany}
+use Rattle.schedules.specs.Preorder.{forestLength}
 use Rattle.codec.specs.Writing.{Wrote}
 use Rattle.tree_read.specs.Ends.{treeSize, forestSize, treeEnds, forestEnds}
 use Rattle.tree_read.specs.declared.tree.Walk.{Walk}
@@ -20,7 +20,7 @@ childrenOf k c = cond (leb k 2) c (cond (eqb k 3) 1 (cond (eqb k 4) 2 0))
 
 -- a node of whose children a tree can be made: no SEQUENCE and no PARALLEL without children
 abbrev pub Parent : Node → Type 0
-Parent x = (n : ℕ) (ts : Forest) → howMany ts ≡ children x → (t : Tree) × (treeFrom n x ts ≡ some t)
+Parent x = (n : ℕ) (ts : Forest) → forestLength ts ≡ children x → (t : Tree) × (treeFrom n x ts ≡ some t)
 
 -- the child counts of these nodes
 pub record Counts (ks : List ℕ) (ns : List Node) : Type 0 where

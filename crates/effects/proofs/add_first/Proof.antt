@@ -5,7 +5,7 @@ use lib.IntN.{ℤ, pos, _+ℤ_}
 use lib.ListN.{length, getD, set, length-set}
 use Rattle.semantics.specs.Expressions.{ranged}
 use Rattle.semantics.specs.Run.{valued}
-use Rattle.effects.specs.Told.{stepTold, goesOn}
+use Rattle.effects.specs.Verdicts.{stepVerdict, goesOn}
 use Rattle.effects.specs.Ranges.{sums, firstSums}
 use Rattle.effects.proofs.Adds.{fill-here, fill-more, length-sums, sums-at, Held, held, held-sum, held-ranged}
 use native.Mathlib.Omega.{arith}
@@ -59,7 +59,7 @@ sum-requires c κs = let l = c .before .before .before .before .before in
     let e : ranged (Held lo) (Held hi) (Held (getD (l .loop .values) i (pos 0)) +ℤ Held (getD r i (pos 0))) ≡ ranged lo hi (getD v i (pos 0) +ℤ getD r i (pos 0)) =
     held-ranged lo hi (getD (l .loop .values) i (pos 0)) (getD r i (pos 0)) (c .before .before .before .sum-arg .given) (c .before .before .sum-arg2 .given) (c .before .sum-arg3 .given) (c .sum-arg4 .given)
     ∙ ap (λ (z : ℤ). ranged lo hi (z +ℤ getD r i (pos 0))) here in
-    ap (λ x. goesOn (stepTold (valued x))) e ∙ l .before .pre .1 .each i (omega arith)
+    ap (λ x. goesOn (stepVerdict (valued x))) e ∙ l .before .pre .1 .each i (omega arith)
 
 mul-t21 : tie.Need-mul-t21 Inv-loop μ-loop
 mul-t21 c = omega arith

@@ -1,5 +1,5 @@
 use mathlib.Core.Path.{sym, ap}
-use Rattle.effects.specs.Told.{goesOn}
+use Rattle.effects.specs.Verdicts.{goesOn}
 use Rattle.effects.proofs.Steps.{not-stay}
 use borrow.Author.Needs.{needs}
 use Rattle.effects.proofs.goes_on.Statement.{statement}

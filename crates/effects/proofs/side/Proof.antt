@@ -2,7 +2,7 @@ use mathlib.Core.Path.{refl, ap, _∙_}
 use lib.IntN.{pos}
 use lib.ListN.{getD}
 use Rattle.semantics.specs.Run.{valued}
-use Rattle.effects.specs.Told.{stepTold}
+use Rattle.effects.specs.Verdicts.{stepVerdict}
 use Rattle.effects.proofs.Adds.{held-ranged}
 use borrow.Author.Needs.{needs}
 use native.Mathlib.Omega.{arith}
@@ -40,7 +40,7 @@ returns : tie.Need-returns
 returns c = let a = c .before in
     let b = a .before .before .before .before .before .args in
     let v = b .v in
-    let told = c .stays .ensures ∙ ap (λ r. stepTold (valued r)) (held-ranged (getD (b .lows .now) v (pos 0)) (getD (b .highs .now) v (pos 0)) (getD (b .values .now) v (pos 0)) (getD (b .rates .now) v (pos 0)) (a .before .before .before .stays-arg .given) (a .before .before .stays-arg2 .given) (a .before .stays-arg3 .given) (a .stays-arg4 .given)) in
+    let told = c .stays .ensures ∙ ap (λ r. stepVerdict (valued r)) (held-ranged (getD (b .lows .now) v (pos 0)) (getD (b .highs .now) v (pos 0)) (getD (b .values .now) v (pos 0)) (getD (b .rates .now) v (pos 0)) (a .before .before .before .stays-arg .given) (a .before .before .stays-arg2 .given) (a .before .stays-arg3 .given) (a .stays-arg4 .given)) in
     record { here = λ h. told; beyond = λ h. absurd (omega arith) }
 
 returns-2 : tie.Need-returns-2

@@ -2,7 +2,7 @@ use mathlib.Core.Path.{_≡_, sym, ap, _∙_}
 use Prim.Native.Nat.{_<_, _-_}
 use lib.ListN.{length}
 use borrow.Author.Tests.{not-true, not-false}
-use Rattle.effects.specs.Told.{goesOn}
+use Rattle.effects.specs.Verdicts.{goesOn}
 use Rattle.effects.specs.Ranges.{FirstStay}
 use Rattle.effects.proofs.Adds.{none-yet, one-more}
 use borrow.Author.Needs.{needs}

@@ -3,7 +3,7 @@ use borrow.Author.Needs.{needs}
 use Rattle.semantics.specs.Expressions.{ranged, sum, applied}
 use Rattle.semantics.specs.Run.{valued}
 use Rattle.expression.proofs.Widths.{widens, wide-fits, wide-is}
-use Rattle.effects.specs.Told.{stepTold}
+use Rattle.effects.specs.Verdicts.{stepVerdict}
 use Rattle.effects.proofs.Adds.{held-bounds}
 use Rattle.effects.proofs.stays.Statement.{statement}
 use Rattle.effects.proofs.stays.Tie as tie
@@ -23,7 +23,7 @@ ranged-requires c κs = search needs
 
 returns : tie.Need-returns
 unfolding applied
-returns c = let s = c .before in c .ranged .ensures ∙ ap (λ r. stepTold (valued r)) (held-bounds _ _ _ (s .fits .low) (s .fits .high) ∙ ap (ranged (s .args .low) (s .args .high)) (wide-is sum _ _ (s .fits .x) (s .fits .rate)))
+returns c = let s = c .before in c .ranged .ensures ∙ ap (λ r. stepVerdict (valued r)) (held-bounds _ _ _ (s .fits .low) (s .fits .high) ∙ ap (ranged (s .args .low) (s .args .high)) (wide-is sum _ _ (s .fits .x) (s .fits .rate)))
 
 pub stays-spec : {M : Type 1} → statement M
 stays-spec = tie.close (tie.spec cast-ranged cast-ranged-2 add-ranged ranged-requires returns)

@@ -8,7 +8,7 @@ use mir.ValLaws.{toZ-ofZ}
 use Rattle.semantics.specs.Expressions.{ranged}
 use Rattle.semantics.specs.Run.{valued}
 use Rattle.expression.proofs.Widths.{widens, widened}
-use Rattle.effects.specs.Told.{stepTold}
+use Rattle.effects.specs.Verdicts.{stepVerdict}
 use Rattle.effects.proofs.Adds.{held-bounds}
 use Rattle.effects.proofs.Acts.{stored-in, stored-out}
 use borrow.Author.Needs.{needs}
@@ -51,7 +51,7 @@ returns c = let s = c .before .before .before .before .before in
     let z = a .z in
     let lo = getD (a .lows .now) (a .v) (pos 0) in
     let hi = getD (a .highs .now) (a .v) (pos 0) in
-    let e : c .before .before .ranged .result ≡ stepTold (valued (ranged lo hi z)) = c .before .before .ranged .ensures ∙ ap (λ x. stepTold (valued x)) (held-bounds lo hi _ (record { sfits = c .before .before .before .before .ranged-arg .given }) (record { sfits = c .before .before .before .ranged-arg2 .given }) ∙ ap (ranged lo hi) (widened z (s .fits .z))) in
+    let e : c .before .before .ranged .result ≡ stepVerdict (valued (ranged lo hi z)) = c .before .before .ranged .ensures ∙ ap (λ x. stepVerdict (valued x)) (held-bounds lo hi _ (record { sfits = c .before .before .before .before .ranged-arg .given }) (record { sfits = c .before .before .before .ranged-arg2 .given }) ∙ ap (ranged lo hi) (widened z (s .fits .z))) in
     let l : a .v < length (a .lows .now) = omega arith in
     let g = stored-in (a .lows .now) (a .highs .now) (a .values .now) (a .v) (a .done) z (s .pre .1 ∙ sym (s .pre .2)) l _ e (sym (c .before .goes-on .ensures) ∙ c .if1 .taken) in
     (g .answer, ap (set (a .values .now) (a .v)) (toZ-ofZ w32 z (s .fits .z)) ∙ g .left)
@@ -62,7 +62,7 @@ returns-2 c = let s = c .before .before .before .before .before in
     let z = a .z in
     let lo = getD (a .lows .now) (a .v) (pos 0) in
     let hi = getD (a .highs .now) (a .v) (pos 0) in
-    let e : c .before .before .ranged .result ≡ stepTold (valued (ranged lo hi z)) = c .before .before .ranged .ensures ∙ ap (λ x. stepTold (valued x)) (held-bounds lo hi _ (record { sfits = c .before .before .before .before .ranged-arg .given }) (record { sfits = c .before .before .before .ranged-arg2 .given }) ∙ ap (ranged lo hi) (widened z (s .fits .z))) in
+    let e : c .before .before .ranged .result ≡ stepVerdict (valued (ranged lo hi z)) = c .before .before .ranged .ensures ∙ ap (λ x. stepVerdict (valued x)) (held-bounds lo hi _ (record { sfits = c .before .before .before .before .ranged-arg .given }) (record { sfits = c .before .before .before .ranged-arg2 .given }) ∙ ap (ranged lo hi) (widened z (s .fits .z))) in
     let l : a .v < length (a .lows .now) = omega arith in
     let g = stored-out (a .lows .now) (a .highs .now) (a .values .now) (a .v) (a .done) z (s .pre .1 ∙ sym (s .pre .2)) l _ e (sym (c .before .goes-on .ensures) ∙ c .if1 .left) in
     (g .answer, g .left)

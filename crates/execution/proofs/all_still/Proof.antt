@@ -8,7 +8,7 @@ use Rattle.semantics.specs.Editions.{edition1}
 use Rattle.semantics.specs.Run.{walk}
 use Rattle.nodeset.specs.Sets.{members}
 use Rattle.nodeset.proofs.Firsts.{first-on}
-use Rattle.effects.specs.Told.{stepTold}
+use Rattle.effects.specs.Verdicts.{stepVerdict}
 use Rattle.execution.specs.Operands.{cutAt}
 use Rattle.execution.proofs.Scans.{At, at-next, stillFrom, still-start, still-out, still-on, still-end}
 use Rattle.execution.proofs.all_still.Statement.{statement}
@@ -33,7 +33,7 @@ goes-on-requires : tie.Need-goes-on-requires Inv-loop μ-loop
 goes-on-requires c κs = search needs
 
 returns : tie.Need-returns Inv-loop μ-loop
-returns c = let a = c .before .before .before .before .before .before .before .before .before .args in let i = c .before .before .before .before .loop .inv in still-out (a .values .now) (cutAt (a .ops .now) (a .starts .now) (a .ends .now)) (a .acting .words) (c .before .before .before .before .loop .n) (c .before .before .before .loop-test .taken) (i .0) _ (c .before .before .still .ensures) (sym (c .before .goes-on .ensures) ∙ not-true _ (c .if1 .taken)) ∙ sym (ap stepTold (i .1))
+returns c = let a = c .before .before .before .before .before .before .before .before .before .args in let i = c .before .before .before .before .loop .inv in still-out (a .values .now) (cutAt (a .ops .now) (a .starts .now) (a .ends .now)) (a .acting .words) (c .before .before .before .before .loop .n) (c .before .before .before .loop-test .taken) (i .0) _ (c .before .before .still .ensures) (sym (c .before .goes-on .ensures) ∙ not-true _ (c .if1 .taken)) ∙ sym (ap stepVerdict (i .1))
 
 add-next : tie.Need-add-next Inv-loop μ-loop
 add-next c = omega (arith, c .before .before .before .loop-test .taken)
@@ -51,7 +51,7 @@ loop-again c =
     (at-next _ (c .before .before .before .before .before .loop .n + 1) (omega (arith, c .before .before .before .before .loop-test .taken)) (c .next2 .ensures), i .1 ∙ still-on (a .values .now) (cutAt (a .ops .now) (a .starts .now) (a .ends .now)) (a .acting .words) (c .before .before .before .before .before .loop .n) (c .before .before .before .before .loop-test .taken) (i .0) _ (c .before .before .before .still .ensures) (c .next2 .ensures) (sym (c .before .before .goes-on .ensures) ∙ not-false _ (c .before .if1 .left)))
 
 returns-2 : tie.Need-returns-2 Inv-loop μ-loop
-returns-2 c = let a = c .before .before .before .before .before .before .args in still-end (a .values .now) (cutAt (a .ops .now) (a .starts .now) (a .ends .now)) (a .acting .words) (c .before .loop .n) (c .loop-test .left) (λ m e. c .before .before .before .before .before .before .pre m e .0) ∙ sym (ap stepTold (c .before .loop .inv .1))
+returns-2 c = let a = c .before .before .before .before .before .before .args in still-end (a .values .now) (cutAt (a .ops .now) (a .starts .now) (a .ends .now)) (a .acting .words) (c .before .loop .n) (c .loop-test .left) (λ m e. c .before .before .before .before .before .before .pre m e .0) ∙ sym (ap stepVerdict (c .before .loop .inv .1))
 
 pub all-still-spec : {M : Type 1} → statement M
 all-still-spec =

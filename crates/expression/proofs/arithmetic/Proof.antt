@@ -5,7 +5,7 @@ use mir.Syntax.{w64}
 use mir.Val.{toZ, ofZ}
 use borrow.Author.Needs.{needs}
 use Rattle.semantics.specs.Expressions.{Operation, sum, difference, product, applied, result}
-use Rattle.expression.specs.Founds.{numberAt, operationOf}
+use Rattle.expression.specs.Evaluation.{numberAt, operationOf}
 use Rattle.expression.proofs.Widths.{Wide, widens, wide-fits, wide-is}
 use Rattle.expression.proofs.arithmetic.Statement.{statement}
 use Rattle.expression.proofs.arithmetic.Tie as tie

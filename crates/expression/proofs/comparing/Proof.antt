@@ -7,7 +7,7 @@ use mir.ValLaws.{toZ-ofZ}
 use borrow.Author.Needs.{needs}
 use Rattle.semantics.specs.Expressions.{ok, compared}
 use Rattle.expression.specs.Answers.{truthOf}
-use Rattle.expression.specs.Founds.{comparisonOf}
+use Rattle.expression.specs.Evaluation.{comparisonOf}
 use Rattle.expression.proofs.TwoLeaves.{two-related}
 use Rattle.expression.proofs.Wholes.{truth-whole}
 use Rattle.expression.proofs.comparing.Statement.{statement}

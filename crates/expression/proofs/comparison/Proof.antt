@@ -5,7 +5,7 @@ use lib.Signed.{leZ, ltZ}
 use mir.Syntax.{w32}
 use mir.ValLaws.{toZ-ofZ}
 use Rattle.semantics.specs.Expressions.{Comparison, at-most, less, equal, unequal, compared}
-use Rattle.expression.specs.Founds.{comparisonOf}
+use Rattle.expression.specs.Evaluation.{comparisonOf}
 use Rattle.expression.proofs.Widths.{eq-bits}
 use Rattle.expression.proofs.comparison.Statement.{statement}
 use Rattle.expression.proofs.comparison.Tie as tie

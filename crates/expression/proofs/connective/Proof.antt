@@ -1,7 +1,7 @@
 use mathlib.Core.Path.{sym, ap}
 use borrow.Author.Tests.{ne-eqb}
 use Rattle.semantics.specs.Expressions.{Connective, connected}
-use Rattle.expression.specs.Founds.{connectiveOf}
+use Rattle.expression.specs.Evaluation.{connectiveOf}
 use Rattle.expression.proofs.connective.Statement.{statement}
 use Rattle.expression.proofs.connective.Tie as tie
 

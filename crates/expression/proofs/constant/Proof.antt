@@ -10,7 +10,7 @@ use mir.ValLaws.{toZ-ofZ}
 use borrow.Author.Needs.{needs}
 use Rattle.semantics.specs.Bytes.{signed}
 use Rattle.semantics.specs.Expressions.{result}
-use Rattle.expression.specs.Founds.{wordAt, constantAt, numberAt}
+use Rattle.expression.specs.Evaluation.{wordAt, constantAt, numberAt}
 use Rattle.expression.specs.declared.Found.the-variants.{ANumber}
 use Rattle.expression.proofs.Widths.{result-fits}
 use Rattle.expression.proofs.constant.Statement.{statement}

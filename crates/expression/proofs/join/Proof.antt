@@ -1,7 +1,7 @@
 use mathlib.Core.Path.{sym, ap, ap₂, _∙_}
 use mathlib.Core.Bool.{Bool}
 use borrow.Author.Needs.{needs}
-use Rattle.expression.specs.Founds.{joined}
+use Rattle.expression.specs.Evaluation.{joined}
 use Rattle.expression.specs.declared.Found.{Found}
 use Rattle.expression.specs.declared.Found.the-variants.{ATruth}
 use Rattle.expression.proofs.Cases.{not-truth, off-joined, off-joined-right, off-joined-right-fault}

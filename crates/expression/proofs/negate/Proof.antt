@@ -4,7 +4,7 @@ use mir.Syntax.{w32}
 use mir.ValLaws.{toZ-ofZ}
 use borrow.Author.Needs.{needs}
 use Rattle.semantics.specs.Expressions.{result}
-use Rattle.expression.specs.Founds.{numberAt, negated}
+use Rattle.expression.specs.Evaluation.{numberAt, negated}
 use Rattle.expression.proofs.Cases.{not-number, off-negated}
 use Rattle.expression.proofs.negate.Statement.{statement}
 use Rattle.expression.proofs.negate.Tie as tie

@@ -6,7 +6,7 @@ use mir.Val.{SFits}
 use mir.ValLaws.{toZ-ofZ}
 use borrow.Author.Needs.{needs}
 use Rattle.semantics.specs.Expressions.{result}
-use Rattle.expression.specs.Founds.{numberAt}
+use Rattle.expression.specs.Evaluation.{numberAt}
 use Rattle.expression.proofs.Widths.{widens, widened, difference-fits}
 use Rattle.expression.proofs.negative.Statement.{statement}
 use Rattle.expression.proofs.negative.Tie as tie

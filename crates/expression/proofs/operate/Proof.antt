@@ -4,7 +4,7 @@ use mir.Syntax.{w32}
 use mir.ValLaws.{toZ-ofZ}
 use borrow.Author.Needs.{needs}
 use Rattle.semantics.specs.Expressions.{applied, result}
-use Rattle.expression.specs.Founds.{operated, numberAt, operationOf}
+use Rattle.expression.specs.Evaluation.{operated, numberAt, operationOf}
 use Rattle.expression.specs.declared.Found.{Found}
 use Rattle.expression.proofs.Cases.{not-number, off-left, off-right, off-right-fault}
 use Rattle.expression.proofs.operate.Statement.{statement}

@@ -1,6 +1,6 @@
 use mathlib.Core.Path.{sym, ap}
 use borrow.Author.Needs.{needs}
-use Rattle.expression.specs.Founds.{opposed}
+use Rattle.expression.specs.Evaluation.{opposed}
 use Rattle.expression.proofs.Cases.{not-truth, off-opposed}
 use Rattle.expression.proofs.oppose.Statement.{statement}
 use Rattle.expression.proofs.oppose.Tie as tie

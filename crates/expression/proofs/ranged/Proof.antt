@@ -5,7 +5,7 @@ use lib.Signed.{ltZ}
 use mir.Syntax.{w32, w64}
 use mir.Val.{SFits}
 use mir.ValLaws.{toZ-ofZ}
-use Rattle.expression.specs.Founds.{numberAt}
+use Rattle.expression.specs.Evaluation.{numberAt}
 use Rattle.expression.specs.declared.Found.the-variants.{ANumber}
 use Rattle.expression.proofs.Widths.{left-plain, right-plain, between-fits, result-low, result-high, result-in}
 use Rattle.expression.proofs.ranged.Statement.{statement}

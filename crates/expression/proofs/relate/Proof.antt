@@ -5,7 +5,7 @@ use mir.Syntax.{w32}
 use mir.ValLaws.{toZ-ofZ}
 use borrow.Author.Needs.{needs}
 use Rattle.semantics.specs.Expressions.{compared}
-use Rattle.expression.specs.Founds.{related, comparisonOf}
+use Rattle.expression.specs.Evaluation.{related, comparisonOf}
 use Rattle.expression.specs.declared.Found.{Found}
 use Rattle.expression.specs.declared.Found.the-variants.{ATruth}
 use Rattle.expression.proofs.Cases.{not-number, off-left, off-right, off-right-fault}

@@ -7,7 +7,7 @@ use lib.ListN.{getD}
 use mir.Syntax.{w32}
 use mir.ValLaws.{toZ-ofZ}
 use borrow.Author.Needs.{needs}
-use Rattle.expression.specs.Founds.{numberAt}
+use Rattle.expression.specs.Evaluation.{numberAt}
 use Rattle.expression.specs.declared.Found.the-variants.{ANumber}
 use Rattle.expression.proofs.Widths.{result-fits}
 use Rattle.expression.proofs.variable.Statement.{statement}

@@ -7,7 +7,7 @@ use mir.ValLaws.{toZ-ofZ}
 use borrow.Author.Tests.{ltb-true}
 use borrow.Author.Needs.{needs}
 use Rattle.semantics.specs.Expressions.{applied, result}
-use Rattle.expression.specs.Founds.{numberAt, operationOf}
+use Rattle.expression.specs.Evaluation.{numberAt, operationOf}
 use Rattle.expression.proofs.Steps.{past}
 use Rattle.expression.proofs.TwoLeaves.{two-operated}
 use Rattle.expression.proofs.whole.Statement.{statement}

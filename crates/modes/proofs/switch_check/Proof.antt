@@ -7,7 +7,7 @@ use borrow.Author.Tests.{not-true, not-false}
 use Rattle.semantics.specs.Editions.{edition1}
 use Rattle.semantics.specs.Plant.{switchTruths}
 use Rattle.semantics.specs.Run.{walk}
-use Rattle.effects.specs.Told.{stepTold}
+use Rattle.effects.specs.Verdicts.{stepVerdict}
 use Rattle.modes.specs.Modes.{modeAt, placeAt, modesNow}
 use Rattle.modes.proofs.Walks.{stands-at, checkFrom, check-stops, check-next, check-end}
 use borrow.Author.Needs.{needs}
@@ -35,9 +35,9 @@ goes-on-requires c κs = search needs
 returns : tie.Need-returns Inv-loop μ-loop
 returns c = let a = c .before .before .before .before .before .before .before .before .before .args in
     let l = c .before .before .before .before .before .loop in
-    let e : c .before .before .mode-check .result ≡ stepTold (walk edition1 28 (a .values .now) (switchTruths (modeAt (a .es .now) (placeAt (a .places .now) (a .modes .now) (l .j))))) =
-    c .before .before .mode-check .ensures ∙ ap (λ (i : ℕ). stepTold (walk edition1 28 (a .values .now) (switchTruths (modeAt (a .es .now) i)))) (c .before .before .before .place .ensures) in
-    check-stops (a .values .now) (a .es .now) (a .places .now) (a .modes .now) (l .j) (c .before .before .before .before .loop-test .taken) _ e (sym (c .before .goes-on .ensures) ∙ not-true _ (c .if1 .taken)) ∙ sym (ap stepTold (l .inv .1))
+    let e : c .before .before .mode-check .result ≡ stepVerdict (walk edition1 28 (a .values .now) (switchTruths (modeAt (a .es .now) (placeAt (a .places .now) (a .modes .now) (l .j))))) =
+    c .before .before .mode-check .ensures ∙ ap (λ (i : ℕ). stepVerdict (walk edition1 28 (a .values .now) (switchTruths (modeAt (a .es .now) i)))) (c .before .before .before .place .ensures) in
+    check-stops (a .values .now) (a .es .now) (a .places .now) (a .modes .now) (l .j) (c .before .before .before .before .loop-test .taken) _ e (sym (c .before .goes-on .ensures) ∙ not-true _ (c .if1 .taken)) ∙ sym (ap stepVerdict (l .inv .1))
 
 add-j : tie.Need-add-j Inv-loop μ-loop
 add-j c = omega arith
@@ -48,12 +48,12 @@ loop-less c = omega arith
 loop-again : tie.Need-loop-again Inv-loop μ-loop
 loop-again c = let a = c .before .before .before .before .before .before .before .before .before .args in
     let l = c .before .before .before .before .before .loop in
-    let e : c .before .before .mode-check .result ≡ stepTold (walk edition1 28 (a .values .now) (switchTruths (modeAt (a .es .now) (placeAt (a .places .now) (a .modes .now) (l .j))))) =
-    c .before .before .mode-check .ensures ∙ ap (λ (i : ℕ). stepTold (walk edition1 28 (a .values .now) (switchTruths (modeAt (a .es .now) i)))) (c .before .before .before .place .ensures) in
+    let e : c .before .before .mode-check .result ≡ stepVerdict (walk edition1 28 (a .values .now) (switchTruths (modeAt (a .es .now) (placeAt (a .places .now) (a .modes .now) (l .j))))) =
+    c .before .before .mode-check .ensures ∙ ap (λ (i : ℕ). stepVerdict (walk edition1 28 (a .values .now) (switchTruths (modeAt (a .es .now) i)))) (c .before .before .before .place .ensures) in
     (omega arith, l .inv .1 ∙ check-next (a .values .now) (a .es .now) (a .places .now) (a .modes .now) (l .j) (c .before .before .before .before .loop-test .taken) _ e (sym (c .before .goes-on .ensures) ∙ not-false _ (c .if1 .left)))
 
 returns-2 : tie.Need-returns-2 Inv-loop μ-loop
-returns-2 c = let a = c .before .before .before .before .before .args in check-end (a .values .now) (a .es .now) (a .places .now) (a .modes .now) (c .before .loop .j) (c .loop-test .left) ∙ sym (ap stepTold (c .before .loop .inv .1))
+returns-2 c = let a = c .before .before .before .before .before .args in check-end (a .values .now) (a .es .now) (a .places .now) (a .modes .now) (c .before .loop .j) (c .loop-test .left) ∙ sym (ap stepVerdict (c .before .loop .inv .1))
 
 pub switch-check-spec : {M : Type 1} → statement M
 switch-check-spec =

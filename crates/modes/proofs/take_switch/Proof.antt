@@ -6,7 +6,7 @@ use lib.ListN.{getElem?}
 use Rattle.semantics.specs.Editions.{edition1}
 use Rattle.semantics.specs.Expressions.{truthValue}
 use Rattle.semantics.specs.Sections.{Switch}
-use Rattle.effects.specs.Told.{truthTold}
+use Rattle.effects.specs.Verdicts.{truthVerdict}
 use Rattle.modes.specs.Modes.{modeAt, Stands, SwitchAt, modesNow}
 use Rattle.effects.specs.declared.Verdict.the-variants.{Away, Stay}
 use Rattle.modes.proofs.Standing.{parts}
@@ -32,7 +32,7 @@ there c = switch-there (mode (c .before .before .before .before .before)) (c .be
 here : (c : tie.After-switch-at) → SwitchAt (c .before .before .before .before .before .before .before .before .before .before .before .args .es .now) (c .switch-at .result) (there c .0)
 here c = c .switch-at .ensures (there c .0) (there c .1)
 
-answer : (c : tie.After-ask) → c .ask .result ≡ truthTold Stay (Away 30) (truthValue edition1 (c .before .before .before .before .before .before .before .before .before .before .before .before .before .before .before .args .values .now) (there (c .before .before .before .before) .0 .truth))
+answer : (c : tie.After-ask) → c .ask .result ≡ truthVerdict Stay (Away 30) (truthValue edition1 (c .before .before .before .before .before .before .before .before .before .before .before .before .before .before .before .args .values .now) (there (c .before .before .before .before) .0 .truth))
 answer c = asked-at (c .before .before .before .before .before .before .before .before .before .before .before .before .before .before .before .args .values .now) (c .before .before .before .before .before .before .before .before .before .before .before .before .before .before .before .args .es .now) (c .before .before .before .before .switch-at .result) (there (c .before .before .before .before) .0) (here (c .before .before .before .before)) _ (c .before .before .wide2 .ensures) _ (c .ask .ensures)
 
 returns : tie.Need-returns

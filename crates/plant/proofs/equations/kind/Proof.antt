@@ -1,13 +1,13 @@
 use native.Mathlib.Omega.{arith}
 use borrow.Author.Tests.{ne-eqb}
-use Rattle.semantics.specs.Sections.{readKind}
+use Rattle.semantics.specs.Sections.{readEquationBody}
 use Rattle.codec.proofs.Reading.{then-byte, no-byte, fails}
 use borrow.Author.Needs.{needs}
 use Rattle.plant.proofs.equations.kind.Statement.{statement}
 use Rattle.plant.proofs.equations.kind.Tie as tie
 
 returns : tie.Need-returns
-unfolding readKind
+unfolding readEquationBody
 returns c = no-byte _ (omega arith)
 
 shared-slice-read-k : tie.Need-shared-slice-read-k
@@ -20,15 +20,15 @@ choice-requires : tie.Need-choice-requires
 choice-requires c κs = search needs
 
 returns-2 : tie.Need-returns-2
-unfolding readKind
+unfolding readEquationBody
 returns-2 c = then-byte _ (omega arith) (rw (c .before .match .keys1) (c .steady .ensures))
 
 returns-3 : tie.Need-returns-3
-unfolding readKind
+unfolding readEquationBody
 returns-3 c = then-byte _ (omega arith) (rw (c .before .match .keys2) (c .choice .ensures))
 
 returns-4 : tie.Need-returns-4
-unfolding readKind
+unfolding readEquationBody
 returns-4 c = then-byte _ (omega arith) (rw (ne-eqb _ _ (c .match .rest .0 .1), ne-eqb _ _ (c .match .rest .1)) fails)
 
 pub kind-spec : {M : Type 1} → statement M

@@ -11,15 +11,15 @@ use Rattle.effects.specs.declared.Verdict.{Verdict}
 use Rattle.effects.specs.declared.Verdict.the-variants.{Away, Above, Below, Stay, Move}
 
 -- a step of an event: the answer is d where it passes
-unfoldable pub doneTold : {A : Type 0} → Verdict → Run.Verdict A → Verdict
-doneTold d (away n) = Away n
-doneTold d (faulty above) = Above
-doneTold d (faulty below) = Below
-doneTold d (pass a) = d
+unfoldable pub doneVerdict : {A : Type 0} → Verdict → Run.Verdict A → Verdict
+doneVerdict d (away n) = Away n
+doneVerdict d (faulty above) = Above
+doneVerdict d (faulty below) = Below
+doneVerdict d (pass a) = d
 
 -- a step after which the event goes on
-abbrev pub stepTold : {A : Type 0} → Run.Verdict A → Verdict
-stepTold v = doneTold Stay v
+abbrev pub stepVerdict : {A : Type 0} → Run.Verdict A → Verdict
+stepVerdict v = doneVerdict Stay v
 
 unfoldable pub goesOn : Verdict → Bool
 goesOn (Away n) = false
@@ -29,23 +29,23 @@ goesOn Stay = true
 goesOn (Move n b) = false
 
 -- a truth: the first answer where it is true, the second where it is false
-unfoldable pub truthTold : Verdict → Verdict → Value Bool → Verdict
-truthTold y n (ok true) = y
-truthTold y n (ok false) = n
-truthTold y n (fault above) = Above
-truthTold y n (fault below) = Below
+unfoldable pub truthVerdict : Verdict → Verdict → Value Bool → Verdict
+truthVerdict y n (ok true) = y
+truthVerdict y n (ok false) = n
+truthVerdict y n (fault above) = Above
+truthVerdict y n (fault below) = Below
 
 -- whose move the taken event is
-unfoldable pub movedTold : Moved → Verdict
-movedTold nobody = Stay
-movedTold (mover n b) = Move n b
+unfoldable pub movedVerdict : Moved → Verdict
+movedVerdict nobody = Stay
+movedVerdict (mover n b) = Move n b
 
 -- the whole event
-unfoldable pub eventTold : Run.Verdict Done → Verdict
-eventTold (away n) = Away n
-eventTold (faulty above) = Above
-eventTold (faulty below) = Below
-eventTold (pass d) = movedTold (d .moved)
+unfoldable pub eventVerdict : Run.Verdict Done → Verdict
+eventVerdict (away n) = Away n
+eventVerdict (faulty above) = Above
+eventVerdict (faulty below) = Below
+eventVerdict (pass d) = movedVerdict (d .moved)
 
 -- "An event turned away leaves them all as they were"; a fault leaves values and modes
 unfoldable pub valuesLeft : List ℤ → Run.Verdict Done → List ℤ
@@ -60,7 +60,7 @@ modesLeft ms (pass d) = d .modes
 
 -- values and modes vs and ms, judged j: the answer r, and what is left
 pub record Left (j : Run.Verdict Done) (vs : List ℤ) (ms : List ℕ) (r : Verdict) (vs' : List ℤ) (ms' : List ℕ) : Type 0 where
-  pub answer : r ≡ eventTold j
+  pub answer : r ≡ eventVerdict j
   pub values : vs' ≡ valuesLeft vs j
   pub modes : ms' ≡ modesLeft ms j
 

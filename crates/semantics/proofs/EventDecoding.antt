@@ -7,9 +7,9 @@ use Prim.Native.Nat.{ℕ}
 use native.Mathlib.Omega.{arith}
 use borrow.Author.Tests.{eqb-true}
 use lib.Dec.{eqb}
-use Rattle.semantics.specs.Bytes.{every, be2, Width, one-byte, two-bytes, Read, broken, read, after, _>>=_, give, fail, byte, nat2, number, just, whole}
+use Rattle.semantics.specs.Bytes.{every, be2, Width, one-byte, two-bytes, Read, broken, read, andThen, _>>=_, give, fail, byte, nat2, number, just, whole}
 use Rattle.semantics.specs.Editions.{Edition}
-use Rattle.semantics.specs.Events.{Event, tick, pick, take-switch, senseless, EventKind, a-tick, a-pick, a-switch, no-kind, eventKind, unused, readKind, readEvent, eventIn}
+use Rattle.semantics.specs.Events.{Event, tick, pick, take-switch, senseless, EventKind, a-tick, a-pick, a-switch, no-kind, eventKind, unused, readEventBody, readEvent, eventIn}
 use Rattle.semantics.specs.Rules.{Zeros, no-zeros, one-zero, Names, by-one, by-two, SaysTick, SaysPick, SaysSwitch}
 use Rattle.semantics.proofs.Facts.{true-not-false}
 use Rattle.semantics.proofs.Readers.{broken-not-read, read-value, split, given, given-rest, byte-read, whole-read}
@@ -46,22 +46,22 @@ event-is : (ed : Edition) (e : List ℕ) {m : Event} → readEvent ed e ≡ read
 unfolding eventIn whole just
 event-is ed e h = ap {B = Event} (λ r. elim (just {A = Event} r) [ none ↦ senseless | some n ↦ n ]) h
 
-pub heard-tick : (ed : Edition) {e : List ℕ} → SaysTick ed e → eventIn ed e ≡ tick
-unfolding readEvent byte _>>=_ after readKind eventKind
-heard-tick ed {e} h = event-is ed e (rw (h .bytes) (unused-zeros tick (h .zeros)))
+pub decoded-tick : (ed : Edition) {e : List ℕ} → SaysTick ed e → eventIn ed e ≡ tick
+unfolding readEvent byte _>>=_ andThen readEventBody eventKind
+decoded-tick ed {e} h = event-is ed e (rw (h .bytes) (unused-zeros tick (h .zeros)))
 
-pub heard-switch : (ed : Edition) {e : List ℕ} {s k : ℕ} → SaysSwitch ed e s k → eventIn ed e ≡ take-switch s k
-unfolding readEvent byte _>>=_ after readKind eventKind
-heard-switch ed {e} {s} {k} h = event-is ed e (rw (h .bytes) (unused-zeros (take-switch s k) (h .zeros)))
+pub decoded-switch : (ed : Edition) {e : List ℕ} {s k : ℕ} → SaysSwitch ed e s k → eventIn ed e ≡ take-switch s k
+unfolding readEvent byte _>>=_ andThen readEventBody eventKind
+decoded-switch ed {e} {s} {k} h = event-is ed e (rw (h .bytes) (unused-zeros (take-switch s k) (h .zeros)))
 
 number-named : {w : Width} {name : List ℕ} {n : ℕ} → Names w name n → (s : List ℕ) → number w (name ++ s) ≡ read n s
-unfolding number nat2 byte _>>=_ after give be2
+unfolding number nat2 byte _>>=_ andThen give be2
 number-named by-one s = refl
 number-named by-two s = refl
 
-pub heard-pick : (ed : Edition) {e : List ℕ} {n : ℕ} → SaysPick ed e n → eventIn ed e ≡ pick n
-unfolding readEvent byte _>>=_ after readKind eventKind
-heard-pick ed {e} {n} h = event-is ed e (rw (h .bytes) (ap (λ r. after r (λ n. unused (pick n))) (number-named (h .names) (h .unused)) ∙ unused-zeros (pick n) (h .zeros)))
+pub decoded-pick : (ed : Edition) {e : List ℕ} {n : ℕ} → SaysPick ed e n → eventIn ed e ≡ pick n
+unfolding readEvent byte _>>=_ andThen readEventBody eventKind
+decoded-pick ed {e} {n} h = event-is ed e (rw (h .bytes) (ap (λ r. andThen r (λ n. unused (pick n))) (number-named (h .names) (h .unused)) ∙ unused-zeros (pick n) (h .zeros)))
 
 -- ---- and say what is read from them
 pub data Said (ed : Edition) (e : List ℕ) : Event → Type 0 where
@@ -105,8 +105,8 @@ named two-bytes s t h =
       subst (λ n. Names two-bytes (p .value ∷ q .value ∷ []) n) (given n (q .rest) (q .then)) by-two,
     )
 
-event-read : (ed : Edition) (k : ℕ) (s : List ℕ) (m : Event) {q : EventKind} → Kind k q → readKind ed q s ≡ read m [] → Said ed (k ∷ s) m
-unfolding readKind fail
+event-read : (ed : Edition) (k : ℕ) (s : List ℕ) (m : Event) {q : EventKind} → Kind k q → readEventBody ed q s ≡ read m [] → Said ed (k ∷ s) m
+unfolding readEventBody fail
 event-read ed k s m (zero-tick e) h =
     let u = unused-read tick s [] h in
     subst (λ m. Said ed (k ∷ s) m) (u .0) (says-tick (record { unused = s; bytes = ap (λ k. k ∷ s) e; zeros = u .1 }))
@@ -134,9 +134,9 @@ switch-makes-sense h = let z : _≡_ {A = ℕ} 0 1 = cc in absurd (omega arith)
 
 nothing-said : (ed : Edition) (e : List ℕ) → eventIn ed e ≡ senseless → Said ed e senseless
 nothing-said ed e h = says-nothing
-    (λ w. tick-makes-sense (sym h ∙ heard-tick ed w))
-    (λ n w. pick-makes-sense (sym h ∙ heard-pick ed w))
-    (λ s k w. switch-makes-sense (sym h ∙ heard-switch ed w))
+    (λ w. tick-makes-sense (sym h ∙ decoded-tick ed w))
+    (λ n w. pick-makes-sense (sym h ∙ decoded-pick ed w))
+    (λ s k w. switch-makes-sense (sym h ∙ decoded-switch ed w))
 
 pub said-of : (ed : Edition) (e : List ℕ) → Said ed e (eventIn ed e)
 unfolding eventIn readEvent
