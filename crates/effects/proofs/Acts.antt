@@ -18,6 +18,7 @@ use Rattle.expression.specs.declared.Number.{Number}
 use Rattle.expression.specs.declared.Number.the-variants as Numbers
 use Rattle.expression.proofs.Values.{numberTold, number-valued, number-malformed}
 use Rattle.effects.specs.Verdicts.{doneVerdict, stepVerdict, goesOn, truthVerdict, movedVerdict, eventVerdict, valuesLeft, modesLeft, Left, orElse}
+use Rattle.effects.proofs.PaperNumbers.{left-by}
 use Rattle.effects.specs.Ranges.{rangesOf, stored, assigned, rangesOnly}
 use Rattle.effects.specs.ActionForms.{Kind, an-assign, a-switch, kindOf, form}
 use Rattle.effects.specs.declared.Verdict.{Verdict}
@@ -105,10 +106,10 @@ module _ (ls hs vs : List ℤ) (ms t : List ℕ) (n k : ℕ) where
 
   tested : (u : Value Bool) (r : Verdict) → r ≡ truthVerdict (Move n true) (Move n false) u → Left (valued u >>= (λ b. pass (record { moved = mover n b; values = vs; modes = ms }))) vs ms r vs ms
   unfolding valued _>>=_ truthVerdict movedVerdict eventVerdict valuesLeft modesLeft
-  tested (ok true) r e = record { answer = e; values = refl; modes = refl }
-  tested (ok false) r e = record { answer = e; values = refl; modes = refl }
-  tested (fault above) r e = record { answer = e; values = refl; modes = refl }
-  tested (fault below) r e = record { answer = e; values = refl; modes = refl }
+  tested (ok true) r e = left-by e refl refl
+  tested (ok false) r e = left-by e refl refl
+  tested (fault above) r e = left-by e refl refl
+  tested (fault below) r e = left-by e refl refl
 
   pub tests : (r : Verdict) → k ≡ 1 → r ≡ truthVerdict (Move n true) (Move n false) (truthValue edition1 vs t) → Left (A (kindOf k)) vs ms r vs ms
   unfolding kindOf form act
@@ -116,10 +117,10 @@ module _ (ls hs vs : List ℤ) (ms t : List ℕ) (n k : ℕ) where
 
   awaited : (u : Value Bool) (r : Verdict) → r ≡ truthVerdict (Move n true) (Away 29) u → Left (valued u >>= (λ b. allow 29 b >> pass (record { moved = mover n true; values = vs; modes = ms }))) vs ms r vs ms
   unfolding valued _>>=_ _>>_ allow truthVerdict movedVerdict eventVerdict valuesLeft modesLeft
-  awaited (ok true) r e = record { answer = e; values = refl; modes = refl }
-  awaited (ok false) r e = record { answer = e; values = refl; modes = refl }
-  awaited (fault above) r e = record { answer = e; values = refl; modes = refl }
-  awaited (fault below) r e = record { answer = e; values = refl; modes = refl }
+  awaited (ok true) r e = left-by e refl refl
+  awaited (ok false) r e = left-by e refl refl
+  awaited (fault above) r e = left-by e refl refl
+  awaited (fault below) r e = left-by e refl refl
 
   pub waits : (r : Verdict) → k ≡ 2 → r ≡ truthVerdict (Move n true) (Away 29) (truthValue edition1 vs t) → Left (A (kindOf k)) vs ms r vs ms
   unfolding kindOf form act
@@ -129,15 +130,15 @@ module _ (ls hs vs : List ℤ) (ms t : List ℕ) (n k : ℕ) where
       → ys ≡ orElse vs (thenValue u (λ z. thenValue (w z) (λ y. ok (set vs (getD t 0 0) y))))
       → Left (valued u >>= (λ z. valued (w z) >>= (λ y. pass (record { moved = mover n true; values = set vs (getD t 0 0) y; modes = ms })))) vs ms r ys ms
   unfolding valued _>>=_ thenValue doneVerdict orElse movedVerdict eventVerdict valuesLeft modesLeft
-  assigned-left (fault above) w r ys e f = record { answer = e; values = f; modes = refl }
-  assigned-left (fault below) w r ys e f = record { answer = e; values = f; modes = refl }
+  assigned-left (fault above) w r ys e f = left-by e f refl
+  assigned-left (fault below) w r ys e f = left-by e f refl
   assigned-left (ok z) w r ys e f = go (w z) e f
     where
       go : (u : Value ℤ) → r ≡ doneVerdict (Move n true) (valued (thenValue u (λ y. ok (set vs (getD t 0 0) y)))) → ys ≡ orElse vs (thenValue u (λ y. ok (set vs (getD t 0 0) y)))
           → Left (valued u >>= (λ y. pass (record { moved = mover n true; values = set vs (getD t 0 0) y; modes = ms }))) vs ms r ys ms
-      go (fault above) e f = record { answer = e; values = f; modes = refl }
-      go (fault below) e f = record { answer = e; values = f; modes = refl }
-      go (ok y) e f = record { answer = e; values = f; modes = refl }
+      go (fault above) e f = left-by e f refl
+      go (fault below) e f = left-by e f refl
+      go (ok y) e f = left-by e f refl
 
   pub assigns : (r : Verdict) (ys : List ℤ) → k ≡ 3 → r ≡ doneVerdict (Move n true) (valued (assigned ls hs vs (getD t 0 0) (drop 1 t))) → ys ≡ orElse vs (assigned ls hs vs (getD t 0 0) (drop 1 t))
       → Left (A (kindOf k)) vs ms r ys ms
@@ -146,11 +147,11 @@ module _ (ls hs vs : List ℤ) (ms t : List ℕ) (n k : ℕ) where
 
   pub switches : (s : ℕ) → k ≡ 4 → s ≡ getD t 0 0 → Left (A (kindOf k)) vs ms (Move n true) vs (set ms s (getD t 1 0))
   unfolding kindOf form act movedVerdict eventVerdict valuesLeft modesLeft
-  switches s e h = rw (e, h) (record { answer = refl; values = refl; modes = refl })
+  switches s e h = rw (e, h) (left-by refl refl refl)
 
   pub others : (k ≡ 1 → ⊥) → (k ≡ 2 → ⊥) → (k ≡ 3 → ⊥) → (k ≡ 4 → ⊥) → Left (A (kindOf k)) vs ms (Move n true) vs ms
   unfolding kindOf form act movedVerdict eventVerdict valuesLeft modesLeft
-  others a b c d = rw (ne-eqb k 1 a, ne-eqb k 2 b, ne-eqb k 3 c, ne-eqb k 4 d) (record { answer = refl; values = refl; modes = refl })
+  others a b c d = rw (ne-eqb k 1 a, ne-eqb k 2 b, ne-eqb k 3 c, ne-eqb k 4 d) (left-by refl refl refl)
 
 pub kind-assign : (k : ℕ) → k ≡ 3 → kindOf k ≡ an-assign
 unfolding kindOf

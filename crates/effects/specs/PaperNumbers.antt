@@ -1,7 +1,8 @@
 -- Document 01's number for each case of a verdict, and whose move it is.
 use mathlib.Core.Option.{Option, none, some}
 use Prim.Native.Nat.{ℕ}
-use Rattle.semantics.specs.Run.{Moved, nobody, mover}
+use Rattle.semantics.specs.Run as Run
+use Rattle.semantics.specs.Run.{away, faulty, pass, Moved, nobody, mover, Done}
 use Rattle.effects.specs.declared.Verdict.{Verdict}
 use Rattle.effects.specs.declared.Verdict.the-variants.{Away, Above, Below, Stay, Move}
 
@@ -20,3 +21,18 @@ paperMove Above = nobody
 paperMove Below = nobody
 paperMove Stay = nobody
 paperMove (Move n b) = mover n b
+
+-- the same of the judged event itself
+unfoldable pub movedAnswer : Moved → Option ℕ
+movedAnswer nobody = some 200
+movedAnswer (mover n b) = none
+
+unfoldable pub eventAnswer : Run.Verdict Done → Option ℕ
+eventAnswer (away n) = some n
+eventAnswer (faulty s) = some 203
+eventAnswer (pass d) = movedAnswer (d .moved)
+
+unfoldable pub eventMove : Run.Verdict Done → Moved
+eventMove (away n) = nobody
+eventMove (faulty s) = nobody
+eventMove (pass d) = d .moved

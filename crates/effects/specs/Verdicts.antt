@@ -7,6 +7,7 @@ use lib.IntN.{ℤ}
 use Rattle.semantics.specs.Expressions.{above, below, Value, ok, fault}
 use Rattle.semantics.specs.Run as Run
 use Rattle.semantics.specs.Run.{away, faulty, pass, Moved, nobody, mover, Done}
+use Rattle.effects.specs.PaperNumbers.{paperAnswer, paperMove, eventAnswer, eventMove}
 use Rattle.effects.specs.declared.Verdict.{Verdict}
 use Rattle.effects.specs.declared.Verdict.the-variants.{Away, Above, Below, Stay, Move}
 
@@ -58,9 +59,11 @@ modesLeft ms (away n) = ms
 modesLeft ms (faulty s) = ms
 modesLeft ms (pass d) = d .modes
 
--- values and modes vs and ms, judged j: the answer r, and what is left
+-- values and modes vs and ms, judged j: the answer r with document 01's number of it (24 to 31, 203, 200) or the node that moves, and what is left
 pub record Left (j : Run.Verdict Done) (vs : List ℤ) (ms : List ℕ) (r : Verdict) (vs' : List ℤ) (ms' : List ℕ) : Type 0 where
   pub answer : r ≡ eventVerdict j
+  pub number : paperAnswer r ≡ eventAnswer j
+  pub move : paperMove r ≡ eventMove j
   pub values : vs' ≡ valuesLeft vs j
   pub modes : ms' ≡ modesLeft ms j
 

@@ -15,6 +15,7 @@ use Rattle.semantics.proofs.Facts.{true-not-false}
 use Rattle.nodeset.specs.Sets.{mem, members}
 use Rattle.nodeset.proofs.Members.{among-members}
 use Rattle.effects.specs.Verdicts.{doneVerdict, stepVerdict, goesOn, movedVerdict, eventVerdict, valuesLeft, modesLeft, Left, orElse}
+use Rattle.effects.proofs.PaperNumbers.{left-by}
 use Rattle.effects.specs.Ranges.{rangesOf, advanced, rangesOnly}
 use Rattle.effects.specs.ActionForms.{kindOf, form, Fit}
 use Rattle.execution.specs.Operands.{isWaitKind}
@@ -31,13 +32,13 @@ use Rattle.execution.proofs.Lending.{modes-current, declared-same, adva
 module _ (vs : List ℤ) (ms : List ℕ) where
   pub left-away : {j : Run.Verdict Done} {n : ℕ} → j ≡ away n → Left j vs ms (Away n) vs ms
   unfolding eventVerdict valuesLeft modesLeft
-  left-away e = rw e (record { answer = refl; values = refl; modes = refl })
+  left-away e = rw e (left-by refl refl refl)
 
   left-out : {A : Type 0} (u : Run.Verdict A) (w : Run.Verdict Done) {r : Verdict} → r ≡ stepVerdict u → goesOn r ≡ false → Left (u >> w) vs ms r vs ms
   unfolding _>>_ doneVerdict goesOn eventVerdict valuesLeft modesLeft
-  left-out (away n) w e h = record { answer = e; values = refl; modes = refl }
-  left-out (faulty above) w e h = record { answer = e; values = refl; modes = refl }
-  left-out (faulty below) w e h = record { answer = e; values = refl; modes = refl }
+  left-out (away n) w e h = left-by e refl refl
+  left-out (faulty above) w e h = left-by e refl refl
+  left-out (faulty below) w e h = left-by e refl refl
   left-out (pass a) w e h = true-not-false (sym (ap goesOn e) ∙ h)
 
   pub left-eq : {j k : Run.Verdict Done} {r : Verdict} {ys : List ℤ} {ns : List ℕ} → j ≡ k → Left k vs ms r ys ns → Left j vs ms r ys ns
@@ -49,9 +50,9 @@ module _ (vs : List ℤ) (ms : List ℕ) where
 
   left-ticked : (u : Value (List ℤ)) {r : Verdict} {ys : List ℤ} → r ≡ stepVerdict (valued u) → ys ≡ orElse vs u → Left (ticked u) vs ms r ys ms
   unfolding valued _>>=_ doneVerdict orElse movedVerdict eventVerdict valuesLeft modesLeft
-  left-ticked (ok a) e f = record { answer = e; values = f; modes = refl }
-  left-ticked (fault above) e f = record { answer = e; values = f; modes = refl }
-  left-ticked (fault below) e f = record { answer = e; values = f; modes = refl }
+  left-ticked (ok a) e f = left-by e f refl
+  left-ticked (fault above) e f = left-by e f refl
+  left-ticked (fault below) e f = left-by e f refl
 
 -- ---- a picked node asks no more of the plant than its ranges
 abbrev setting : List ℤ → List ℕ → ℕ → ℕ → ℤ → Run.Verdict Done

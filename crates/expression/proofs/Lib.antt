@@ -1,6 +1,7 @@
 mod Cases
 mod Codes
 mod Ends
+mod PaperNumbers
 mod Steps
 mod TwoLeaves
 pub mod Values

@@ -1,4 +1,5 @@
 -- What the functions inside the crate find at a position, from what the readers of semantics read there.
+use mathlib.Core.Path.{_≡_}
 use mathlib.Core.List.{List}
 use mathlib.Core.Bool.{Bool, true, false, not, cond, _&&_}
 use Prim.Native.Nat.{ℕ, _+_, _-_}
@@ -8,6 +9,7 @@ use lib.IntN.{ℤ, pos, negℤ}
 use Rattle.semantics.specs.Bytes.{be4, signed, Read, broken, read}
 use Rattle.semantics.specs.Editions.{edition1}
 use Rattle.semantics.specs.Expressions.{Side, above, below, Value, ok, fault, result, Operation, sum, difference, product, Comparison, at-most, less, equal, unequal, Connective, both, either, applied, compared, connected, valueOf, holds, Expression, a-number, a-truth, readExpression}
+use Rattle.expression.specs.PaperNumbers.{expressionNumber, paperFound}
 use Rattle.expression.specs.declared.Found.{Found}
 use Rattle.expression.specs.declared.Found.the-variants.{ANumber, NumberFault, ATruth, TruthFault, Broken}
 
@@ -38,6 +40,11 @@ foundIn vs n (read (a-truth e) t) = truthAt (n - length t) (holds vs e)
 -- the expression of at most this depth at a position
 abbrev pub found : List ℤ → List ℕ → ℕ → ℕ → Found
 found vs s at depth = foundIn vs (length s) (readExpression edition1 (length vs) depth (drop at s))
+
+-- what is found of n bytes, with document 01's number of it: 12 broken, 203 a fault, 0 a value
+pub record FoundSays (vs : List ℤ) (n : ℕ) (o : Read Expression) (r : Found) : Type 0 where
+  pub is : r ≡ foundIn vs n o
+  pub number : paperFound r ≡ expressionNumber vs o
 
 abbrev pub nextOf : Found → ℕ
 nextOf (ANumber z n) = n

@@ -1,9 +1,12 @@
 -- Document 01's number and value for each case of the enums that this crate answers with.
 -- 203 for a fault, "Every result must lie in −2147483648..2147483647, or evaluation faults", whatever its side; 12 for bytes that 12 turns away; 0 for a value.
 use mathlib.Core.Bool.{Bool, true, false}
+use mathlib.Core.List.{List}
 use mathlib.Core.Option.{Option, none, some}
 use Prim.Native.Nat.{ℕ}
 use lib.IntN.{ℤ}
+use Rattle.semantics.specs.Bytes.{Read, broken, read}
+use Rattle.semantics.specs.Expressions.{Value, ok, fault, valueOf, holds, Expression, a-number, a-truth}
 use Rattle.expression.specs.declared.Number.{Number}
 use Rattle.expression.specs.declared.Number.the-variants as Numbers
 use Rattle.expression.specs.declared.Truth.{Truth}
@@ -11,6 +14,29 @@ use Rattle.expression.specs.declared.Truth.the-variants as Truths
 use Rattle.expression.specs.declared.Found.{Found}
 use Rattle.expression.specs.declared.Found.the-variants.{ANumber, NumberFault, ATruth, TruthFault, Broken}
 
+-- ---- of what was read: none where 12 turns the bytes away
+unfoldable pub valueNumber : {A : Type 0} → Value A → ℕ
+valueNumber (ok a) = 0
+valueNumber (fault s) = 203
+
+unfoldable pub evaluationNumber : {E A : Type 0} → (E → Value A) → Option E → ℕ
+evaluationNumber f none = 12
+evaluationNumber f (some e) = valueNumber (f e)
+
+unfoldable pub valueGiven : {A : Type 0} → Value A → Option A
+valueGiven (ok a) = some a
+valueGiven (fault s) = none
+
+unfoldable pub evaluationValue : {E A : Type 0} → (E → Value A) → Option E → Option A
+evaluationValue f none = none
+evaluationValue f (some e) = valueGiven (f e)
+
+unfoldable pub expressionNumber : List ℤ → Read Expression → ℕ
+expressionNumber vs broken = 12
+expressionNumber vs (read (a-number e) t) = valueNumber (valueOf vs e)
+expressionNumber vs (read (a-truth e) t) = valueNumber (holds vs e)
+
+-- ---- of the enums
 -- a number's value
 unfoldable pub paperNumber : Number → ℕ
 paperNumber (Numbers.Is z) = 0

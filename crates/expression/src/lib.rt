@@ -1,13 +1,13 @@
 // Numbers and truths: judged from their bytes (condition 12) and evaluated.
 ghost use mathlib.Core.Path.{_≡_};
 ghost use Prim.Native.Nat.{_+_, _≤_};
-ghost use lib.ListN.{length};
+ghost use lib.ListN.{length, drop};
 ghost use lib.IntN.{negℤ};
 ghost use Rattle.semantics.specs.Bytes.{be4, signed as signedOf, isSome};
 ghost use Rattle.semantics.specs.Editions.{edition1};
-ghost use Rattle.semantics.specs.Expressions.{ok, fault, applied, compared, connected, result, numberIn, truthIn};
-ghost use Rattle.expression.specs.Answers.{numberOf, truthOf, numberAnswer, truthAnswer};
-ghost use Rattle.expression.specs.Evaluation.{sideOf, found, wordAt, numberAt, nextOf, operationOf, comparisonOf, connectiveOf, constantAt, variableAt, leafAt, operated, related, joined, negated, opposed};
+ghost use Rattle.semantics.specs.Expressions.{ok, fault, applied, compared, connected, result, readExpression, numberIn, truthIn};
+ghost use Rattle.expression.specs.Answers.{numberOf, truthOf, truthAnswer, NumberSays, TruthSays};
+ghost use Rattle.expression.specs.Evaluation.{sideOf, found, FoundSays, wordAt, numberAt, nextOf, operationOf, comparisonOf, connectiveOf, constantAt, variableAt, leafAt, operated, related, joined, negated, opposed};
 
 // "Depth is at most 16"
 const DEPTH: usize = 16;
@@ -39,7 +39,7 @@ enum Found {
 
 // The value of the bytes, which are one whole number.
 pub fn number_value(s: &[u8], vars: &[i32]) -> Number
-    ensures { λ r. ⌜ r ≡ numberAnswer (now (vars .entry)) (numberIn edition1 (length (now (vars .entry))) (now (s .entry))) ⌝ }
+    ensures { λ r. ⌜ NumberSays (now (vars .entry)) (numberIn edition1 (length (now (vars .entry))) (now (s .entry))) r ⌝ }
 {
     match whole(s, vars) {
         Found::ANumber(z, n) => {
@@ -62,7 +62,7 @@ pub fn number_value(s: &[u8], vars: &[i32]) -> Number
 
 // The value of the bytes, which are one whole truth. Most are a comparison of two leaves, or two of them joined: these take no recursion.
 pub fn truth_value(s: &[u8], vars: &[i32]) -> Truth
-    ensures { λ r. ⌜ r ≡ truthAnswer (now (vars .entry)) (truthIn edition1 (length (now (vars .entry))) (now (s .entry))) ⌝ }
+    ensures { λ r. ⌜ TruthSays (now (vars .entry)) (truthIn edition1 (length (now (vars .entry))) (now (s .entry))) r ⌝ }
 {
     match comparing(s, vars) {
         Truth::Yes => Truth::Yes,
@@ -167,7 +167,7 @@ fn compared_at(s: &[u8], vars: &[i32], at: usize) -> Found
 
 // A truth of any form: where it is no comparison of two leaves, `truth_value` asks here.
 fn no_comparison(s: &[u8], vars: &[i32]) -> Truth
-    ensures { λ r. ⌜ r ≡ truthAnswer (now (vars .entry)) (truthIn edition1 (length (now (vars .entry))) (now (s .entry))) ⌝ }
+    ensures { λ r. ⌜ TruthSays (now (vars .entry)) (truthIn edition1 (length (now (vars .entry))) (now (s .entry))) r ⌝ }
 {
     match joining(s, vars) {
         Truth::Yes => {
@@ -199,7 +199,7 @@ fn no_comparison(s: &[u8], vars: &[i32]) -> Truth
 
 // What stands at the front of the bytes. An operation on two leaves takes no recursion.
 fn whole(s: &[u8], vars: &[i32]) -> Found
-    ensures { λ r. ⌜ r ≡ found (now (vars .entry)) (now (s .entry)) 0 16 ⌝ }
+    ensures { λ r. ⌜ FoundSays (now (vars .entry)) (length (now (s .entry))) (readExpression edition1 (length (now (vars .entry))) 16 (now (s .entry))) r ⌝ }
 {
     if s.len() == 0 {
         return Found::Broken;
@@ -236,7 +236,7 @@ fn leaf(s: &[u8], vars: &[i32], at: usize) -> Found
 
 // What stands at a position, of at most this depth. Both operands are evaluated, whatever the first one gives.
 fn eval(s: &[u8], vars: &[i32], at: usize, depth: usize) -> Found
-    ensures { λ r. ⌜ r ≡ found (now (vars .entry)) (now (s .entry)) at depth ⌝ }
+    ensures { λ r. ⌜ FoundSays (now (vars .entry)) (length (now (s .entry))) (readExpression edition1 (length (now (vars .entry))) depth (drop at (now (s .entry)))) r ⌝ }
 {
     if depth == 0 {
         return Found::Broken;

@@ -18,3 +18,4 @@ pub mod EquationsOnce
 pub mod TruthTurns
 pub mod PlantJudged
 pub mod PlantLaws
+pub mod PaperNumbers

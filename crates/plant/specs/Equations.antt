@@ -10,6 +10,8 @@ use Rattle.semantics.specs.Bytes.{every, Reader, broken, read}
 use Rattle.semantics.specs.Refusals.{Judged, refused, accepted, refusalOf, need, ensure, _>>=_, _>>_}
 use Rattle.semantics.specs.Sections.{Rate, Switch, Mode, Selector, Equation, steady, choice, readMode, equationsIn}
 use Rattle.semantics.specs.Plant.{equationNamed, selectorsOf, noMode}
+use Rattle.codec.specs.Reading.{Reads}
+use Rattle.plant.specs.PaperNumbers.{paperStep, paperSeen, partNumber, wholeNumber}
 use Rattle.plant.specs.declared.equations.Equations.{Equations}
 use Rattle.plant.specs.declared.equations.Cases.{Cases}
 use Rattle.plant.specs.declared.equations.Step.{Step}
@@ -136,3 +138,12 @@ Says P a x = x ≡ P a
 unfoldable pub seen : {A : Type 0} → (A → Bool) → Option A → Seen
 seen P none = Lost
 seen P (some a) = Kept (P a)
+
+-- ---- their contracts: document 01's number is 6 where the layout is broken, 7 where a name is missing, 0 else
+pub record StepSays {A : Type 0} (r : Reader A) (P : A → Bool) (s : List ℕ) (p : ℕ) (w : Step) : Type 0 where
+  pub reads : Reads r (Says P) s p (view w)
+  pub number : paperStep w ≡ partNumber P (r (drop p s))
+
+pub record SeenSays {A : Type 0} (P : A → Bool) (o : Option A) (w : Seen) : Type 0 where
+  pub is : w ≡ seen P o
+  pub number : paperSeen w ≡ wholeNumber P o

@@ -9,8 +9,7 @@ ghost use lib.IntN.{pos};
 ghost use Rattle.semantics.specs.Bytes.{times, every};
 ghost use Rattle.semantics.specs.Sections as sections;
 ghost use Rattle.semantics.specs.Plant as names;
-ghost use Rattle.codec.specs.Reading.{Reads};
-ghost use Rattle.plant.specs.Equations.{Says, view, seen, refusalIn, Stands, SectionStands, sizes, switchSize, modeSize, startsFrom, steadyRates, putRates, CasesOf, equationsOf, refusedEquations};
+ghost use Rattle.plant.specs.Equations.{StepSays, SeenSays, refusalIn, Stands, SectionStands, sizes, switchSize, modeSize, startsFrom, steadyRates, putRates, CasesOf, equationsOf, refusedEquations};
 
 // refusal 6, 7 or 0; of selector j its modes, and at entry 8 * j + m where mode m of it stands; of each variable its rate of kind 1
 pub struct Equations {
@@ -48,7 +47,7 @@ fn both(a: bool, b: bool) -> bool
 
 fn rate(s: &[u8], at: usize, variables: usize) -> Step
     requires { ⌜ at ≤ length (now s) ⌝ }
-    ensures { λ r. ⌜ Reads sections.readRate (Says (names.rateNamed variables)) (now (s .entry)) at (view r) ⌝ }
+    ensures { λ r. ⌜ StepSays sections.readRate (names.rateNamed variables) (now (s .entry)) at r ⌝ }
 {
     if s.len() - at < 5 {
         return Step::Broken;
@@ -58,7 +57,7 @@ fn rate(s: &[u8], at: usize, variables: usize) -> Step
 
 fn rates(s: &[u8], at: usize, n: u8, variables: usize) -> Step
     requires { ⌜ at ≤ length (now s) ⌝ }
-    ensures { λ r. ⌜ Reads (times n sections.readRate) (Says (every (names.rateNamed variables))) (now (s .entry)) at (view r) ⌝ }
+    ensures { λ r. ⌜ StepSays (times n sections.readRate) (every (names.rateNamed variables)) (now (s .entry)) at r ⌝ }
 {
     let mut p = at;
     let mut named = true;
@@ -81,7 +80,7 @@ fn rates(s: &[u8], at: usize, n: u8, variables: usize) -> Step
 
 fn switch(s: &[u8], at: usize, modes: u8) -> Step
     requires { ⌜ at ≤ length (now s) ⌝ }
-    ensures { λ r. ⌜ Reads sections.readSwitch (Says (names.switchNamed modes)) (now (s .entry)) at (view r) ⌝ }
+    ensures { λ r. ⌜ StepSays sections.readSwitch (names.switchNamed modes) (now (s .entry)) at r ⌝ }
 {
     if s.len() <= at {
         return Step::Broken;
@@ -98,7 +97,7 @@ fn switch(s: &[u8], at: usize, modes: u8) -> Step
 
 fn switches(s: &[u8], at: usize, n: u8, modes: u8) -> Step
     requires { ⌜ at ≤ length (now s) ⌝ }
-    ensures { λ r. ⌜ Reads (times n sections.readSwitch) (Says (every (names.switchNamed modes))) (now (s .entry)) at (view r) ⌝ }
+    ensures { λ r. ⌜ StepSays (times n sections.readSwitch) (every (names.switchNamed modes)) (now (s .entry)) at r ⌝ }
 {
     let mut p = at;
     let mut named = true;
@@ -121,7 +120,7 @@ fn switches(s: &[u8], at: usize, n: u8, modes: u8) -> Step
 
 fn mode(s: &[u8], at: usize, variables: usize, modes: u8) -> Step
     requires { ⌜ at ≤ length (now s) ⌝ }
-    ensures { λ r. ⌜ Reads sections.readMode (Says (names.modeNamed variables modes)) (now (s .entry)) at (view r) ⌝ }
+    ensures { λ r. ⌜ StepSays sections.readMode (names.modeNamed variables modes) (now (s .entry)) at r ⌝ }
 {
     if s.len() <= at {
         return Step::Broken;
@@ -144,7 +143,7 @@ fn mode(s: &[u8], at: usize, variables: usize, modes: u8) -> Step
 
 fn modes(s: &[u8], at: usize, n: u8, variables: usize) -> Step
     requires { ⌜ at ≤ length (now s) ⌝ }
-    ensures { λ r. ⌜ Reads (times n sections.readMode) (Says (every (names.modeNamed variables n))) (now (s .entry)) at (view r) ⌝ }
+    ensures { λ r. ⌜ StepSays (times n sections.readMode) (every (names.modeNamed variables n)) (now (s .entry)) at r ⌝ }
 {
     let mut p = at;
     let mut named = true;
@@ -167,14 +166,14 @@ fn modes(s: &[u8], at: usize, n: u8, variables: usize) -> Step
 
 fn steady(s: &[u8], at: usize, variables: usize) -> Step
     requires { ⌜ at ≤ length (now s) ⌝ }
-    ensures { λ r. ⌜ Reads sections.readSteady (Says (names.equationNamed variables)) (now (s .entry)) at (view r) ⌝ }
+    ensures { λ r. ⌜ StepSays sections.readSteady (names.equationNamed variables) (now (s .entry)) at r ⌝ }
 {
     rate(s, at, variables)
 }
 
 fn choice(s: &[u8], at: usize, variables: usize) -> Step
     requires { ⌜ at ≤ length (now s) ⌝ }
-    ensures { λ r. ⌜ Reads sections.readChoice (Says (names.equationNamed variables)) (now (s .entry)) at (view r) ⌝ }
+    ensures { λ r. ⌜ StepSays sections.readChoice (names.equationNamed variables) (now (s .entry)) at r ⌝ }
 {
     if s.len() - at < 2 {
         return Step::Broken;
@@ -196,7 +195,7 @@ fn choice(s: &[u8], at: usize, variables: usize) -> Step
 
 // the kind, then an equation of that kind
 fn kind(s: &[u8], variables: usize) -> Step
-    ensures { λ r. ⌜ Reads sections.readEquationBody (Says (names.equationNamed variables)) (now (s .entry)) 0 (view r) ⌝ }
+    ensures { λ r. ⌜ StepSays sections.readEquationBody (names.equationNamed variables) (now (s .entry)) 0 r ⌝ }
 {
     if s.len() < 1 {
         return Step::Broken;
@@ -210,7 +209,7 @@ fn kind(s: &[u8], variables: usize) -> Step
 }
 
 fn equation_in(s: &[u8], variables: usize) -> Seen
-    ensures { λ r. ⌜ r ≡ seen (names.equationNamed variables) (sections.equationIn (now (s .entry))) ⌝ }
+    ensures { λ r. ⌜ SeenSays (names.equationNamed variables) (sections.equationIn (now (s .entry))) r ⌝ }
 {
     let w = kind(s, variables);
     match w {
@@ -226,7 +225,7 @@ fn equation_in(s: &[u8], variables: usize) -> Seen
 
 fn equation(s: &[u8], at: usize, variables: usize) -> Step
     requires { ⌜ at ≤ length (now s) ⌝ }
-    ensures { λ r. ⌜ Reads sections.readEquation (Says (names.equationNamed variables)) (now (s .entry)) at (view r) ⌝ }
+    ensures { λ r. ⌜ StepSays sections.readEquation (names.equationNamed variables) (now (s .entry)) at r ⌝ }
 {
     if s.len() - at < 2 {
         return Step::Broken;
@@ -246,7 +245,7 @@ fn equation(s: &[u8], at: usize, variables: usize) -> Step
 
 fn some_equations(s: &[u8], at: usize, n: u8, variables: usize) -> Step
     requires { ⌜ at ≤ length (now s) ⌝ }
-    ensures { λ r. ⌜ Reads (times n sections.readEquation) (Says (every (names.equationNamed variables))) (now (s .entry)) at (view r) ⌝ }
+    ensures { λ r. ⌜ StepSays (times n sections.readEquation) (every (names.equationNamed variables)) (now (s .entry)) at r ⌝ }
 {
     let mut p = at;
     let mut named = true;

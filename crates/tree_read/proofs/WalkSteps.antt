@@ -15,24 +15,41 @@ use Rattle.schedules.proofs.OneTree.{forest-sound, read-written}
 use Rattle.codec.specs.Writing.{put, Wrote}
 use Rattle.codec.proofs.Writing.{put-none, put-more}
 use Rattle.tree_read.specs.Ends.{treeSize, forestSize, treeEnds, forestEnds}
+use Rattle.tree_read.specs.PaperNumbers.{paperWalk, nextNode}
 use Rattle.tree_read.specs.Walks.{Parent, Counts, Bound, Passed, TreeWalked, ForestWalked}
 use Rattle.tree_read.specs.declared.tree.Walk.{Walk}
 use Rattle.tree_read.specs.declared.tree.Walk.the-variants.{Next, Lost}
 use Rattle.tree_read.proofs.Pads.{map-length}
 use Rattle.tree_read.proofs.TreeEnds.{length-tree-ends, rooted}
 
-pub never : {C : Type 0} {r : Walk} {m : ℕ} → r ≡ Next m → r ≡ Lost → C
-never p q = let z : _≡_ {A = ℕ} 0 1 = cc in absurd (omega arith)
+-- ---- the paper's number and the next node, by the answer's case
+pub lost-number : {r : Walk} → r ≡ Lost → paperWalk r ≡ 10
+unfolding paperWalk
+lost-number e = ap paperWalk e
 
-pub next-same : {r : Walk} {m n : ℕ} → r ≡ Next m → r ≡ Next n → m ≡ n
-next-same p q = cc
+pub next-is : {r : Walk} {m : ℕ} → r ≡ Next m → nextNode r ≡ some m
+unfolding nextNode
+next-is e = ap nextNode e
+
+-- a lost walk has no next node, and one that goes on is not 10
+pub no-next : {C : Type 0} {r : Walk} {m : ℕ} → r ≡ Lost → nextNode r ≡ some m → C
+unfolding nextNode
+no-next p q = none-not-some (sym (ap nextNode p) ∙ q)
+
+pub not-10 : {C : Type 0} {r : Walk} {m : ℕ} → r ≡ Next m → paperWalk r ≡ 10 → C
+unfolding paperWalk
+not-10 p q = let z : _≡_ {A = ℕ} 0 10 = sym (ap paperWalk p) ∙ q in absurd (omega arith)
+
+pub next-same : {r : Walk} {m n : ℕ} → r ≡ Next m → nextNode r ≡ some n → m ≡ n
+unfolding nextNode
+next-same p q = some-is (sym (ap nextNode p) ∙ q)
 
 -- ---- bounds
 pub bound-lost : {low high : ℕ} → Bound low high Lost
-bound-lost = record { within = λ m e. never e refl }
+bound-lost = record { within = λ m e. no-next refl e }
 
 pub bound-next : {low high m : ℕ} → low ≤ m → m ≤ high → Bound low high (Next m)
-bound-next a b = record { within = λ k e. let q = next-same refl e in omega arith }
+bound-next {m = m} a b = record { within = λ k e. let q : m ≡ k = next-same refl e in omega arith }
 
 pub bound-wider : {low low′ high : ℕ} {r : Walk} → low′ ≤ low → Bound low high r → Bound low′ high r
 bound-wider h b = record { within = λ k e. omega (arith, b .within k e) }
@@ -71,7 +88,7 @@ head {ks} {ns} n c h =
 module _ (ns : List Node) (r : ℕ → List Node → Walked Tree) where
   pub forest-none : (d : List ℕ) (k n : ℕ) → k ≡ 0 → ForestWalked ns n d d (readForest r k n (drop n ns)) (Next n)
   unfolding readForest forestSize forestEnds
-  forest-none d k n e = rw e (record { answer = refl; here = sym (add-zero n); rest = refl; wrote = record { is = put-none d n } })
+  forest-none d k n e = rw e (record { answer = next-is refl; here = sym (add-zero n); rest = refl; wrote = record { is = put-none d n } })
 
   pub forest-lost : (d e e′ : List ℕ) (k n : ℕ) {w : Walk} → (k ≡ 0 → ⊥) → TreeWalked ns n d e (r n (drop n ns)) w → w ≡ Lost → ForestWalked ns n d e′ (readForest r k n (drop n ns)) Lost
   unfolding readForest onward
@@ -79,8 +96,8 @@ module _ (ns : List Node) (r : ℕ → List Node → Walked Tree) where
   forest-lost d e e′ (suc k) n {w} z p q = go (r n (drop n ns)) p
     where
       go : (o : Walked Tree) → TreeWalked ns n d e o w → ForestWalked ns n d e′ (onward o (λ t m ms. onward (readForest r k m ms) (λ ts l ls. walked (cons t ts) l ls))) Lost
-      go lost p = refl
-      go (walked t m ms) p = never (p .answer) q
+      go lost p = lost-number refl
+      go (walked t m ms) p = no-next q (p .answer)
 
 -- a tree, and then the others
 forest-cons : (ns : List Node) (d e e′ : List ℕ) (t : Tree) (n m : ℕ) (z : Walk) (o : Walked Forest) → n ≤ length d → m ≡ n + treeSize t → Wrote d n (treeEnds t n) e → ForestWalked ns m e e′ o z →
@@ -102,7 +119,7 @@ module _ (ns : List Node) (r : ℕ → List Node → Walked Tree) where
   forest-more d e e′ (suc k) n m {w} z f l p q s = go (r n (drop n ns)) p
     where
       go : (o : Walked Tree) → TreeWalked ns n d e o w → ForestWalked ns n d e′ (onward o (λ t m ms. onward (readForest r k m ms) (λ ts l ls. walked (cons t ts) l ls))) z
-      go lost p = never q p
+      go lost p = not-10 q p
       go (walked t j ms) p =
           let same : m ≡ j = next-same q (p .answer) in
           let g : ForestWalked ns j e e′ (readForest r k j ms) z = subst (λ i. ForestWalked ns j e e′ (readForest r k j i) z) (sym (p .rest)) (subst (λ i. ForestWalked ns i e e′ (readForest r k i (drop i ns)) z) same (subst (λ i. ForestWalked ns m e e′ (readForest r i m (drop m ns)) z) (sub-one (suc k)) s)) in
@@ -133,8 +150,8 @@ module _ (ks : List ℕ) (ns : List Node) (n : ℕ) (c : Counts ks ns) where
       rw (drop-of-length-le ns k) (go f)
     where
       go : (f : ℕ) → TreeWalked ns n d e (readTree f n []) Lost
-      go zero = refl
-      go (suc f) = refl
+      go zero = lost-number refl
+      go (suc f) = lost-number refl
 
   -- the walk over the children, where the node is read
   below : (d e : List ℕ) (w : Walk) (h : n < length ks) → Below ks ns n d e w → (f : ℕ) → length ks ≤ n + suc f →
@@ -147,8 +164,8 @@ module _ (ks : List ℕ) (ns : List Node) (n : ℕ) (c : Counts ks ns) where
   tree-lost d e e′ {w} h s q (suc f) l = rw (head n c h .is) (go (readForest (readTree f) (children (head n c h .node)) (suc n) (drop (n + 1) ns)) (below d e w h s f l))
     where
       go : (o : Walked Forest) → ForestWalked ns (n + 1) d e o w → TreeWalked ns n d e′ (onward o (λ ts m ms. found (treeFrom n (head n c h .node) ts) m ms)) Lost
-      go lost p = refl
-      go (walked ts m ms) p = never (p .answer) q
+      go lost p = lost-number refl
+      go (walked ts m ms) p = no-next q (p .answer)
 
   pub tree-read : (d e : List ℕ) (m : ℕ) {w : Walk} → n < length ks → n < length d → Below ks ns n d e w → w ≡ Next m → (f : ℕ) → length ks ≤ n + f →
       TreeWalked ns n d (set e n m) (readTree f n (drop n ns)) (Next m)
@@ -167,7 +184,7 @@ module _ (ks : List ℕ) (ns : List Node) (n : ℕ) (c : Counts ks ns) where
           let here : j ≡ n + suc (forestSize ts) = omega (arith, p .here) in
           let ends : m ∷ forestEnds ts (n + 1) ≡ treeEnds t n = ap₂ (λ (a k : ℕ). a ∷ forestEnds ts k) (same ∙ here) (add-one n) ∙ sym (r .ends n) in
           record {
-            answer = ap Next same;
+            answer = next-is (ap Next same);
             here = omega (arith, r .size);
             rest = p .rest;
             wrote = record { is = ap (λ (z : List ℕ). set z n m) (p .wrote .is) ∙ put-before d n m (forestEnds ts (n + 1)) b ∙ ap (put d n) ends };
@@ -175,7 +192,7 @@ module _ (ks : List ℕ) (ns : List Node) (n : ℕ) (c : Counts ks ns) where
 
       go : (o : Walked Forest) → readForest (readTree f) (children x) (suc n) (drop (n + 1) ns) ≡ o → ForestWalked ns (n + 1) d e o w →
           TreeWalked ns n d (set e n m) (onward o (λ ts m ms. found (treeFrom n x ts) m ms)) (Next m)
-      go lost k p = never q p
+      go lost k p = not-10 q p
       go (walked ts j ms) k p =
           let t = head n c h .parent n ts (forest-sound (readTree f) (read-written f) (children x) (suc n) (drop (n + 1) ns) k .0) in
           rw (t .1) (made ts j ms (t .1) p)

@@ -17,6 +17,7 @@ use Rattle.codec.specs.Writing.{Wrote}
 use Rattle.codec.proofs.Writing.{wrote-front}
 use Rattle.tree_read.specs.Index.{pad, nodesOf}
 use Rattle.tree_read.specs.Ends.{noTree, subtreesOf, treeIn}
+use Rattle.tree_read.specs.PaperNumbers.{paperWalk}
 use Rattle.tree_read.specs.Walks.{Parent, Counts, TreeWalked}
 use Rattle.tree_read.specs.declared.nodes.Nodes.{Nodes}
 use Rattle.tree_read.specs.declared.tree.Walk.{Walk}
@@ -24,7 +25,7 @@ use Rattle.tree_read.specs.declared.tree.Walk.the-variants.{Next, Lost}
 use Rattle.tree_read.proofs.Pads.{map-length}
 use Rattle.tree_read.proofs.NodeIndex.{nodes-none, indexed}
 use Rattle.tree_read.proofs.ChildCounts.{known}
-use Rattle.tree_read.proofs.WalkSteps.{never, next-same}
+use Rattle.tree_read.proofs.WalkSteps.{no-next, not-10, next-same}
 
 -- ---- the answer, by the nodes
 pub no-nodes : (s : List ℕ) → nodesIn edition1 s ≡ none → treeIn s ≡ noTree
@@ -65,7 +66,7 @@ module _ (s cs e : List ℕ) (w : Walk) (c : (ns : List Node) → nodesIn editio
       p ns k (length ns) (omega (arith, ap length (k .is) ∙ map-length children ns))
 
   -- without nodes nothing is read
-  empty : nodesIn edition1 s ≡ none → w ≡ Lost
+  empty : nodesIn edition1 s ≡ none → paperWalk w ≡ 10
   unfolding readTree
   empty h =
       let z : nodesOf s .count ≡ 0 = ap (λ (r : Nodes). r .count) (nodes-none s h) in
@@ -78,7 +79,7 @@ module _ (s cs e : List ℕ) (w : Walk) (c : (ns : List Node) → nodesIn editio
     where
       go : (o : Walked Tree) → TreeWalked ns 0 (replicate 64 0) e o w → noneLeft o ≡ none
       go lost k = refl
-      go (walked t m ms) k = never (k .answer) q
+      go (walked t m ms) k = no-next q (k .answer)
 
   is-over : {ns : List Node} {m : ℕ} → nodesIn edition1 s ≡ some ns → w ≡ Next m → m < length ns → treeOf ns ≡ none
   unfolding treeOf noneLeft
@@ -96,7 +97,7 @@ module _ (s cs e : List ℕ) (w : Walk) (c : (ns : List Node) → nodesIn editio
   is-tree {ns} h q = go (readTree (length ns) 0 ns) (root h)
     where
       go : (o : Walked Tree) → TreeWalked ns 0 (replicate 64 0) e o w → record { ok = true; ends = e } ≡ subtreesOf (noneLeft o)
-      go lost k = never q k
+      go lost k = not-10 q k
       go (walked t j []) k = ap (λ (z : List ℕ). record { ok = true; ends = z }) (over-zeros (k .wrote))
       go (walked t j (x ∷ ms)) k =
           let same : length ns ≡ j = next-same q (k .answer) in
@@ -114,7 +115,7 @@ module _ (s cs e : List ℕ) (w : Walk) (r : Nodes) (i : r ≡ nodesOf s) (c : (
   tree-found {m} q g = go (nodesIn edition1 s) refl
     where
       go : (o : Option (List Node)) → nodesIn edition1 s ≡ o → record { ok = true; ends = e } ≡ treeIn s
-      go none h = never q (empty s cs e w c given h)
+      go none h = not-10 q (empty s cs e w c given h)
       go (some ns) h = is-tree s cs e w c given h (q ∙ ap Next (g ∙ counted h)) ∙ sym (of-nodes s h)
 
   pub tree-over : {m : ℕ} → w ≡ Next m → (m ≡ r .count → ⊥) → m ≤ r .count → treeIn s ≡ noTree

@@ -12,7 +12,7 @@ use Rattle.schedules.specs.Preorder.{forestLength}
 use Rattle.codec.specs.Writing.{Wrote}
 use Rattle.tree_read.specs.Ends.{treeSize, forestSize, treeEnds, forestEnds}
 use Rattle.tree_read.specs.declared.tree.Walk.{Walk}
-use Rattle.tree_read.specs.declared.tree.Walk.the-variants.{Next, Lost}
+use Rattle.tree_read.specs.PaperNumbers.{paperWalk, nextNode}
 
 -- the children of a node of kind k whose payload begins with c
 unfoldable pub childrenOf : ℕ → ℕ → ℕ
@@ -29,19 +29,20 @@ pub record Counts (ks : List ℕ) (ns : List Node) : Type 0 where
 
 -- the number of the next node, where something was read, has these bounds
 pub record Bound (low high : ℕ) (r : Walk) : Type 0 where
-  pub within : (m : ℕ) → r ≡ Next m → (low ≤ m) × (m ≤ high)
+  pub within : (m : ℕ) → nextNode r ≡ some m → (low ≤ m) × (m ≤ high)
 
 -- something of so many nodes was read from node n on, and where the nodes end was written
 pub record Passed (ns : List Node) (n m size : ℕ) (ms : List Node) (bs d e : List ℕ) (r : Walk) : Type 0 where
-  pub answer : r ≡ Next m
+  pub answer : nextNode r ≡ some m
   pub here : m ≡ n + size
   pub rest : ms ≡ drop m ns
   pub wrote : Wrote d n bs e
 
+-- "10 The nodes do not make just one tree." where no tree is read, and else the next node and what was written
 abbrev pub TreeWalked : List Node → ℕ → List ℕ → List ℕ → Walked Tree → Walk → Type 0
-TreeWalked ns n d e lost r = r ≡ Lost
+TreeWalked ns n d e lost r = paperWalk r ≡ 10
 TreeWalked ns n d e (walked t m ms) r = Passed ns n m (treeSize t) ms (treeEnds t n) d e r
 
 abbrev pub ForestWalked : List Node → ℕ → List ℕ → List ℕ → Walked Forest → Walk → Type 0
-ForestWalked ns n d e lost r = r ≡ Lost
+ForestWalked ns n d e lost r = paperWalk r ≡ 10
 ForestWalked ns n d e (walked ts m ms) r = Passed ns n m (forestSize ts) ms (forestEnds ts n) d e r

@@ -55,7 +55,7 @@ returns c = let a = c .before .before .before .before .before .before .before .b
     let hs = a .highs .now in
     let vs = a .values .now in
     let g : Gives (a .done) vs (stored ls hs vs (c .before .before .before .before .before .before .before .before .before .wide .result) _) (c .before .store .result) _ = record { answer = c .before .store .ensures .0; left = c .before .store .ensures .1 } in
-    gives-pair (assigned-number ls hs vs (getD t 0 0) (a .done) (drop 1 t) _ (c .before .before .before .before .before .before .number-value .ensures ∙ ap (λ l. numberAnswer vs (numberIn edition1 (length vs) l)) (tail-is t)) z _ _ (F .1)
+    gives-pair (assigned-number ls hs vs (getD t 0 0) (a .done) (drop 1 t) _ (c .before .before .before .before .before .before .number-value .ensures .is ∙ ap (λ l. numberAnswer vs (numberIn edition1 (length vs) l)) (tail-is t)) z _ _ (F .1)
     (stored-as ls hs vs (a .done) (c .before .before .before .before .before .before .before .before .before .wide .ensures) (held z (c .before .before .before .known-told .given .0 .1)) g))
 
 same-length-2 : tie.Need-same-length-2
@@ -64,7 +64,7 @@ same-length-2 c = search needs
 returns-2 : tie.Need-returns-2
 returns-2 c = let a = c .before .before .before .before .before .before .before .before .args in
     let t = a .t .now in
-    gives-pair (assigned-above (a .lows .now) (a .highs .now) (a .values .now) (getD t 0 0) (a .done) (drop 1 t) _ (c .before .before .number-value .ensures ∙ ap (λ l. numberAnswer (a .values .now) (numberIn edition1 (length (a .values .now)) l)) (tail-is t)) (c .enum-told .given .1))
+    gives-pair (assigned-above (a .lows .now) (a .highs .now) (a .values .now) (getD t 0 0) (a .done) (drop 1 t) _ (c .before .before .number-value .ensures .is ∙ ap (λ l. numberAnswer (a .values .now) (numberIn edition1 (length (a .values .now)) l)) (tail-is t)) (c .enum-told .given .1))
 
 same-length-3 : tie.Need-same-length-3
 same-length-3 c = search needs
@@ -72,7 +72,7 @@ same-length-3 c = search needs
 returns-3 : tie.Need-returns-3
 returns-3 c = let a = c .before .before .before .before .before .before .before .before .args in
     let t = a .t .now in
-    gives-pair (assigned-below (a .lows .now) (a .highs .now) (a .values .now) (getD t 0 0) (a .done) (drop 1 t) _ (c .before .before .number-value .ensures ∙ ap (λ l. numberAnswer (a .values .now) (numberIn edition1 (length (a .values .now)) l)) (tail-is t)) (c .enum-told2 .given .1))
+    gives-pair (assigned-below (a .lows .now) (a .highs .now) (a .values .now) (getD t 0 0) (a .done) (drop 1 t) _ (c .before .before .number-value .ensures .is ∙ ap (λ l. numberAnswer (a .values .now) (numberIn edition1 (length (a .values .now)) l)) (tail-is t)) (c .enum-told2 .given .1))
 
 same-length-4 : tie.Need-same-length-4
 same-length-4 c = search needs
@@ -80,7 +80,7 @@ same-length-4 c = search needs
 returns-4 : tie.Need-returns-4
 returns-4 c = let a = c .before .before .before .before .before .before .before .before .args in
     let t = a .t .now in
-    gives-pair (assigned-malformed (a .lows .now) (a .highs .now) (a .values .now) (getD t 0 0) (a .done) (drop 1 t) _ (c .before .before .number-value .ensures ∙ ap (λ l. numberAnswer (a .values .now) (numberIn edition1 (length (a .values .now)) l)) (tail-is t)) (c .enum-told3 .given .1))
+    gives-pair (assigned-malformed (a .lows .now) (a .highs .now) (a .values .now) (getD t 0 0) (a .done) (drop 1 t) _ (c .before .before .number-value .ensures .is ∙ ap (λ l. numberAnswer (a .values .now) (numberIn edition1 (length (a .values .now)) l)) (tail-is t)) (c .enum-told3 .given .1))
 
 pub assign-spec : {M : Type 1} → statement M
 assign-spec =

@@ -6,6 +6,7 @@ use borrow.Author.Needs.{needs}
 use borrow.Fn.Kinds.{In}
 use borrow.Fn.PlainCycle.{Measures, is, falls, and}
 use Rattle.expression.proofs.Codes.{form-unknown}
+use Rattle.expression.proofs.PaperNumbers.{found-says}
 use Rattle.expression.proofs.Steps.{no-depth, past, step-unknown, step-true, step-constant, step-variable, step-negation, step-opposite, step-operation, step-comparison, step-connective}
 use Rattle.expression.proofs.eval.Reads as eval
 use Rattle.expression.proofs.eval.Kinds as eval-kinds
@@ -38,12 +39,12 @@ calls t = (constant-reads.Asked, constant-reads.Learnt, variable-reads.Asked, va
 eval-returns : (t : ℕ) → eval-lts.Need-returns (calls t) (eval-at t) eval.Post
 eval-returns t c =
     let a = c .before .before .args in
-    no-depth (a .vars .now) (a .s .now) (a .at) (a .depth) (c .if1 .taken)
+    found-says (no-depth (a .vars .now) (a .s .now) (a .at) (a .depth) (c .if1 .taken))
 
 eval-returns-2 : (t : ℕ) → eval-lts.Need-returns-2 (calls t) (eval-at t) eval.Post
 eval-returns-2 t c =
     let a = c .before .before .before .args in
-    past (a .vars .now) (a .s .now) (a .at) (a .depth) (c .before .if1 .left) (c .if2 .taken)
+    found-says (past (a .vars .now) (a .s .now) (a .at) (a .depth) (c .before .if1 .left) (c .if2 .taken))
 
 eval-shared-slice-read-code : (t : ℕ) → eval-lts.Need-shared-slice-read-code (calls t) (eval-at t) eval.Post
 eval-shared-slice-read-code t c = search needs
@@ -111,73 +112,73 @@ eval-join-requires t c κs = search needs
 eval-returns-3 : (t : ℕ) → eval-lts.Need-returns-3 (calls t) (eval-at t) eval.Post
 eval-returns-3 t c =
     let a = c .before .before .before .before .before .before .args in
-    c .constant .ensures ∙ step-constant (a .vars .now) (a .s .now) (a .at) (a .depth) (c .before .before .before .before .if1 .left) (c .before .before .before .if2 .left) (c .before .match .keys1)
+    found-says (c .constant .ensures ∙ step-constant (a .vars .now) (a .s .now) (a .at) (a .depth) (c .before .before .before .before .if1 .left) (c .before .before .before .if2 .left) (c .before .match .keys1))
 
 eval-returns-4 : (t : ℕ) → eval-lts.Need-returns-4 (calls t) (eval-at t) eval.Post
 eval-returns-4 t c =
     let a = c .before .before .before .before .before .before .args in
-    c .variable .ensures ∙ step-variable (a .vars .now) (a .s .now) (a .at) (a .depth) (c .before .before .before .before .if1 .left) (c .before .before .before .if2 .left) (c .before .match .keys2)
+    found-says (c .variable .ensures ∙ step-variable (a .vars .now) (a .s .now) (a .at) (a .depth) (c .before .before .before .before .if1 .left) (c .before .before .before .if2 .left) (c .before .match .keys2))
 
 eval-returns-5 : (t : ℕ) → eval-lts.Need-returns-5 (calls t) (eval-at t) eval.Post
 eval-returns-5 t c =
     let a = c .before .before .before .before .before .before .before .args in
-    step-negation (a .vars .now) (a .s .now) (a .at) (a .depth) (c .before .before .before .before .before .if1 .left) (c .before .before .before .before .if2 .left) (c .negate .result) (c .before .eval .result) (c .before .eval .ensures) (c .before .before .match .keys3) (c .negate .ensures)
+    found-says (step-negation (a .vars .now) (a .s .now) (a .at) (a .depth) (c .before .before .before .before .before .if1 .left) (c .before .before .before .before .if2 .left) (c .negate .result) (c .before .eval .result) (c .before .eval .ensures .is) (c .before .before .match .keys3) (c .negate .ensures))
 
 eval-returns-6 : (t : ℕ) → eval-lts.Need-returns-6 (calls t) (eval-at t) eval.Post
 eval-returns-6 t c =
     let a = c .before .before .before .before .before .before .before .args in
-    step-opposite (a .vars .now) (a .s .now) (a .at) (a .depth) (c .before .before .before .before .before .if1 .left) (c .before .before .before .before .if2 .left) (c .oppose .result) (c .before .eval2 .result) (c .before .eval2 .ensures) (c .before .before .match .keys4) (c .oppose .ensures)
+    found-says (step-opposite (a .vars .now) (a .s .now) (a .at) (a .depth) (c .before .before .before .before .before .if1 .left) (c .before .before .before .before .if2 .left) (c .oppose .result) (c .before .eval2 .result) (c .before .eval2 .ensures .is) (c .before .before .match .keys4) (c .oppose .ensures))
 
 eval-returns-7 : (t : ℕ) → eval-lts.Need-returns-7 (calls t) (eval-at t) eval.Post
 eval-returns-7 t c =
     let a = c .before .before .before .before .before .args in
-    step-true (a .vars .now) (a .s .now) (a .at) (a .depth) (c .before .before .before .if1 .left) (c .before .before .if2 .left) (c .match .keys5)
+    found-says (step-true (a .vars .now) (a .s .now) (a .at) (a .depth) (c .before .before .before .if1 .left) (c .before .before .if2 .left) (c .match .keys5))
 
 eval-returns-8 : (t : ℕ) → eval-lts.Need-returns-8 (calls t) (eval-at t) eval.Post
 eval-returns-8 t c =
     let a = c .before .before .before .before .before .before .before .before .before .before .before .args in
-    step-operation (a .vars .now) (a .s .now) (a .at) (a .depth) (c .before .before .before .before .before .before .before .before .before .if1 .left) (c .before .before .before .before .before .before .before .before .if2 .left) (c .operate .result) (c .before .before .before .eval3 .result) (c .before .before .before .eval3 .ensures) (c .before .before .next-of .result) (c .before .eval4 .result) (c .before .before .next-of .ensures) (c .before .eval4 .ensures)
-    (c .before .before .before .before .before .if3 .left) (c .before .before .before .before .if4 .taken) (c .operate .ensures)
+    found-says (step-operation (a .vars .now) (a .s .now) (a .at) (a .depth) (c .before .before .before .before .before .before .before .before .before .if1 .left) (c .before .before .before .before .before .before .before .before .if2 .left) (c .operate .result) (c .before .before .before .eval3 .result) (c .before .before .before .eval3 .ensures .is) (c .before .before .next-of .result) (c .before .eval4 .result) (c .before .before .next-of .ensures) (c .before .eval4 .ensures .is)
+    (c .before .before .before .before .before .if3 .left) (c .before .before .before .before .if4 .taken) (c .operate .ensures))
 
 eval-returns-9 : (t : ℕ) → eval-lts.Need-returns-9 (calls t) (eval-at t) eval.Post
 eval-returns-9 t c =
     let a = c .before .before .before .before .before .before .before .before .before .before .before .before .before .args in
-    step-comparison (a .vars .now) (a .s .now) (a .at) (a .depth) (c .before .before .before .before .before .before .before .before .before .before .before .if1 .left) (c .before .before .before .before .before .before .before .before .before .before .if2 .left) (c .relate .result) (c .before .before .before .eval5 .result) (c .before .before .before .eval5 .ensures) (c .before .before .next-of2 .result) (c .before .eval6 .result) (c .before .before .next-of2 .ensures) (c .before .eval6 .ensures)
-    (c .before .before .before .before .before .if5 .left) (c .before .before .before .before .if6 .taken) (c .relate .ensures)
+    found-says (step-comparison (a .vars .now) (a .s .now) (a .at) (a .depth) (c .before .before .before .before .before .before .before .before .before .before .before .if1 .left) (c .before .before .before .before .before .before .before .before .before .before .if2 .left) (c .relate .result) (c .before .before .before .eval5 .result) (c .before .before .before .eval5 .ensures .is) (c .before .before .next-of2 .result) (c .before .eval6 .result) (c .before .before .next-of2 .ensures) (c .before .eval6 .ensures .is)
+    (c .before .before .before .before .before .if5 .left) (c .before .before .before .before .if6 .taken) (c .relate .ensures))
 
 eval-returns-10 : (t : ℕ) → eval-lts.Need-returns-10 (calls t) (eval-at t) eval.Post
 eval-returns-10 t c =
     let a = c .before .before .before .before .before .before .before .before .before .before .before .before .before .before .before .args in
-    step-connective (a .vars .now) (a .s .now) (a .at) (a .depth) (c .before .before .before .before .before .before .before .before .before .before .before .before .before .if1 .left) (c .before .before .before .before .before .before .before .before .before .before .before .before .if2 .left) (c .join .result) (c .before .before .before .eval7 .result) (c .before .before .before .eval7 .ensures) (c .before .before .next-of3 .result) (c .before .eval8 .result) (c .before .before .next-of3 .ensures) (c .before .eval8 .ensures)
-    (c .before .before .before .before .before .if7 .left) (c .before .before .before .before .if8 .taken) (c .join .ensures)
+    found-says (step-connective (a .vars .now) (a .s .now) (a .at) (a .depth) (c .before .before .before .before .before .before .before .before .before .before .before .before .before .if1 .left) (c .before .before .before .before .before .before .before .before .before .before .before .before .if2 .left) (c .join .result) (c .before .before .before .eval7 .result) (c .before .before .before .eval7 .ensures .is) (c .before .before .next-of3 .result) (c .before .eval8 .result) (c .before .before .next-of3 .ensures) (c .before .eval8 .ensures .is)
+    (c .before .before .before .before .before .if7 .left) (c .before .before .before .before .if8 .taken) (c .join .ensures))
 
 eval-returns-11 : (t : ℕ) → eval-lts.Need-returns-11 (calls t) (eval-at t) eval.Post
 eval-returns-11 t c =
     let a = c .before .before .before .before .before .before .args in
     let u = c .before .match .rest in
-    step-unknown (a .vars .now) (a .s .now) (a .at) (a .depth) (c .before .before .before .before .if1 .left) (c .before .before .before .if2 .left)
-    (form-unknown (getD (a .s .now) (a .at) 0) (u .0 .0 .0 .0 .1) (u .0 .0 .0 .1) (u .0 .0 .1) (u .0 .1) (u .1) (λ l h. omega arith) (λ l h. omega arith) (λ l h. omega arith))
+    found-says (step-unknown (a .vars .now) (a .s .now) (a .at) (a .depth) (c .before .before .before .before .if1 .left) (c .before .before .before .if2 .left)
+    (form-unknown (getD (a .s .now) (a .at) 0) (u .0 .0 .0 .0 .1) (u .0 .0 .0 .1) (u .0 .0 .1) (u .0 .1) (u .1) (λ l h. omega arith) (λ l h. omega arith) (λ l h. omega arith)))
 
 eval-returns-12 : (t : ℕ) → eval-lts.Need-returns-12 (calls t) (eval-at t) eval.Post
 eval-returns-12 t c =
     let a = c .before .before .before .before .before .before .before .before .args in
     let u = c .before .before .before .match .rest in
-    step-unknown (a .vars .now) (a .s .now) (a .at) (a .depth) (c .before .before .before .before .before .before .if1 .left) (c .before .before .before .before .before .if2 .left)
-    (form-unknown (getD (a .s .now) (a .at) 0) (u .0 .0 .0 .0 .1) (u .0 .0 .0 .1) (u .0 .0 .1) (u .0 .1) (u .1) (λ l h. omega arith) (λ l h. omega arith) (λ l h. omega arith))
+    found-says (step-unknown (a .vars .now) (a .s .now) (a .at) (a .depth) (c .before .before .before .before .before .before .if1 .left) (c .before .before .before .before .before .if2 .left)
+    (form-unknown (getD (a .s .now) (a .at) 0) (u .0 .0 .0 .0 .1) (u .0 .0 .0 .1) (u .0 .0 .1) (u .0 .1) (u .1) (λ l h. omega arith) (λ l h. omega arith) (λ l h. omega arith)))
 
 eval-returns-13 : (t : ℕ) → eval-lts.Need-returns-13 (calls t) (eval-at t) eval.Post
 eval-returns-13 t c =
     let a = c .before .before .before .before .before .before .before .before .before .before .args in
     let u = c .before .before .before .before .before .match .rest in
-    step-unknown (a .vars .now) (a .s .now) (a .at) (a .depth) (c .before .before .before .before .before .before .before .before .if1 .left) (c .before .before .before .before .before .before .before .if2 .left)
-    (form-unknown (getD (a .s .now) (a .at) 0) (u .0 .0 .0 .0 .1) (u .0 .0 .0 .1) (u .0 .0 .1) (u .0 .1) (u .1) (λ l h. omega arith) (λ l h. omega arith) (λ l h. omega arith))
+    found-says (step-unknown (a .vars .now) (a .s .now) (a .at) (a .depth) (c .before .before .before .before .before .before .before .before .if1 .left) (c .before .before .before .before .before .before .before .if2 .left)
+    (form-unknown (getD (a .s .now) (a .at) 0) (u .0 .0 .0 .0 .1) (u .0 .0 .0 .1) (u .0 .0 .1) (u .0 .1) (u .1) (λ l h. omega arith) (λ l h. omega arith) (λ l h. omega arith)))
 
 eval-returns-14 : (t : ℕ) → eval-lts.Need-returns-14 (calls t) (eval-at t) eval.Post
 eval-returns-14 t c =
     let a = c .before .before .before .before .before .before .before .before .before .before .before .args in
     let u = c .before .before .before .before .before .before .match .rest in
-    step-unknown (a .vars .now) (a .s .now) (a .at) (a .depth) (c .before .before .before .before .before .before .before .before .before .if1 .left) (c .before .before .before .before .before .before .before .before .if2 .left)
-    (form-unknown (getD (a .s .now) (a .at) 0) (u .0 .0 .0 .0 .1) (u .0 .0 .0 .1) (u .0 .0 .1) (u .0 .1) (u .1) (λ l h. omega arith) (λ l h. omega arith) (λ l h. omega arith))
+    found-says (step-unknown (a .vars .now) (a .s .now) (a .at) (a .depth) (c .before .before .before .before .before .before .before .before .before .if1 .left) (c .before .before .before .before .before .before .before .before .if2 .left)
+    (form-unknown (getD (a .s .now) (a .at) 0) (u .0 .0 .0 .0 .1) (u .0 .0 .0 .1) (u .0 .0 .1) (u .0 .1) (u .1) (λ l h. omega arith) (λ l h. omega arith) (λ l h. omega arith)))
 
 pub +eval-spec : {M : Type 1} → statement M
 +eval-spec = close μ-eval λ t. eval-lts.spec (calls t)

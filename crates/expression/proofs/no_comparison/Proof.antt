@@ -5,6 +5,7 @@ use borrow.Author.Needs.{needs}
 use Rattle.expression.specs.declared.Found.the-variants.{ATruth, TruthFault}
 use Rattle.expression.specs.declared.Truth.the-variants.{Malformed}
 use Rattle.expression.proofs.Cases.{not-truth}
+use Rattle.expression.proofs.PaperNumbers.{truth-says}
 use Rattle.expression.proofs.Wholes.{truthSaid, truth-said, not-truth-said, yes-said, no-said}
 use Rattle.expression.proofs.no_comparison.Statement.{statement}
 use Rattle.expression.proofs.no_comparison.Tie as tie
@@ -16,13 +17,13 @@ enum-told : tie.Need-enum-told
 enum-told c = search needs
 
 returns : tie.Need-returns
-returns c = sym (c .enum-told .given .1) ∙ c .before .before .joining .ensures (yes-said (c .enum-told .given .1))
+returns c = truth-says (sym (c .enum-told .given .1) ∙ c .before .before .joining .ensures (yes-said (c .enum-told .given .1)))
 
 enum-told-2 : tie.Need-enum-told-2
 enum-told-2 c = search needs
 
 returns-2 : tie.Need-returns-2
-returns-2 c = sym (c .enum-told2 .given .1) ∙ c .before .before .joining .ensures (no-said (c .enum-told2 .given .1))
+returns-2 c = truth-says (sym (c .enum-told2 .given .1) ∙ c .before .before .joining .ensures (no-said (c .enum-told2 .given .1)))
 
 eval-requires : tie.Need-eval-requires
 eval-requires c κs = search needs
@@ -46,7 +47,7 @@ returns-3 c =
     let n = length (s .args .s .now) in
     let F = c .before .before .before .b .given in
     let k : c .plain-truth .result ≡ truthSaid n (ATruth (F .0 .0) (F .0 .1 .0)) = rw (eq-eqb (F .0 .1 .0) n (c .before .if1 .taken)) (c .plain-truth .ensures) in
-    k ∙ sym (ap (truthSaid n) (F .1)) ∙ truth-said (s .args .vars .now) (s .args .s .now) (e .result) (e .ensures)
+    truth-says (k ∙ sym (ap (truthSaid n) (F .1)) ∙ truth-said (s .args .vars .now) (s .args .s .now) (e .result) (e .ensures .is))
 
 returns-4 : tie.Need-returns-4
 returns-4 c =
@@ -55,7 +56,7 @@ returns-4 c =
     let n = length (s .args .s .now) in
     let F = c .before .before .b .given in
     let k : Malformed ≡ truthSaid n (ATruth (F .0 .0) (F .0 .1 .0)) = rw (ne-eqb (F .0 .1 .0) n (c .if1 .left)) refl in
-    k ∙ sym (ap (truthSaid n) (F .1)) ∙ truth-said (s .args .vars .now) (s .args .s .now) (e .result) (e .ensures)
+    truth-says (k ∙ sym (ap (truthSaid n) (F .1)) ∙ truth-said (s .args .vars .now) (s .args .s .now) (e .result) (e .ensures .is))
 
 returns-5 : tie.Need-returns-5
 returns-5 c =
@@ -64,7 +65,7 @@ returns-5 c =
     let n = length (s .args .s .now) in
     let F = c .before .before .before .above .given in
     let k : c .truth-side .result ≡ truthSaid n (TruthFault (F .0 .0) (F .0 .1 .0)) = rw (eq-eqb (F .0 .1 .0) n (c .before .if2 .taken)) (c .truth-side .ensures) in
-    k ∙ sym (ap (truthSaid n) (F .1)) ∙ truth-said (s .args .vars .now) (s .args .s .now) (e .result) (e .ensures)
+    truth-says (k ∙ sym (ap (truthSaid n) (F .1)) ∙ truth-said (s .args .vars .now) (s .args .s .now) (e .result) (e .ensures .is))
 
 returns-6 : tie.Need-returns-6
 returns-6 c =
@@ -73,14 +74,14 @@ returns-6 c =
     let n = length (s .args .s .now) in
     let F = c .before .before .above .given in
     let k : Malformed ≡ truthSaid n (TruthFault (F .0 .0) (F .0 .1 .0)) = rw (ne-eqb (F .0 .1 .0) n (c .if2 .left)) refl in
-    k ∙ sym (ap (truthSaid n) (F .1)) ∙ truth-said (s .args .vars .now) (s .args .s .now) (e .result) (e .ensures)
+    truth-says (k ∙ sym (ap (truthSaid n) (F .1)) ∙ truth-said (s .args .vars .now) (s .args .s .now) (e .result) (e .ensures .is))
 
 returns-7 : tie.Need-returns-7
 returns-7 c =
     let s = c .before .before .before .before .before in
     let e = c .before .eval in
-    not-truth-said (length (s .args .s .now)) (e .result) (not-truth (e .result) (c .match2 .keys3))
-    ∙ truth-said (s .args .vars .now) (s .args .s .now) (e .result) (e .ensures)
+    truth-says (not-truth-said (length (s .args .s .now)) (e .result) (not-truth (e .result) (c .match2 .keys3))
+    ∙ truth-said (s .args .vars .now) (s .args .s .now) (e .result) (e .ensures .is))
 
 pub no-comparison-spec : {M : Type 1} → statement M
 no-comparison-spec =

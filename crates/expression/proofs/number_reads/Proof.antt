@@ -32,7 +32,7 @@ returns c =
     let s = c .before .before .before .before .before in
     let v = c .before .before .number-value in
     let l = length-take-le (s .args .variables) zeros (s .pre) in
-    sym (ap (λ a. isSome (numberTold a)) (c .enum-told .given .1)) ∙ number-judged (take (s .args .variables) zeros) (s .args .s .now) (v .ensures)
+    sym (ap (λ a. isSome (numberTold a)) (c .enum-told .given .1)) ∙ number-judged (take (s .args .variables) zeros) (s .args .s .now) (v .ensures .is)
     ∙ ap (λ n. isSome (numberIn edition1 n (s .args .s .now))) l
 
 returns-2 : tie.Need-returns-2
@@ -40,7 +40,7 @@ returns-2 c =
     let s = c .before .before .before .before in
     let v = c .before .number-value in
     let l = length-take-le (s .args .variables) zeros (s .pre) in
-    sym (number-tells (v .result) (c .match .keys2)) ∙ number-judged (take (s .args .variables) zeros) (s .args .s .now) (v .ensures)
+    sym (number-tells (v .result) (c .match .keys2)) ∙ number-judged (take (s .args .variables) zeros) (s .args .s .now) (v .ensures .is)
     ∙ ap (λ n. isSome (numberIn edition1 n (s .args .s .now))) l
 
 pub number-reads-spec : {M : Type 1} → statement M

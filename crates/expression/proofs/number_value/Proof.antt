@@ -8,6 +8,7 @@ use Rattle.expression.specs.declared.Found.the-variants.{ANumber, Number
 use Rattle.expression.specs.declared.Number.the-variants.{Malformed, Is}
 use Rattle.expression.specs.Answers.{numberOf}
 use Rattle.expression.proofs.Cases.{not-number}
+use Rattle.expression.proofs.PaperNumbers.{number-says}
 use Rattle.expression.proofs.Wholes.{numberSaid, number-said, not-number-said}
 use Rattle.expression.proofs.number_value.Statement.{statement}
 use Rattle.expression.proofs.number_value.Tie as tie
@@ -32,7 +33,7 @@ returns c =
     let n = length (s .args .s .now) in
     let F = c .before .before .z .given in
     let k : Is (F .0 .0) ≡ numberSaid n (ANumber (F .0 .0) (F .0 .1 .0)) = rw (eq-eqb (F .0 .1 .0) n (c .if1 .taken)) refl in
-    ap Is (toZ-ofZ w32 (F .0 .0) (record { sfits = c .before .known-told .given .0 .1 })) ∙ k ∙ sym (ap (numberSaid n) (F .1)) ∙ number-said (s .args .vars .now) (s .args .s .now) (e .result) (e .ensures)
+    number-says (ap Is (toZ-ofZ w32 (F .0 .0) (record { sfits = c .before .known-told .given .0 .1 })) ∙ k ∙ sym (ap (numberSaid n) (F .1)) ∙ number-said (s .args .vars .now) (s .args .s .now) (e .result) (e .ensures .is))
 
 returns-2 : tie.Need-returns-2
 returns-2 c =
@@ -41,7 +42,7 @@ returns-2 c =
     let n = length (s .args .s .now) in
     let F = c .before .before .z .given in
     let k : Malformed ≡ numberSaid n (ANumber (F .0 .0) (F .0 .1 .0)) = rw (ne-eqb (F .0 .1 .0) n (c .if1 .left)) refl in
-    k ∙ sym (ap (numberSaid n) (F .1)) ∙ number-said (s .args .vars .now) (s .args .s .now) (e .result) (e .ensures)
+    number-says (k ∙ sym (ap (numberSaid n) (F .1)) ∙ number-said (s .args .vars .now) (s .args .s .now) (e .result) (e .ensures .is))
 
 returns-3 : tie.Need-returns-3
 returns-3 c =
@@ -50,7 +51,7 @@ returns-3 c =
     let n = length (s .args .s .now) in
     let F = c .before .before .before .above .given in
     let k : c .number-side .result ≡ numberSaid n (NumberFault (F .0 .0) (F .0 .1 .0)) = rw (eq-eqb (F .0 .1 .0) n (c .before .if2 .taken)) (c .number-side .ensures) in
-    k ∙ sym (ap (numberSaid n) (F .1)) ∙ number-said (s .args .vars .now) (s .args .s .now) (e .result) (e .ensures)
+    number-says (k ∙ sym (ap (numberSaid n) (F .1)) ∙ number-said (s .args .vars .now) (s .args .s .now) (e .result) (e .ensures .is))
 
 returns-4 : tie.Need-returns-4
 returns-4 c =
@@ -59,14 +60,14 @@ returns-4 c =
     let n = length (s .args .s .now) in
     let F = c .before .before .above .given in
     let k : Malformed ≡ numberSaid n (NumberFault (F .0 .0) (F .0 .1 .0)) = rw (ne-eqb (F .0 .1 .0) n (c .if2 .left)) refl in
-    k ∙ sym (ap (numberSaid n) (F .1)) ∙ number-said (s .args .vars .now) (s .args .s .now) (e .result) (e .ensures)
+    number-says (k ∙ sym (ap (numberSaid n) (F .1)) ∙ number-said (s .args .vars .now) (s .args .s .now) (e .result) (e .ensures .is))
 
 returns-5 : tie.Need-returns-5
 returns-5 c =
     let s = c .before .before .before in
     let e = c .before .whole in
-    not-number-said (length (s .args .s .now)) (e .result) (not-number (e .result) (c .match .keys3))
-    ∙ number-said (s .args .vars .now) (s .args .s .now) (e .result) (e .ensures)
+    number-says (not-number-said (length (s .args .s .now)) (e .result) (not-number (e .result) (c .match .keys3))
+    ∙ number-said (s .args .vars .now) (s .args .s .now) (e .result) (e .ensures .is))
 
 pub number-value-spec : {M : Type 1} → statement M
 number-value-spec =

@@ -1,5 +1,6 @@
 use mathlib.Core.Path.{sym, _∙_}
 use borrow.Author.Needs.{needs}
+use Rattle.expression.proofs.PaperNumbers.{truth-says}
 use Rattle.expression.proofs.Wholes.{yes-said, no-said}
 use Rattle.expression.proofs.truth_value.Statement.{statement}
 use Rattle.expression.proofs.truth_value.Tie as tie
@@ -17,10 +18,10 @@ no-comparison-requires : tie.Need-no-comparison-requires
 no-comparison-requires c κs = search needs
 
 returns : tie.Need-returns
-returns c = sym (c .enum-told .given .1) ∙ c .before .before .comparing .ensures (yes-said (c .enum-told .given .1))
+returns c = truth-says (sym (c .enum-told .given .1) ∙ c .before .before .comparing .ensures (yes-said (c .enum-told .given .1)))
 
 returns-2 : tie.Need-returns-2
-returns-2 c = sym (c .enum-told2 .given .1) ∙ c .before .before .comparing .ensures (no-said (c .enum-told2 .given .1))
+returns-2 c = truth-says (sym (c .enum-told2 .given .1) ∙ c .before .before .comparing .ensures (no-said (c .enum-told2 .given .1)))
 
 returns-3 : tie.Need-returns-3
 returns-3 c = search needs

@@ -8,6 +8,7 @@ use borrow.Author.Tests.{ltb-true}
 use borrow.Author.Needs.{needs}
 use Rattle.semantics.specs.Expressions.{applied, result}
 use Rattle.expression.specs.Evaluation.{numberAt, operationOf}
+use Rattle.expression.proofs.PaperNumbers.{found-says}
 use Rattle.expression.proofs.Steps.{past}
 use Rattle.expression.proofs.TwoLeaves.{two-operated}
 use Rattle.expression.proofs.whole.Statement.{statement}
@@ -16,7 +17,7 @@ use Rattle.expression.proofs.whole.Tie as tie
 returns : tie.Need-returns
 returns c =
     let s = c .before .before .args in
-    past (s .vars .now) (s .s .now) 0 16 (λ e. omega arith) (omega (arith, c .if1 .taken))
+    found-says (past (s .vars .now) (s .s .now) 0 16 (λ e. omega arith) (omega (arith, c .if1 .taken)))
 
 shared-slice-read-code : tie.Need-shared-slice-read-code
 shared-slice-read-code c = search needs
@@ -31,7 +32,7 @@ eval-requires : tie.Need-eval-requires
 eval-requires c κs = search needs
 
 returns-2 : tie.Need-returns-2
-returns-2 c = search needs
+returns-2 c = c .eval .ensures
 
 leaf-requires-2 : tie.Need-leaf-requires-2
 leaf-requires-2 c κs = search needs
@@ -43,7 +44,7 @@ eval-requires-2 : tie.Need-eval-requires-2
 eval-requires-2 c κs = search needs
 
 returns-3 : tie.Need-returns-3
-returns-3 c = search needs
+returns-3 c = c .eval2 .ensures
 
 arithmetic-requires : tie.Need-arithmetic-requires
 arithmetic-requires c κs = search needs
@@ -57,14 +58,14 @@ returns-4 c =
     let r = sym (c .before .before .before .before .before .before .leaf2 .ensures) ∙ D .1 in
     let x = toZ-ofZ w32 (A .0 .0) (record { sfits = c .before .before .before .before .before .before .before .known-told .given .0 .1 }) in
     let y = toZ-ofZ w32 (D .0 .0) (record { sfits = c .before .before .before .known-told2 .given .0 .1 }) in
-    c .arithmetic .ensures ∙ ap₂ (λ (v w : ℤ). numberAt (D .0 .1 .0) (result (applied (operationOf (getD (s .s .now) 0 0)) v w))) x y
-    ∙ two-operated (s .vars .now) (s .s .now) (omega (arith, c .before .before .before .before .before .before .before .before .before .before .before .before .if1 .left)) (A .0 .0) (D .0 .0) (A .0 .1 .0) (D .0 .1 .0) l r (c .before .before .if2 .taken) (ltb-true _ _ (c .before .if3 .taken))
+    found-says (c .arithmetic .ensures ∙ ap₂ (λ (v w : ℤ). numberAt (D .0 .1 .0) (result (applied (operationOf (getD (s .s .now) 0 0)) v w))) x y
+    ∙ two-operated (s .vars .now) (s .s .now) (omega (arith, c .before .before .before .before .before .before .before .before .before .before .before .before .if1 .left)) (A .0 .0) (D .0 .0) (A .0 .1 .0) (D .0 .1 .0) l r (c .before .before .if2 .taken) (ltb-true _ _ (c .before .if3 .taken)))
 
 eval-requires-3 : tie.Need-eval-requires-3
 eval-requires-3 c κs = search needs
 
 returns-5 : tie.Need-returns-5
-returns-5 c = search needs
+returns-5 c = c .eval3 .ensures
 
 pub whole-spec : {M : Type 1} → statement M
 whole-spec =

@@ -8,6 +8,7 @@ use Rattle.codec.proofs.Reading.{then, broke, then-byte, no-byte, then-guard, n
 use Rattle.codec.proofs.Loops.{counted}
 use Rattle.plant.specs.Equations.{view}
 use borrow.Author.Needs.{needs}
+use Rattle.plant.proofs.PaperNumbers.{step-says}
 use Rattle.plant.proofs.equations.choice.Statement.{statement}
 use Rattle.plant.proofs.equations.choice.Tie as tie
 
@@ -16,7 +17,7 @@ sub-if1 c = search needs
 
 returns : tie.Need-returns
 unfolding readChoice
-returns c = let s = c .before .before .args .s .now in let at = c .before .before .args .at in either at (length s) (λ l. then-byte _ l (no-byte _ (omega arith))) (λ l. no-byte _ l)
+returns c = step-says (let s = c .before .before .args .s .now in let at = c .before .before .args .at in either at (length s) (λ l. then-byte _ l (no-byte _ (omega arith))) (λ l. no-byte _ l))
 
 shared-slice-read-first : tie.Need-shared-slice-read-first
 shared-slice-read-first c = search needs
@@ -29,11 +30,11 @@ shared-slice-read-n c = search needs
 
 returns-2 : tie.Need-returns-2
 unfolding readChoice
-returns-2 c = then-byte _ (omega arith) (then-byte _ (omega arith) (no-guard _ _ (within-below 1 8 _ (omega arith))))
+returns-2 c = step-says (then-byte _ (omega arith) (then-byte _ (omega arith) (no-guard _ _ (within-below 1 8 _ (omega arith)))))
 
 returns-3 : tie.Need-returns-3
 unfolding readChoice
-returns-3 c = then-byte _ (omega arith) (then-byte _ (omega arith) (no-guard _ _ (within-above 1 8 _ (omega arith))))
+returns-3 c = step-says (then-byte _ (omega arith) (then-byte _ (omega arith) (no-guard _ _ (within-above 1 8 _ (omega arith)))))
 
 add-modes : tie.Need-add-modes
 add-modes c = search needs
@@ -55,11 +56,11 @@ enum-told c = search needs
 
 returns-4 : tie.Need-returns-4
 unfolding readChoice equationNamed
-returns-4 c = then-byte _ (omega arith) (then-byte _ (omega arith) (then-guard _ _ (within-both 1 8 _ (omega arith) (omega arith)) (then _ (c .before .before .before .before .modes .ensures) (ap view (c .before .before .w .given .1)) (λ t. gives _ (t .inside) (rw (counted readMode _ t, ← t .means) (c .both .ensures))))))
+returns-4 c = step-says (then-byte _ (omega arith) (then-byte _ (omega arith) (then-guard _ _ (within-both 1 8 _ (omega arith) (omega arith)) (then _ (c .before .before .before .before .modes .ensures .reads) (ap view (c .before .before .w .given .1)) (λ t. gives _ (t .inside) (rw (counted readMode _ t, ← t .means) (c .both .ensures)))))))
 
 returns-5 : tie.Need-returns-5
 unfolding readChoice
-returns-5 c = then-byte _ (omega arith) (then-byte _ (omega arith) (then-guard _ _ (within-both 1 8 _ (omega arith) (omega arith)) (broke _ (c .before .before .modes .ensures) (ap view (c .enum-told .given .1)))))
+returns-5 c = step-says (then-byte _ (omega arith) (then-byte _ (omega arith) (then-guard _ _ (within-both 1 8 _ (omega arith) (omega arith)) (broke _ (c .before .before .modes .ensures .reads) (ap view (c .enum-told .given .1))))))
 
 pub choice-spec : {M : Type 1} → statement M
 choice-spec =

@@ -3,6 +3,7 @@ use Rattle.semantics.specs.Sections.{readEquation}
 use Rattle.codec.proofs.Reading.{no-section2}
 use Rattle.plant.proofs.EquationParts.{equation-cut, equation-kept, equation-lost}
 use borrow.Author.Needs.{needs}
+use Rattle.plant.proofs.PaperNumbers.{step-says}
 use Rattle.plant.proofs.equations.equation.Statement.{statement}
 use Rattle.plant.proofs.equations.equation.Tie as tie
 
@@ -11,7 +12,7 @@ sub-if1 c = search needs
 
 returns : tie.Need-returns
 unfolding readEquation
-returns c = no-section2 _ (omega arith) (omega arith)
+returns c = step-says (no-section2 _ (omega arith) (omega arith))
 
 nat2-requires : tie.Need-nat2-requires
 nat2-requires c κs = search needs
@@ -23,7 +24,7 @@ sub-if2 : tie.Need-sub-if2
 sub-if2 c = search needs
 
 returns-2 : tie.Need-returns-2
-returns-2 c = equation-cut _ _ _ _ (c .before .nat2 .ensures) (omega arith) (omega arith)
+returns-2 c = step-says (equation-cut _ _ _ _ (c .before .nat2 .ensures) (omega arith) (omega arith))
 
 add-e : tie.Need-add-e
 add-e c = search needs
@@ -47,10 +48,10 @@ enum-told : tie.Need-enum-told
 enum-told c = search needs
 
 returns-3 : tie.Need-returns-3
-returns-3 c = equation-kept _ _ _ _ (c .before .before .before .before .before .before .nat2 .ensures) (omega arith) (omega arith) (c .before .before .before .equation-in .ensures) (c .before .w .given .1)
+returns-3 c = step-says (equation-kept _ _ _ _ (c .before .before .before .before .before .before .nat2 .ensures) (omega arith) (omega arith) (c .before .before .before .equation-in .ensures .is) (c .before .w .given .1))
 
 returns-4 : tie.Need-returns-4
-returns-4 c = equation-lost _ _ _ _ (c .before .before .before .before .before .nat2 .ensures) (omega arith) (omega arith) (c .before .before .equation-in .ensures) (c .enum-told .given .1)
+returns-4 c = step-says (equation-lost _ _ _ _ (c .before .before .before .before .before .nat2 .ensures) (omega arith) (omega arith) (c .before .before .equation-in .ensures .is) (c .enum-told .given .1))
 
 pub equation-spec : {M : Type 1} → statement M
 equation-spec =

@@ -6,12 +6,13 @@ use Rattle.semantics.specs.Plant.{modeNamed}
 use Rattle.codec.proofs.Reading.{then, broke, then-byte, no-byte, gives}
 use Rattle.plant.specs.Equations.{view}
 use borrow.Author.Needs.{needs}
+use Rattle.plant.proofs.PaperNumbers.{step-says}
 use Rattle.plant.proofs.equations.mode.Statement.{statement}
 use Rattle.plant.proofs.equations.mode.Tie as tie
 
 returns : tie.Need-returns
 unfolding readMode
-returns c = no-byte _ (omega arith)
+returns c = step-says (no-byte _ (omega arith))
 
 add-rates : tie.Need-add-rates
 add-rates c = search needs
@@ -27,7 +28,7 @@ enum-known-w c = search needs
 
 returns-2 : tie.Need-returns-2
 unfolding readMode
-returns-2 c = then-byte _ (omega arith) (then _ (c .before .before .before .before .rates .ensures) (ap view (c .before .before .w .given .1)) (λ t. no-byte _ (omega arith)))
+returns-2 c = step-says (then-byte _ (omega arith) (then _ (c .before .before .before .before .rates .ensures .reads) (ap view (c .before .before .w .given .1)) (λ t. no-byte _ (omega arith))))
 
 add-switches : tie.Need-add-switches
 add-switches c = search needs
@@ -52,15 +53,15 @@ enum-told-2 c = search needs
 
 returns-3 : tie.Need-returns-3
 unfolding readMode modeNamed
-returns-3 c = then-byte _ (omega arith) (then _ (c .before .before .before .before .before .before .before .before .before .before .rates .ensures) (ap view (c .before .before .before .before .before .before .before .before .w .given .1)) (λ t. then-byte _ (omega arith) (then _ (c .before .before .before .before .switches .ensures) (ap view (c .before .before .v .given .1)) (λ u. gives _ (u .inside) (c .both .ensures ∙ ap₂ _&&_ (t .means) (u .means))))))
+returns-3 c = step-says (then-byte _ (omega arith) (then _ (c .before .before .before .before .before .before .before .before .before .before .rates .ensures .reads) (ap view (c .before .before .before .before .before .before .before .before .w .given .1)) (λ t. then-byte _ (omega arith) (then _ (c .before .before .before .before .switches .ensures .reads) (ap view (c .before .before .v .given .1)) (λ u. gives _ (u .inside) (c .both .ensures ∙ ap₂ _&&_ (t .means) (u .means)))))))
 
 returns-4 : tie.Need-returns-4
 unfolding readMode
-returns-4 c = then-byte _ (omega arith) (then _ (c .before .before .before .before .before .before .before .before .rates .ensures) (ap view (c .before .before .before .before .before .before .w .given .1)) (λ t. then-byte _ (omega arith) (broke _ (c .before .before .switches .ensures) (ap view (c .enum-told .given .1)))))
+returns-4 c = step-says (then-byte _ (omega arith) (then _ (c .before .before .before .before .before .before .before .before .rates .ensures .reads) (ap view (c .before .before .before .before .before .before .w .given .1)) (λ t. then-byte _ (omega arith) (broke _ (c .before .before .switches .ensures .reads) (ap view (c .enum-told .given .1))))))
 
 returns-5 : tie.Need-returns-5
 unfolding readMode
-returns-5 c = then-byte _ (omega arith) (broke _ (c .before .before .rates .ensures) (ap view (c .enum-told2 .given .1)))
+returns-5 c = step-says (then-byte _ (omega arith) (broke _ (c .before .before .rates .ensures .reads) (ap view (c .enum-told2 .given .1))))
 
 pub mode-spec : {M : Type 1} → statement M
 mode-spec =

@@ -27,22 +27,22 @@ enum-known-w c = search needs
 
 returns-3 : tie.Need-returns-3
 unfolding equationsIn
-returns-3 c = broken-is-6 _ _ (over (taken (section-reads (omega arith) (omega arith) (c .before .before .before .before .some-equations .ensures)) (ap view (c .before .before .w .given .1))) (omega arith))
+returns-3 c = broken-is-6 _ _ (over (taken (section-reads (omega arith) (omega arith) (c .before .before .before .before .some-equations .ensures .reads)) (ap view (c .before .before .w .given .1))) (omega arith))
 
 enum-told : tie.Need-enum-told
 enum-told c = search needs
 
 returns-4 : tie.Need-returns-4
 unfolding equationsIn
-returns-4 c = let t = taken (section-reads {s = c .before .before .before .before .before .before .before .before .before .before .args .s .now} (omega arith) (omega arith) (c .before .before .before .before .before .some-equations .ensures)) (ap view (c .before .before .before .w .given .1)) in named-is-0 _ _ (kept t (omega arith)) (t .means) (c .if4 .taken)
+returns-4 c = let t = taken (section-reads {s = c .before .before .before .before .before .before .before .before .before .before .args .s .now} (omega arith) (omega arith) (c .before .before .before .before .before .some-equations .ensures .reads)) (ap view (c .before .before .before .w .given .1)) in named-is-0 _ _ (kept t (omega arith)) (t .means) (c .if4 .taken)
 
 returns-5 : tie.Need-returns-5
 unfolding equationsIn
-returns-5 c = let t = taken (section-reads {s = c .before .before .before .before .before .before .before .before .before .before .args .s .now} (omega arith) (omega arith) (c .before .before .before .before .before .some-equations .ensures)) (ap view (c .before .before .before .w .given .1)) in unnamed-is-7 _ _ (kept t (omega arith)) (t .means) (c .if4 .left)
+returns-5 c = let t = taken (section-reads {s = c .before .before .before .before .before .before .before .before .before .before .args .s .now} (omega arith) (omega arith) (c .before .before .before .before .before .some-equations .ensures .reads)) (ap view (c .before .before .before .w .given .1)) in unnamed-is-7 _ _ (kept t (omega arith)) (t .means) (c .if4 .left)
 
 returns-6 : tie.Need-returns-6
 unfolding equationsIn
-returns-6 c = broken-is-6 _ _ (none-kept (section-reads (omega arith) (omega arith) (c .before .before .some-equations .ensures)) (ap view (c .enum-told .given .1)))
+returns-6 c = broken-is-6 _ _ (none-kept (section-reads (omega arith) (omega arith) (c .before .before .some-equations .ensures .reads)) (ap view (c .enum-told .given .1)))
 
 pub refusal-spec : {M : Type 1} → statement M
 refusal-spec =

@@ -7,6 +7,7 @@ use Rattle.semantics.specs.Plant.{equationNamed}
 use Rattle.codec.specs.Reading.{Took}
 use Rattle.plant.specs.Equations.{Says}
 use Rattle.plant.proofs.EquationParts.{named-start, named-next, named-broken, named-end}
+use Rattle.plant.proofs.PaperNumbers.{step-says}
 use Rattle.plant.proofs.equations.some_equations.Statement.{statement}
 use Rattle.plant.proofs.equations.some_equations.Tie as tie
 
@@ -32,7 +33,7 @@ enum-told : tie.Need-enum-told Inv-loop μ-loop
 enum-told c = search needs
 
 returns : tie.Need-returns Inv-loop μ-loop
-returns c = named-broken _ _ _ _ _ (c .before .before .before .before .loop .inv .1) (c .before .before .equation .ensures) (c .enum-told .given .1) (c .before .before .before .loop-test .taken)
+returns c = step-says (named-broken _ _ _ _ _ (c .before .before .before .before .loop .inv .1) (c .before .before .equation .ensures .reads) (c .enum-told .given .1) (c .before .before .before .loop-test .taken))
 
 add-i : tie.Need-add-i Inv-loop μ-loop
 add-i c = omega arith
@@ -41,10 +42,10 @@ loop-less : tie.Need-loop-less Inv-loop μ-loop
 loop-less c = omega arith
 
 loop-again : tie.Need-loop-again Inv-loop μ-loop
-loop-again c = (omega arith, named-next _ _ _ _ _ (c .before .before .before .before .before .before .loop .inv .1) (c .before .before .before .before .equation .ensures) (c .before .before .w .given .1) (c .both .ensures))
+loop-again c = (omega arith, named-next _ _ _ _ _ (c .before .before .before .before .before .before .loop .inv .1) (c .before .before .before .before .equation .ensures .reads) (c .before .before .w .given .1) (c .both .ensures))
 
 returns-2 : tie.Need-returns-2 Inv-loop μ-loop
-returns-2 c = named-end _ _ _ _ (c .before .loop .inv .1) (omega arith)
+returns-2 c = step-says (named-end _ _ _ _ (c .before .loop .inv .1) (omega arith))
 
 pub some-equations-spec : {M : Type 1} → statement M
 some-equations-spec =

@@ -2,6 +2,7 @@ use Rattle.semantics.specs.Sections.{readSteady, Equation}
 use Rattle.semantics.specs.Plant.{equationNamed}
 use Rattle.plant.proofs.EquationParts.{made}
 use borrow.Author.Needs.{needs}
+use Rattle.plant.proofs.PaperNumbers.{step-says}
 use Rattle.plant.proofs.equations.steady.Statement.{statement}
 use Rattle.plant.proofs.equations.steady.Tie as tie
 
@@ -10,7 +11,7 @@ rate-requires c κs = search needs
 
 returns : tie.Need-returns
 unfolding readSteady equationNamed
-returns c = made Equation.steady (λ a x e. e) (c .rate .ensures)
+returns c = step-says (made Equation.steady (λ a x e. e) (c .rate .ensures .reads))
 
 pub steady-spec : {M : Type 1} → statement M
 steady-spec = tie.close (tie.spec rate-requires returns)

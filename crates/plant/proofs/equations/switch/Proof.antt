@@ -3,18 +3,19 @@ use Rattle.semantics.specs.Sections.{readSwitch}
 use Rattle.codec.proofs.Reading.{no-byte}
 use Rattle.plant.proofs.EquationParts.{switch-there, switch-empty, switch-short}
 use borrow.Author.Needs.{needs}
+use Rattle.plant.proofs.PaperNumbers.{step-says}
 use Rattle.plant.proofs.equations.switch.Statement.{statement}
 use Rattle.plant.proofs.equations.switch.Tie as tie
 
 returns : tie.Need-returns
 unfolding readSwitch
-returns c = no-byte _ (omega arith)
+returns c = step-says (no-byte _ (omega arith))
 
 shared-slice-read-l : tie.Need-shared-slice-read-l
 shared-slice-read-l c = search needs
 
 returns-2 : tie.Need-returns-2
-returns-2 c = switch-empty _ _ _ (omega arith) (omega arith)
+returns-2 c = step-says (switch-empty _ _ _ (omega arith) (omega arith))
 
 sub-if3 : tie.Need-sub-if3
 sub-if3 c = search needs
@@ -26,7 +27,7 @@ cast-if3 : tie.Need-cast-if3
 cast-if3 c = omega (arith, c .before .shared-slice-known .given (c .before .before .before .args .at))
 
 returns-3 : tie.Need-returns-3
-returns-3 c = switch-short _ _ _ (omega arith) (omega arith) (omega arith)
+returns-3 c = step-says (switch-short _ _ _ (omega arith) (omega arith) (omega arith))
 
 add-t5 : tie.Need-add-t5
 add-t5 c = search needs
@@ -44,7 +45,7 @@ shared-slice-read-t8 : tie.Need-shared-slice-read-t8
 shared-slice-read-t8 c = search needs
 
 returns-4 : tie.Need-returns-4
-returns-4 c = switch-there _ _ _ (omega arith) (omega arith) (omega arith)
+returns-4 c = step-says (switch-there _ _ _ (omega arith) (omega arith) (omega arith))
 
 pub switch-spec : {M : Type 1} → statement M
 switch-spec =

@@ -5,7 +5,7 @@ use borrow.Author.Needs.{needs}
 use borrow.Fn.Kinds.{In}
 use borrow.Fn.PlainCycle.{Measures, is, falls, and}
 use lib.ListN.{length, length-set}
-use Rattle.tree_read.proofs.WalkSteps.{bound-lost, bound-next, bound-wider, forest-none, forest-lost, forest-more, tree-out, tree-lost, tree-read}
+use Rattle.tree_read.proofs.WalkSteps.{next-is, bound-lost, bound-next, bound-wider, forest-none, forest-lost, forest-more, tree-out, tree-lost, tree-read}
 use Rattle.tree_read.proofs.tree.forest.Reads as forest
 use Rattle.tree_read.proofs.tree.forest.Kinds as forest-kinds
 use Rattle.tree_read.proofs.tree.+forest+node.Lts-forest as forest-lts
@@ -53,7 +53,7 @@ forest-sub-forest : (t : ℕ) → forest-lts.Need-sub-forest (forest-calls t) (f
 forest-sub-forest t c = omega arith
 
 forest-forest-requires : (t : ℕ) → forest-lts.Need-forest-requires (forest-calls t) (forest-at t) forest.Post
-forest-forest-requires t c κs = let b = c .before .before .before .before .before .before .node .ensures .0 .within _ (c .before .before .w .given .1) in omega (arith, c .before .before .before .before .before .before .node .kept .1 .0, c .before .before .before .before .before .before .before .before .before .before .before .pre)
+forest-forest-requires t c κs = let b = c .before .before .before .before .before .before .node .ensures .0 .within _ (next-is (c .before .before .w .given .1)) in omega (arith, c .before .before .before .before .before .before .node .kept .1 .0, c .before .before .before .before .before .before .before .before .before .before .before .pre)
 
 forest-enum-told : (t : ℕ) → forest-lts.Need-enum-told (forest-calls t) (forest-at t) forest.Post
 forest-enum-told t c = search needs
@@ -63,7 +63,7 @@ forest-same-length t c = c .before .before .forest .kept .1 .0 ∙ c .before .be
 
 forest-returns-2 : (t : ℕ) → forest-lts.Need-returns-2 (forest-calls t) (forest-at t) forest.Post
 forest-returns-2 t c =
-    let b = c .before .before .before .before .before .before .before .before .before .node .ensures .0 .within _ (c .before .before .before .before .before .w .given .1) in (
+    let b = c .before .before .before .before .before .before .before .before .before .node .ensures .0 .within _ (next-is (c .before .before .before .before .before .w .given .1)) in (
       bound-wider (omega arith) (c .before .before .forest .ensures .0),
       λ ns k f l. forest-more ns _ _ _ _ _ _ _ _ (c .before .before .before .before .before .before .before .before .before .before .before .if1 .left) (omega (arith, c .before .before .before .before .before .before .before .before .before .before .before .before .before .before .pre)) (c .before .before .before .before .before .before .before .before .before .node .ensures .1 ns k f l) (c .before .before .before .before .before .w .given .1) (c .before .before .forest .ensures .1 ns k f (omega arith)),
     )
@@ -103,7 +103,7 @@ node-same-length t c = simp length-set (c .before .before .before .before .befor
 
 node-returns-2 : (t : ℕ) → node-lts.Need-returns-2 (node-calls t) (node-at t) node.Post
 node-returns-2 t c =
-    let b = c .before .before .before .before .before .forest .ensures .0 .within _ (c .before .w .given .1) in (
+    let b = c .before .before .before .before .before .forest .ensures .0 .within _ (next-is (c .before .w .given .1)) in (
       bound-next (b .0) (b .1),
       λ ns k. tree-read _ ns _ k _ _ _ (c .before .before .before .before .before .before .before .before .if1 .left) (omega (arith, c .before .before .before .before .before .before .before .before .before .before .before .pre)) (c .before .before .before .before .before .forest .ensures .1 ns k) (c .before .w .given .1),
     )

@@ -4,6 +4,7 @@ use lib.ListN.{length, length-take}
 use lib.Seq.{length-take-le}
 use Rattle.tree_read.proofs.ChildCounts.{few}
 use Rattle.tree_read.proofs.WholeTree.{tree-found, tree-over, tree-lost}
+use Rattle.tree_read.proofs.WalkSteps.{next-is}
 use borrow.Author.Needs.{needs}
 use Rattle.tree_read.proofs.tree.read.Statement.{statement}
 use Rattle.tree_read.proofs.tree.read.Tie as tie
@@ -39,7 +40,7 @@ returns : tie.Need-returns
 returns c = tree-found _ _ _ _ (c .before .before .before .before .before .before .before .before .before .before .args .n) (c .before .before .before .before .before .before .before .before .before .before .pre) (c .before .before .before .before .before .before .before .before .child-counts .ensures) (c .before .before .before .before .before .node .ensures .1) (c .before .before .w .given .1) (c .if1 .taken)
 
 returns-2 : tie.Need-returns-2
-returns-2 c = let b = c .before .before .before .before .before .before .node .ensures .0 .within _ (c .before .before .before .w .given .1) in c .no-tree .ensures ∙ sym (tree-over _ _ _ _ (c .before .before .before .before .before .before .before .before .before .before .before .args .n) (c .before .before .before .before .before .before .before .before .before .before .before .pre) (c .before .before .before .before .before .before .before .before .before .child-counts .ensures) (c .before .before .before .before .before .before .node .ensures .1) (c .before .before .before .w .given .1) (c .before .if1 .left) (omega (arith, length-take (c .before .before .before .before .before .before .before .before .before .before .before .args .n .count) (c .before .before .before .before .before .before .before .before .before .child-counts .result))))
+returns-2 c = let b = c .before .before .before .before .before .before .node .ensures .0 .within _ (next-is (c .before .before .before .w .given .1)) in c .no-tree .ensures ∙ sym (tree-over _ _ _ _ (c .before .before .before .before .before .before .before .before .before .before .before .args .n) (c .before .before .before .before .before .before .before .before .before .before .before .pre) (c .before .before .before .before .before .before .before .before .before .child-counts .ensures) (c .before .before .before .before .before .before .node .ensures .1) (c .before .before .before .w .given .1) (c .before .if1 .left) (omega (arith, length-take (c .before .before .before .before .before .before .before .before .before .before .before .args .n .count) (c .before .before .before .before .before .before .before .before .before .child-counts .result))))
 
 returns-3 : tie.Need-returns-3
 returns-3 c = c .no-tree2 .ensures ∙ sym (tree-lost _ _ _ _ (c .before .before .before .before .before .before .before .before .before .args .n) (c .before .before .before .before .before .before .before .before .before .pre) (c .before .before .before .before .before .before .before .child-counts .ensures) (c .before .before .before .before .node .ensures .1) (c .before .enum-told .given .1))
