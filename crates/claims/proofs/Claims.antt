@@ -15,10 +15,11 @@ use Rattle.semantics.specs.Editions.{Edition, edition1, capacity}
 use Rattle.semantics.specs.Refusals.{accepted}
 use Rattle.semantics.specs.Expressions.{Number, Truth, numberBytes, truthBytes, numberDepth, truthDepth, numberIn, truthIn}
 use Rattle.semantics.specs.Plant.{Plant, selectors}
-use Rattle.semantics.specs.Run.{stop, possible, Next, halted, Control, Situation, Answered, at, step}
+use Rattle.semantics.specs.Run.{Action, stop, possible, Next, halted, Control, Situation, Answered, at, step}
 use Rattle.semantics.specs.Rules.{Rule, Derives, Stopping, Standing, at-start, stands-at, Sound, Decides}
 use Rattle.semantics.specs.TableFile.{locationLimit}
 use Rattle.semantics.specs.Tables.{Table, risingFrom, judgeTable, actionOrStop, tableControl}
+use Rattle.semantics.specs.TableRuns.{TableRuns}
 use Rattle.semantics.specs.Starts.{Start, startIn, startFits}
 use Rattle.semantics.specs.Writing.{writeTable, TableLimits, TableReadAs, startBytes, Each, InRange, HasMode, StartLimits}
 use Rattle.semantics.specs.Proper.{NamesKnown, TruthNamesKnown, IsTruth, IsNumber, TableWritten}
@@ -35,8 +36,10 @@ use Rattle.semantics.proofs.ProperForms as ProperForms
 use Rattle.semantics.proofs.WrittenSources as TableBytes
 use Rattle.semantics.proofs.TableForms as TableForms
 use Rattle.semantics.proofs.TablesProper as TablesProper
+use Rattle.semantics.proofs.TableEntries as TableEntries
 use Rattle.schedules.specs.FileSections.{FileSections, fileSectionsIn}
-use Rattle.schedules.specs.Nodes.{Node, parallel, while-do, if-else, stop-all, nodesIn, actionOf, nodeAction, actionsOf}
+use Rattle.schedules.specs.Nodes.{Node, parallel, while-do, if-else, stop-all, nodesIn, nodeAction, actionsOf}
+use Rattle.schedules.specs.Doing.{Does}
 use Rattle.schedules.specs.Trees.{Tree, treeOf}
 use Rattle.schedules.specs.Preorder.{Written}
 use Rattle.schedules.specs.Residuals.{Residual, fresh, acting, move}
@@ -59,6 +62,7 @@ use Rattle.schedules.proofs.Agreement as Agreement
 use Rattle.schedules.proofs.FirstNumber as FileNumbers
 use Rattle.schedules.proofs.CallsHold as FileCalls
 use Rattle.schedules.proofs.NodeActions as NodeActions
+use Rattle.schedules.proofs.NodesDo as NodesDo
 use Rattle.schedules.proofs.ScheduleSound as ScheduleSound
 use Rattle.schedules.proofs.MovesByRule as MovesByRule
 use Rattle.schedules.proofs.ActingDetermines as ActingDetermines
@@ -235,7 +239,19 @@ start-stands c vs ms = stands-at at-start
 pub event-stands : {S : Type 0} (ed : Edition) (p : Plant) (c : Control S) → Sound p c → (s : Situation S) → Standing c s → (e : List ℕ) → Standing c ((step ed p c s e) .left)
 event-stands ed p c sound s stand e = StepRules.rule-standing ed p c stand (StepRules.rule-of ed p c sound s stand e)
 
+-- the run by the rules: it starts at the fresh root, in a residual those nodes act that act there, each does what it is, and the run goes where its move leads.
+-- Ruled out: a rule run that starts at the root's first child; one that goes on where the residual's own move halts.
+pub rule-control : (s : Schedule) → ruleControl s ≡ record { start = fresh (s .root); acting = acting; action = nodeAction (s .nodes); next = move }
+unfolding ruleControl
+rule-control s = refl
+
+-- the run of an accepted table, in the words of "Table file": where it starts, who acts, what each does, and which target a move takes (`TableRuns`, with FFFE and FFFD as such).
+-- Ruled out: a table run that takes the second target where a test holds; one that ends with 202 where the target is FFFE.
+pub table-control : (ed : Edition) (table : List ℕ) (t : Table) → judgeTable ed table ≡ accepted t → TableRuns t (tableControl t)
+table-control = TableEntries.table-runs
+
 -- what `step-rules` and `first-answer` ask of a run, every accepted schedule and every accepted table gives.
+-- Ruled out: a table that lets a RESET of a missing variable be picked; a plant in which two rates of one variable are in force.
 pub sound-rules : (ed : Edition) (file : List ℕ) (s : Schedule) → judgeFile ed file ≡ accepted s → Sound (s .plant) (ruleControl s)
 sound-rules = FileCalls.sound-rules
 
@@ -265,14 +281,21 @@ pub only-stop-halts-table : (ed : Edition) (table : List ℕ) (t : Table) → ju
     possible ((tableControl t) .action n) b ≡ true → ((tableControl t) .next x n b ≡ halted) ↔ ((tableControl t) .action n ≡ stop)
 only-stop-halts-table = TableCalls.table-halts
 
--- what a node does is taken from the node itself, whichever node acts; the list of actions that a table has says the same of every number.
--- Ruled out: a rule run that takes its actions from a list that was written wrongly; a node that acts without an action.
+-- what a node does is taken from the node itself, whichever node acts (`Does`, kind by kind); the list of actions that a table has says the same of every number.
+-- Ruled out: a rule run that takes its actions from a list that was written wrongly; a node that acts without an action; a SWITCH whose selector and mode change places.
 pub acts-as-listed : (s : Schedule) (n : ℕ) → (ruleControl s) .action n ≡ actionOrStop (actionsOf (s .nodes)) n
 acts-as-listed = NodeActions.rule-action
 
 pub acts-by-node : (ed : Edition) (file : List ℕ) (s : Schedule) → judgeFile ed file ≡ accepted s → (r : Residual) → Of (s .root) r → (n : ℕ) → Mem n (acting r) →
-    (x : Node) × (getElem? (s .nodes) n ≡ some x) × (actionOf x ≡ some (nodeAction (s .nodes) n))
-acts-by-node ed file s h r o n m = let q = ScheduleSound.acting-own s ((FileNumbers.passed ed file s h) .tree) r o n m in (q .node, q .is-node, q .is-action)
+    (x : Node) × (getElem? (s .nodes) n ≡ some x) × Does x (nodeAction (s .nodes) n)
+acts-by-node ed file s h r o n m = let q = ScheduleSound.acting-own s ((FileNumbers.passed ed file s h) .tree) r o n m in (q .node, q .is-node, NodesDo.does (q .node) (q .is-action))
+
+-- the actions of the table that compiling writes: each is what its node does, and each node of kinds 3 to 9 has one.
+-- Ruled out: a RESET that assigns variable 0 whatever variable it names; an IF that is listed as a wait.
+pub actions-by-node : (ed : Edition) (file room : List ℕ) → (compile ed file room) .refusal ≡ 0 →
+    (s : Schedule) × (judgeFile ed file ≡ accepted s) × (t : Table) × (judgeTable ed (take ((compile ed file room) .written) ((compile ed file room) .table)) ≡ accepted t) ×
+    ((n : ℕ) (a : Action) → Mem (record { node = n; action = a }) (t .actions) ↔ ((x : Node) × (getElem? (s .nodes) n ≡ some x) × Does x a))
+actions-by-node = NodesDo.table-actions
 
 -- the nodes that test, which a table gives a second target, are the WHILEs and the IFs.
 -- Ruled out: a CONTINUE with a target on false; an IF whose second child is never reached.

@@ -27,6 +27,7 @@ pub mod TableAccepted
 pub mod RowsHold
 pub mod Agreement
 pub mod Demand2
+pub mod NodesDo
 pub mod CallsHold
 pub mod WrittenBytes
 -- the number of locations, and the order of a PARALLEL's children

@@ -1,6 +1,7 @@
 -- The schedule file, its tree, residuals and moves, the rule run and compiling. One module for each part of document 01, in its order.
 pub mod FileSections
 pub mod Nodes
+pub mod Doing
 pub mod Trees
 pub mod Preorder
 pub mod Laid
