@@ -45,6 +45,7 @@ use Rattle.schedules.specs.Preorder.{Written}
 use Rattle.schedules.specs.Residuals.{Residual, fresh, acting, move}
 use Rattle.schedules.specs.MoveRules.{Fresh, Acts, MoveRule, LeadsByRule}
 use Rattle.schedules.specs.Reached.{Leads, Of, Distinct, AsMany}
+use Rattle.schedules.specs.Arrivals.{NumberedInOrder}
 use Rattle.schedules.specs.Files.{Schedule, judgeFile, ruleControl}
 use Rattle.schedules.specs.Compiling.{testsOf, tableOf}
 use Rattle.schedules.specs.Calls.{readSchedule, size, ruleRun, compile}
@@ -58,6 +59,7 @@ use Rattle.schedules.specs.Sizes.{sizeOf, pencilSize}
 use Rattle.schedules.specs.TableSizes.{tableLength, TableSized}
 use Rattle.schedules.specs.Reordered.{OneTree, Swapped, SameButOrder}
 use Rattle.schedules.proofs.Demand2 as Demand2
+use Rattle.schedules.proofs.FirstArrivals as FirstArrivals
 use Rattle.schedules.proofs.Agreement as Agreement
 use Rattle.schedules.proofs.FirstNumber as FileNumbers
 use Rattle.schedules.proofs.CallsHold as FileCalls
@@ -87,6 +89,13 @@ use Rattle.schedules.proofs.ExamHolds as ExamHolds
 pub reached : (ed : Edition) (file room : List ℕ) → (compile ed file room) .refusal ≡ 0 →
     TableHolds ed file (take ((compile ed file room) .written) ((compile ed file room) .table))
 reached = Demand2.table-holds
+
+-- "Take locations in number order, acting nodes rising, the target on done or true before that on false; a residual not met yet takes the next number.":
+-- of the locations that `reached` speaks of, each but 0 has a move that leads there, and for every move to one of them a lower one has a move that comes sooner.
+-- A move is told by its location, node and outcome and by `MoveRule`; which comes sooner, by `Sooner`: the compiler's own list of targets stands in neither.
+-- Ruled out: a compiler that takes the acting nodes of a location falling; one that numbers the target on false first, or goes on with the newest location first.
+pub numbered-in-order : (ed : Edition) (file table : List ℕ) (h : TableHolds ed file table) → NumberedInOrder (testsOf (h .schedule .nodes)) (h .locations)
+numbered-in-order = FirstArrivals.table-in-order
 
 -- "There are over 1,024 locations.": given exactly where more can be reached.
 -- Ruled out: a compiler that refuses a schedule of 1,024 locations; one that takes a schedule of 1,025.

@@ -24,7 +24,7 @@ use Rattle.schedules.specs.Compiling.{testsOf}
 use Rattle.schedules.specs.Files.{Schedule, ruleControl}
 use Rattle.schedules.specs.Calls.{ruleRun, compile}
 use Rattle.schedules.specs.Reordered.{SameButOrder}
-use Rattle.schedules.specs.Examples.{locationCount, stopOrWait, sizeIn, mixed, stopInside, tenResets, resetsBefore, fileWith, TakenWith, reset-first-file, reset-last-file, case-file, case-table, case-events, case-records, one-wait-file, stop-wait-file, two-rates-file, two-rates-file-2, while-file, stop-reset-file, stop-reset-table, faulty-check-file, fault-first-file, truth-first-file, truth-listed-file, fault-listed-file}
+use Rattle.schedules.specs.Examples.{locationCount, stopOrWait, sizeIn, mixed, stopInside, k5-file, k5-table, tenResets, resetsBefore, fileWith, TakenWith, reset-first-file, reset-last-file, case-file, case-table, case-events, case-records, one-wait-file, stop-wait-file, two-rates-file, two-rates-file-2, while-file, stop-reset-file, stop-reset-table, faulty-check-file, fault-first-file, truth-first-file, truth-listed-file, fault-listed-file}
 use Rattle.schedules.proofs.Traps as Traps
 use Rattle.schedules.proofs.CasePaper as CasePaper
 use Rattle.schedules.proofs.Papers as Schedules
@@ -53,6 +53,10 @@ K4 = (Schedules.K4-rules, Tables.K4-table)
 -- K5: "PARALLEL of two RESETs: 3 locations."
 pub K5 : (v w : ℕ) (e f : List ℕ) → locationCount (parallel 2 ∷ reset v e ∷ reset w f ∷ []) ≡ some 3
 K5 = Schedules.K5
+
+-- the bytes of such a table, of two variables: two nodes act at location 0, and the lower one's target has the lower number
+pub K5-table : compile edition1 k5-file (replicate 85 9) ≡ record { refusal = 0; written = 85; table = k5-table }
+K5-table = Schedules.K5-table
 
 -- K6: "WHILE over a RESET: 2."
 pub K6 : (v : ℕ) (t e : List ℕ) → locationCount (while-do t ∷ reset v e ∷ []) ≡ some 2

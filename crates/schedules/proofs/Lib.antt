@@ -27,6 +27,8 @@ pub mod TableAccepted
 pub mod RowsHold
 pub mod Agreement
 pub mod Demand2
+pub mod Cuts
+pub mod FirstArrivals
 pub mod NodesDo
 pub mod CallsHold
 pub mod WrittenBytes
