@@ -17,9 +17,9 @@ pub mod Conditions
 pub mod Writing
 pub mod Proper
 pub mod Agreement
-pub mod Sentences
-pub mod Exam
 pub mod Sizes
 pub mod TableSizes
+pub mod Sentences
+pub mod Exam
 pub mod Reordered
 pub mod Examples
