@@ -1,23 +1,25 @@
 -- The mission's demands as theorems about the definitions: each statement written out, under the sentence that it settles, and proved by one citation.
--- They hold for a tree of any size and over any edition, so that 256 nodes need no second proof: `edition-256` shows that such an edition is one.
--- What each statement rules out is named by two wrong products that it does not let by.
+-- They hold for a tree of any size and over any edition, so that of the definitions 256 nodes need no second proof: `edition-256` shows that such an edition is one.
+-- The contracts of the code cite `edition1` only.
+-- "Every call ends, on any bytes": the definitions are total, the contract of each call says that it returns what its definition gives, and asks nothing of the bytes (no `requires`).
+-- What a statement, or a group of them, rules out is named by two wrong products that it does not let by.
 use mathlib.Core.Path.{_≡_, refl}
 use mathlib.Core.Bool.{Bool, true, false}
 use mathlib.Core.List.{List, _∷_, _++_, flatMap, flatten, List·Memᴰ as Mem, List·Permᴰ as Permuted}
 use mathlib.Core.Logic.{_↔_, _⊎_}
 use mathlib.Core.Option.{some}
-use Prim.Native.Nat.{ℕ, _*_, _≤_, _<_}
+use Prim.Native.Nat.{ℕ, _+_, _*_, _≤_, _<_}
 use lib.Dec.{lit<, lit≤}
 use lib.IntN.{ℤ}
 use lib.ListN.{length, getElem?, take, drop}
-use Rattle.semantics.specs.Bytes.{All, within, isSome, overwrite, two-bytes}
+use Rattle.semantics.specs.Bytes.{All, within, isSome, overwrite, two-bytes, widthOf}
 use Rattle.semantics.specs.Editions.{Edition, edition1, capacity}
 use Rattle.semantics.specs.Refusals.{accepted}
 use Rattle.semantics.specs.Expressions.{Number, Truth, numberBytes, truthBytes, numberDepth, truthDepth, numberIn, truthIn}
 use Rattle.semantics.specs.Plant.{Plant, selectors}
 use Rattle.semantics.specs.Run.{Action, stop, possible, Next, halted, Control, Situation, Answered, at, step}
 use Rattle.semantics.specs.Rules.{Rule, Derives, Stopping, Standing, at-start, stands-at, Sound, Decides}
-use Rattle.semantics.specs.TableFile.{locationLimit}
+use Rattle.semantics.specs.TableFile.{locationLimit, writeAction}
 use Rattle.semantics.specs.Tables.{Table, risingFrom, judgeTable, actionOrStop, tableControl}
 use Rattle.semantics.specs.TableRuns.{TableRuns}
 use Rattle.semantics.specs.Starts.{Start, startIn, startFits}
@@ -76,6 +78,7 @@ use Rattle.schedules.proofs.FilesProper as FilesProper
 use Rattle.schedules.proofs.ByPencil as ByPencil
 use Rattle.schedules.proofs.LocationCount as LocationCount
 use Rattle.schedules.proofs.TableLength as TableLength
+use Rattle.schedules.proofs.ActionLength as ActionLength
 use Rattle.schedules.proofs.SizeCall as SizeCall
 use Rattle.schedules.proofs.BranchOrder as BranchOrder
 use Rattle.schedules.proofs.ExchangedBytes as ExchangedBytes
@@ -155,6 +158,14 @@ pub locations-by-size : (ed : Edition) (file room : List ℕ) → (compile ed fi
     TableSized ed file (take ((compile ed file room) .written) ((compile ed file room) .table))
 locations-by-size = TableLength.locations-by-size
 
+-- its actions: each takes the width of a node's number more than its node in the file, where it takes its length and what follows; in edition 1 one byte more.
+-- Ruled out: a table that keeps a node's kind beside its action's; one that leaves out the number of the node.
+pub action-length : (ed : Edition) (x : Node) (n : ℕ) (a : Action) → Does x a → length (writeAction ed (record { node = n; action = a })) ≡ widthOf (ed .width) + length (writeNode ed x)
+action-length = ActionLength.action-length
+
+pub action-one-more : (x : Node) (n : ℕ) (a : Action) → Does x a → length (writeAction edition1 (record { node = n; action = a })) ≡ 1 + length (writeNode edition1 x)
+action-one-more = ActionLength.action-one-more
+
 -- 13 is given exactly where that number is above 1,024.
 -- Ruled out: a compiler that refuses by the number of nodes or entries; one that gives up on a schedule that it took too long to number.
 pub refused-13-by-size : (ed : Edition) (file room : List ℕ) →
@@ -183,8 +194,12 @@ pub branch-order : (ed : Edition) (file other room : List ℕ) → SameButOrder 
     ((compile ed file room) .refusal ≡ (compile ed other room) .refusal) × ((compile ed file room) .written ≡ (compile ed other room) .written)
 branch-order = BranchOrder.branch-order
 
+-- Ruled out: a reader that counts the children of a PARALLEL's first branch only; a size that grows with the longest branch listed last.
 pub read-order : (ed : Edition) (file other : List ℕ) → SameButOrder ed file other → readSchedule ed file ≡ readSchedule ed other
 read-order = BranchOrder.read-order
+
+pub size-order : (ed : Edition) (file other : List ℕ) → SameButOrder ed file other → size ed file ≡ size ed other
+size-order = BranchOrder.size-order
 
 -- such a pair are a file and the same bytes with those of two neighbouring children of a PARALLEL exchanged: of every file whose sections (3) and nodes (9) are read, whatever else is wrong with it.
 -- Ruled out: a reader that looks for a node elsewhere than after the bytes of the node before it; one that takes the same bytes for another node at another place.
@@ -203,14 +218,15 @@ pub branches-exchanged : (ed : Edition) (file : List ℕ) (parts : FileSections)
     ((compile ed file room) .refusal ≡ (compile ed other room) .refusal) × ((compile ed file room) .written ≡ (compile ed other room) .written))
 branches-exchanged ed file parts b e h w = let q = exchanged-bytes ed file parts b e h w in (q .0, q .1, λ room. branch-order ed file _ room (q .2))
 
--- and the same bytes with those of all its children in any other order are such a pair, too.
+-- and the same bytes with those of all its children in any other order are such a pair, too: whatever room is lent, they get the same number and the same length.
 -- Ruled out: a compiler whose answer depends on which child is listed first; one that holds for two children and not for three.
 pub any-order : (ed : Edition) (file : List ℕ) (parts : FileSections) → All (λ b. b < 256) file → fileSectionsIn (drop 3 file) ≡ some parts →
     (before after : List Node) {children others : List (List Node)} → All OneTree children → Permuted children others →
     nodesIn ed (parts .schedule) ≡ some (before ++ (parallel (length children) ∷ (flatMap (λ (c : List Node). c) children ++ after))) →
     (front : List ℕ) × (file ≡ front ++ (flatMap (flatMap (writeNode ed)) children ++ flatMap (writeNode ed) after))
-    × SameButOrder ed file (front ++ (flatMap (flatMap (writeNode ed)) others ++ flatMap (writeNode ed) after))
-any-order = ExchangedBytes.any-order-bytes
+    × (let other = front ++ (flatMap (flatMap (writeNode ed)) others ++ flatMap (writeNode ed) after) in SameButOrder ed file other
+    × ((room : List ℕ) → ((compile ed file room) .refusal ≡ (compile ed other room) .refusal) × ((compile ed file room) .written ≡ (compile ed other room) .written)))
+any-order ed file parts b e before after c p h = let q = ExchangedBytes.any-order-bytes ed file parts b e before after c p h in (q .0, q .1, (q .2, λ room. branch-order ed file _ room (q .2)))
 
 -- ---- demand 3: "The table runner accepts that table, and for every start and every list of whole events the run by the rules and the run of the table
 -- write the same records, byte for byte, and the same counts. One claim about the whole list."
@@ -242,6 +258,7 @@ pub step-rules : {S : Type 0} (ed : Edition) (p : Plant) (c : Control S) → Sou
 step-rules ed p c = StepRules.step-rules ed p c
 
 -- a run can be at its start, and where an event leaves it.
+-- Ruled out: a step that leaves the run where no move leads; statements about steps that hold of no run.
 pub start-stands : {S : Type 0} (c : Control S) (vs : List ℤ) (ms : List ℕ) → Standing c (at (c .start) vs ms)
 start-stands c vs ms = stands-at at-start
 
@@ -275,7 +292,7 @@ node-order-rules ed file s h r o = MovesByRule.acting-rises (s .nodes) (s .root)
 pub node-order-table : (ed : Edition) (table : List ℕ) (t : Table) → judgeTable ed table ≡ accepted t → (x : ℕ) → risingFrom 0 ((tableControl t) .acting x) ≡ true
 node-order-table = TableCalls.table-rises
 
--- "one of a STOP 202": over any control 202 is the answer to the pick of a STOP that acts, and to nothing else.
+-- "one of a STOP 202": over any control 202 is the answer only to the pick of a STOP that acts.
 -- Ruled out: a WHILE whose move halts the run; a tick that is answered 202.
 pub halts-by-stop : {S : Type 0} {ed : Edition} {p : Plant} {c : Control S} {s t : Situation S} {e : List ℕ} → Rule ed p c s e 202 t → Stopping ed c s e
 halts-by-stop r = StepRules.halts-by-stop r
@@ -324,6 +341,7 @@ pub table-run-holds : (ed : Edition) (table start events buffer : List ℕ) → 
 table-run-holds = TableCalls.table-run-holds
 
 -- the rules derive one list only.
+-- Ruled out: rules under which two runs of one start and one list of events would both be right; a second answer to an event that is turned away.
 pub derives-one : {S : Type 0} {ed : Edition} {p : Plant} {c : Control S} {s : Situation S} {es : List (List ℕ)} {l m : List (Answered S)} → Derives ed p c s es l → Derives ed p c s es m → l ≡ m
 derives-one d e = StepRules.derives-one d e
 
@@ -357,6 +375,7 @@ pub refused-examine : (ed : Edition) (file start events table records others : L
 refused-examine = ExamHolds.exam-refused
 
 -- the counts that the two reading calls return where they accept.
+-- Ruled out: a reading call that counts equations in place of selectors; one that returns the locations' entries as locations.
 pub read-schedule-result : (ed : Edition) (file : List ℕ) (s : Schedule) → judgeFile ed file ≡ accepted s →
     readSchedule ed file ≡ record { refusal = 0; variables = length (s .plant .variables); selectors = length (selectors (s .plant)); nodes = length (s .nodes) }
 read-schedule-result ed file s = FileCalls.read-schedule-result ed file
@@ -374,6 +393,7 @@ pub first-number-read-schedule : (ed : Edition) (file : List ℕ) → All (λ b.
 first-number-read-schedule = FileSentences.first-read-schedule
 
 -- the size of a schedule is refused as reading it is.
+-- Ruled out: a size told for a file that reading refuses; a size that gives 13.
 pub first-number-size : (ed : Edition) (file : List ℕ) → (size ed file) .refusal ≡ (readSchedule ed file) .refusal
 first-number-size = SizeCall.size-refusal
 
@@ -494,7 +514,8 @@ bytes-only-table-run = TableBytes.table-run-bytes
 pub edition-1 : (edition1 .version ≡ 1) × (edition1 .nodes ≡ 64) × (capacity (edition1 .width) ≡ 256) × (edition1 .set-bytes ≡ 8) × (edition1 .event-bytes ≡ 3)
 edition-1 = (refl, refl, refl, refl, refl)
 
--- an edition of 256 nodes keeps what every edition keeps
+-- an edition of 256 nodes keeps what every edition keeps.
+-- Ruled out: statements over editions that only the first one meets; an edition of 256 nodes whose records have no bit for the last of them.
 pub edition-256 : (ed : Edition) × (ed .nodes ≡ 256)
 edition-256 = (
   record {

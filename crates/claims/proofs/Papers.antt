@@ -85,7 +85,7 @@ pub K11 : (buffer : List ℕ) → (compile edition1 [] buffer ≡ record { refus
     × (compile edition1 (0x01 ∷ 0x00 ∷ 0x04 ∷ []) buffer ≡ record { refusal = 2; written = 0; table = buffer })
 K11 buffer = (Schedules.K11-empty buffer, Schedules.K11-sections buffer, Schedules.K11-length buffer)
 
--- K10: "Depth 16 is taken, 17 gives 12."
+-- K10: "Depth 16 is taken, 17 gives 12.", told by the reader of a truth: 12 is given where it has no answer (`expression-bytes-truth`)
 pub K10 : (ed : Edition) (v : ℕ) → (isSome (truthIn ed v (replicate 15 0x2a ++ (0x2f ∷ []))) ≡ true) × (truthIn ed v (replicate 16 0x2a ++ (0x2f ∷ [])) ≡ none)
 K10 ed v = (is-some (DepthPapers.K10-taken ed v), DepthPapers.K10-none ed v)
 

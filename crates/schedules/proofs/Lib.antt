@@ -39,6 +39,7 @@ pub mod Reachable
 pub mod Reaching
 pub mod LocationCount
 pub mod TableLength
+pub mod ActionLength
 pub mod SizeCall
 pub mod PreorderSizes
 pub mod ReorderedTrees
