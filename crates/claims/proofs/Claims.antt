@@ -66,6 +66,7 @@ use Rattle.schedules.proofs.Agreement as Agreement
 use Rattle.schedules.proofs.FirstNumber as FileNumbers
 use Rattle.schedules.proofs.CallsHold as FileCalls
 use Rattle.schedules.proofs.NodeActions as NodeActions
+use Rattle.schedules.proofs.ActionDone as ActionDone
 use Rattle.schedules.proofs.NodesDo as NodesDo
 use Rattle.schedules.proofs.ScheduleSound as ScheduleSound
 use Rattle.schedules.proofs.MovesByRule as MovesByRule
@@ -314,7 +315,7 @@ acts-as-listed = NodeActions.rule-action
 
 pub acts-by-node : (ed : Edition) (file : List ℕ) (s : Schedule) → judgeFile ed file ≡ accepted s → (r : Residual) → Of (s .root) r → (n : ℕ) → Mem n (acting r) →
     (x : Node) × (getElem? (s .nodes) n ≡ some x) × Does x (nodeAction (s .nodes) n)
-acts-by-node ed file s h r o n m = let q = ScheduleSound.acting-own s ((FileNumbers.passed ed file s h) .tree) r o n m in (q .node, q .is-node, NodesDo.does (q .node) (q .is-action))
+acts-by-node ed file s h r o n m = let q = ScheduleSound.acting-own s ((FileNumbers.passed ed file s h) .tree) r o n m in (q .node, q .is-node, ActionDone.does (q .node) (q .is-action))
 
 -- the actions of the table that compiling writes: each is what its node does, and each node of kinds 3 to 9 has one.
 -- Ruled out: a RESET that assigns variable 0 whatever variable it names; an IF that is listed as a wait.

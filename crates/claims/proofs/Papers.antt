@@ -28,6 +28,7 @@ use Rattle.schedules.specs.Examples.{locationCount, stopOrWait, sizeIn, mixed, 
 use Rattle.schedules.proofs.Traps as Traps
 use Rattle.schedules.proofs.CasePaper as CasePaper
 use Rattle.schedules.proofs.Papers as Schedules
+use Rattle.schedules.proofs.ActingOrder as ActingOrder
 use Rattle.schedules.proofs.ByPencil as Sizes
 use Rattle.schedules.proofs.BorderPapers as Border
 
@@ -55,8 +56,8 @@ pub K5 : (v w : ℕ) (e f : List ℕ) → locationCount (parallel 2 ∷ reset v 
 K5 = Schedules.K5
 
 -- the bytes of such a table, of two variables: two nodes act at location 0, and the lower one's target has the lower number
-pub K5-table : compile edition1 k5-file (replicate 85 9) ≡ record { refusal = 0; written = 85; table = k5-table }
-K5-table = Schedules.K5-table
+pub K5-table : compile edition1 k5-file (replicate 85 9 ++ (7 ∷ 8 ∷ [])) ≡ record { refusal = 0; written = 85; table = k5-table ++ (7 ∷ 8 ∷ []) }
+K5-table = ActingOrder.K5-table
 
 -- K6: "WHILE over a RESET: 2."
 pub K6 : (v : ℕ) (t e : List ℕ) → locationCount (while-do t ∷ reset v e ∷ []) ≡ some 2

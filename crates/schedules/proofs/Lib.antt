@@ -1,6 +1,7 @@
 pub mod Computes
 -- papers
 pub mod Papers
+pub mod ActingOrder
 pub mod Traps
 pub mod CasePaper
 -- trees and residuals
@@ -19,6 +20,7 @@ pub mod Reached
 pub mod FirstNumber
 -- the table of a schedule
 pub mod NodesRead
+pub mod ActionDone
 pub mod ActionsListed
 pub mod NodeActions
 pub mod TableAgrees

@@ -1,4 +1,4 @@
--- What a node does, by the definition and by the relation; and the actions that a written table has.
+-- The actions that a list of nodes and a written table have.
 use mathlib.Core.Path.{_≡_, refl, sym, ap, subst, _∙_}
 use mathlib.Core.List.{List, List·Memᴰ as Mem}
 use mathlib.Core.Logic.{_↔_}
@@ -12,38 +12,17 @@ use Rattle.semantics.specs.Run.{Action}
 use Rattle.semantics.specs.TableFile.{NodeAction}
 use Rattle.semantics.specs.Tables.{Table, judgeTable, actionAt}
 use Rattle.semantics.specs.Proper.{Rising}
-use Rattle.semantics.proofs.Facts.{none-not-some, some-is}
+use Rattle.semantics.proofs.Facts.{none-not-some}
 use Rattle.semantics.proofs.WrittenSources.{found}
 use Rattle.semantics.proofs.TablesProper.{rising-there, listed-found, is-listed}
-use Rattle.schedules.specs.Nodes.{Node, sequence, parallel, while-do, if-else, continue-until, reset, reinitial, switch-to, stop-all, actionOf, actionsOf}
-use Rattle.schedules.specs.Doing.{Does, while-tests, if-tests, continue-waits, reset-assigns, reinitial-assigns, switch-switches, stop-stops}
+use Rattle.schedules.specs.Nodes.{Node, actionOf, actionsOf}
+use Rattle.schedules.specs.Doing.{Does}
 use Rattle.schedules.specs.Files.{Schedule, judgeFile}
 use Rattle.schedules.specs.Calls.{compile}
+use Rattle.schedules.proofs.ActionDone.{does, done}
 use Rattle.schedules.proofs.ActionsListed.{actions-rise}
 use Rattle.schedules.proofs.NodeActions.{action-at-node}
 use Rattle.schedules.proofs.Demand2.{table-holds}
-
-pub does : (x : Node) {a : Action} → actionOf x ≡ some a → Does x a
-unfolding actionOf
-does (sequence k) e = none-not-some e
-does (parallel k) e = none-not-some e
-does (while-do t) e = rw (← some-is e) while-tests
-does (if-else t) e = rw (← some-is e) if-tests
-does (continue-until t) e = rw (← some-is e) continue-waits
-does (reset v t) e = rw (← some-is e) reset-assigns
-does (reinitial v t) e = rw (← some-is e) reinitial-assigns
-does (switch-to s m) e = rw (← some-is e) switch-switches
-does stop-all e = rw (← some-is e) stop-stops
-
-done : {x : Node} {a : Action} → Does x a → actionOf x ≡ some a
-unfolding actionOf
-done while-tests = refl
-done if-tests = refl
-done continue-waits = refl
-done reset-assigns = refl
-done reinitial-assigns = refl
-done switch-switches = refl
-done stop-stops = refl
 
 -- the actions of a list of nodes
 pub actions-do : (ns : List Node) (n : ℕ) (a : Action) → Mem (record { node = n; action = a }) (actionsOf ns) ↔ ((x : Node) × (getElem? ns n ≡ some x) × Does x a)

@@ -9,7 +9,7 @@ use Rattle.semantics.specs.Editions.{edition1}
 use Rattle.semantics.specs.Plant.{Plant, among}
 use Rattle.semantics.specs.Run.{pass, switchCheck, at, over, step, settle, follow, arrive, judge, judgePick, act, allow, _>>_}
 use Rattle.semantics.specs.K1.{k1-file, k1-table, start-at, k2-events, k2-records, k3-events, k3-records, k4-events, k4-records}
-use Rattle.schedules.specs.Examples.{locationCount, stopOrWait, k5-file, k5-table}
+use Rattle.schedules.specs.Examples.{locationCount, stopOrWait}
 use Rattle.schedules.specs.FileSections.{FileSections}
 use Rattle.schedules.specs.Nodes.{parallel, while-do, if-else, reset}
 use Rattle.schedules.specs.Trees.{Tree, treeOf, par, halt, leaf, branch, cons, nil}
@@ -47,11 +47,6 @@ K4-rules = refl
 pub K5 : (v w : ℕ) (e f : List ℕ) → locationCount (parallel 2 ∷ reset v e ∷ reset w f ∷ []) ≡ some 3
 unfolding schedules
 K5 v w e f = refl
-
--- the bytes of such a table: "acting nodes rising"
-pub K5-table : compile edition1 k5-file (replicate 85 9) ≡ record { refusal = 0; written = 85; table = k5-table }
-unfolding schedules k5-file k5-table
-K5-table = refl
 
 -- K6: "WHILE over a RESET: 2."
 pub K6 : (v : ℕ) (t e : List ℕ) → locationCount (while-do t ∷ reset v e ∷ []) ≡ some 2
