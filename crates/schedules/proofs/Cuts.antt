@@ -94,7 +94,8 @@ cut-rising (x ∷ l) m r h = go (List·Memᴰ·cases-cons h) (λ k. cut-rising l
     go (inr k) f = more k (f k)
 
 -- ---- of first occurrences: what has a lower number than y stands before every y
-pub before-first : {A : Type 0} (eq? : (x y : A) → Dec (x ≡ y)) {k l : List A} {y : A} {F : A → Type 0} → FirstOccurrences k l → Cut y F k → (i j : ℕ) (x : A) → getElem? l i ≡ some x → getElem? l j ≡ some y → i < j → F x
+pub before-first : {A : Type 0} (eq? : (x y : A) → Dec (x ≡ y)) {k l : List A} {y : A} {F : A → Type 0} → FirstOccurrences k l → Cut y F k →
+    (i j : ℕ) (x : A) → getElem? l i ≡ some x → getElem? l j ≡ some y → i < j → F x
 before-first {A} eq? {k} {l} {y} {F} o c i j x a b h = go (met? eq? x (c .front))
   where
     not-here : (Mem x (c .front) → ⊥) → Mem x (c .front) ⊎ Mem x (y ∷ []) → ⊥

@@ -83,7 +83,8 @@ module _ (ed : Edition) (table : List ℕ) (t : Table) (h : judgeTable ed table 
       let r = row x i in
       let p = all-mem (r .entries) m in
       let a : actionOrStop (t .actions) (e .node) ≡ p .action = found-or-stop (t .actions) (e .node) (listed-found (t .actions) (record { node = e .node; action = p .action }) acts-rise (p .listed)) in
-      let n : (b : Bool) → entryNext (getD (t .locations) x []) (e .node) b ≡ goingTo (cond b (e .target) (e .other)) = λ b. ap (λ es. entryNext es (e .node) b) (at-default [] (t .locations) x i) ∙ entry-next es e (r .rising) m b in
+      let n : (b : Bool) → entryNext (getD (t .locations) x []) (e .node) b ≡ goingTo (cond b (e .target) (e .other)) =
+      λ b. ap (λ es. entryNext es (e .node) b) (at-default [] (t .locations) x i) ∙ entry-next es e (r .rising) m b in
       record {
         listed = subst (λ a. Mem (record { node = e .node; action = a }) (t .actions)) (sym a) (p .listed);
         on-true = subst (λ y. Coded (length (t .locations)) y (e .target)) (sym (n true)) (coded-true (length (t .locations)) few (p .targets));
