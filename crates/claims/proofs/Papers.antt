@@ -22,7 +22,7 @@ use Rattle.schedules.specs.Residuals.{fresh, in-branch, at-node}
 use Rattle.schedules.specs.Numbering.{locations}
 use Rattle.schedules.specs.Compiling.{testsOf}
 use Rattle.schedules.specs.Files.{Schedule, ruleControl}
-use Rattle.schedules.specs.Calls.{ruleRun, compile}
+use Rattle.schedules.specs.Calls.{readSchedule, ruleRun, compile}
 use Rattle.schedules.specs.Reordered.{SameButOrder}
 use Rattle.schedules.specs.Examples.{locationCount, stopOrWait, sizeIn, mixed, stopInside, k5-file, k5-table, tenResets, resetsBefore, fileWith, TakenWith, reset-first-file, reset-last-file, case-file, case-table, case-events, case-records, one-wait-file, stop-wait-file, two-rates-file, two-rates-file-2, while-file, stop-reset-file, stop-reset-table, faulty-check-file, fault-first-file, truth-first-file, truth-listed-file, fault-listed-file}
 use Rattle.schedules.proofs.Traps as Traps
@@ -86,9 +86,13 @@ pub K11 : (buffer : List ℕ) → (compile edition1 [] buffer ≡ record { refus
     × (compile edition1 (0x01 ∷ 0x00 ∷ 0x04 ∷ []) buffer ≡ record { refusal = 2; written = 0; table = buffer })
 K11 buffer = (Schedules.K11-empty buffer, Schedules.K11-sections buffer, Schedules.K11-length buffer)
 
--- K10: "Depth 16 is taken, 17 gives 12.", told by the reader of a truth: 12 is given where it has no answer (`expression-bytes-truth`)
-pub K10 : (ed : Edition) (v : ℕ) → (isSome (truthIn ed v (replicate 15 0x2a ++ (0x2f ∷ []))) ≡ true) × (truthIn ed v (replicate 16 0x2a ++ (0x2f ∷ [])) ≡ none)
-K10 ed v = (is-some (DepthPapers.K10-taken ed v), DepthPapers.K10-none ed v)
+-- K10: "Depth 16 is taken, 17 gives 12.": of a CONTINUE UNTIL so many negations of true; and of the reader of a truth, in every edition
+pub K10 : ((readSchedule edition1 (fileWith (continue-until (replicate 15 0x2a ++ (0x2f ∷ [])) ∷ []))) .refusal ≡ 0)
+    × ((room : List ℕ) → (compile edition1 (fileWith (continue-until (replicate 16 0x2a ++ (0x2f ∷ [])) ∷ [])) room) .refusal ≡ 12)
+K10 = (Schedules.K10-taken, Schedules.K10-refused)
+
+pub K10-read : (ed : Edition) (v : ℕ) → (isSome (truthIn ed v (replicate 15 0x2a ++ (0x2f ∷ []))) ≡ true) × (truthIn ed v (replicate 16 0x2a ++ (0x2f ∷ [])) ≡ none)
+K10-read ed v = (is-some (DepthPapers.K10-taken ed v), DepthPapers.K10-none ed v)
 
 -- "the target on done or true before that on false": an IF's first child has number 1, its second 2
 pub true-first : (v w : ℕ) (t e f : List ℕ) →
