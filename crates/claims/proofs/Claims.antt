@@ -1,24 +1,27 @@
 -- The mission's demands as theorems about the definitions: each statement written out, under the sentence that it settles, and proved by one citation.
--- They hold for a tree of any size and over any edition, so that 256 nodes need no second proof: `edition-256` shows that such an edition is one.
--- What each statement rules out is named by two wrong products that it does not let by.
+-- They hold for a tree of any size and over any edition, so that of the definitions 256 nodes need no second proof: `edition-256` shows that such an edition is one.
+-- The contracts of the calls in code cite `edition1`.
+-- "Every call ends, on any bytes": the definitions are total, the contract of each call says that it returns what its definition gives, and asks nothing of the bytes (no `requires`).
+-- What a statement, or a group of them, rules out is named by two wrong products that it does not let by.
 use mathlib.Core.Path.{_≡_, refl}
 use mathlib.Core.Bool.{Bool, true, false}
 use mathlib.Core.List.{List, _∷_, _++_, flatMap, flatten, List·Memᴰ as Mem, List·Permᴰ as Permuted}
 use mathlib.Core.Logic.{_↔_, _⊎_}
 use mathlib.Core.Option.{some}
-use Prim.Native.Nat.{ℕ, _*_, _≤_, _<_}
+use Prim.Native.Nat.{ℕ, _+_, _*_, _≤_, _<_}
 use lib.Dec.{lit<, lit≤}
 use lib.IntN.{ℤ}
 use lib.ListN.{length, getElem?, take, drop}
-use Rattle.semantics.specs.Bytes.{All, within, isSome, overwrite, two-bytes}
+use Rattle.semantics.specs.Bytes.{All, within, isSome, overwrite, two-bytes, widthOf}
 use Rattle.semantics.specs.Editions.{Edition, edition1, capacity}
 use Rattle.semantics.specs.Refusals.{accepted}
 use Rattle.semantics.specs.Expressions.{Number, Truth, numberBytes, truthBytes, numberDepth, truthDepth, numberIn, truthIn}
 use Rattle.semantics.specs.Plant.{Plant, selectors}
-use Rattle.semantics.specs.Run.{stop, possible, Next, halted, Control, Situation, Answered, at, step}
+use Rattle.semantics.specs.Run.{Action, stop, possible, Next, halted, Control, Situation, Answered, at, step}
 use Rattle.semantics.specs.Rules.{Rule, Derives, Stopping, Standing, at-start, stands-at, Sound, Decides}
-use Rattle.semantics.specs.TableFile.{locationLimit}
+use Rattle.semantics.specs.TableFile.{locationLimit, writeAction}
 use Rattle.semantics.specs.Tables.{Table, risingFrom, judgeTable, actionOrStop, tableControl}
+use Rattle.semantics.specs.TableRuns.{TableRuns}
 use Rattle.semantics.specs.Starts.{Start, startIn, startFits}
 use Rattle.semantics.specs.Writing.{writeTable, TableLimits, TableReadAs, startBytes, Each, InRange, HasMode, StartLimits}
 use Rattle.semantics.specs.Proper.{NamesKnown, TruthNamesKnown, IsTruth, IsNumber, TableWritten}
@@ -35,13 +38,16 @@ use Rattle.semantics.proofs.ProperForms as ProperForms
 use Rattle.semantics.proofs.WrittenSources as TableBytes
 use Rattle.semantics.proofs.TableForms as TableForms
 use Rattle.semantics.proofs.TablesProper as TablesProper
+use Rattle.semantics.proofs.TableEntries as TableEntries
 use Rattle.schedules.specs.FileSections.{FileSections, fileSectionsIn}
-use Rattle.schedules.specs.Nodes.{Node, parallel, while-do, if-else, stop-all, nodesIn, actionOf, nodeAction, actionsOf}
+use Rattle.schedules.specs.Nodes.{Node, parallel, while-do, if-else, stop-all, nodesIn, nodeAction, actionsOf}
+use Rattle.schedules.specs.Doing.{Does}
 use Rattle.schedules.specs.Trees.{Tree, treeOf}
 use Rattle.schedules.specs.Preorder.{Written}
 use Rattle.schedules.specs.Residuals.{Residual, fresh, acting, move}
 use Rattle.schedules.specs.MoveRules.{Fresh, Acts, MoveRule, LeadsByRule}
 use Rattle.schedules.specs.Reached.{Leads, Of, Distinct, AsMany}
+use Rattle.schedules.specs.Arrivals.{NumberedInOrder}
 use Rattle.schedules.specs.Files.{Schedule, judgeFile, ruleControl}
 use Rattle.schedules.specs.Compiling.{testsOf, tableOf}
 use Rattle.schedules.specs.Calls.{readSchedule, size, ruleRun, compile}
@@ -55,10 +61,13 @@ use Rattle.schedules.specs.Sizes.{sizeOf, pencilSize}
 use Rattle.schedules.specs.TableSizes.{tableLength, TableSized}
 use Rattle.schedules.specs.Reordered.{OneTree, Swapped, SameButOrder}
 use Rattle.schedules.proofs.Demand2 as Demand2
+use Rattle.schedules.proofs.FirstArrivals as FirstArrivals
 use Rattle.schedules.proofs.Agreement as Agreement
 use Rattle.schedules.proofs.FirstNumber as FileNumbers
 use Rattle.schedules.proofs.CallsHold as FileCalls
 use Rattle.schedules.proofs.NodeActions as NodeActions
+use Rattle.schedules.proofs.ActionDone as ActionDone
+use Rattle.schedules.proofs.NodesDo as NodesDo
 use Rattle.schedules.proofs.ScheduleSound as ScheduleSound
 use Rattle.schedules.proofs.MovesByRule as MovesByRule
 use Rattle.schedules.proofs.ActingDetermines as ActingDetermines
@@ -70,6 +79,7 @@ use Rattle.schedules.proofs.FilesProper as FilesProper
 use Rattle.schedules.proofs.ByPencil as ByPencil
 use Rattle.schedules.proofs.LocationCount as LocationCount
 use Rattle.schedules.proofs.TableLength as TableLength
+use Rattle.schedules.proofs.ActionLength as ActionLength
 use Rattle.schedules.proofs.SizeCall as SizeCall
 use Rattle.schedules.proofs.BranchOrder as BranchOrder
 use Rattle.schedules.proofs.ExchangedBytes as ExchangedBytes
@@ -83,6 +93,13 @@ use Rattle.schedules.proofs.ExamHolds as ExamHolds
 pub reached : (ed : Edition) (file room : List ℕ) → (compile ed file room) .refusal ≡ 0 →
     TableHolds ed file (take ((compile ed file room) .written) ((compile ed file room) .table))
 reached = Demand2.table-holds
+
+-- "Take locations in number order, acting nodes rising, the target on done or true before that on false; a residual not met yet takes the next number.":
+-- of the locations that `reached` speaks of, each but 0 has a move that leads there, and for every move to one of them a lower one has a move that comes sooner.
+-- A move is told by its location, node and outcome and by `MoveRule`; which comes sooner, by `Sooner`: the compiler's own list of targets stands in neither.
+-- Ruled out: a compiler that takes the acting nodes of a location falling; one that numbers the target on false first, or goes on with the newest location first.
+pub numbered-in-order : (ed : Edition) (file table : List ℕ) (h : TableHolds ed file table) → NumberedInOrder (testsOf (h .schedule .nodes)) (h .locations)
+numbered-in-order = FirstArrivals.table-in-order
 
 -- "There are over 1,024 locations.": given exactly where more can be reached.
 -- Ruled out: a compiler that refuses a schedule of 1,024 locations; one that takes a schedule of 1,025.
@@ -142,6 +159,14 @@ pub locations-by-size : (ed : Edition) (file room : List ℕ) → (compile ed fi
     TableSized ed file (take ((compile ed file room) .written) ((compile ed file room) .table))
 locations-by-size = TableLength.locations-by-size
 
+-- its actions: each takes the width of a node's number more than its node in the file, where it takes its length and what follows; in edition 1 one byte more.
+-- Ruled out: a table that keeps a node's kind beside its action's; one that leaves out the number of the node.
+pub action-length : (ed : Edition) (x : Node) (n : ℕ) (a : Action) → Does x a → length (writeAction ed (record { node = n; action = a })) ≡ widthOf (ed .width) + length (writeNode ed x)
+action-length = ActionLength.action-length
+
+pub action-one-more : (x : Node) (n : ℕ) (a : Action) → Does x a → length (writeAction edition1 (record { node = n; action = a })) ≡ 1 + length (writeNode edition1 x)
+action-one-more = ActionLength.action-one-more
+
 -- 13 is given exactly where that number is above 1,024.
 -- Ruled out: a compiler that refuses by the number of nodes or entries; one that gives up on a schedule that it took too long to number.
 pub refused-13-by-size : (ed : Edition) (file room : List ℕ) →
@@ -170,8 +195,12 @@ pub branch-order : (ed : Edition) (file other room : List ℕ) → SameButOrder 
     ((compile ed file room) .refusal ≡ (compile ed other room) .refusal) × ((compile ed file room) .written ≡ (compile ed other room) .written)
 branch-order = BranchOrder.branch-order
 
+-- Ruled out: a reader that counts the children of a PARALLEL's first branch only; a size that grows with the longest branch listed last.
 pub read-order : (ed : Edition) (file other : List ℕ) → SameButOrder ed file other → readSchedule ed file ≡ readSchedule ed other
 read-order = BranchOrder.read-order
+
+pub size-order : (ed : Edition) (file other : List ℕ) → SameButOrder ed file other → size ed file ≡ size ed other
+size-order = BranchOrder.size-order
 
 -- such a pair are a file and the same bytes with those of two neighbouring children of a PARALLEL exchanged: of every file whose sections (3) and nodes (9) are read, whatever else is wrong with it.
 -- Ruled out: a reader that looks for a node elsewhere than after the bytes of the node before it; one that takes the same bytes for another node at another place.
@@ -190,14 +219,15 @@ pub branches-exchanged : (ed : Edition) (file : List ℕ) (parts : FileSections)
     ((compile ed file room) .refusal ≡ (compile ed other room) .refusal) × ((compile ed file room) .written ≡ (compile ed other room) .written))
 branches-exchanged ed file parts b e h w = let q = exchanged-bytes ed file parts b e h w in (q .0, q .1, λ room. branch-order ed file _ room (q .2))
 
--- and the same bytes with those of all its children in any other order are such a pair, too.
+-- and the same bytes with those of all its children in any other order are such a pair, too: whatever room is lent, they get the same number and the same length.
 -- Ruled out: a compiler whose answer depends on which child is listed first; one that holds for two children and not for three.
 pub any-order : (ed : Edition) (file : List ℕ) (parts : FileSections) → All (λ b. b < 256) file → fileSectionsIn (drop 3 file) ≡ some parts →
     (before after : List Node) {children others : List (List Node)} → All OneTree children → Permuted children others →
     nodesIn ed (parts .schedule) ≡ some (before ++ (parallel (length children) ∷ (flatMap (λ (c : List Node). c) children ++ after))) →
     (front : List ℕ) × (file ≡ front ++ (flatMap (flatMap (writeNode ed)) children ++ flatMap (writeNode ed) after))
-    × SameButOrder ed file (front ++ (flatMap (flatMap (writeNode ed)) others ++ flatMap (writeNode ed) after))
-any-order = ExchangedBytes.any-order-bytes
+    × (let other = front ++ (flatMap (flatMap (writeNode ed)) others ++ flatMap (writeNode ed) after) in SameButOrder ed file other
+    × ((room : List ℕ) → ((compile ed file room) .refusal ≡ (compile ed other room) .refusal) × ((compile ed file room) .written ≡ (compile ed other room) .written)))
+any-order ed file parts b e before after c p h = let q = ExchangedBytes.any-order-bytes ed file parts b e before after c p h in (q .0, q .1, (q .2, λ room. branch-order ed file _ room (q .2)))
 
 -- ---- demand 3: "The table runner accepts that table, and for every start and every list of whole events the run by the rules and the run of the table
 -- write the same records, byte for byte, and the same counts. One claim about the whole list."
@@ -229,13 +259,26 @@ pub step-rules : {S : Type 0} (ed : Edition) (p : Plant) (c : Control S) → Sou
 step-rules ed p c = StepRules.step-rules ed p c
 
 -- a run can be at its start, and where an event leaves it.
+-- Ruled out: a step that leaves the run where no move leads; statements about steps that hold of no run.
 pub start-stands : {S : Type 0} (c : Control S) (vs : List ℤ) (ms : List ℕ) → Standing c (at (c .start) vs ms)
 start-stands c vs ms = stands-at at-start
 
 pub event-stands : {S : Type 0} (ed : Edition) (p : Plant) (c : Control S) → Sound p c → (s : Situation S) → Standing c s → (e : List ℕ) → Standing c ((step ed p c s e) .left)
 event-stands ed p c sound s stand e = StepRules.rule-standing ed p c stand (StepRules.rule-of ed p c sound s stand e)
 
+-- the run by the rules: it starts at the fresh root, in a residual those nodes act that act there, each does what it is, and the run goes where its move leads.
+-- Ruled out: a rule run that starts at the root's first child; one that goes on where the residual's own move halts.
+pub rule-control : (s : Schedule) → ruleControl s ≡ record { start = fresh (s .root); acting = acting; action = nodeAction (s .nodes); next = move }
+unfolding ruleControl
+rule-control s = refl
+
+-- the run of an accepted table, in the words of "Table file": where it starts, who acts, what each does, and which target a move takes (`TableRuns`, with FFFE and FFFD as such).
+-- Ruled out: a table run that takes the second target where a test holds; one that ends with 202 where the target is FFFE.
+pub table-control : (ed : Edition) (table : List ℕ) (t : Table) → judgeTable ed table ≡ accepted t → TableRuns t (tableControl t)
+table-control = TableEntries.table-runs
+
 -- what `step-rules` and `first-answer` ask of a run, every accepted schedule and every accepted table gives.
+-- Ruled out: a table that lets a RESET of a missing variable be picked; a plant in which two rates of one variable are in force.
 pub sound-rules : (ed : Edition) (file : List ℕ) (s : Schedule) → judgeFile ed file ≡ accepted s → Sound (s .plant) (ruleControl s)
 sound-rules = FileCalls.sound-rules
 
@@ -250,7 +293,7 @@ node-order-rules ed file s h r o = MovesByRule.acting-rises (s .nodes) (s .root)
 pub node-order-table : (ed : Edition) (table : List ℕ) (t : Table) → judgeTable ed table ≡ accepted t → (x : ℕ) → risingFrom 0 ((tableControl t) .acting x) ≡ true
 node-order-table = TableCalls.table-rises
 
--- "one of a STOP 202": over any control 202 is the answer to the pick of a STOP that acts, and to nothing else.
+-- "one of a STOP 202": over any control 202 is the answer only to the pick of a STOP that acts.
 -- Ruled out: a WHILE whose move halts the run; a tick that is answered 202.
 pub halts-by-stop : {S : Type 0} {ed : Edition} {p : Plant} {c : Control S} {s t : Situation S} {e : List ℕ} → Rule ed p c s e 202 t → Stopping ed c s e
 halts-by-stop r = StepRules.halts-by-stop r
@@ -265,14 +308,21 @@ pub only-stop-halts-table : (ed : Edition) (table : List ℕ) (t : Table) → ju
     possible ((tableControl t) .action n) b ≡ true → ((tableControl t) .next x n b ≡ halted) ↔ ((tableControl t) .action n ≡ stop)
 only-stop-halts-table = TableCalls.table-halts
 
--- what a node does is taken from the node itself, whichever node acts; the list of actions that a table has says the same of every number.
--- Ruled out: a rule run that takes its actions from a list that was written wrongly; a node that acts without an action.
+-- what a node does is taken from the node itself, whichever node acts (`Does`, kind by kind); the list of actions that a table has says the same of every number.
+-- Ruled out: a rule run that takes its actions from a list that was written wrongly; a node that acts without an action; a SWITCH whose selector and mode change places.
 pub acts-as-listed : (s : Schedule) (n : ℕ) → (ruleControl s) .action n ≡ actionOrStop (actionsOf (s .nodes)) n
 acts-as-listed = NodeActions.rule-action
 
 pub acts-by-node : (ed : Edition) (file : List ℕ) (s : Schedule) → judgeFile ed file ≡ accepted s → (r : Residual) → Of (s .root) r → (n : ℕ) → Mem n (acting r) →
-    (x : Node) × (getElem? (s .nodes) n ≡ some x) × (actionOf x ≡ some (nodeAction (s .nodes) n))
-acts-by-node ed file s h r o n m = let q = ScheduleSound.acting-own s ((FileNumbers.passed ed file s h) .tree) r o n m in (q .node, q .is-node, q .is-action)
+    (x : Node) × (getElem? (s .nodes) n ≡ some x) × Does x (nodeAction (s .nodes) n)
+acts-by-node ed file s h r o n m = let q = ScheduleSound.acting-own s ((FileNumbers.passed ed file s h) .tree) r o n m in (q .node, q .is-node, ActionDone.does (q .node) (q .is-action))
+
+-- the actions of the table that compiling writes: each is what its node does, and each node of kinds 3 to 9 has one.
+-- Ruled out: a RESET that assigns variable 0 whatever variable it names; an IF that is listed as a wait.
+pub actions-by-node : (ed : Edition) (file room : List ℕ) → (compile ed file room) .refusal ≡ 0 →
+    (s : Schedule) × (judgeFile ed file ≡ accepted s) × (t : Table) × (judgeTable ed (take ((compile ed file room) .written) ((compile ed file room) .table)) ≡ accepted t) ×
+    ((n : ℕ) (a : Action) → Mem (record { node = n; action = a }) (t .actions) ↔ ((x : Node) × (getElem? (s .nodes) n ≡ some x) × Does x a))
+actions-by-node = NodesDo.table-actions
 
 -- the nodes that test, which a table gives a second target, are the WHILEs and the IFs.
 -- Ruled out: a CONTINUE with a target on false; an IF whose second child is never reached.
@@ -292,6 +342,7 @@ pub table-run-holds : (ed : Edition) (table start events buffer : List ℕ) → 
 table-run-holds = TableCalls.table-run-holds
 
 -- the rules derive one list only.
+-- Ruled out: rules under which two runs of one start and one list of events would both be right; a second answer to an event that is turned away.
 pub derives-one : {S : Type 0} {ed : Edition} {p : Plant} {c : Control S} {s : Situation S} {es : List (List ℕ)} {l m : List (Answered S)} → Derives ed p c s es l → Derives ed p c s es m → l ≡ m
 derives-one d e = StepRules.derives-one d e
 
@@ -325,6 +376,7 @@ pub refused-examine : (ed : Edition) (file start events table records others : L
 refused-examine = ExamHolds.exam-refused
 
 -- the counts that the two reading calls return where they accept.
+-- Ruled out: a reading call that counts equations in place of selectors; one that returns the locations' entries as locations.
 pub read-schedule-result : (ed : Edition) (file : List ℕ) (s : Schedule) → judgeFile ed file ≡ accepted s →
     readSchedule ed file ≡ record { refusal = 0; variables = length (s .plant .variables); selectors = length (selectors (s .plant)); nodes = length (s .nodes) }
 read-schedule-result ed file s = FileCalls.read-schedule-result ed file
@@ -342,6 +394,7 @@ pub first-number-read-schedule : (ed : Edition) (file : List ℕ) → All (λ b.
 first-number-read-schedule = FileSentences.first-read-schedule
 
 -- the size of a schedule is refused as reading it is.
+-- Ruled out: a size told for a file that reading refuses; a size that gives 13.
 pub first-number-size : (ed : Edition) (file : List ℕ) → (size ed file) .refusal ≡ (readSchedule ed file) .refusal
 first-number-size = SizeCall.size-refusal
 
@@ -462,7 +515,8 @@ bytes-only-table-run = TableBytes.table-run-bytes
 pub edition-1 : (edition1 .version ≡ 1) × (edition1 .nodes ≡ 64) × (capacity (edition1 .width) ≡ 256) × (edition1 .set-bytes ≡ 8) × (edition1 .event-bytes ≡ 3)
 edition-1 = (refl, refl, refl, refl, refl)
 
--- an edition of 256 nodes keeps what every edition keeps
+-- an edition of 256 nodes keeps what every edition keeps.
+-- Ruled out: statements over editions that only the first one meets; an edition of 256 nodes whose records have no bit for the last of them.
 pub edition-256 : (ed : Edition) × (ed .nodes ≡ 256)
 edition-256 = (
   record {

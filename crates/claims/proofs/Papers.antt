@@ -22,12 +22,13 @@ use Rattle.schedules.specs.Residuals.{fresh, in-branch, at-node}
 use Rattle.schedules.specs.Numbering.{locations}
 use Rattle.schedules.specs.Compiling.{testsOf}
 use Rattle.schedules.specs.Files.{Schedule, ruleControl}
-use Rattle.schedules.specs.Calls.{ruleRun, compile}
+use Rattle.schedules.specs.Calls.{readSchedule, ruleRun, compile}
 use Rattle.schedules.specs.Reordered.{SameButOrder}
-use Rattle.schedules.specs.Examples.{locationCount, stopOrWait, sizeIn, mixed, stopInside, tenResets, resetsBefore, fileWith, TakenWith, reset-first-file, reset-last-file, case-file, case-table, case-events, case-records, one-wait-file, stop-wait-file, two-rates-file, two-rates-file-2, while-file, stop-reset-file, stop-reset-table, faulty-check-file, fault-first-file, truth-first-file, truth-listed-file, fault-listed-file}
+use Rattle.schedules.specs.Examples.{locationCount, stopOrWait, sizeIn, mixed, stopInside, k5-file, k5-table, tenResets, resetsBefore, fileWith, TakenWith, reset-first-file, reset-last-file, case-file, case-table, case-events, case-records, one-wait-file, stop-wait-file, two-rates-file, two-rates-file-2, while-file, stop-reset-file, stop-reset-table, faulty-check-file, fault-first-file, truth-first-file, truth-listed-file, fault-listed-file}
 use Rattle.schedules.proofs.Traps as Traps
 use Rattle.schedules.proofs.CasePaper as CasePaper
 use Rattle.schedules.proofs.Papers as Schedules
+use Rattle.schedules.proofs.ActingOrder as ActingOrder
 use Rattle.schedules.proofs.ByPencil as Sizes
 use Rattle.schedules.proofs.BorderPapers as Border
 
@@ -53,6 +54,10 @@ K4 = (Schedules.K4-rules, Tables.K4-table)
 -- K5: "PARALLEL of two RESETs: 3 locations."
 pub K5 : (v w : ℕ) (e f : List ℕ) → locationCount (parallel 2 ∷ reset v e ∷ reset w f ∷ []) ≡ some 3
 K5 = Schedules.K5
+
+-- the bytes of such a table, of two variables: two nodes act at location 0, and the lower one's target has the lower number
+pub K5-table : compile edition1 k5-file (replicate 85 9 ++ (7 ∷ 8 ∷ [])) ≡ record { refusal = 0; written = 85; table = k5-table ++ (7 ∷ 8 ∷ []) }
+K5-table = ActingOrder.K5-table
 
 -- K6: "WHILE over a RESET: 2."
 pub K6 : (v : ℕ) (t e : List ℕ) → locationCount (while-do t ∷ reset v e ∷ []) ≡ some 2
@@ -81,9 +86,13 @@ pub K11 : (buffer : List ℕ) → (compile edition1 [] buffer ≡ record { refus
     × (compile edition1 (0x01 ∷ 0x00 ∷ 0x04 ∷ []) buffer ≡ record { refusal = 2; written = 0; table = buffer })
 K11 buffer = (Schedules.K11-empty buffer, Schedules.K11-sections buffer, Schedules.K11-length buffer)
 
--- K10: "Depth 16 is taken, 17 gives 12."
-pub K10 : (ed : Edition) (v : ℕ) → (isSome (truthIn ed v (replicate 15 0x2a ++ (0x2f ∷ []))) ≡ true) × (truthIn ed v (replicate 16 0x2a ++ (0x2f ∷ [])) ≡ none)
-K10 ed v = (is-some (DepthPapers.K10-taken ed v), DepthPapers.K10-none ed v)
+-- K10: "Depth 16 is taken, 17 gives 12.": of a CONTINUE UNTIL so many negations of true; and of the reader of a truth, in every edition
+pub K10 : ((readSchedule edition1 (fileWith (continue-until (replicate 15 0x2a ++ (0x2f ∷ [])) ∷ []))) .refusal ≡ 0)
+    × ((room : List ℕ) → (compile edition1 (fileWith (continue-until (replicate 16 0x2a ++ (0x2f ∷ [])) ∷ [])) room) .refusal ≡ 12)
+K10 = (Schedules.K10-taken, Schedules.K10-refused)
+
+pub K10-read : (ed : Edition) (v : ℕ) → (isSome (truthIn ed v (replicate 15 0x2a ++ (0x2f ∷ []))) ≡ true) × (truthIn ed v (replicate 16 0x2a ++ (0x2f ∷ [])) ≡ none)
+K10-read ed v = (is-some (DepthPapers.K10-taken ed v), DepthPapers.K10-none ed v)
 
 -- "the target on done or true before that on false": an IF's first child has number 1, its second 2
 pub true-first : (v w : ℕ) (t e f : List ℕ) →

@@ -21,7 +21,7 @@ use Rattle.schedules.specs.Trees.{Tree, treeOf}
 use Rattle.schedules.specs.Numbering.{locations}
 use Rattle.schedules.specs.Files.{Schedule, judgeFile, fileHeader, fileLength}
 use Rattle.schedules.specs.Compiling.{scheduleLocations, tableOf, judgeCompile}
-use Rattle.schedules.specs.Calls.{scheduleCounts, readSchedule, compile, compiledInto}
+use Rattle.schedules.specs.Calls.{scheduleCounts, readSchedule, sizeTold, sizeCounts, size, compile, compiledInto}
 use Rattle.schedules.specs.Sizes.{Size, sizeOf}
 use Rattle.schedules.specs.TableSizes.{tableLength}
 use Rattle.schedules.specs.Reordered.{Reordered, SameButOrder}
@@ -97,6 +97,7 @@ module _ {A C D : Type 0} {R : C → D → Type 0} where
 record AsLarge (ed : Edition) (s u : Schedule) : Type 0 where
   same-plant : s .plant ≡ u .plant
   same-count : length (s .nodes) ≡ length (u .nodes)
+  same-size : sizeOf (s .root) ≡ sizeOf (u .root)
   few : leb (length (scheduleLocations s)) locationLimit ≡ leb (length (scheduleLocations u)) locationLimit
   long : leb (length (scheduleLocations s)) locationLimit ≡ true → length (tableOf ed s) ≡ length (tableOf ed u)
 
@@ -113,6 +114,7 @@ reordered-large ed s u p v e h k r z =
     record {
       same-plant = p;
       same-count = reordered-length r;
+      same-size = sym z;
       few = few;
       long = λ t. table-of-length ed s h (leb-true (length (scheduleLocations s)) locationLimit t) ∙ same-length ed s u v e r (sym z)
           ∙ sym (table-of-length ed u k (leb-true (length (scheduleLocations u)) locationLimit (sym few ∙ t)));
@@ -164,6 +166,15 @@ alike-read (both-accepted l) = rw (l .same-plant, l .same-count) refl
 pub read-order : (ed : Edition) (file other : List ℕ) → SameButOrder ed file other → readSchedule ed file ≡ readSchedule ed other
 unfolding readSchedule
 read-order ed file other s = alike-read (judged-alike ed file other s)
+
+alike-size : {ed : Edition} {j k : Judged Schedule} → Alike (AsLarge ed) j k → sizeCounts j ≡ sizeCounts k
+unfolding sizeCounts
+alike-size (both-refused n) = refl
+alike-size (both-accepted l) = ap sizeTold (l .same-size)
+
+pub size-order : (ed : Edition) (file other : List ℕ) → SameButOrder ed file other → size ed file ≡ size ed other
+unfolding size
+size-order ed file other s = alike-size (judged-alike ed file other s)
 
 -- the same number, 0 or a refusal's, and a table of the same length
 pub branch-order : (ed : Edition) (file other room : List ℕ) → SameButOrder ed file other →

@@ -35,12 +35,14 @@ use Rattle.schedules.specs.Calls.{ruleProgram, ruleRun, readSchedule, co
 use Rattle.schedules.specs.Writing.{writeSections, SectionsLimits, writeNodes, NodesLimits}
 use Rattle.schedules.specs.Proper.{ScheduleWritten}
 use Rattle.schedules.specs.Agreement.{TooMany}
+use Rattle.schedules.specs.TableSizes.{tableLength}
 use Rattle.schedules.specs.Sentences.{FileHead, HeadOfFile, three-bytes, FileSource, FileSectionsThere, PlantSectionsOfFile, of-file, NodesThere, FileSourceThere, AllRead, fileClauses, compileClauses, FilePlant, file-plant, ruleRunClauses}
-use Rattle.schedules.proofs.FirstNumber.{schedule-refusal, compiled-refusal}
+use Rattle.schedules.proofs.FirstNumber.{schedule-refusal, compiled-refusal, passed}
 use Rattle.schedules.proofs.OneTree.{one-tree}
 use Rattle.schedules.proofs.FileForms.{nodes-bytes, sections-bytes}
 use Rattle.schedules.proofs.FilesProper.{nodes-named, nodes-read, schedule-accepted}
 use Rattle.schedules.proofs.Demand2.{too-many, beyond}
+use Rattle.schedules.proofs.TableLength.{table-of-length}
 
 -- ---- 1 and 2
 head-is : {f : List ℕ} {h : FileHead} → HeadOfFile f h → record { version = getD f 0 0; length-field = be2 (getD f 1 0) (getD f 2 0); rest = drop 3 f } ≡ h
@@ -156,7 +158,8 @@ module _ (ed : Edition) (file : List ℕ) (z : AllBytes file) where
   compile-answers buffer = by-then (file-answers ed file z) (λ s e.
       let n = length (tableOf ed s) in
       by-ensure 13 (leb (length (scheduleLocations s)) locationLimit) (λ f. (s, schedule-there e, too-many s f)) (λ f k. few s f (k .2) (schedule-one e (k .0) (k .1))) (λ h13.
-      by-test (schedule-there e) (schedule-one e) 14 (leb n (length buffer)) (leb-true n (length buffer), le-leb n (length buffer)) (λ h14. by-end _)))
+      let long : n ≡ tableLength ed s = table-of-length ed s (passed ed file s e .tree) (leb-true (length (scheduleLocations s)) locationLimit h13) in
+      by-test (schedule-there e) (schedule-one e) 14 (leb n (length buffer)) (λ b. subst (λ n. n ≤ length buffer) long (leb-true n (length buffer) b), λ h. le-leb n (length buffer) (subst (λ n. n ≤ length buffer) (sym long) h)) (λ h14. by-end _)))
     where
       few : (s : Schedule) → leb (length (scheduleLocations s)) locationLimit ≡ true → {t : Schedule} → TooMany t → s ≡ t → ⊥
       few s f m i = true-not-false (sym f ∙ beyond s (subst TooMany (sym i) m))

@@ -1,6 +1,7 @@
 pub mod Computes
 -- papers
 pub mod Papers
+pub mod ActingOrder
 pub mod Traps
 pub mod CasePaper
 -- trees and residuals
@@ -19,6 +20,7 @@ pub mod Reached
 pub mod FirstNumber
 -- the table of a schedule
 pub mod NodesRead
+pub mod ActionDone
 pub mod ActionsListed
 pub mod NodeActions
 pub mod TableAgrees
@@ -27,6 +29,9 @@ pub mod TableAccepted
 pub mod RowsHold
 pub mod Agreement
 pub mod Demand2
+pub mod Cuts
+pub mod FirstArrivals
+pub mod NodesDo
 pub mod CallsHold
 pub mod WrittenBytes
 -- the number of locations, and the order of a PARALLEL's children
@@ -36,6 +41,7 @@ pub mod Reachable
 pub mod Reaching
 pub mod LocationCount
 pub mod TableLength
+pub mod ActionLength
 pub mod SizeCall
 pub mod PreorderSizes
 pub mod ReorderedTrees

@@ -9,15 +9,15 @@ use Rattle.semantics.specs.Editions.{edition1}
 use Rattle.semantics.specs.Plant.{Plant, among}
 use Rattle.semantics.specs.Run.{pass, switchCheck, at, over, step, settle, follow, arrive, judge, judgePick, act, allow, _>>_}
 use Rattle.semantics.specs.K1.{k1-file, k1-table, start-at, k2-events, k2-records, k3-events, k3-records, k4-events, k4-records}
-use Rattle.schedules.specs.Examples.{locationCount, stopOrWait}
+use Rattle.schedules.specs.Examples.{locationCount, stopOrWait, fileWith}
 use Rattle.schedules.specs.FileSections.{FileSections}
-use Rattle.schedules.specs.Nodes.{parallel, while-do, if-else, reset}
+use Rattle.schedules.specs.Nodes.{parallel, while-do, if-else, continue-until, reset}
 use Rattle.schedules.specs.Trees.{Tree, treeOf, par, halt, leaf, branch, cons, nil}
 use Rattle.schedules.specs.Residuals.{fresh, in-branch, at-node}
 use Rattle.schedules.specs.Numbering.{locations}
 use Rattle.schedules.specs.Files.{Schedule, ruleControl}
 use Rattle.schedules.specs.Compiling.{testsOf}
-use Rattle.schedules.specs.Calls.{ruleRun, compile}
+use Rattle.schedules.specs.Calls.{readSchedule, ruleRun, compile}
 use Rattle.semantics.proofs.Computes as Semantics
 use Rattle.semantics.proofs.Facts.{some-is}
 use Rattle.schedules.proofs.Computes.{schedules, nodes, residuals}
@@ -88,6 +88,15 @@ pub true-first : (v w : ℕ) (t e f : List ℕ) →
     ≡ some (at-node (branch 0 (leaf 1) (leaf 2)) ∷ in-branch (at-node (leaf 1)) ∷ in-branch (at-node (leaf 2)) ∷ [])
 unfolding schedules
 true-first v w t e f = refl
+
+-- K10: "Depth 16 is taken, 17 gives 12.": of a CONTINUE UNTIL so many negations of true
+pub K10-taken : (readSchedule edition1 (fileWith (continue-until (replicate 15 0x2a ++ (0x2f ∷ [])) ∷ []))) .refusal ≡ 0
+unfolding schedules
+K10-taken = refl
+
+pub K10-refused : (room : List ℕ) → (compile edition1 (fileWith (continue-until (replicate 16 0x2a ++ (0x2f ∷ [])) ∷ [])) room) .refusal ≡ 12
+unfolding schedules
+K10-refused room = refl
 
 -- K11: "Empty file 1; 01 00 03 gives 3; 01 00 04 gives 2.", whatever the buffer
 pub K11-empty : (buffer : List ℕ) → compile edition1 [] buffer ≡ record { refusal = 1; written = 0; table = buffer }

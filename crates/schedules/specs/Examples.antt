@@ -56,6 +56,19 @@ pub record TakenWith (ed : Edition) (file room : List ℕ) (locations : ℕ) : T
   pub table-read : judgeTable ed (take ((compile ed file room) .written) ((compile ed file room) .table)) ≡ accepted back
   pub as-many : length (back .locations) ≡ locations
 
+-- variables 0 and 1 in 0..10, no equation; PARALLEL of RESET variable 0 to 7 and RESET variable 1 to 5
+unfoldable pub k5-file : List ℕ
+k5-file =
+    1 ∷ 0 ∷ 55 ∷ 0 ∷ 25 ∷ 2 ∷ 0 ∷ 0 ∷ 0 ∷ 0 ∷ 0 ∷ 0 ∷ 0 ∷ 10 ∷ 0 ∷ 0 ∷ 0 ∷ 0 ∷ 0 ∷ 0 ∷ 0 ∷ 0 ∷ 0 ∷ 0 ∷ 0 ∷ 10 ∷ 0 ∷ 0 ∷ 0 ∷ 0 ∷
+    0 ∷ 1 ∷ 0 ∷ 0 ∷ 20 ∷ 3 ∷ 2 ∷ 2 ∷ 2 ∷ 7 ∷ 6 ∷ 0 ∷ 1 ∷ 0 ∷ 0 ∷ 0 ∷ 7 ∷ 7 ∷ 6 ∷ 1 ∷ 1 ∷ 0 ∷ 0 ∷ 0 ∷ 5 ∷ []
+
+-- its table: two actions, three locations; at location 0 both nodes act, node 1 leads to location 1 and node 2 to location 2
+unfoldable pub k5-table : List ℕ
+k5-table =
+    1 ∷ 0 ∷ 0 ∷ 0 ∷ 85 ∷ 0 ∷ 25 ∷ 2 ∷ 0 ∷ 0 ∷ 0 ∷ 0 ∷ 0 ∷ 0 ∷ 0 ∷ 10 ∷ 0 ∷ 0 ∷ 0 ∷ 0 ∷ 0 ∷ 0 ∷ 0 ∷ 0 ∷ 0 ∷ 0 ∷ 0 ∷ 10 ∷ 0 ∷ 0 ∷ 0 ∷ 0 ∷
+    0 ∷ 1 ∷ 0 ∷ 0 ∷ 19 ∷ 2 ∷ 8 ∷ 1 ∷ 3 ∷ 0 ∷ 1 ∷ 0 ∷ 0 ∷ 0 ∷ 7 ∷ 8 ∷ 2 ∷ 3 ∷ 1 ∷ 1 ∷ 0 ∷ 0 ∷ 0 ∷ 5 ∷
+    0 ∷ 0 ∷ 0 ∷ 25 ∷ 0 ∷ 3 ∷ 2 ∷ 1 ∷ 0 ∷ 1 ∷ 0xFF ∷ 0xFF ∷ 2 ∷ 0 ∷ 2 ∷ 0xFF ∷ 0xFF ∷ 1 ∷ 2 ∷ 0xFF ∷ 0xFE ∷ 0xFF ∷ 0xFF ∷ 1 ∷ 1 ∷ 0xFF ∷ 0xFE ∷ 0xFF ∷ 0xFF ∷ []
+
 -- one variable 0..10; CONTINUE UNTIL true or a fault
 unfoldable pub one-wait-file : List ℕ
 one-wait-file =

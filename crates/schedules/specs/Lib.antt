@@ -1,6 +1,7 @@
 -- The schedule file, its tree, residuals and moves, the rule run and compiling. One module for each part of document 01, in its order.
 pub mod FileSections
 pub mod Nodes
+pub mod Doing
 pub mod Trees
 pub mod Preorder
 pub mod Laid
@@ -8,6 +9,7 @@ pub mod Residuals
 pub mod MoveRules
 pub mod Numbering
 pub mod Reached
+pub mod Arrivals
 pub mod Files
 pub mod Compiling
 pub mod Calls
@@ -15,9 +17,9 @@ pub mod Conditions
 pub mod Writing
 pub mod Proper
 pub mod Agreement
-pub mod Sentences
-pub mod Exam
 pub mod Sizes
 pub mod TableSizes
+pub mod Sentences
+pub mod Exam
 pub mod Reordered
 pub mod Examples

@@ -14,10 +14,10 @@ use Rattle.schedules.specs.Nodes.{Node}
 use Rattle.schedules.specs.Trees.{Tree}
 use Rattle.schedules.specs.Preorder.{Written}
 use Rattle.schedules.specs.Files.{Schedule}
-use Rattle.schedules.specs.Compiling.{tableOf}
 use Rattle.schedules.specs.Writing.{writeSections, SectionsLimits, writeNodes, NodesLimits}
 use Rattle.schedules.specs.Proper.{NamedNode, ReadNode, ScheduleWritten}
 use Rattle.schedules.specs.Agreement.{TooMany}
+use Rattle.schedules.specs.TableSizes.{tableLength}
 
 -- "Byte 0 is version 1, then the whole file's length (2 bytes)", and the bytes after them
 pub record FileHead : Type 0 where
@@ -99,9 +99,9 @@ module _ (ed : Edition) (file : List ℕ) where
   abbrev pub Sentence13 : Type 0
   Sentence13 = (s : Schedule) × ScheduleWritten ed file s × TooMany s
 
-  -- 14: "The lent buffer is shorter than the table."
+  -- 14: "The lent buffer is shorter than the table.", whose length is told by the sections, the actions and the size of the tree
   abbrev pub Sentence14 : List ℕ → Type 0
-  Sentence14 buffer = Fails (ScheduleWritten ed file) (λ s. length (tableOf ed s) ≤ length buffer)
+  Sentence14 buffer = Fails (ScheduleWritten ed file) (λ s. tableLength ed s ≤ length buffer)
 
   -- "Compiling checks 1..14"
   abbrev pub compileClauses : List ℕ → List Clause

@@ -33,7 +33,7 @@ use Rattle.semantics.proofs.TablePassed.{table-passed}
 use Rattle.semantics.proofs.WrittenSources.{found}
 
 -- ---- an accepted table
-few-locations : (ed : Edition) (s : List ℕ) {ls : List (List Entry)} → locationsIn ed s ≡ some ls → length ls ≤ locationLimit
+pub few-locations : (ed : Edition) (s : List ℕ) {ls : List (List Entry)} → locationsIn ed s ≡ some ls → length ls ≤ locationLimit
 unfolding locationsIn readLocations
 few-locations ed s h =
     let a = Readers.split nat2 _ (Readers.whole-read _ s h) in
@@ -117,7 +117,7 @@ entries-rise k acts [] x h = refl
 entries-rise k acts (es ∷ ls) zero (all-cons h g) = and-left (risingFrom 0 (entryNodes es)) (every (entryFits k acts) es) h
 entries-rise k acts (es ∷ ls) (suc x) (all-cons h g) = entries-rise k acts ls x g
 
-found-or-stop : (l : List NodeAction) (n : ℕ) {a : Action} → actionAt l n ≡ some a → actionOrStop l n ≡ a
+pub found-or-stop : (l : List NodeAction) (n : ℕ) {a : Action} → actionAt l n ≡ some a → actionOrStop l n ≡ a
 unfolding actionOrStop
 found-or-stop l n e = rw (e, actionOrStop) refl
 

@@ -36,4 +36,5 @@ pub mod StartForms
 pub mod TableForms
 pub mod ProperForms
 pub mod TablesProper
+pub mod TableEntries
 pub mod TableSentences

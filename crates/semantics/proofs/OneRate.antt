@@ -15,7 +15,7 @@ use Rattle.semantics.proofs.Facts.{true-not-false, and-left, and-right,
 use Rattle.semantics.proofs.Judging as Judging
 use Rattle.semantics.proofs.Currents.{rate-in}
 
-map-mem : {r : Rate} (l : List Rate) → Mem r l → Mem (r .driven) (map (λ (r : Rate). r .driven) l)
+pub map-mem : {r : Rate} (l : List Rate) → Mem r l → Mem (r .driven) (map (λ (r : Rate). r .driven) l)
 map-mem [] m = absurd (List·Memᴰ·not-nil m)
 map-mem {r} (q ∷ l) m = go (List·Memᴰ·cases-cons m) (λ i. map-mem l i)
   where

@@ -1,7 +1,7 @@
 -- 5, 7, 8 and 12 of a plant let pass just what their sentences say.
 use mathlib.Core.Path.{_≡_, refl, sym, ap, subst, _∙_}
 use mathlib.Core.Bool.{Bool, true, false, not, _&&_}
-use mathlib.Core.List.{List, [], _∷_, _++_, List·Memᴰ as Mem, List·Memᴰ·head as first, List·Memᴰ·tail as later, List·Memᴰ·not-nil, List·Memᴰ·cases-cons, List·Memᴰ·append-cases, Memᴰ·append-left, Memᴰ·append-right}
+use mathlib.Core.List.{List, [], _∷_, _++_, map, flatMap, List·Memᴰ as Mem, List·Memᴰ·head as first, List·Memᴰ·tail as later, List·Memᴰ·not-nil, List·Memᴰ·cases-cons, List·Memᴰ·append-cases, Memᴰ·append-left, Memᴰ·append-right, List·Memᴰ·eq-of-singleton}
 use mathlib.Core.Logic.{_↔_, _⊎_, inl, inr}
 use mathlib.Core.Option.{Option, none, some}
 use Prim.Native.Nat.{ℕ, _≤_, _<_}
@@ -12,11 +12,12 @@ use lib.Signed.{leZ}
 use Rattle.semantics.specs.Bytes.{every, isSome}
 use Rattle.semantics.specs.Editions.{Edition}
 use Rattle.semantics.specs.Expressions.{Number, constant, variable, operate, negation, Truth, compare, connect, opposite, always, numberBytes, truthBytes, numberDepth, truthDepth, numberKnown, truthKnown, numberIn, truthIn}
-use Rattle.semantics.specs.Sections.{Variable, Mode, Selector, Equation, steady, choice}
+use Rattle.semantics.specs.Sections.{Variable, Rate, Mode, Selector, Equation, steady, choice}
 use Rattle.semantics.specs.Plant.{Plant, ordered, rateNamed, switchNamed, modeNamed, equationNamed, among, apart, onceAfter, modeDrives, drives, modesOnce, drivenOnce, switchReads, equationReads, switchesRead, modeExists}
 use Rattle.semantics.specs.Writing.{AllBytes, InRange, ModeLimits, SelectorLimits, PayloadLimits, steady-within, choice-within, EquationLimits}
-use Rattle.semantics.specs.Proper.{NamesKnown, known-constant, known-variable, known-operands, known-negation, TruthNamesKnown, known-numbers, known-truths, known-opposite, known-always, IsTruth, IsNumber, NamedInMode, Named, named-steady, named-choice, Once, once-nil, once-cons, OnceInModes, once-steady, once-choice, Apart, apart-nil, apart-cons, DrivenOnce, TruthsInMode, Truths, truths-steady, truths-choice, ProperPlant, ModeThere}
+use Rattle.semantics.specs.Proper.{NamesKnown, known-constant, known-variable, known-operands, known-negation, TruthNamesKnown, known-numbers, known-truths, known-opposite, known-always, IsTruth, IsNumber, NamedInMode, Named, named-steady, named-choice, Once, once-nil, once-cons, OnceInModes, once-steady, once-choice, Drives, drives-always, drives-in-mode, Apart, apart-nil, apart-cons, DrivenOnce, TruthsInMode, Truths, truths-steady, truths-choice, ProperPlant, ModeThere}
 use Rattle.semantics.proofs.Facts.{true-not-false, by-cases, and-left, and-right, and-both, every-all, all-every, among-mem, mem-among, All, all-nil, all-cons, all-map, all-mem}
+use Rattle.semantics.proofs.OneRate.{map-mem}
 use Rattle.semantics.proofs.ExpressionBytes.{number-is, truth-is, expression-bytes, truth-bytes}
 
 -- ---- a test of each element, and a relation of each
@@ -145,7 +146,8 @@ once-here seen (once-cons {n = n} {l = l} h k) w = rw ((not-among n seen) .1 (w 
         at (inl f) = h (subst (λ x. Mem x l) f m)
         at (inr s) = w x (later m) s
 
-mode-once : (m : Mode) → (onceAfter [] (modeDrives m) ≡ true) ↔ Once (modeDrives m)
+mode-once : (m : Mode) → (onceAfter [] (modeDrives m) ≡ true) ↔ Once (map (λ (r : Rate). r .driven) (m .rates))
+unfolding modeDrives
 mode-once m = (λ h. (once-there [] (modeDrives m) h) .0, λ h. once-here [] h (λ n k e. List·Memᴰ·not-nil e))
 
 apart-is : (seen l : List ℕ) → (apart seen l ≡ true) ↔ Without seen l
@@ -159,6 +161,42 @@ apart-is seen l = (λ h n m. (not-among n seen) .0 (flip (among n seen) (all-mem
     here : (l : List ℕ) → Without seen l → All (λ n. not (among n seen) ≡ true) l
     here [] w = all-nil
     here (n ∷ l) w = all-cons (ap not ((not-among n seen) .1 (w n (first refl)))) (here l (λ x m. w x (later m)))
+
+-- ---- a variable is in an equation where it is in the equation's list
+rate-there : (l : List Rate) (n : ℕ) → Mem n (map (λ (r : Rate). r .driven) l) → (r : Rate) × Mem r l × (r .driven ≡ n)
+rate-there [] n m = absurd (List·Memᴰ·not-nil m)
+rate-there (r ∷ l) n m = go (List·Memᴰ·cases-cons m) (rate-there l n)
+  where
+    go : (n ≡ r .driven) ⊎ Mem n (map (λ (r : Rate). r .driven) l) → (Mem n (map (λ (r : Rate). r .driven) l) → (q : Rate) × Mem q l × (q .driven ≡ n)) → (q : Rate) × Mem q (r ∷ l) × (q .driven ≡ n)
+    go (inl e) f = (r, first refl, sym e)
+    go (inr m) f = let p = f m in (p .0, later (p .1), p .2)
+
+modes-there : (l : List Mode) (n : ℕ) → Mem n (flatMap modeDrives l) → (m : Mode) × Mem m l × (r : Rate) × Mem r (m .rates) × (r .driven ≡ n)
+unfolding flatMap modeDrives
+modes-there [] n i = absurd (List·Memᴰ·not-nil i)
+modes-there (m ∷ l) n i = go (List·Memᴰ·append-cases (modeDrives m) i) (modes-there l n)
+  where
+    There : List Mode → Type 0
+    There l = (m : Mode) × Mem m l × (r : Rate) × Mem r (m .rates) × (r .driven ≡ n)
+
+    go : Mem n (modeDrives m) ⊎ Mem n (flatMap modeDrives l) → (Mem n (flatMap modeDrives l) → There l) → There (m ∷ l)
+    go (inl i) f = let p = rate-there (m .rates) n i in (m, first refl, p .0, p .1, p .2)
+    go (inr i) f = let p = f i in (p .0, later (p .1), p .2, p .3, p .4)
+
+modes-here : {l : List Mode} {m : Mode} {n : ℕ} → Mem m l → Mem n (modeDrives m) → Mem n (flatMap modeDrives l)
+unfolding flatMap
+modes-here {n = n} (first {xs = l} e) i = Memᴰ·append-left (flatMap modeDrives l) (subst (λ m. Mem n (modeDrives m)) e i)
+modes-here (later {x = x} k) i = Memᴰ·append-right (modeDrives x) (modes-here k i)
+
+drives-there : (e : Equation) (n : ℕ) → Mem n (drives e) → Drives e n
+unfolding drives
+drives-there (steady r) n m = drives-always (sym (List·Memᴰ·eq-of-singleton m))
+drives-there (choice c) n m = let p = modes-there (c .modes) n m in drives-in-mode (p .1) (p .3) (p .4)
+
+drives-here : {e : Equation} {n : ℕ} → Drives e n → Mem n (drives e)
+unfolding drives modeDrives
+drives-here (drives-always h) = first (sym h)
+drives-here (drives-in-mode {m = m} i j h) = modes-here i (subst (λ n. Mem n (modeDrives m)) h (map-mem (m .rates) j))
 
 -- no equation drives what is in the list
 abbrev NotAmong : List ℕ → List Equation → Type 0
@@ -176,7 +214,7 @@ driven-there seen (e ∷ es) h = join (driven-there (drives e ++ seen) es (and-r
     here = (apart-is seen (drives e)) .0 (and-right (modesOnce e) (apart seen (drives e)) both)
 
     join : All (λ e. modesOnce e ≡ true) es × NotAmong (drives e ++ seen) es × Apart es → All (λ e. modesOnce e ≡ true) (e ∷ es) × NotAmong seen (e ∷ es) × Apart (e ∷ es)
-    join k = (all-cons (and-left (modesOnce e) (apart seen (drives e)) both) (k .0), λ f n m d s. at f n d s (List·Memᴰ·cases-cons m), apart-cons (λ f n m d s. k .1 f n m d (Memᴰ·append-left seen s)) (k .2))
+    join k = (all-cons (and-left (modesOnce e) (apart seen (drives e)) both) (k .0), λ f n m d s. at f n d s (List·Memᴰ·cases-cons m), apart-cons (λ f n m d s. k .1 f n m (drives-here d) (Memᴰ·append-left seen (drives-here s))) (k .2))
       where
         at : (f : Equation) (n : ℕ) → Mem n (drives f) → Mem n seen → (f ≡ e) ⊎ Mem f es → ⊥
         at f n d s (inl i) = here n (subst (λ f. Mem n (drives f)) i d) s
@@ -192,7 +230,7 @@ driven-here seen (all-cons {x = e} {l = es} h k) w (apart-cons a b) =
     more f n m d s = at (List·Memᴰ·append-cases (drives e) s)
       where
         at : Mem n (drives e) ⊎ Mem n seen → ⊥
-        at (inl s) = a f n m d s
+        at (inl s) = a f n m (drives-there f n d) (drives-there e n s)
         at (inr s) = w f n (later m) d s
 
 -- ---- 5, 7, 8 and 12 of a plant, one by one

@@ -62,7 +62,7 @@ rising-head low n l h = go (leb low n) refl h
     go true e h = (leb-true low n e, h)
     go false e h = true-not-false (sym h)
 
-rising-there : (low : ℕ) (l : List ℕ) → risingFrom low l ≡ true → Rising l
+pub rising-there : (low : ℕ) (l : List ℕ) → risingFrom low l ≡ true → Rising l
 rising-there low [] h = rising-nil
 rising-there low (n ∷ []) h = rising-one
 rising-there low (m ∷ n ∷ l) h =
@@ -84,11 +84,11 @@ rising-here (rising-more {m = m} h r) = rising-from 0 {n = m} (omega arith) (ris
 rising-is : (l : List ℕ) → (risingFrom 0 l ≡ true) ↔ Rising l
 rising-is l = (rising-there 0 l, rising-here)
 
-rising-rest : {n : ℕ} {l : List ℕ} → Rising (n ∷ l) → Rising l
+pub rising-rest : {n : ℕ} {l : List ℕ} → Rising (n ∷ l) → Rising l
 rising-rest rising-one = rising-nil
 rising-rest (rising-more h r) = r
 
-rising-above : {n : ℕ} {l : List ℕ} (m : ℕ) → Rising (n ∷ l) → Mem m l → n < m
+pub rising-above : {n : ℕ} {l : List ℕ} (m : ℕ) → Rising (n ∷ l) → Mem m l → n < m
 rising-above m rising-one k = absurd (List·Memᴰ·not-nil k)
 rising-above {n} m (rising-more {n = x} {l = l} h r) k = go (List·Memᴰ·cases-cons k) (λ k. rising-above m r k)
   where
@@ -160,7 +160,7 @@ unfolding actionNodes
 mem-node (first e) = first (ap (λ (a : NodeAction). a .node) e)
 mem-node (later m) = later (mem-node m)
 
-listed-found : (l : List NodeAction) (a : NodeAction) → Rising (actionNodes l) → Mem a l → actionAt l (a .node) ≡ some (a .action)
+pub listed-found : (l : List NodeAction) (a : NodeAction) → Rising (actionNodes l) → Mem a l → actionAt l (a .node) ≡ some (a .action)
 unfolding actionNodes actionAt
 listed-found [] a r m = absurd (List·Memᴰ·not-nil m)
 listed-found (x ∷ l) a r m = go (List·Memᴰ·cases-cons m) (λ k. listed-found l a (rising-rest r) k)
@@ -169,7 +169,7 @@ listed-found (x ∷ l) a r m = go (List·Memᴰ·cases-cons m) (λ k. listed-fou
     go (inl e) f = rw (eq-eqb (x .node) (a .node) (ap (λ (a : NodeAction). a .node) (sym e))) (ap (λ (a : NodeAction). some (a .action)) (sym e))
     go (inr k) f = let i = rising-above (a .node) r (mem-node k) in rw (ne-eqb (x .node) (a .node) (λ e. omega arith)) (f k)
 
-is-listed : (x : NodeAction) {n : ℕ} {a : Action} → x .node ≡ n → x .action ≡ a → x ≡ record { node = n; action = a }
+pub is-listed : (x : NodeAction) {n : ℕ} {a : Action} → x .node ≡ n → x .action ≡ a → x ≡ record { node = n; action = a }
 is-listed x h k = rw (← h, ← k) refl
 
 module _ (locations : ℕ) where

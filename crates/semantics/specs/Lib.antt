@@ -10,6 +10,7 @@ pub mod Run
 pub mod Rules
 pub mod TableFile
 pub mod Tables
+pub mod TableRuns
 pub mod Starts
 pub mod Writing
 pub mod Proper

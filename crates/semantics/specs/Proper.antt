@@ -1,7 +1,7 @@
 -- Document 01, "When a file, table or event is turned away": what 5, 7, 8, 11 and 12, and 17 to 19, ask of what was read, as relations.
 use mathlib.Core.Path.{_≡_}
 use mathlib.Core.Bool.{true}
-use mathlib.Core.List.{List, [], _∷_, List·Memᴰ as Mem}
+use mathlib.Core.List.{List, [], _∷_, map, List·Memᴰ as Mem}
 use mathlib.Core.Logic.{_⊎_}
 use mathlib.Core.Option.{some}
 use Prim.Native.Nat.{ℕ, _≤_, _<_}
@@ -11,7 +11,7 @@ use Rattle.semantics.specs.Editions.{Edition}
 use lib.IntN.{ℤ}
 use Rattle.semantics.specs.Expressions.{Number, constant, variable, operate, negation, Truth, compare, connect, opposite, always, Operation, Comparison, Connective, numberBytes, truthBytes, numberDepth, truthDepth, fits32}
 use Rattle.semantics.specs.Sections.{Variable, Rate, Switch, Mode, Selector, Equation, steady, choice}
-use Rattle.semantics.specs.Plant.{Plant, selectors, modeDrives, drives}
+use Rattle.semantics.specs.Plant.{Plant, selectors}
 use Rattle.semantics.specs.Run.{Action, test, wait, assign, switch, stop}
 use Rattle.semantics.specs.TableFile.{NodeAction, Entry}
 use Rattle.semantics.specs.Tables.{Table, actionNodes, entryNodes}
@@ -61,12 +61,17 @@ pub data Once : List ℕ → Type 0 where
 
 pub data OnceInModes : Equation → Type 0 where
   once-steady : {r : Rate} → OnceInModes (steady r)
-  once-choice : {c : Selector} → All (λ m. Once (modeDrives m)) (c .modes) → OnceInModes (choice c)
+  once-choice : {c : Selector} → All (λ (m : Mode). Once (map (λ (r : Rate). r .driven) (m .rates))) (c .modes) → OnceInModes (choice c)
+
+-- a variable is in an equation: it has the rate of its own, or a rate in one of the CASE's modes
+pub data Drives : Equation → ℕ → Type 0 where
+  drives-always : {r : Rate} {n : ℕ} → r .driven ≡ n → Drives (steady r) n
+  drives-in-mode : {c : Selector} {m : Mode} {r : Rate} {n : ℕ} → Mem m (c .modes) → Mem r (m .rates) → r .driven ≡ n → Drives (choice c) n
 
 -- none in two equations
 pub data Apart : List Equation → Type 0 where
   apart-nil : Apart []
-  apart-cons : {e : Equation} {es : List Equation} → ((f : Equation) (n : ℕ) → Mem f es → Mem n (drives f) → Mem n (drives e) → ⊥) → Apart es → Apart (e ∷ es)
+  apart-cons : {e : Equation} {es : List Equation} → ((f : Equation) (n : ℕ) → Mem f es → Drives f n → Drives e n → ⊥) → Apart es → Apart (e ∷ es)
 
 pub record DrivenOnce (es : List Equation) : Type 0 where
   pub in-modes : All OnceInModes es
