@@ -15,6 +15,7 @@ use Rattle.semantics.specs.Editions.{Edition, edition1, capacity}
 use Rattle.semantics.specs.Refusals.{accepted}
 use Rattle.semantics.specs.Expressions.{Number, Truth, numberBytes, truthBytes, numberDepth, truthDepth, numberIn, truthIn}
 use Rattle.semantics.specs.Plant.{Plant, selectors}
+use Rattle.semantics.specs.Events.{eventsIn}
 use Rattle.semantics.specs.Run.{stop, possible, Next, halted, Control, Situation, Answered, at, step}
 use Rattle.semantics.specs.Rules.{Rule, Derives, Stopping, Standing, at-start, stands-at, Sound, Decides}
 use Rattle.semantics.specs.TableFile.{locationLimit}
@@ -23,11 +24,12 @@ use Rattle.semantics.specs.Starts.{Start, startIn, startFits}
 use Rattle.semantics.specs.Writing.{writeTable, TableLimits, TableReadAs, startBytes, Each, InRange, HasMode, StartLimits}
 use Rattle.semantics.specs.Proper.{NamesKnown, TruthNamesKnown, IsTruth, IsNumber, TableWritten}
 use Rattle.semantics.specs.Statements.{RunHolds}
-use Rattle.semantics.specs.Calls.{recordSize, readTable, tableRun}
+use Rattle.semantics.specs.Calls.{eventCount, recordSize, readTable, tableRun}
 use Rattle.semantics.specs.Conditions.{is20}
 use Rattle.semantics.specs.Sentences.{Clause, FirstHolds, AnyHolds, tableClauses, tableRunClauses}
 use Rattle.semantics.proofs.StepRules as StepRules
 use Rattle.semantics.proofs.FirstAnswer as FirstAnswer
+use Rattle.semantics.proofs.EventsCut as EventsCut
 use Rattle.semantics.proofs.SentenceSteps as SentenceSteps
 use Rattle.semantics.proofs.TableSentences as TableSentences
 use Rattle.semantics.proofs.CallsHold as TableCalls
@@ -208,7 +210,7 @@ agreement = Agreement.agreement
 
 -- the same in the mission's words: for every valuation within the declared ranges, every choice of existing modes, every list of whole events and all
 -- record buffers that are long enough, both runs take the call on, and their records and counts are those that the rules derive.
--- Ruled out: runners that refuse every start whose modes are not the initial ones; runners that take one event at most.
+-- Ruled out: runners that refuse every start whose modes are not the initial ones; runners that take one event at most (with `events-cut`).
 pub agreement-every-start : (ed : Edition) (file room : List ℕ) → All (λ b. b < 256) file → (compile ed file room) .refusal ≡ 0 →
     (s : Schedule) × ScheduleWritten ed file s × ((values : List ℤ) (modes : List ℕ) → Each InRange (s .plant .variables) values → Each HasMode (selectors (s .plant)) modes →
     (events by-rules by-table : List ℕ) (n : ℕ) → length events ≡ n * ed .event-bytes → n * recordSize ed (s .plant) ≤ length by-rules → n * recordSize ed (s .plant) ≤ length by-table →
@@ -294,6 +296,12 @@ table-run-holds = TableCalls.table-run-holds
 -- the rules derive one list only.
 pub derives-one : {S : Type 0} {ed : Edition} {p : Plant} {c : Control S} {s : Situation S} {es : List (List ℕ)} {l m : List (Answered S)} → Derives ed p c s es l → Derives ed p c s es m → l ≡ m
 derives-one d e = StepRules.derives-one d e
+
+-- ---- events, records and counts by themselves
+-- "An event is 3 bytes": the events that a run judges, in `RunHolds` and `RunsAgree`, are those of its list, all of them and each as it came.
+-- Ruled out: a run that stops after 1,000 events, or after the first; one that begins each event a byte too late.
+pub events-cut : (ed : Edition) (es : List (List ℕ)) → All (λ e. length e ≡ ed .event-bytes) es → eventsIn (ed .event-bytes) (eventCount ed (flatten es)) (flatten es) ≡ es
+events-cut = EventsCut.events-cut
 
 -- ---- demand 1: "A refused call returns .. length and counts zero and every lent buffer unwritten."
 -- Ruled out: a refused run that clears its record buffer; a refused compilation that returns a length.

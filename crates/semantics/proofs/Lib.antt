@@ -10,6 +10,7 @@ pub mod Papers
 pub mod DepthPapers
 -- the step and the rules
 pub mod EventDecoding
+pub mod EventsCut
 pub mod StepParts
 pub mod Currents
 pub mod OneRate
