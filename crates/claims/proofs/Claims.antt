@@ -16,8 +16,10 @@ use Rattle.semantics.specs.Refusals.{accepted}
 use Rattle.semantics.specs.Expressions.{Number, Truth, numberBytes, truthBytes, numberDepth, truthDepth, numberIn, truthIn}
 use Rattle.semantics.specs.Plant.{Plant, selectors}
 use Rattle.semantics.specs.Events.{eventsIn}
-use Rattle.semantics.specs.Run.{stop, possible, Next, halted, Control, Situation, Answered, at, step}
+use Rattle.semantics.specs.Run.{stop, possible, Next, halted, Control, Situation, Answered, at, step, howMany, isTaken, isTurnedAway, isFaulted}
 use Rattle.semantics.specs.Rules.{Rule, Derives, Stopping, Standing, at-start, stands-at, Sound, Decides}
+use Rattle.semantics.specs.Records.{AtFront}
+use Rattle.semantics.specs.Counting.{Counted}
 use Rattle.semantics.specs.TableFile.{locationLimit}
 use Rattle.semantics.specs.Tables.{Table, risingFrom, judgeTable, actionOrStop, tableControl}
 use Rattle.semantics.specs.Starts.{Start, startIn, startFits}
@@ -30,6 +32,8 @@ use Rattle.semantics.specs.Sentences.{Clause, FirstHolds, AnyHolds, tableClause
 use Rattle.semantics.proofs.StepRules as StepRules
 use Rattle.semantics.proofs.FirstAnswer as FirstAnswer
 use Rattle.semantics.proofs.EventsCut as EventsCut
+use Rattle.semantics.proofs.RecordForms as RecordForms
+use Rattle.semantics.proofs.RunCounts as RunCounts
 use Rattle.semantics.proofs.SentenceSteps as SentenceSteps
 use Rattle.semantics.proofs.TableSentences as TableSentences
 use Rattle.semantics.proofs.CallsHold as TableCalls
@@ -122,7 +126,7 @@ pub reached-rules : (ns : List Node) (t : Tree) → treeOf ns ≡ some t → (te
 reached-rules = MovesByRule.reached-rules
 
 -- the bytes that compiling writes: at the front of the room, which holds them, and the rest of it unaltered.
--- Ruled out: a compiler that writes nothing; one that clears the room beyond its table.
+-- Ruled out: a compiler that writes nothing; one that clears the room beyond its table (with `at-front`).
 pub written-table : (ed : Edition) (file room : List ℕ) → (compile ed file room) .refusal ≡ 0 →
     (s : Schedule) × (fileSchedule ed file ≡ some s) × (length (tableOf ed s) ≤ length room) ×
     (compile ed file room ≡ record { refusal = 0; written = length (tableOf ed s); table = overwrite (tableOf ed s) room })
@@ -302,6 +306,22 @@ derives-one d e = StepRules.derives-one d e
 -- Ruled out: a run that stops after 1,000 events, or after the first; one that begins each event a byte too late.
 pub events-cut : (ed : Edition) (es : List (List ℕ)) → All (λ e. length e ≡ ed .event-bytes) es → eventsIn (ed .event-bytes) (eventCount ed (flatten es)) (flatten es) ≡ es
 events-cut = EventsCut.events-cut
+
+-- what stands in a lent buffer after these bytes were written into it: they at its front, and the rest as it was. So `overwrite` is to be read in `RunsAgree`; `RunHolds` says it of its records.
+-- Ruled out: a run that clears the buffer beyond its records; one that writes them at the buffer's end.
+pub at-front : (bytes buffer : List ℕ) → length bytes ≤ length buffer → AtFront bytes buffer (overwrite bytes buffer)
+at-front = RecordForms.overwritten
+
+-- and of compiling.
+-- Ruled out: a compiler that clears the room beyond its table; one that writes the table behind the first byte and returns its length.
+pub table-at-front : (ed : Edition) (file room : List ℕ) → (compile ed file room) .refusal ≡ 0 →
+    (s : Schedule) × (fileSchedule ed file ≡ some s) × ((compile ed file room) .written ≡ length (tableOf ed s)) × AtFront (tableOf ed s) room ((compile ed file room) .table)
+table-at-front = FileCalls.table-at-front
+
+-- "taken (200..202), turned away (23..31) and faulted (203)": the counts by these numbers alone. `RunHolds` says of a run's answers that they are counted so; in `RunsAgree` this reads `howMany`.
+-- Ruled out: a run that counts 202 as turned away; one that counts an answer twice, or 24 to 31 and not 23.
+pub counts-told : {l : List ℕ} {taken away faulted : ℕ} → Counted l taken away faulted → (howMany isTaken l ≡ taken) × (howMany isTurnedAway l ≡ away) × (howMany isFaulted l ≡ faulted)
+counts-told k = RunCounts.counts-told k
 
 -- ---- demand 1: "A refused call returns .. length and counts zero and every lent buffer unwritten."
 -- Ruled out: a refused run that clears its record buffer; a refused compilation that returns a length.

@@ -3,7 +3,7 @@ use mathlib.Core.Path.{_≡_, refl, sym, ap, ap₂, _∙_}
 use mathlib.Core.Bool.{true}
 use mathlib.Core.List.{List, [], _∷_, _++_, flatten}
 use mathlib.Core.Logic.{_↔_}
-use Prim.Native.Nat.{ℕ, suc, _+_, _*_, _/_, _≤_}
+use Prim.Native.Nat.{ℕ, zero, suc, _+_, _*_, _/_, _≤_}
 use native.Mathlib.Omega.{arith}
 use native.Mathlib.Nat.{mul-div-cancel, suc-mul, add-comm}
 use borrow.Author.Tests.{leb-true, le-leb}
@@ -19,6 +19,11 @@ use Rattle.semantics.proofs.Facts.{All, all-nil, all-cons}
 pub event-count : (ed : Edition) (events : List ℕ) (n : ℕ) → length events ≡ n * ed .event-bytes → eventCount ed events ≡ n
 unfolding eventCount
 event-count ed events n e = let k = ed .event-holds in ap (λ l. l / ed .event-bytes) e ∙ mul-div-cancel n {n = ed .event-bytes} (omega arith)
+
+pub events-length : (w n : ℕ) (l : List ℕ) → length (eventsIn w n l) ≡ n
+unfolding eventsIn
+events-length w zero l = refl
+events-length w (suc n) l = ap suc (events-length w n (drop w l))
 
 flat-length : (w : ℕ) {es : List (List ℕ)} → All (λ e. length e ≡ w) es → length (flatten es) ≡ length es * w
 unfolding flatten

@@ -21,6 +21,7 @@ pub mod FirstAnswer
 pub mod Verdicts
 pub mod Simulation
 pub mod RunCounts
+pub mod RecordForms
 -- calls and formats
 pub mod FirstNumber
 pub mod ExpressionBytes

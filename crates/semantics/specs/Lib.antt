@@ -8,6 +8,8 @@ pub mod Plant
 pub mod Events
 pub mod Run
 pub mod Rules
+pub mod Records
+pub mod Counting
 pub mod TableFile
 pub mod Tables
 pub mod Starts
