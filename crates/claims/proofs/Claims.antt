@@ -16,9 +16,9 @@ use Rattle.semantics.specs.Refusals.{accepted}
 use Rattle.semantics.specs.Expressions.{Number, Truth, numberBytes, truthBytes, numberDepth, truthDepth, numberIn, truthIn}
 use Rattle.semantics.specs.Plant.{Plant, selectors}
 use Rattle.semantics.specs.Events.{eventsIn}
-use Rattle.semantics.specs.Run.{stop, possible, Next, halted, Control, Situation, Answered, at, step, howMany, isTaken, isTurnedAway, isFaulted}
+use Rattle.semantics.specs.Run.{stop, possible, Next, halted, Control, Situation, Answered, at, step, recordOf, howMany, isTaken, isTurnedAway, isFaulted}
 use Rattle.semantics.specs.Rules.{Rule, Derives, Stopping, Standing, at-start, stands-at, Sound, Decides}
-use Rattle.semantics.specs.Records.{AtFront}
+use Rattle.semantics.specs.Records.{AtFront, Fits32, RecordIs}
 use Rattle.semantics.specs.Counting.{Counted}
 use Rattle.semantics.specs.TableFile.{locationLimit}
 use Rattle.semantics.specs.Tables.{Table, risingFrom, judgeTable, actionOrStop, tableControl}
@@ -322,6 +322,13 @@ table-at-front = FileCalls.table-at-front
 -- Ruled out: a run that counts 202 as turned away; one that counts an answer twice, or 24 to 31 and not 23.
 pub counts-told : {l : List ℕ} {taken away faulted : ℕ} → Counted l taken away faulted → (howMany isTaken l ≡ taken) × (howMany isTurnedAway l ≡ away) × (howMany isFaulted l ≡ faulted)
 counts-told k = RunCounts.counts-told k
+
+-- "The record of an event: answer byte, set of acting nodes (8 bytes, bit n for node n, 0 once the run is over), values (4 bytes each), modes (1 byte each).": the bytes of `recordOf`, in this order
+-- and of these lengths. That the acting nodes rise, `node-order-rules` and `node-order-table` say; the values are those of a start that 20 lets pass or lie inside their declared ranges, whose ends have 32 bits.
+-- Ruled out: a set with node 8 in the bit of node 0, or with node 0 in its first byte; a record whose modes stand before its values, or whose values are lowest byte first.
+pub record-is : {S : Type 0} (ed : Edition) (c : Control S) (o : Answered S) → ((x : S) → o .left .place ≡ some x → risingFrom 0 (c .acting x) ≡ true) → All Fits32 (o .left .values) →
+    RecordIs ed c o (recordOf ed c o)
+record-is ed c = RecordForms.record-is ed c
 
 -- ---- demand 1: "A refused call returns .. length and counts zero and every lent buffer unwritten."
 -- Ruled out: a refused run that clears its record buffer; a refused compilation that returns a length.

@@ -90,7 +90,7 @@ counts-told (one-faulted {a = n} {l = l} e k) =
     (uncounted isTaken n l (rw e refl) ∙ q .0, uncounted isTurnedAway n l (no-away n (omega arith)) ∙ q .1, counted isFaulted n l (eq-eqb n 203 e) ∙ ap suc (q .2))
 
 -- ---- the bytes of a record
-set-length : (k n : ℕ) → length (bigEndian k n) ≡ k
+pub set-length : (k n : ℕ) → length (bigEndian k n) ≡ k
 unfolding bigEndian
 set-length zero n = refl
 set-length (suc k) n = ap suc (set-length k n)

@@ -1,12 +1,14 @@
 -- Document 01, "Run by the rules" and "Schedule file": what is written into a lent buffer, and the record of an event, told by its bytes.
 -- No definition that writes stands here: `overwrite` and `recordOf` are proved to be just this.
 use mathlib.Core.Path.{_≡_}
+use mathlib.Core.Bool.{true}
 use mathlib.Core.List.{List, [], _∷_, _++_, List·Memᴰ as Mem}
 use mathlib.Core.Logic.{_↔_}
 use mathlib.Core.Option.{Option, some}
 use Prim.Native.Nat.{ℕ, _+_, _-_, _*_, _/_, _%_, _^_, _≤_, _<_}
 use lib.ListN.{length, take, drop, getD}
 use lib.IntN.{ℤ, pos, negsuc}
+use lib.Signed.{leZ}
 use Rattle.semantics.specs.Bytes.{All}
 use Rattle.semantics.specs.Editions.{Edition}
 use Rattle.semantics.specs.Run.{Control, Answered}
@@ -17,6 +19,10 @@ pub record AtFront (bytes before after : List ℕ) : Type 0 where
   pub front : take (length bytes) after ≡ bytes
   pub rest : drop (length bytes) after ≡ drop (length bytes) before
   pub as-long : length after ≡ length before
+
+-- a value of 32 bits
+abbrev pub Fits32 : ℤ → Type 0
+Fits32 z = (leZ (negsuc 2147483647) z ≡ true) × (leZ z (pos 2147483647) ≡ true)
 
 -- "signed values are 32-bit two's complement", "Big-endian": the four bytes of a value
 pub data FourBytes : ℤ → List ℕ → Type 0 where
