@@ -13,7 +13,8 @@ use lib.ListN.{length, getElem?, take, drop}
 use Rattle.semantics.specs.Bytes.{All, within, isSome, overwrite, two-bytes}
 use Rattle.semantics.specs.Editions.{Edition, edition1, capacity}
 use Rattle.semantics.specs.Refusals.{accepted}
-use Rattle.semantics.specs.Expressions.{Number, Truth, numberBytes, truthBytes, numberDepth, truthDepth, numberIn, truthIn}
+use Rattle.semantics.specs.Expressions.{Number, Truth, Value, valueOf, holds, numberBytes, truthBytes, numberDepth, truthDepth, numberIn, truthIn, numberValue, truthValue}
+use Rattle.semantics.specs.Evaluating.{Evaluates, Holds}
 use Rattle.semantics.specs.Plant.{Plant, selectors}
 use Rattle.semantics.specs.Events.{eventsIn}
 use Rattle.semantics.specs.Run.{stop, possible, Next, halted, Control, Situation, Answered, at, step, recordOf, howMany, isTaken, isTurnedAway, isFaulted}
@@ -31,6 +32,7 @@ use Rattle.semantics.specs.Conditions.{is20}
 use Rattle.semantics.specs.Sentences.{Clause, FirstHolds, AnyHolds, tableClauses, tableRunClauses}
 use Rattle.semantics.proofs.StepRules as StepRules
 use Rattle.semantics.proofs.FirstAnswer as FirstAnswer
+use Rattle.semantics.proofs.Evaluated as Evaluated
 use Rattle.semantics.proofs.EventsCut as EventsCut
 use Rattle.semantics.proofs.RecordForms as RecordForms
 use Rattle.semantics.proofs.RunCounts as RunCounts
@@ -329,6 +331,24 @@ counts-told k = RunCounts.counts-told k
 pub record-is : {S : Type 0} (ed : Edition) (c : Control S) (o : Answered S) → ((x : S) → o .left .place ≡ some x → risingFrom 0 (c .acting x) ≡ true) → All Fits32 (o .left .values) →
     RecordIs ed c o (recordOf ed c o)
 record-is ed c = RecordForms.record-is ed c
+
+-- "Numbers and truths": the executable evaluation is just the form-by-form relation, of every expression whose variables have values; then the same of its bytes, as a run evaluates them.
+-- Ruled out: a product worked out as a sum; a result of 2147483648 that does not fault.
+pub evaluates-number : (vs : List ℤ) (e : Number) → NamesKnown (length vs) e → (r : Value ℤ) → (valueOf vs e ≡ r) ↔ Evaluates vs e r
+evaluates-number = Evaluated.evaluates-number
+
+-- Ruled out: ≠ that is true of equal numbers, or "and" that is true where one side is; an "or" that leaves out its right side where the left is true.
+pub evaluates-truth : (vs : List ℤ) (e : Truth) → TruthNamesKnown (length vs) e → (r : Value Bool) → (holds vs e ≡ r) ↔ Holds vs e r
+evaluates-truth = Evaluated.evaluates-truth
+
+-- Ruled out: a run that evaluates the bytes from their end; one that takes variable 1 for variable 0.
+pub evaluates-number-bytes : (ed : Edition) (vs : List ℤ) (s : List ℕ) → All (λ b. b < 256) s → (e : Number) → numberBytes ed e ≡ s → numberDepth e ≤ 16 → NamesKnown (length vs) e →
+    (r : Value ℤ) → (numberValue ed vs s ≡ r) ↔ Evaluates vs e r
+evaluates-number-bytes = Evaluated.evaluates-number-bytes
+
+pub evaluates-truth-bytes : (ed : Edition) (vs : List ℤ) (s : List ℕ) → All (λ b. b < 256) s → (e : Truth) → truthBytes ed e ≡ s → truthDepth e ≤ 16 → TruthNamesKnown (length vs) e →
+    (r : Value Bool) → (truthValue ed vs s ≡ r) ↔ Holds vs e r
+evaluates-truth-bytes = Evaluated.evaluates-truth-bytes
 
 -- ---- demand 1: "A refused call returns .. length and counts zero and every lent buffer unwritten."
 -- Ruled out: a refused run that clears its record buffer; a refused compilation that returns a length.

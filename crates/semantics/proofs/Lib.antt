@@ -37,5 +37,6 @@ pub mod SentenceSteps
 pub mod StartForms
 pub mod TableForms
 pub mod ProperForms
+pub mod Evaluated
 pub mod TablesProper
 pub mod TableSentences

@@ -3,6 +3,7 @@ pub mod Bytes
 pub mod Editions
 pub mod Refusals
 pub mod Expressions
+pub mod Evaluating
 pub mod Sections
 pub mod Plant
 pub mod Events
