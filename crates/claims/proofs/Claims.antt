@@ -19,7 +19,7 @@ use Rattle.semantics.specs.Plant.{Plant, selectors}
 use Rattle.semantics.specs.Events.{eventsIn}
 use Rattle.semantics.specs.Run.{stop, possible, Next, halted, Control, Situation, Answered, at, step, recordOf, howMany, isTaken, isTurnedAway, isFaulted}
 use Rattle.semantics.specs.Rules.{Rule, Derives, Stopping, Standing, at-start, stands-at, Sound, Decides}
-use Rattle.semantics.specs.Records.{AtFront, Fits32, RecordIs}
+use Rattle.semantics.specs.Records.{AtFront, Fits32, RecordIs, RecordsIn}
 use Rattle.semantics.specs.Counting.{Counted}
 use Rattle.semantics.specs.TableFile.{locationLimit}
 use Rattle.semantics.specs.Tables.{Table, risingFrom, judgeTable, actionOrStop, tableControl}
@@ -36,6 +36,7 @@ use Rattle.semantics.proofs.Evaluated as Evaluated
 use Rattle.semantics.proofs.EventsCut as EventsCut
 use Rattle.semantics.proofs.RecordForms as RecordForms
 use Rattle.semantics.proofs.RunCounts as RunCounts
+use Rattle.semantics.proofs.RunRecords as TableRecords
 use Rattle.semantics.proofs.SentenceSteps as SentenceSteps
 use Rattle.semantics.proofs.TableSentences as TableSentences
 use Rattle.semantics.proofs.CallsHold as TableCalls
@@ -63,6 +64,7 @@ use Rattle.schedules.specs.Sizes.{sizeOf, pencilSize}
 use Rattle.schedules.specs.TableSizes.{tableLength, TableSized}
 use Rattle.schedules.specs.Reordered.{OneTree, Swapped, SameButOrder}
 use Rattle.schedules.proofs.Demand2 as Demand2
+use Rattle.schedules.proofs.RunRecords as RuleRecords
 use Rattle.schedules.proofs.Agreement as Agreement
 use Rattle.schedules.proofs.FirstNumber as FileNumbers
 use Rattle.schedules.proofs.CallsHold as FileCalls
@@ -325,9 +327,21 @@ table-at-front = FileCalls.table-at-front
 pub counts-told : {l : List ℕ} {taken away faulted : ℕ} → Counted l taken away faulted → (howMany isTaken l ≡ taken) × (howMany isTurnedAway l ≡ away) × (howMany isFaulted l ≡ faulted)
 counts-told k = RunCounts.counts-told k
 
--- "The record of an event: answer byte, set of acting nodes (8 bytes, bit n for node n, 0 once the run is over), values (4 bytes each), modes (1 byte each).": the bytes of `recordOf`, in this order
--- and of these lengths. That the acting nodes rise, `node-order-rules` and `node-order-table` say; the values are those of a start that 20 lets pass or lie inside their declared ranges, whose ends have 32 bits.
+-- "The record of an event: answer byte, set of acting nodes (8 bytes, bit n for node n, 0 once the run is over), values (4 bytes each), modes (1 byte each).": in this order and of these lengths,
+-- for each answer that the rules derive, one record after the other at the front of the lent buffer.
 -- Ruled out: a set with node 8 in the bit of node 0, or with node 0 in its first byte; a record whose modes stand before its values, or whose values are lowest byte first.
+pub records-rules : (ed : Edition) (file start events buffer : List ℕ) → All (λ b. b < 256) file → All (λ b. b < 256) start → (ruleRun ed file start events buffer) .refusal ≡ 0 →
+    (s : Schedule) × (judgeFile ed file ≡ accepted s) × (h : RunHolds ed (s .plant) (ruleControl s) start events buffer (ruleRun ed file start events buffer)) ×
+    (bytes : List ℕ) × RecordsIn ed (ruleControl s) (h .said) bytes × AtFront bytes buffer ((ruleRun ed file start events buffer) .records)
+records-rules = RuleRecords.rule-recorded
+
+pub records-table : (ed : Edition) (table start events buffer : List ℕ) → All (λ b. b < 256) table → All (λ b. b < 256) start → (tableRun ed table start events buffer) .refusal ≡ 0 →
+    (t : Table) × (judgeTable ed table ≡ accepted t) × (h : RunHolds ed (t .plant) (tableControl t) start events buffer (tableRun ed table start events buffer)) ×
+    (bytes : List ℕ) × RecordsIn ed (tableControl t) (h .said) bytes × AtFront bytes buffer ((tableRun ed table start events buffer) .records)
+records-table = TableRecords.table-recorded
+
+-- and `recordOf` by itself, which `RunsAgree` cites, wherever the acting nodes rise and the values have 32 bits: so it is in those runs.
+-- Ruled out: a record without its answer; one that keeps the set of the last place once the run is over.
 pub record-is : {S : Type 0} (ed : Edition) (c : Control S) (o : Answered S) → ((x : S) → o .left .place ≡ some x → risingFrom 0 (c .acting x) ≡ true) → All Fits32 (o .left .values) →
     RecordIs ed c o (recordOf ed c o)
 record-is ed c = RecordForms.record-is ed c

@@ -29,6 +29,7 @@ pub mod Agreement
 pub mod Demand2
 pub mod CallsHold
 pub mod WrittenBytes
+pub mod RunRecords
 -- the number of locations, and the order of a PARALLEL's children
 pub mod ByPencil
 pub mod Counting

@@ -30,6 +30,7 @@ pub mod WrittenRecords
 pub mod WrittenSources
 pub mod WrittenTables
 pub mod CallsHold
+pub mod RunRecords
 -- bytes read just where they are a written form
 pub mod TakenBytes
 pub mod SectionForms

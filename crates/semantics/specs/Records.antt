@@ -50,3 +50,8 @@ pub record RecordIs {S : Type 0} (ed : Edition) (c : Control S) (o : Answered S)
   -- nodes 0 to 7 in the last byte, 8 to 15 in the one before it, and so on
   pub set-bits : (n : ℕ) → n < 8 * ed .set-bytes → (getD set (ed .set-bytes - 1 - n / 8) 0 / 2 ^ (n % 8) % 2 ≡ 1) ↔ ActsAt c (o .left .place) n
   pub values-in : ValuesIn (o .left .values) values
+
+-- the records of a list of answers, one after the other
+pub data RecordsIn {S : Type 0} (ed : Edition) (c : Control S) : List (Answered S) → List ℕ → Type 0 where
+  no-record : RecordsIn ed c [] []
+  one-record : {o : Answered S} {l : List (Answered S)} {s t : List ℕ} → RecordIs ed c o s → RecordsIn ed c l t → RecordsIn ed c (o ∷ l) (s ++ t)
