@@ -21,7 +21,8 @@ use Rattle.semantics.specs.Sentences.{Clause, FirstHolds, AnyHolds}
 use Rattle.semantics.proofs.SentenceSteps as Steps
 use Rattle.semantics.proofs.SentenceSteps.{Answers}
 use Rattle.semantics.proofs.EventsCut.{room-for-each}
-use Rattle.semantics.proofs.TableSentences.{run-answers, run-whole}
+use Rattle.semantics.proofs.TableSentences.{whole-events, run-answers}
+use Rattle.semantics.proofs.CallsHold.{run-passed}
 use Rattle.semantics.proofs.Facts.{All, all-nil, all-cons, all-append}
 use Rattle.semantics.proofs.Judging as Judging
 use Rattle.semantics.proofs.FirstNumber.{Clear, none-left, one-clear, Firsts, refuses, accepts, by-then, by-ensure, by-end, given-some, run-first}
@@ -116,7 +117,8 @@ module _ (ed : Edition) (file start events table records others : List ℕ) wher
       known-answers _ (rule-program ed file (k .of-file))
       (Steps.by-then (run-answers ed start events records y (Steps.by-end _) (λ g i.
       subst (λ q. FilePlant ed file q × ((p : Plant) → FilePlant ed file p → q ≡ p) × PlantLimits q) (ap (λ (g : Program Residual). g .plant) (Judging.accepted-is i)) q)) (λ o i.
-      Steps.by-test (q .0) (q .1) 22 (roomForRecords ed (k .of .plant) events others) (room-for-each ed (k .of .plant) events others (run-whole ed _ start events records i)) (λ h22. Steps.by-end _))))
+      Steps.by-test (q .0) (q .1) 22 (roomForRecords ed (k .of .plant) events others)
+      (room-for-each ed (k .of .plant) events others ((whole-events (ed .event-bytes) events) .0 ((run-passed ed _ start events records i) .whole))) (λ h22. Steps.by-end _))))
 
   -- the refusal is the number of the first sentence that holds, or 0 where none does
   pub exam-first : AllBytes file → AllBytes start → FirstHolds ((examOf ed file start events table records others) .refusal) (examClauses ed file start events table records others) ⊎

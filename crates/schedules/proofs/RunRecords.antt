@@ -28,4 +28,5 @@ rule-recorded ed file start events buffer z y e =
     let c = ruleControl s in
     let g = passed ed file s (q .1) in
     let h = q .2 in
-    (s, q .1, h, flatMap (recordOf ed c) (h .said), run-recorded ed (s .plant) c (sound-rules ed file s (q .1)) (program-bytes ed file s g z) (λ r k. acting-rises (s .nodes) (s .root) r (g .tree) (comes-of s k)) y h, h .written)
+    let written = run-recorded ed (s .plant) c (sound-rules ed file s (q .1)) (program-bytes ed file s g z) (λ r k. acting-rises (s .nodes) (s .root) r (g .tree) (comes-of s k)) y h in
+    (s, q .1, h, flatMap (recordOf ed c) (h .said), written, h .written)

@@ -19,7 +19,7 @@ use Rattle.semantics.specs.Run.{Action, test, wait, assign, switch, stop
 use Rattle.semantics.specs.Rules.{at-start, stands-at, Sound}
 use Rattle.semantics.specs.TableFile.{NodeAction, Entry, FINISHED, HALTED, NONE, locationLimit, readLocation, readLocations, locationsIn}
 use Rattle.semantics.specs.Tables.{Table, judgeTable, operandFits, actionFits, actionsFit, actionAt, actionOrStop, goesOn, targetsFit, entryFits, entryNodes, locationFits, locationsFit, risingFrom, actionNodes, goingTo, entryNext, entriesAt, tableControl}
-use Rattle.semantics.specs.Calls.{Program, Outcome, outcomeOf, runFrom, judgeRun, report, eventCount, recordSize, roomForRecords, tableProgram, tableRun, tableCounts, readTable}
+use Rattle.semantics.specs.Calls.{Program, Outcome, outcomeOf, runFrom, judgeRun, report, eventCount, recordSize, wholeEvents, roomForRecords, tableProgram, tableRun, tableCounts, readTable}
 use Rattle.semantics.specs.Conditions.{Condition, First, here, further, Firsts, refuses, accepts, tableConditions, runConditions, tableRunConditions}
 use Rattle.semantics.specs.Statements.{RunHolds}
 use Rattle.semantics.proofs.Facts.{true-not-false, and-left, and-right, within-high, All, all-nil, all-cons, all-mem, every-all}
@@ -216,6 +216,7 @@ pub record Passed {S : Type 0} (ed : Edition) (j : Judged (Program S)) (start ev
   pub is-program : j ≡ accepted program
   pub st : Start
   pub start-read : startIn (program .plant) start ≡ some st
+  pub whole : wholeEvents (ed .event-bytes) events ≡ true
   pub room : roomForRecords ed (program .plant) events buffer ≡ true
   pub outcome : outcomeOf ed (program .control) (runFrom ed program st events) ≡ o
 
@@ -227,7 +228,7 @@ run-passed ed j start events buffer h =
     let c = Judging.passed-ensure 20 _ _ (b .2) in
     let d = Judging.passed-ensure 21 _ _ (c .1) in
     let e = Judging.passed-ensure 22 _ _ (d .1) in
-    record { program = a .0; is-program = a .1; st = b .0; start-read = b .1; room = e .0; outcome = Judging.accepted-is (e .1) }
+    record { program = a .0; is-program = a .1; st = b .0; start-read = b .1; whole = d .0; room = e .0; outcome = Judging.accepted-is (e .1) }
 
 -- a run that is taken on says what the rules derive
 module _ {S : Type 0} (ed : Edition) (p : Plant) (c : Control S) (sound : Sound p c) (start events buffer : List ℕ) where
@@ -252,7 +253,8 @@ module _ {S : Type 0} (ed : Edition) (p : Plant) (c : Control S) (sound : Sound 
 
   -- the same of the call's own result
   pub run-built : (j : Judged (Program S)) (g : Program S) → record { plant = p; control = c } ≡ g →
-      (st : Start) → startIn (g .plant) start ≡ some st → roomForRecords ed (g .plant) events buffer ≡ true → judgeRun ed j start events buffer ≡ accepted (outcomeOf ed (g .control) (runFrom ed g st events)) →
+      (st : Start) → startIn (g .plant) start ≡ some st → roomForRecords ed (g .plant) events buffer ≡ true →
+      judgeRun ed j start events buffer ≡ accepted (outcomeOf ed (g .control) (runFrom ed g st events)) →
       RunHolds ed p c start events buffer (report buffer (judgeRun ed j start events buffer))
   run-built j g e st i r k = rw k
       (subst (λ (g : Program S). startIn (g .plant) start ≡ some st → roomForRecords ed (g .plant) events buffer ≡ true →

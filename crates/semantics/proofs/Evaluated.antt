@@ -3,15 +3,13 @@ use mathlib.Core.Path.{_≡_, refl, sym, ap, subst, _∙_}
 use mathlib.Core.Bool.{Bool, true, false, not, cond}
 use mathlib.Core.List.{List}
 use mathlib.Core.Logic.{_↔_}
-use mathlib.Core.Option.{some}
 use Prim.Native.Nat.{ℕ, _≤_}
-use native.Mathlib.Omega.{arith}
 use borrow.Author.Tests.{eqb-true, eq-eqb}
-use lib.ListN.{length, getElem?, getD}
-use lib.IntN.{ℤ, pos, negsuc, negℤ, pos-ne-negsuc}
+use lib.ListN.{length}
+use lib.IntN.{ℤ, pos, negsuc, negℤ}
 use lib.Signed.{leZ, ltZ}
 use Rattle.semantics.specs.Editions.{Edition}
-use Rattle.semantics.specs.Expressions.{Operation, sum, difference, product, Comparison, at-most, less, equal, unequal, Connective, both, either, Number, constant, variable, operate, negation, Truth, compare, connect, opposite, always, Side, above, below, Value, ok, fault, ranged, result, thenValue, operands, applied, eqZ, compared, connected, valueOf, holds, numberBytes, truthBytes, numberDepth, truthDepth, numberIn, truthIn, numberValue, truthValue}
+use Rattle.semantics.specs.Expressions.{Operation, sum, difference, product, Comparison, at-most, less, equal, unequal, Connective, both, either, Number, operate, negation, Truth, compare, connect, opposite, Side, above, below, Value, ok, fault, ranged, result, thenValue, operands, applied, eqZ, compared, connected, valueOf, holds, numberBytes, truthBytes, numberDepth, truthDepth, numberValue, truthValue}
 use Rattle.semantics.specs.Proper.{NamesKnown, known-constant, known-variable, known-operands, known-negation, TruthNamesKnown, known-numbers, known-truths, known-opposite, known-always}
 use Rattle.semantics.specs.Writing.{AllBytes}
 use Rattle.semantics.specs.Evaluating.{Results, inside, too-high, too-low, Evaluates, constant-is, variable-is, sum-is, difference-is, product-is, negation-is, left-faults, right-faults, operand-faults}

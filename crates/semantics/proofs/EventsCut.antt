@@ -1,11 +1,11 @@
 -- The events of a list of whole events: as many as there are, each as it came.
 use mathlib.Core.Path.{_≡_, refl, sym, ap, ap₂, _∙_}
 use mathlib.Core.Bool.{true}
-use mathlib.Core.List.{List, [], _∷_, _++_, flatten}
+use mathlib.Core.List.{List, _∷_, _++_, flatten}
 use mathlib.Core.Logic.{_↔_}
-use Prim.Native.Nat.{ℕ, zero, suc, _+_, _*_, _/_, _≤_}
+use Prim.Native.Nat.{ℕ, zero, suc, _*_, _/_, _≤_}
 use native.Mathlib.Omega.{arith}
-use native.Mathlib.Nat.{mul-div-cancel, suc-mul, add-comm}
+use native.Mathlib.Nat.{mul-div-cancel, suc-mul}
 use borrow.Author.Tests.{leb-true, le-leb}
 use lib.ListN.{length, length-append, take, drop}
 use lib.Seq.{take-append-seam, drop-append-seam}

@@ -164,7 +164,8 @@ module _ {S : Type 0} (ed : Edition) (p : Plant) (c : Control S) where
       Counted said (howMany isTaken said) (howMany isTurnedAway said) (howMany isFaulted said)
   unfolding answers howMany
   answers-counted s [] = no-answer
-  answers-counted s (e ∷ es) = counted-more (step ed p c s e .answer) (map (λ (o : Answered S). o .answer) (answers ed p c (step ed p c s e .left) es)) (step-stepped s e .answered) (answers-counted (step ed p c s e .left) es)
+  answers-counted s (e ∷ es) =
+      counted-more (step ed p c s e .answer) (map (λ (o : Answered S). o .answer) (answers ed p c (step ed p c s e .left) es)) (step-stepped s e .answered) (answers-counted (step ed p c s e .left) es)
 
   -- ---- as many bytes as the records need
   pub record-length : (o : Answered S) → length (o .left .values) ≡ length (p .variables) → length (o .left .modes) ≡ length (selectors p) →

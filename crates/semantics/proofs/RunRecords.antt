@@ -10,7 +10,7 @@ use lib.IntN.{ℤ, pos, negsuc}
 use Rattle.semantics.specs.Editions.{Edition}
 use Rattle.semantics.specs.Refusals.{accepted}
 use Rattle.semantics.specs.Plant.{Plant}
-use Rattle.semantics.specs.Run.{Control, Situation, Answered, at, recordOf}
+use Rattle.semantics.specs.Run.{Control, Situation, Answered, recordOf}
 use Rattle.semantics.specs.Rules.{Derives, no-events, one-event, Comes, at-start, Standing, stands-at, stands-over, Sound}
 use Rattle.semantics.specs.Tables.{Table, risingFrom, judgeTable, tableControl}
 use Rattle.semantics.specs.Records.{AtFront, Fits32, RecordsIn, no-record, one-record}
@@ -27,7 +27,8 @@ fits : (z : ℤ) → Bits32 z → Fits32 z
 fits (pos n) h = let k = h .small in (refl, le-leb n 2147483647 (omega arith))
 fits (negsuc n) h = let k = h .small in (le-leb n 2147483647 (omega arith), refl)
 
-module _ {S : Type 0} (ed : Edition) (p : Plant) (c : Control S) (sound : Sound p c) (b : ProgramBytes (record { plant = p; control = c })) (rising : (x : S) → Comes c x → risingFrom 0 (c .acting x) ≡ true) where
+module _ {S : Type 0} (ed : Edition) (p : Plant) (c : Control S) (sound : Sound p c) (b : ProgramBytes (record { plant = p; control = c }))
+    (rising : (x : S) → Comes c x → risingFrom 0 (c .acting x) ≡ true) where
   rises-there : {s : Situation S} → Standing c s → (x : S) → s .place ≡ some x → risingFrom 0 (c .acting x) ≡ true
   rises-there (stands-at {x = y} k) x e = rising x (subst (Comes c) (some-is e) k)
   rises-there stands-over x e = none-not-some e
@@ -51,4 +52,5 @@ table-recorded ed table start events buffer z y e =
     let t = q .0 in
     let c = tableControl t in
     let h = q .2 in
-    (t, q .1, h, flatMap (recordOf ed c) (h .said), run-recorded ed (t .plant) c (sound-table ed table t (q .1)) (table-read-bytes ed table (q .1) z) (λ x k. table-rises ed table t (q .1) x) y h, h .written)
+    let written = run-recorded ed (t .plant) c (sound-table ed table t (q .1)) (table-read-bytes ed table (q .1) z) (λ x k. table-rises ed table t (q .1) x) y h in
+    (t, q .1, h, flatMap (recordOf ed c) (h .said), written, h .written)

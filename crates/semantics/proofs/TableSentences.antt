@@ -18,12 +18,12 @@ use Rattle.semantics.specs.Plant.{Plant, judgePlant, switchesRead, order
 use Rattle.semantics.specs.TableFile.{NodeAction, Entry, TableSections, tableSectionsIn, actionsIn, locationsIn}
 use Rattle.semantics.specs.Tables.{Table, judgeTable, tableHeader, actionsFit, locationsFit}
 use Rattle.semantics.specs.Starts.{Start, startIn, startFits}
-use Rattle.semantics.specs.Calls.{Program, Outcome, judgeRun, tableProgram, wholeEvents, roomForRecords, readTable, tableRun}
+use Rattle.semantics.specs.Calls.{Program, judgeRun, tableProgram, wholeEvents, roomForRecords, readTable, tableRun}
 use Rattle.semantics.specs.Writing.{AllBytes, writeVariables, VariablesLimits, writeEquations, EquationsLimits, writeTableSections, TableSectionsLimits, PlantLimits, startBytes, StartLimits}
 use Rattle.semantics.specs.Proper.{TableWritten}
 use Rattle.semantics.specs.Sentences.{Clause, _when_, FirstHolds, AnyHolds, Fails, WrittenAs, PlantSections, VariablesThere, PlantThere, Sentence4, SwitchSentence12, plantClauses, TableHead, HeadOfTable, five-bytes, TableSource, TableActions, ActionsOf, LocationsOf, ProperHead, TableSectionsThere, PlantSectionsOfTable, of-table, SourceThere, ActionsThere, tableClauses, TablePlant, table-plant, runClauses, tableRunClauses}
 use Rattle.semantics.proofs.Facts.{true-not-false, some-is, and-left, and-right, and-both}
-use Rattle.semantics.proofs.Judging.{accepted-is, passed-then, passed-need, passed-ensure}
+use Rattle.semantics.proofs.Judging.{accepted-is, passed-then}
 use Rattle.semantics.proofs.EventsCut.{room-for-each}
 use Rattle.semantics.proofs.FirstNumber.{plant-is, table-refusal, ran-refusal}
 use Rattle.semantics.proofs.ProperForms.{all-ordered, all-named, driven-once, all-read}
@@ -203,15 +203,6 @@ whole-events w events = (
   λ h. (let e = eqb-true (length events % w) 0 h in (length events / w, sym (div-add-mod' (length events) w) ∙ ap (λ r. length events / w * w + r) e ∙ add-zero (length events / w * w))),
   λ k. eq-eqb (length events % w) 0 (ap (λ l. l % w) (k .1) ∙ mul-mod-left (k .0) w),
 )
-
--- a run that is taken on has whole events
-pub run-whole : {S : Type 0} (ed : Edition) (j : Judged (Program S)) (start events buffer : List ℕ) {o : Outcome} → judgeRun ed j start events buffer ≡ accepted o → (n : ℕ) × (length events ≡ n * ed .event-bytes)
-unfolding judgeRun
-run-whole ed j start events buffer h =
-    let a = passed-then j _ h in
-    let b = passed-need 20 (startIn (a .0 .plant) start) _ (a .2) in
-    let c = passed-ensure 20 _ _ (b .2) in
-    (whole-events (ed .event-bytes) events) .0 ((passed-ensure 21 _ _ (c .1)) .0)
 
 module _ {S : Type 0} (ed : Edition) {Accepted : Plant → Type 0} (start events buffer : List ℕ) (z : AllBytes start) where
   pub run-answers : {j : Judged (Program S)} {k : List Clause} → Answers j k →
