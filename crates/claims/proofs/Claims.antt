@@ -15,10 +15,14 @@ use lib.ListN.{length, getElem?, take, drop}
 use Rattle.semantics.specs.Bytes.{All, within, isSome, overwrite, two-bytes, widthOf}
 use Rattle.semantics.specs.Editions.{Edition, edition1, capacity}
 use Rattle.semantics.specs.Refusals.{accepted}
-use Rattle.semantics.specs.Expressions.{Number, Truth, numberBytes, truthBytes, numberDepth, truthDepth, numberIn, truthIn}
+use Rattle.semantics.specs.Expressions.{Number, Truth, Value, valueOf, holds, numberBytes, truthBytes, numberDepth, truthDepth, numberIn, truthIn, numberValue, truthValue}
+use Rattle.semantics.specs.Evaluating.{Evaluates, Holds}
 use Rattle.semantics.specs.Plant.{Plant, selectors}
-use Rattle.semantics.specs.Run.{Action, stop, possible, Next, halted, Control, Situation, Answered, at, step}
+use Rattle.semantics.specs.Events.{eventsIn}
+use Rattle.semantics.specs.Run.{Action, stop, possible, Next, halted, Control, Situation, Answered, at, step, recordOf, howMany, isTaken, isTurnedAway, isFaulted}
 use Rattle.semantics.specs.Rules.{Rule, Derives, Stopping, Standing, at-start, stands-at, Sound, Decides}
+use Rattle.semantics.specs.Records.{AtFront, Fits32, RecordIs, RecordsIn}
+use Rattle.semantics.specs.Counting.{Counted}
 use Rattle.semantics.specs.TableFile.{locationLimit, writeAction}
 use Rattle.semantics.specs.Tables.{Table, risingFrom, judgeTable, actionOrStop, tableControl}
 use Rattle.semantics.specs.TableRuns.{TableRuns}
@@ -26,11 +30,16 @@ use Rattle.semantics.specs.Starts.{Start, startIn, startFits}
 use Rattle.semantics.specs.Writing.{writeTable, TableLimits, TableReadAs, startBytes, Each, InRange, HasMode, StartLimits}
 use Rattle.semantics.specs.Proper.{NamesKnown, TruthNamesKnown, IsTruth, IsNumber, TableWritten}
 use Rattle.semantics.specs.Statements.{RunHolds}
-use Rattle.semantics.specs.Calls.{recordSize, readTable, tableRun}
+use Rattle.semantics.specs.Calls.{eventCount, recordSize, readTable, tableRun}
 use Rattle.semantics.specs.Conditions.{is20}
 use Rattle.semantics.specs.Sentences.{Clause, FirstHolds, AnyHolds, tableClauses, tableRunClauses}
 use Rattle.semantics.proofs.StepRules as StepRules
 use Rattle.semantics.proofs.FirstAnswer as FirstAnswer
+use Rattle.semantics.proofs.Evaluated as Evaluated
+use Rattle.semantics.proofs.EventsCut as EventsCut
+use Rattle.semantics.proofs.RecordForms as RecordForms
+use Rattle.semantics.proofs.RunCounts as RunCounts
+use Rattle.semantics.proofs.RunRecords as TableRecords
 use Rattle.semantics.proofs.SentenceSteps as SentenceSteps
 use Rattle.semantics.proofs.TableSentences as TableSentences
 use Rattle.semantics.proofs.CallsHold as TableCalls
@@ -62,6 +71,7 @@ use Rattle.schedules.specs.TableSizes.{tableLength, TableSized}
 use Rattle.schedules.specs.Reordered.{OneTree, Swapped, SameButOrder}
 use Rattle.schedules.proofs.Demand2 as Demand2
 use Rattle.schedules.proofs.FirstArrivals as FirstArrivals
+use Rattle.schedules.proofs.RunRecords as RuleRecords
 use Rattle.schedules.proofs.Agreement as Agreement
 use Rattle.schedules.proofs.FirstNumber as FileNumbers
 use Rattle.schedules.proofs.CallsHold as FileCalls
@@ -137,7 +147,7 @@ pub reached-rules : (ns : List Node) (t : Tree) → treeOf ns ≡ some t → (te
 reached-rules = MovesByRule.reached-rules
 
 -- the bytes that compiling writes: at the front of the room, which holds them, and the rest of it unaltered.
--- Ruled out: a compiler that writes nothing; one that clears the room beyond its table.
+-- Ruled out: a compiler that writes nothing; one that clears the room beyond its table (with `at-front`).
 pub written-table : (ed : Edition) (file room : List ℕ) → (compile ed file room) .refusal ≡ 0 →
     (s : Schedule) × (fileSchedule ed file ≡ some s) × (length (tableOf ed s) ≤ length room) ×
     (compile ed file room ≡ record { refusal = 0; written = length (tableOf ed s); table = overwrite (tableOf ed s) room })
@@ -238,7 +248,7 @@ agreement = Agreement.agreement
 
 -- the same in the mission's words: for every valuation within the declared ranges, every choice of existing modes, every list of whole events and all
 -- record buffers that are long enough, both runs take the call on, and their records and counts are those that the rules derive.
--- Ruled out: runners that refuse every start whose modes are not the initial ones; runners that take one event at most.
+-- Ruled out: runners that refuse every start whose modes are not the initial ones; runners that take one event at most (with `events-cut`).
 pub agreement-every-start : (ed : Edition) (file room : List ℕ) → All (λ b. b < 256) file → (compile ed file room) .refusal ≡ 0 →
     (s : Schedule) × ScheduleWritten ed file s × ((values : List ℤ) (modes : List ℕ) → Each InRange (s .plant .variables) values → Each HasMode (selectors (s .plant)) modes →
     (events by-rules by-table : List ℕ) (n : ℕ) → length events ≡ n * ed .event-bytes → n * recordSize ed (s .plant) ≤ length by-rules → n * recordSize ed (s .plant) ≤ length by-table →
@@ -345,6 +355,65 @@ table-run-holds = TableCalls.table-run-holds
 -- Ruled out: rules under which two runs of one start and one list of events would both be right; a second answer to an event that is turned away.
 pub derives-one : {S : Type 0} {ed : Edition} {p : Plant} {c : Control S} {s : Situation S} {es : List (List ℕ)} {l m : List (Answered S)} → Derives ed p c s es l → Derives ed p c s es m → l ≡ m
 derives-one d e = StepRules.derives-one d e
+
+-- ---- events, records and counts by themselves
+-- "An event is 3 bytes": the events that a run judges, in `RunHolds` and `RunsAgree`, are those of its list, all of them and each as it came.
+-- Ruled out: a run that stops after 1,000 events, or after the first; one that begins each event a byte too late.
+pub events-cut : (ed : Edition) (es : List (List ℕ)) → All (λ e. length e ≡ ed .event-bytes) es → eventsIn (ed .event-bytes) (eventCount ed (flatten es)) (flatten es) ≡ es
+events-cut = EventsCut.events-cut
+
+-- what stands in a lent buffer after these bytes were written into it: they at its front, and the rest as it was. So `overwrite` is to be read in `RunsAgree`; `RunHolds` says it of its records.
+-- Ruled out: a run that clears the buffer beyond its records; one that writes them at the buffer's end.
+pub at-front : (bytes buffer : List ℕ) → length bytes ≤ length buffer → AtFront bytes buffer (overwrite bytes buffer)
+at-front = RecordForms.overwritten
+
+-- and of compiling.
+-- Ruled out: a compiler that clears the room beyond its table; one that writes the table behind the first byte and returns its length.
+pub table-at-front : (ed : Edition) (file room : List ℕ) → (compile ed file room) .refusal ≡ 0 →
+    (s : Schedule) × (fileSchedule ed file ≡ some s) × ((compile ed file room) .written ≡ length (tableOf ed s)) × AtFront (tableOf ed s) room ((compile ed file room) .table)
+table-at-front = FileCalls.table-at-front
+
+-- "taken (200..202), turned away (23..31) and faulted (203)": the counts by these numbers alone. `RunHolds` says of a run's answers that they are counted so; in `RunsAgree` this reads `howMany`.
+-- Ruled out: a run that counts 202 as turned away; one that counts an answer twice, or 24 to 31 and not 23.
+pub counts-told : {l : List ℕ} {taken away faulted : ℕ} → Counted l taken away faulted → (howMany isTaken l ≡ taken) × (howMany isTurnedAway l ≡ away) × (howMany isFaulted l ≡ faulted)
+counts-told k = RunCounts.counts-told k
+
+-- "The record of an event: answer byte, set of acting nodes (8 bytes, bit n for node n, 0 once the run is over), values (4 bytes each), modes (1 byte each).": in this order and of these lengths,
+-- for each answer that the rules derive, one record after the other at the front of the lent buffer.
+-- Ruled out: a set with node 8 in the bit of node 0, or with node 0 in its first byte; a record whose modes stand before its values, or whose values are lowest byte first.
+pub records-rules : (ed : Edition) (file start events buffer : List ℕ) → All (λ b. b < 256) file → All (λ b. b < 256) start → (ruleRun ed file start events buffer) .refusal ≡ 0 →
+    (s : Schedule) × (judgeFile ed file ≡ accepted s) × (h : RunHolds ed (s .plant) (ruleControl s) start events buffer (ruleRun ed file start events buffer)) ×
+    (bytes : List ℕ) × RecordsIn ed (ruleControl s) (h .said) bytes × AtFront bytes buffer ((ruleRun ed file start events buffer) .records)
+records-rules = RuleRecords.rule-recorded
+
+pub records-table : (ed : Edition) (table start events buffer : List ℕ) → All (λ b. b < 256) table → All (λ b. b < 256) start → (tableRun ed table start events buffer) .refusal ≡ 0 →
+    (t : Table) × (judgeTable ed table ≡ accepted t) × (h : RunHolds ed (t .plant) (tableControl t) start events buffer (tableRun ed table start events buffer)) ×
+    (bytes : List ℕ) × RecordsIn ed (tableControl t) (h .said) bytes × AtFront bytes buffer ((tableRun ed table start events buffer) .records)
+records-table = TableRecords.table-recorded
+
+-- and `recordOf` by itself, which `RunsAgree` cites, wherever the acting nodes rise and the values have 32 bits: so it is in those runs.
+-- Ruled out: a record without its answer; one that keeps the set of the last place once the run is over.
+pub record-is : {S : Type 0} (ed : Edition) (c : Control S) (o : Answered S) → ((x : S) → o .left .place ≡ some x → risingFrom 0 (c .acting x) ≡ true) → All Fits32 (o .left .values) →
+    RecordIs ed c o (recordOf ed c o)
+record-is ed c = RecordForms.record-is ed c
+
+-- "Numbers and truths": the executable evaluation is just the form-by-form relation, of every expression whose variables have values; then the same of its bytes, as a run evaluates them.
+-- Ruled out: a product worked out as a sum; a result of 2147483648 that does not fault.
+pub evaluates-number : (vs : List ℤ) (e : Number) → NamesKnown (length vs) e → (r : Value ℤ) → (valueOf vs e ≡ r) ↔ Evaluates vs e r
+evaluates-number = Evaluated.evaluates-number
+
+-- Ruled out: ≠ that is true of equal numbers, or "and" that is true where one side is; an "or" that leaves out its right side where the left is true.
+pub evaluates-truth : (vs : List ℤ) (e : Truth) → TruthNamesKnown (length vs) e → (r : Value Bool) → (holds vs e ≡ r) ↔ Holds vs e r
+evaluates-truth = Evaluated.evaluates-truth
+
+-- Ruled out: a run that evaluates the bytes from their end; one that takes variable 1 for variable 0.
+pub evaluates-number-bytes : (ed : Edition) (vs : List ℤ) (s : List ℕ) → All (λ b. b < 256) s → (e : Number) → numberBytes ed e ≡ s → numberDepth e ≤ 16 → NamesKnown (length vs) e →
+    (r : Value ℤ) → (numberValue ed vs s ≡ r) ↔ Evaluates vs e r
+evaluates-number-bytes = Evaluated.evaluates-number-bytes
+
+pub evaluates-truth-bytes : (ed : Edition) (vs : List ℤ) (s : List ℕ) → All (λ b. b < 256) s → (e : Truth) → truthBytes ed e ≡ s → truthDepth e ≤ 16 → TruthNamesKnown (length vs) e →
+    (r : Value Bool) → (truthValue ed vs s ≡ r) ↔ Holds vs e r
+evaluates-truth-bytes = Evaluated.evaluates-truth-bytes
 
 -- ---- demand 1: "A refused call returns .. length and counts zero and every lent buffer unwritten."
 -- Ruled out: a refused run that clears its record buffer; a refused compilation that returns a length.

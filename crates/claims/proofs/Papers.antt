@@ -6,10 +6,10 @@ use mathlib.Core.Option.{some, none, Option·map}
 use Prim.Native.Nat.{ℕ, _≤_}
 use native.Mathlib.Omega.{arith}
 use lib.ListN.{length, replicate}
-use lib.IntN.{ℤ, negsuc}
+use lib.IntN.{ℤ, pos, negsuc}
 use Rattle.semantics.specs.Bytes.{isSome}
 use Rattle.semantics.specs.Editions.{Edition, edition1}
-use Rattle.semantics.specs.Expressions.{constant, negation, Truth, connect, either, always, Side, fault, above, valueOf, holds, truthIn}
+use Rattle.semantics.specs.Expressions.{constant, negation, Truth, connect, either, always, Side, ok, fault, above, valueOf, holds, truthIn, numberValue, truthValue}
 use Rattle.semantics.specs.Run.{pass, switchCheck, at, over, step}
 use Rattle.semantics.specs.Calls.{tableRun}
 use Rattle.semantics.specs.K1.{one-record, k1-file, k1-table, start-at, k2-events, k2-records, k3-events, k3-records, k4-events, k4-records}
@@ -79,6 +79,26 @@ K8 = (λ room fits. (Border.K8-ten room (omega arith), Border.K8-one-before room
 pub K9 : ((vs : List ℤ) → valueOf vs (negation (constant (negsuc 2147483647))) ≡ fault above)
     × ((vs : List ℤ) (t : Truth) (side : Side) → holds vs t ≡ fault side → holds vs (connect either always t) ≡ fault side)
 K9 = (Tables.K9-negation, Tables.K9-or)
+
+-- one paper for each code of "Numbers and truths", from its bytes; the variables have the values 7 and −3
+pub number-codes : (let value = numberValue edition1 (pos 7 ∷ negsuc 2 ∷ []) in
+    (value (0x01 ∷ 0xff ∷ 0xff ∷ 0xff ∷ 0xfe ∷ []) ≡ ok (negsuc 1)) × (value (0x02 ∷ 1 ∷ []) ≡ ok (negsuc 2)) × (value (0x10 ∷ 0x02 ∷ 0 ∷ 0x02 ∷ 1 ∷ []) ≡ ok (pos 4))
+    × (value (0x11 ∷ 0x02 ∷ 0 ∷ 0x02 ∷ 1 ∷ []) ≡ ok (pos 10)) × (value (0x12 ∷ 0x02 ∷ 0 ∷ 0x02 ∷ 1 ∷ []) ≡ ok (negsuc 20)) × (value (0x14 ∷ 0x02 ∷ 0 ∷ []) ≡ ok (negsuc 6)))
+number-codes = Tables.number-codes
+
+-- "20 ≤, 21 <, 22 =, 23 ≠", then "28 and, 29 or (two truths), 2A not, 2F true"
+pub comparison-codes : (let holding = truthValue edition1 (pos 7 ∷ negsuc 2 ∷ []) in
+    (holding (0x20 ∷ 0x02 ∷ 0 ∷ 0x02 ∷ 0 ∷ []) ≡ ok true) × (holding (0x20 ∷ 0x02 ∷ 0 ∷ 0x02 ∷ 1 ∷ []) ≡ ok false)
+    × (holding (0x21 ∷ 0x02 ∷ 0 ∷ 0x02 ∷ 0 ∷ []) ≡ ok false) × (holding (0x21 ∷ 0x02 ∷ 1 ∷ 0x02 ∷ 0 ∷ []) ≡ ok true)
+    × (holding (0x22 ∷ 0x02 ∷ 0 ∷ 0x02 ∷ 0 ∷ []) ≡ ok true) × (holding (0x22 ∷ 0x02 ∷ 0 ∷ 0x02 ∷ 1 ∷ []) ≡ ok false)
+    × (holding (0x23 ∷ 0x02 ∷ 0 ∷ 0x02 ∷ 0 ∷ []) ≡ ok false) × (holding (0x23 ∷ 0x02 ∷ 0 ∷ 0x02 ∷ 1 ∷ []) ≡ ok true))
+comparison-codes = Tables.comparison-codes
+
+pub connective-codes : (let holding = truthValue edition1 [] in
+    (holding (0x2f ∷ []) ≡ ok true) × (holding (0x2a ∷ 0x2f ∷ []) ≡ ok false)
+    × (holding (0x28 ∷ 0x2f ∷ 0x2f ∷ []) ≡ ok true) × (holding (0x28 ∷ 0x2f ∷ 0x2a ∷ 0x2f ∷ []) ≡ ok false)
+    × (holding (0x29 ∷ 0x2f ∷ 0x2a ∷ 0x2f ∷ []) ≡ ok true) × (holding (0x29 ∷ 0x2a ∷ 0x2f ∷ 0x2a ∷ 0x2f ∷ []) ≡ ok false))
+connective-codes = Tables.connective-codes
 
 -- K11: "Empty file 1; 01 00 03 gives 3; 01 00 04 gives 2."
 pub K11 : (buffer : List ℕ) → (compile edition1 [] buffer ≡ record { refusal = 1; written = 0; table = buffer })

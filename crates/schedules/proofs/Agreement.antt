@@ -4,17 +4,17 @@ use mathlib.Core.Bool.{Bool, true, false}
 use mathlib.Core.List.{List}
 use mathlib.Core.Logic.{_⊎_, inl, inr}
 use mathlib.Core.Option.{Option, none, some}
-use Prim.Native.Nat.{ℕ, zero, suc, _*_, _≤_}
+use Prim.Native.Nat.{ℕ, suc, _*_, _≤_}
 use native.Mathlib.Omega.{arith}
 use borrow.Author.Tests.{leb-true, not-false}
 use lib.ListN.{length, take, drop}
 use lib.Seq.{take-append-seam}
-use Rattle.semantics.specs.Bytes.{overwrite, int4, byte, times}
+use Rattle.semantics.specs.Bytes.{overwrite}
 use Rattle.semantics.specs.Editions.{Edition}
 use Rattle.semantics.specs.Refusals.{Judged, refused, accepted, _>>=_, _>>_, ensure, need}
 use Rattle.semantics.specs.Events.{eventsIn}
 use Rattle.semantics.specs.Plant.{Plant, selectors}
-use Rattle.semantics.specs.Starts.{Start, startIn, readStart, startFits}
+use Rattle.semantics.specs.Starts.{Start, startIn, startFits}
 use Rattle.semantics.specs.Run.{Action, possible, isTest, Control, Situation, Answered, at, answers}
 use Rattle.semantics.specs.TableFile.{locationLimit}
 use Rattle.semantics.specs.Tables.{judgeTable, tableControl, actionOrStop}
@@ -22,7 +22,8 @@ use Rattle.semantics.specs.Calls.{Program, Outcome, outcomeOf, runFrom, judgeRu
 use Rattle.semantics.specs.Conditions.{Condition, given, is20, is21, is22}
 use Rattle.semantics.proofs.Facts.{true-not-false, All, all-nil, all-cons}
 use Rattle.semantics.proofs.Judging as Judging
-use Rattle.semantics.proofs.Readers as Readers
+use Rattle.semantics.proofs.EventsCut.{events-length}
+use Rattle.semantics.proofs.CallsHold.{start-values}
 use Rattle.semantics.proofs.Simulation.{Agree, runs-agree}
 use Rattle.semantics.proofs.RunCounts.{counts-sum, written-length}
 use Rattle.semantics.proofs.FirstNumber.{First, here, further, Firsts, refuses}
@@ -64,22 +65,6 @@ module _ {S : Type 0} (ed : Edition) (p : Plant) (c : Control S) (start events b
   unfolding judgeRun
   accepted-run h w r =
       Judging.go-then _ h ∙ Judging.go-need 20 _ (b .start-read) ∙ Judging.go-ensure 20 _ (b .start-fits) ∙ Judging.go-ensure 21 _ w ∙ Judging.go-ensure 22 _ r
-
--- as many values and modes as the plant has
-start-values : (p : Plant) (start : List ℕ) {st : Start} → startIn p start ≡ some st → (length (st .values) ≡ length (p .variables)) × (length (st .modes) ≡ length (selectors p))
-unfolding startIn readStart
-start-values p start h =
-    let a = Readers.split (times (length (p .variables)) int4) _ (Readers.whole-read _ start h) in
-    let b = Readers.split (times (length (selectors p)) byte) _ (a .then) in
-    let e = Readers.given _ _ (b .then) in
-    let v = Readers.times-read {P = λ z. Unit {0}} int4 (λ z s t k. tt) (length (p .variables)) start (a .first) in
-    let m = Readers.times-read {P = λ z. Unit {0}} byte (λ z s t k. tt) (length (selectors p)) (a .rest) (b .first) in
-    (sym (ap (λ (st : Start). length (st .values)) e) ∙ v .0, sym (ap (λ (st : Start). length (st .modes)) e) ∙ m .0)
-
-events-length : (w n : ℕ) (l : List ℕ) → length (eventsIn w n l) ≡ n
-unfolding eventsIn
-events-length w zero l = refl
-events-length w (suc n) l = ap suc (events-length w n (drop w l))
 
 outcomes : (a : Action) (b : Bool) → possible a b ≡ true → (b ≡ true) ⊎ (isTest a ≡ true)
 unfolding possible

@@ -1,5 +1,5 @@
 -- What the calls over a schedule file return and leave: on a refusal nothing but the number; where they accept, what the definitions give and the rules derive.
-use mathlib.Core.Path.{_≡_, refl, sym, ap, _∙_}
+use mathlib.Core.Path.{_≡_, refl, sym, ap, subst, _∙_}
 use mathlib.Core.Bool.{Bool}
 use mathlib.Core.List.{List}
 use mathlib.Core.Option.{some}
@@ -12,19 +12,21 @@ use Rattle.semantics.specs.Editions.{Edition}
 use Rattle.semantics.specs.Refusals.{Judged, refused, accepted}
 use Rattle.semantics.specs.Plant.{selectors}
 use Rattle.semantics.specs.Rules.{Sound}
+use Rattle.semantics.specs.Records.{AtFront}
 use Rattle.semantics.specs.Calls.{judgeRun}
 use Rattle.semantics.specs.Conditions.{Condition, runConditions}
 use Rattle.semantics.specs.Statements.{RunHolds}
 use Rattle.semantics.proofs.Facts.{All, all-nil, all-cons}
 use Rattle.semantics.proofs.Judging as Judging
 use Rattle.semantics.proofs.FirstNumber.{ran-refusal}
+use Rattle.semantics.proofs.RecordForms.{overwritten}
 use Rattle.semantics.proofs.CallsHold.{accepted-of, run-passed, run-built, refused-run}
 use Rattle.schedules.specs.Trees.{Tree}
 use Rattle.schedules.specs.Residuals.{Residual, fresh}
 use Rattle.schedules.specs.Reached.{Leads, stays, goes, Of}
 use Rattle.schedules.specs.Files.{Schedule, judgeFile, ruleControl}
 use Rattle.schedules.specs.Compiling.{tableOf, judgeCompile}
-use Rattle.schedules.specs.Calls.{readSchedule, scheduleCounts, ruleProgram, ruleRun, compile, compiledInto}
+use Rattle.schedules.specs.Calls.{readSchedule, scheduleCounts, ruleProgram, ruleRun, Compiled, compile, compiledInto}
 use Rattle.schedules.specs.Conditions.{fileSchedule, fileConditions, ruleRunConditions}
 use Rattle.schedules.proofs.FirstNumber.{passed, file-schedule, rule-run-first, compile-first, compiled-refusal}
 use Rattle.schedules.proofs.ResidualsKept.{of-fresh, kept-to}
@@ -75,6 +77,14 @@ written-table ed file room z =
     let d = Judging.passed-ensure 14 _ _ (c .1) in
     (b .0, file-schedule ed file (b .1), leb-true (length (tableOf ed (b .0))) (length room) (d .0), ap (compiledInto room) (a .1 ∙ ap accepted (sym (Judging.accepted-is (d .1)))))
 
+-- the same without `overwrite`
+pub table-at-front : (ed : Edition) (file room : List ℕ) → (compile ed file room) .refusal ≡ 0 →
+    (s : Schedule) × (fileSchedule ed file ≡ some s) × ((compile ed file room) .written ≡ length (tableOf ed s)) × AtFront (tableOf ed s) room ((compile ed file room) .table)
+table-at-front ed file room z =
+    let a = written-table ed file room z in
+    let e = a .3 in
+    (a .0, a .1, ap (λ (c : Compiled). c .written) e, subst (AtFront (tableOf ed (a .0)) room) (sym (ap (λ (c : Compiled). c .table) e)) (overwritten (tableOf ed (a .0)) room (a .2)))
+
 pub sound-rules : (ed : Edition) (file : List ℕ) (s : Schedule) → judgeFile ed file ≡ accepted s → Sound (s .plant) (ruleControl s)
 sound-rules ed file s h = schedule-sound ed file s (passed ed file s h)
 
@@ -97,7 +107,7 @@ rule-run-holds ed file start events buffer z =
     let c = Judging.passed-then (judgeFile ed file) _ (b .is-program) in (
       c .0,
       c .1,
-      run-built ed (ruleProgram ed file) (c .0 .plant) (ruleControl (c .0)) (sound-rules ed file (c .0) (c .1)) start events buffer (b .program) (Judging.accepted-is (c .2)) (b .st) (b .start-read)
+      run-built ed (c .0 .plant) (ruleControl (c .0)) (sound-rules ed file (c .0) (c .1)) start events buffer (ruleProgram ed file) (b .program) (Judging.accepted-is (c .2)) (b .st) (b .start-read) (b .room)
           (a .1 ∙ ap accepted (sym (b .outcome))),
     )
 

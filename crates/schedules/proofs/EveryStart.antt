@@ -4,9 +4,7 @@ use mathlib.Core.Bool.{true, false, not}
 use mathlib.Core.List.{List}
 use mathlib.Core.Logic.{_↔_}
 use mathlib.Core.Option.{some}
-use Prim.Native.Nat.{ℕ, _*_, _/_, _≤_, _<_}
-use native.Mathlib.Omega.{arith}
-use native.Mathlib.Nat.{mul-div-cancel}
+use Prim.Native.Nat.{ℕ, _*_, _≤_, _<_}
 use borrow.Author.Tests.{le-leb}
 use lib.Dec.{leb}
 use lib.IntN.{ℤ}
@@ -14,10 +12,11 @@ use lib.ListN.{length, take}
 use Rattle.semantics.specs.Editions.{Edition}
 use Rattle.semantics.specs.Plant.{Plant, selectors}
 use Rattle.semantics.specs.Starts.{Start}
-use Rattle.semantics.specs.Calls.{wholeEvents, eventCount, recordSize, roomForRecords, tableRun}
+use Rattle.semantics.specs.Calls.{wholeEvents, recordSize, roomForRecords, tableRun}
 use Rattle.semantics.specs.Conditions.{given, is21, is22}
 use Rattle.semantics.specs.Writing.{AllBytes, startBytes, Each, InRange, HasMode}
 use Rattle.semantics.proofs.Facts.{some-is}
+use Rattle.semantics.proofs.EventsCut.{event-count}
 use Rattle.semantics.proofs.TableSentences.{whole-events}
 use Rattle.schedules.specs.Files.{Schedule}
 use Rattle.schedules.specs.Calls.{ruleRun, compile}
@@ -25,11 +24,6 @@ use Rattle.schedules.specs.Proper.{ScheduleWritten}
 use Rattle.schedules.specs.Agreement.{RunsAgree}
 use Rattle.schedules.proofs.FilesProper.{schedule-accepted, starts-admitted, start-let-pass}
 use Rattle.schedules.proofs.Agreement.{agreement}
-
--- so many whole events
-event-count : (ed : Edition) (events : List ℕ) (n : ℕ) → length events ≡ n * ed .event-bytes → eventCount ed events ≡ n
-unfolding eventCount
-event-count ed events n e = let k = ed .event-holds in ap (λ l. l / ed .event-bytes) e ∙ mul-div-cancel n {n = ed .event-bytes} (omega arith)
 
 no-21 : (ed : Edition) (p : Plant) (start events buffer : List ℕ) (n : ℕ) → length events ≡ n * ed .event-bytes → is21 ed (some p) start events buffer ≡ false
 unfolding is21

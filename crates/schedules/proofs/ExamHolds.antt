@@ -8,7 +8,6 @@ use Prim.Native.Nat.{ℕ, suc, _*_}
 use native.Mathlib.Omega.{arith}
 use lib.ListN.{length, take, drop}
 use lib.Seq.{take-append-seam}
-use borrow.Author.Tests.{leb-true, le-leb}
 use Rattle.semantics.specs.Bytes.{overwrite}
 use Rattle.semantics.specs.Editions.{Edition}
 use Rattle.semantics.specs.Refusals.{Judged, refused, accepted, _>>=_, refusalOf}
@@ -21,7 +20,9 @@ use Rattle.semantics.specs.Writing.{AllBytes, PlantLimits}
 use Rattle.semantics.specs.Sentences.{Clause, FirstHolds, AnyHolds}
 use Rattle.semantics.proofs.SentenceSteps as Steps
 use Rattle.semantics.proofs.SentenceSteps.{Answers}
-use Rattle.semantics.proofs.TableSentences.{run-answers}
+use Rattle.semantics.proofs.EventsCut.{room-for-each}
+use Rattle.semantics.proofs.TableSentences.{whole-events, run-answers}
+use Rattle.semantics.proofs.CallsHold.{run-passed}
 use Rattle.semantics.proofs.Facts.{All, all-nil, all-cons, all-append}
 use Rattle.semantics.proofs.Judging as Judging
 use Rattle.semantics.proofs.FirstNumber.{Clear, none-left, one-clear, Firsts, refuses, accepts, by-then, by-ensure, by-end, given-some, run-first}
@@ -109,15 +110,15 @@ module _ (ed : Edition) (file start events table records others : List ℕ) wher
   exam-refusal (accepted n) = refl
 
   exam-answers : AllBytes file → AllBytes start → Answers (judgeExam ed file start events table records others) (examClauses ed file start events table records others)
-  unfolding judgeExam roomForRecords
+  unfolding judgeExam
   exam-answers z y = Steps.by-then (compile-answers ed file z table) (λ t e.
       let k = compile-taken ed file table e in
       let q = plant-of-file ed file z (k .of-file) in
-      let n = eventCount ed events * recordSize ed (k .of .plant) in
       known-answers _ (rule-program ed file (k .of-file))
       (Steps.by-then (run-answers ed start events records y (Steps.by-end _) (λ g i.
       subst (λ q. FilePlant ed file q × ((p : Plant) → FilePlant ed file p → q ≡ p) × PlantLimits q) (ap (λ (g : Program Residual). g .plant) (Judging.accepted-is i)) q)) (λ o i.
-      Steps.by-test (q .0) (q .1) 22 (roomForRecords ed (k .of .plant) events others) (leb-true n (length others), le-leb n (length others)) (λ h22. Steps.by-end _))))
+      Steps.by-test (q .0) (q .1) 22 (roomForRecords ed (k .of .plant) events others)
+      (room-for-each ed (k .of .plant) events others ((whole-events (ed .event-bytes) events) .0 ((run-passed ed _ start events records i) .whole))) (λ h22. Steps.by-end _))))
 
   -- the refusal is the number of the first sentence that holds, or 0 where none does
   pub exam-first : AllBytes file → AllBytes start → FirstHolds ((examOf ed file start events table records others) .refusal) (examClauses ed file start events table records others) ⊎

@@ -34,6 +34,7 @@ pub mod FirstArrivals
 pub mod NodesDo
 pub mod CallsHold
 pub mod WrittenBytes
+pub mod RunRecords
 -- the number of locations, and the order of a PARALLEL's children
 pub mod ByPencil
 pub mod Counting

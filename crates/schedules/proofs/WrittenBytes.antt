@@ -140,7 +140,7 @@ module _ (ed : Edition) (file : List ℕ) (s : Schedule) (g : Passed ed file s) 
   unfolding actionsOf
   acts-bytes = actions-all ActionWritten NodeBytes (length (s .nodes)) (λ n x y i e q. q y e) 0 nodes-bytes (omega arith)
 
-  program-bytes : ProgramBytes (record { plant = s .plant; control = ruleControl s })
+  pub program-bytes : ProgramBytes (record { plant = s .plant; control = ruleControl s })
   unfolding ruleControl
   program-bytes = record {
     plant = plant-bytes ed (s .sections .variables) (s .sections .equations) (g .plant) (parts-bytes .variables .each) (parts-bytes .equations .each);

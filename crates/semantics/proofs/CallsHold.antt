@@ -1,25 +1,25 @@
 -- What the calls over a table return and leave: on a refusal nothing but the number; where they accept, what the rules derive.
 use mathlib.Core.Path.{_≡_, refl, sym, ap, subst, subst₂, _∙_}
 use mathlib.Core.Bool.{Bool, true, false, cond}
-use mathlib.Core.List.{List, [], _∷_, map, List·Memᴰ as Mem, List·Memᴰ·not-nil, List·Memᴰ·cases-cons}
+use mathlib.Core.List.{List, [], _∷_, map, flatMap, List·Memᴰ as Mem, List·Memᴰ·not-nil, List·Memᴰ·cases-cons}
 use mathlib.Core.Logic.{_↔_, _⊎_, inl, inr}
 use mathlib.Core.Option.{Option, none, some}
-use Prim.Native.Nat.{ℕ, zero, suc, _≤_, _<_}
+use Prim.Native.Nat.{ℕ, zero, suc, _*_, _≤_, _<_}
 use native.Mathlib.Omega.{arith}
-use borrow.Author.Tests.{eqb-true, eqb-false, ne-eqb, ltb-true}
+use borrow.Author.Tests.{leb-true, eqb-true, eqb-false, ne-eqb, ltb-true}
 use lib.Dec.{ltb, eqb}
 use lib.ListN.{length, getD}
-use Rattle.semantics.specs.Bytes.{every, nat2}
+use Rattle.semantics.specs.Bytes.{every, byte, nat2, int4, times}
 use Rattle.semantics.specs.Editions.{Edition}
 use Rattle.semantics.specs.Events.{eventsIn}
 use Rattle.semantics.specs.Refusals.{Judged, refused, accepted, refusalOf}
 use Rattle.semantics.specs.Plant.{Plant, selectors}
-use Rattle.semantics.specs.Starts.{Start, startIn}
-use Rattle.semantics.specs.Run.{Action, test, wait, assign, switch, stop, possible, isTest, to, halted, Control, at, answers}
+use Rattle.semantics.specs.Starts.{Start, startIn, readStart}
+use Rattle.semantics.specs.Run.{Action, test, wait, assign, switch, stop, possible, isTest, to, halted, Control, at, answers, recordOf}
 use Rattle.semantics.specs.Rules.{at-start, stands-at, Sound}
 use Rattle.semantics.specs.TableFile.{NodeAction, Entry, FINISHED, HALTED, NONE, locationLimit, readLocation, readLocations, locationsIn}
 use Rattle.semantics.specs.Tables.{Table, judgeTable, operandFits, actionFits, actionsFit, actionAt, actionOrStop, goesOn, targetsFit, entryFits, entryNodes, locationFits, locationsFit, risingFrom, actionNodes, goingTo, entryNext, entriesAt, tableControl}
-use Rattle.semantics.specs.Calls.{Program, Outcome, outcomeOf, runFrom, judgeRun, report, eventCount, tableProgram, tableRun, tableCounts, readTable}
+use Rattle.semantics.specs.Calls.{Program, Outcome, outcomeOf, runFrom, judgeRun, report, eventCount, recordSize, wholeEvents, roomForRecords, tableProgram, tableRun, tableCounts, readTable}
 use Rattle.semantics.specs.Conditions.{Condition, First, here, further, Firsts, refuses, accepts, tableConditions, runConditions, tableRunConditions}
 use Rattle.semantics.specs.Statements.{RunHolds}
 use Rattle.semantics.proofs.Facts.{true-not-false, and-left, and-right, within-high, All, all-nil, all-cons, all-mem, every-all}
@@ -28,6 +28,9 @@ use Rattle.semantics.proofs.Readers as Readers
 use Rattle.semantics.proofs.FirstNumber.{table-run-first, ran-refusal}
 use Rattle.semantics.proofs.Halting.{Fitting, fits-on, fits-end, fits-halt, fitting-moves, fitting-halts}
 use Rattle.semantics.proofs.OneRate.{one-rate}
+use Rattle.semantics.proofs.EventsCut.{events-length}
+use Rattle.semantics.proofs.RecordForms.{overwritten}
+use Rattle.semantics.proofs.RunCounts.{written-length, answers-counted}
 use Rattle.semantics.proofs.StepRules.{answers-derived}
 use Rattle.semantics.proofs.TablePassed.{table-passed}
 use Rattle.semantics.proofs.WrittenSources.{found}
@@ -196,15 +199,28 @@ accepted-of (refuses f) h z = absurd (go f h z)
     go (further e f) (all-cons h k) z = go f k z
 accepted-of (accepts {a = a} c) h z = (a, refl)
 
+-- as many values and modes as the plant has
+pub start-values : (p : Plant) (start : List ℕ) {st : Start} → startIn p start ≡ some st → (length (st .values) ≡ length (p .variables)) × (length (st .modes) ≡ length (selectors p))
+unfolding startIn readStart
+start-values p start h =
+    let a = Readers.split (times (length (p .variables)) int4) _ (Readers.whole-read _ start h) in
+    let b = Readers.split (times (length (selectors p)) byte) _ (a .then) in
+    let e = Readers.given _ _ (b .then) in
+    let v = Readers.times-read {P = λ z. Unit {0}} int4 (λ z s t k. tt) (length (p .variables)) start (a .first) in
+    let m = Readers.times-read {P = λ z. Unit {0}} byte (λ z s t k. tt) (length (selectors p)) (a .rest) (b .first) in
+    (sym (ap (λ (st : Start). length (st .values)) e) ∙ v .0, sym (ap (λ (st : Start). length (st .modes)) e) ∙ m .0)
+
 -- what an accepted run has passed
-pub record Passed {S : Type 0} (ed : Edition) (j : Judged (Program S)) (start events : List ℕ) (o : Outcome) : Type 0 where
+pub record Passed {S : Type 0} (ed : Edition) (j : Judged (Program S)) (start events buffer : List ℕ) (o : Outcome) : Type 0 where
   pub program : Program S
   pub is-program : j ≡ accepted program
   pub st : Start
   pub start-read : startIn (program .plant) start ≡ some st
+  pub whole : wholeEvents (ed .event-bytes) events ≡ true
+  pub room : roomForRecords ed (program .plant) events buffer ≡ true
   pub outcome : outcomeOf ed (program .control) (runFrom ed program st events) ≡ o
 
-pub run-passed : {S : Type 0} (ed : Edition) (j : Judged (Program S)) (start events buffer : List ℕ) {o : Outcome} → judgeRun ed j start events buffer ≡ accepted o → Passed ed j start events o
+pub run-passed : {S : Type 0} (ed : Edition) (j : Judged (Program S)) (start events buffer : List ℕ) {o : Outcome} → judgeRun ed j start events buffer ≡ accepted o → Passed ed j start events buffer o
 unfolding judgeRun
 run-passed ed j start events buffer h =
     let a = Judging.passed-then j _ h in
@@ -212,27 +228,37 @@ run-passed ed j start events buffer h =
     let c = Judging.passed-ensure 20 _ _ (b .2) in
     let d = Judging.passed-ensure 21 _ _ (c .1) in
     let e = Judging.passed-ensure 22 _ _ (d .1) in
-    record { program = a .0; is-program = a .1; st = b .0; start-read = b .1; outcome = Judging.accepted-is (e .1) }
+    record { program = a .0; is-program = a .1; st = b .0; start-read = b .1; whole = d .0; room = e .0; outcome = Judging.accepted-is (e .1) }
 
 -- a run that is taken on says what the rules derive
-pub run-holds : {S : Type 0} (ed : Edition) (p : Plant) (c : Control S) → Sound p c → (start events buffer : List ℕ) (st : Start) → startIn p start ≡ some st →
-    RunHolds ed p c start events buffer (report buffer (accepted (outcomeOf ed c (runFrom ed (record { plant = p; control = c }) st events))))
-unfolding report outcomeOf runFrom
-run-holds ed p c sound start events buffer st h = record {
-  st = st;
-  start-read = h;
-  said = answers ed p c (at (c .start) (st .values) (st .modes)) (eventsIn (ed .event-bytes) (eventCount ed events) events);
-  derived = answers-derived ed p c sound (at (c .start) (st .values) (st .modes)) (stands-at at-start) (eventsIn (ed .event-bytes) (eventCount ed events) events);
-  result = refl;
-}
+module _ {S : Type 0} (ed : Edition) (p : Plant) (c : Control S) (sound : Sound p c) (start events buffer : List ℕ) where
+  run-holds : (st : Start) → startIn p start ≡ some st → roomForRecords ed p events buffer ≡ true →
+      RunHolds ed p c start events buffer (report buffer (accepted (outcomeOf ed c (runFrom ed (record { plant = p; control = c }) st events))))
+  unfolding report outcomeOf runFrom roomForRecords
+  run-holds st h r =
+      let begin = at (c .start) (st .values) (st .modes) in
+      let es = eventsIn (ed .event-bytes) (eventCount ed events) events in
+      let k = start-values p start h in
+      let l = written-length ed p c begin es (k .0) (k .1) ∙ ap (λ n. n * recordSize ed p) (events-length (ed .event-bytes) (eventCount ed events) events) in
+      let m = leb-true (eventCount ed events * recordSize ed p) (length buffer) r in
+      record {
+        st = st;
+        start-read = h;
+        said = answers ed p c begin es;
+        derived = answers-derived ed p c sound begin (stands-at at-start) es;
+        result = refl;
+        written = overwritten (flatMap (recordOf ed c) (answers ed p c begin es)) buffer (omega arith);
+        counted = answers-counted ed p c begin es;
+      }
 
--- the same of the call's own result
-pub run-built : {S : Type 0} (ed : Edition) (j : Judged (Program S)) (p : Plant) (c : Control S) → Sound p c → (start events buffer : List ℕ) (g : Program S) → record { plant = p; control = c } ≡ g →
-    (st : Start) → startIn (g .plant) start ≡ some st → judgeRun ed j start events buffer ≡ accepted (outcomeOf ed (g .control) (runFrom ed g st events)) →
-    RunHolds ed p c start events buffer (report buffer (judgeRun ed j start events buffer))
-run-built {S} ed j p c sound start events buffer g e st i k = rw k
-    (subst (λ (g : Program S). startIn (g .plant) start ≡ some st → RunHolds ed p c start events buffer (report buffer (accepted (outcomeOf ed (g .control) (runFrom ed g st events))))) e
-    (λ i. run-holds ed p c sound start events buffer st i) i)
+  -- the same of the call's own result
+  pub run-built : (j : Judged (Program S)) (g : Program S) → record { plant = p; control = c } ≡ g →
+      (st : Start) → startIn (g .plant) start ≡ some st → roomForRecords ed (g .plant) events buffer ≡ true →
+      judgeRun ed j start events buffer ≡ accepted (outcomeOf ed (g .control) (runFrom ed g st events)) →
+      RunHolds ed p c start events buffer (report buffer (judgeRun ed j start events buffer))
+  run-built j g e st i r k = rw k
+      (subst (λ (g : Program S). startIn (g .plant) start ≡ some st → roomForRecords ed (g .plant) events buffer ≡ true →
+      RunHolds ed p c start events buffer (report buffer (accepted (outcomeOf ed (g .control) (runFrom ed g st events))))) e (run-holds st) i r)
 
 table-numbers : (ed : Edition) (table start events buffer : List ℕ) → All (λ (c : Condition). c .refusal ≡ 0 → ⊥) (tableRunConditions ed table start events buffer)
 unfolding tableRunConditions tableConditions runConditions
@@ -250,7 +276,7 @@ table-run-holds ed table start events buffer z =
     let a = accepted-of (table-run-first ed table start events buffer) (table-numbers ed table start events buffer) (sym (ran-refusal buffer j) ∙ z) in
     let b = run-passed ed (tableProgram ed table) start events buffer (a .1) in
     let c = Judging.passed-then (judgeTable ed table) _ (b .is-program) in
-    (c .0, c .1, run-built ed (tableProgram ed table) (c .0 .plant) (tableControl (c .0)) (sound-table ed table (c .0) (c .1)) start events buffer (b .program) (Judging.accepted-is (c .2)) (b .st) (b .start-read) (a .1 ∙ ap accepted (sym (b .outcome))))
+    (c .0, c .1, run-built ed (c .0 .plant) (tableControl (c .0)) (sound-table ed table (c .0) (c .1)) start events buffer (tableProgram ed table) (b .program) (Judging.accepted-is (c .2)) (b .st) (b .start-read) (b .room) (a .1 ∙ ap accepted (sym (b .outcome))))
 
 -- on a refusal: the number, and nothing written
 pub refused-run : (buffer : List ℕ) (j : Judged Outcome) → ((report buffer j) .refusal ≡ 0 → ⊥) →

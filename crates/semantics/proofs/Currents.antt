@@ -170,7 +170,7 @@ module _ (ed : Edition) (vs : List ℤ) where
   same-check to from (check-stops {s = s} {k = k} {w = w} c b e) = check-stops (to s k w c) (λ t l u i d. b t l u i (from t l u d)) e
 
 -- ---- the current modes
-got : {A : Type 0} (l : List A) (n : ℕ) (d : A) {x : A} → getElem? l n ≡ some x → getD l n d ≡ x
+pub got : {A : Type 0} (l : List A) (n : ℕ) (d : A) {x : A} → getElem? l n ≡ some x → getD l n d ≡ x
 got [] n d h = none-not-some h
 got (y ∷ l) zero d h = some-is h
 got (y ∷ l) (suc n) d h = got l n d h

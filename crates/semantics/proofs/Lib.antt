@@ -10,6 +10,7 @@ pub mod Papers
 pub mod DepthPapers
 -- the step and the rules
 pub mod EventDecoding
+pub mod EventsCut
 pub mod StepParts
 pub mod Currents
 pub mod OneRate
@@ -20,6 +21,7 @@ pub mod FirstAnswer
 pub mod Verdicts
 pub mod Simulation
 pub mod RunCounts
+pub mod RecordForms
 -- calls and formats
 pub mod FirstNumber
 pub mod ExpressionBytes
@@ -28,6 +30,7 @@ pub mod WrittenRecords
 pub mod WrittenSources
 pub mod WrittenTables
 pub mod CallsHold
+pub mod RunRecords
 -- bytes read just where they are a written form
 pub mod TakenBytes
 pub mod SectionForms
@@ -35,6 +38,7 @@ pub mod SentenceSteps
 pub mod StartForms
 pub mod TableForms
 pub mod ProperForms
+pub mod Evaluated
 pub mod TablesProper
 pub mod TableEntries
 pub mod TableSentences

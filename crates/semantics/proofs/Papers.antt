@@ -1,10 +1,11 @@
 -- Papers of document 01 that a table or an expression settles.
 use mathlib.Core.Path.{_≡_, refl}
+use mathlib.Core.Bool.{true, false}
 use mathlib.Core.List.{List, [], _∷_, _++_}
 use lib.ListN.{replicate}
-use lib.IntN.{ℤ, negsuc}
+use lib.IntN.{ℤ, pos, negsuc}
 use Rattle.semantics.specs.Editions.{edition1}
-use Rattle.semantics.specs.Expressions.{Operation, Number, constant, operate, thenValue, negation, Truth, connect, either, always, Side, fault, above, operands, valueOf, holds, numberValue, truthValue}
+use Rattle.semantics.specs.Expressions.{Operation, Number, constant, operate, thenValue, negation, Truth, connect, either, always, Side, ok, fault, above, operands, valueOf, holds, numberValue, truthValue}
 use Rattle.semantics.specs.Calls.{tableRun}
 use Rattle.semantics.proofs.Computes.{semantics}
 use Rattle.semantics.specs.K1.{k1-table, start-at, k2-events, k2-records, k3-events, k3-records, k4-events, k4-records}
@@ -49,3 +50,25 @@ K9-or-bytes = refl
 pub left-fault-first : (vs : List ℤ) (o : Operation) (a b : Number) (s t : Side) → valueOf vs a ≡ fault s → valueOf vs b ≡ fault t → valueOf vs (operate o a b) ≡ fault s
 unfolding valueOf operands thenValue
 left-fault-first vs o a b s t h k = rw (h, k) refl
+
+-- each code by its bytes, with 7 and −3 as the values of the variables
+pub number-codes : (let value = numberValue edition1 (pos 7 ∷ negsuc 2 ∷ []) in
+    (value (0x01 ∷ 0xff ∷ 0xff ∷ 0xff ∷ 0xfe ∷ []) ≡ ok (negsuc 1)) × (value (0x02 ∷ 1 ∷ []) ≡ ok (negsuc 2)) × (value (0x10 ∷ 0x02 ∷ 0 ∷ 0x02 ∷ 1 ∷ []) ≡ ok (pos 4))
+    × (value (0x11 ∷ 0x02 ∷ 0 ∷ 0x02 ∷ 1 ∷ []) ≡ ok (pos 10)) × (value (0x12 ∷ 0x02 ∷ 0 ∷ 0x02 ∷ 1 ∷ []) ≡ ok (negsuc 20)) × (value (0x14 ∷ 0x02 ∷ 0 ∷ []) ≡ ok (negsuc 6)))
+unfolding semantics
+number-codes = (refl, refl, refl, refl, refl, refl)
+
+pub comparison-codes : (let holding = truthValue edition1 (pos 7 ∷ negsuc 2 ∷ []) in
+    (holding (0x20 ∷ 0x02 ∷ 0 ∷ 0x02 ∷ 0 ∷ []) ≡ ok true) × (holding (0x20 ∷ 0x02 ∷ 0 ∷ 0x02 ∷ 1 ∷ []) ≡ ok false)
+    × (holding (0x21 ∷ 0x02 ∷ 0 ∷ 0x02 ∷ 0 ∷ []) ≡ ok false) × (holding (0x21 ∷ 0x02 ∷ 1 ∷ 0x02 ∷ 0 ∷ []) ≡ ok true)
+    × (holding (0x22 ∷ 0x02 ∷ 0 ∷ 0x02 ∷ 0 ∷ []) ≡ ok true) × (holding (0x22 ∷ 0x02 ∷ 0 ∷ 0x02 ∷ 1 ∷ []) ≡ ok false)
+    × (holding (0x23 ∷ 0x02 ∷ 0 ∷ 0x02 ∷ 0 ∷ []) ≡ ok false) × (holding (0x23 ∷ 0x02 ∷ 0 ∷ 0x02 ∷ 1 ∷ []) ≡ ok true))
+unfolding semantics
+comparison-codes = (refl, refl, refl, refl, refl, refl, refl, refl)
+
+pub connective-codes : (let holding = truthValue edition1 [] in
+    (holding (0x2f ∷ []) ≡ ok true) × (holding (0x2a ∷ 0x2f ∷ []) ≡ ok false)
+    × (holding (0x28 ∷ 0x2f ∷ 0x2f ∷ []) ≡ ok true) × (holding (0x28 ∷ 0x2f ∷ 0x2a ∷ 0x2f ∷ []) ≡ ok false)
+    × (holding (0x29 ∷ 0x2f ∷ 0x2a ∷ 0x2f ∷ []) ≡ ok true) × (holding (0x29 ∷ 0x2a ∷ 0x2f ∷ 0x2a ∷ 0x2f ∷ []) ≡ ok false))
+unfolding semantics
+connective-codes = (refl, refl, refl, refl, refl, refl)

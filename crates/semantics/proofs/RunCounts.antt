@@ -3,10 +3,10 @@ use mathlib.Core.Path.{_≡_, refl, sym, ap, _∙_}
 use mathlib.Core.Bool.{Bool, true, false}
 use mathlib.Core.List.{List, [], _∷_, _++_, map, flatMap}
 use mathlib.Core.Option.{Option, none, some}
-use Prim.Native.Nat.{ℕ, zero, suc, _+_, _*_}
+use Prim.Native.Nat.{ℕ, zero, suc, _+_, _*_, _≤_, _<_}
 use native.Mathlib.Nat.{suc-mul, zero-mul, add-comm}
 use native.Mathlib.Omega.{arith}
-use borrow.Author.Tests.{lt-leb, ne-eqb}
+use borrow.Author.Tests.{eqb-true, eq-eqb, le-leb, lt-leb, ne-eqb}
 use lib.ListN.{length, length-append}
 use lib.IntN.{ℤ}
 use Rattle.semantics.specs.Bytes.{within, bigEndian, out4}
@@ -15,6 +15,7 @@ use Rattle.semantics.specs.Expressions.{Side, above, below}
 use Rattle.semantics.specs.Plant.{Plant, selectors}
 use Rattle.semantics.specs.Events.{eventIn}
 use Rattle.semantics.specs.Run.{Next, to, finished, halted, idle, Control, Verdict, Moved, nobody, mover, Done, judge, Situation, Answered, faultAnswer, turnedAway, arrive, follow, settle, step, answers, actingSet, valueBytes, recordOf, isTaken, isTurnedAway, isFaulted, howMany}
+use Rattle.semantics.specs.Counting.{Counted, no-answer, one-taken, one-away, one-faulted}
 use Rattle.semantics.specs.Calls.{recordSize, outcomeOf}
 use Rattle.semantics.proofs.Facts.{within-low, within-high, within-both}
 use Rattle.semantics.proofs.Verdicts.{inJudging, Verdicts, is-away, is-faulty, is-pass, Fair, judge-verdicts}
@@ -54,8 +55,42 @@ one-counted n l (only-away t a f) h =
 one-counted n l (only-faulted t a f) h =
     let i = uncounted isTaken n l t in let j = uncounted isTurnedAway n l a in let m = counted isFaulted n l f in omega arith
 
+-- the three counts by the numbers themselves
+counted-more : (n : ℕ) (l : List ℕ) → Answer n → Counted l (howMany isTaken l) (howMany isTurnedAway l) (howMany isFaulted l) →
+    Counted (n ∷ l) (howMany isTaken (n ∷ l)) (howMany isTurnedAway (n ∷ l)) (howMany isFaulted (n ∷ l))
+unfolding isTaken isTurnedAway isFaulted
+counted-more n l (only-taken t a f) k =
+    rw (counted isTaken n l t, uncounted isTurnedAway n l a, uncounted isFaulted n l f) (one-taken (within-low 200 202 n t) (within-high 200 202 n t) k)
+counted-more n l (only-away t a f) k =
+    rw (uncounted isTaken n l t, counted isTurnedAway n l a, uncounted isFaulted n l f) (one-away (within-low 23 31 n a) (within-high 23 31 n a) k)
+counted-more n l (only-faulted t a f) k =
+    rw (uncounted isTaken n l t, uncounted isTurnedAway n l a, counted isFaulted n l f) (one-faulted (eqb-true n 203 f) k)
+
+-- and answers that are counted by the numbers are counted so by the tests
+module _ (n : ℕ) where
+  no-away : 31 < n → isTurnedAway n ≡ false
+  unfolding isTurnedAway within
+  no-away h = rw (le-leb 23 n (omega arith), lt-leb n 31 h) refl
+
+  no-fault : n < 203 → isFaulted n ≡ false
+  unfolding isFaulted
+  no-fault h = ne-eqb n 203 (λ e. omega arith)
+
+pub counts-told : {l : List ℕ} {taken away faulted : ℕ} → Counted l taken away faulted → (howMany isTaken l ≡ taken) × (howMany isTurnedAway l ≡ away) × (howMany isFaulted l ≡ faulted)
+unfolding isTaken isTurnedAway isFaulted within howMany
+counts-told no-answer = (refl, refl, refl)
+counts-told (one-taken {a = n} {l = l} i j k) =
+    let q = counts-told k in
+    (counted isTaken n l (within-both 200 202 n i j) ∙ ap suc (q .0), uncounted isTurnedAway n l (no-away n (omega arith)) ∙ q .1, uncounted isFaulted n l (no-fault n (omega arith)) ∙ q .2)
+counts-told (one-away {a = n} {l = l} i j k) =
+    let q = counts-told k in
+    (uncounted isTaken n l (rw (lt-leb 200 n (omega arith)) refl) ∙ q .0, counted isTurnedAway n l (within-both 23 31 n i j) ∙ ap suc (q .1), uncounted isFaulted n l (no-fault n (omega arith)) ∙ q .2)
+counts-told (one-faulted {a = n} {l = l} e k) =
+    let q = counts-told k in
+    (uncounted isTaken n l (rw e refl) ∙ q .0, uncounted isTurnedAway n l (no-away n (omega arith)) ∙ q .1, counted isFaulted n l (eq-eqb n 203 e) ∙ ap suc (q .2))
+
 -- ---- the bytes of a record
-set-length : (k n : ℕ) → length (bigEndian k n) ≡ k
+pub set-length : (k n : ℕ) → length (bigEndian k n) ≡ k
 unfolding bigEndian
 set-length zero n = refl
 set-length (suc k) n = ap suc (set-length k n)
@@ -123,6 +158,14 @@ module _ {S : Type 0} (ed : Edition) (p : Plant) (c : Control S) where
   unfolding outcomeOf answers howMany
   counts-sum s [] = refl
   counts-sum s (e ∷ es) = one-counted (step ed p c s e .answer) (map (λ (o : Answered S). o .answer) (answers ed p c (step ed p c s e .left) es)) (step-stepped s e .answered) (counts-sum (step ed p c s e .left) es)
+
+  pub answers-counted : (s : Situation S) (es : List (List ℕ)) →
+      let said = map (λ (o : Answered S). o .answer) (answers ed p c s es) in
+      Counted said (howMany isTaken said) (howMany isTurnedAway said) (howMany isFaulted said)
+  unfolding answers howMany
+  answers-counted s [] = no-answer
+  answers-counted s (e ∷ es) =
+      counted-more (step ed p c s e .answer) (map (λ (o : Answered S). o .answer) (answers ed p c (step ed p c s e .left) es)) (step-stepped s e .answered) (answers-counted (step ed p c s e .left) es)
 
   -- ---- as many bytes as the records need
   pub record-length : (o : Answered S) → length (o .left .values) ≡ length (p .variables) → length (o .left .modes) ≡ length (selectors p) →

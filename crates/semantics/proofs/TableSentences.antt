@@ -7,7 +7,7 @@ use mathlib.Core.Option.{Option, some}
 use Prim.Native.Nat.{ℕ, suc, _+_, _*_, _/_, _%_, _≤_, _<_}
 use native.Mathlib.Omega.{arith}
 use native.Mathlib.Nat.{div-add-mod', mul-mod-left, add-zero}
-use borrow.Author.Tests.{leb-true, le-leb, eqb-true, eq-eqb}
+use borrow.Author.Tests.{le-leb, eqb-true, eq-eqb}
 use lib.Dec.{leb, eqb}
 use lib.ListN.{length, drop, getD}
 use Rattle.semantics.specs.Bytes.{every, be4}
@@ -18,12 +18,13 @@ use Rattle.semantics.specs.Plant.{Plant, judgePlant, switchesRead, order
 use Rattle.semantics.specs.TableFile.{NodeAction, Entry, TableSections, tableSectionsIn, actionsIn, locationsIn}
 use Rattle.semantics.specs.Tables.{Table, judgeTable, tableHeader, actionsFit, locationsFit}
 use Rattle.semantics.specs.Starts.{Start, startIn, startFits}
-use Rattle.semantics.specs.Calls.{Program, judgeRun, tableProgram, wholeEvents, roomForRecords, eventCount, recordSize, readTable, tableRun}
+use Rattle.semantics.specs.Calls.{Program, judgeRun, tableProgram, wholeEvents, roomForRecords, readTable, tableRun}
 use Rattle.semantics.specs.Writing.{AllBytes, writeVariables, VariablesLimits, writeEquations, EquationsLimits, writeTableSections, TableSectionsLimits, PlantLimits, startBytes, StartLimits}
 use Rattle.semantics.specs.Proper.{TableWritten}
 use Rattle.semantics.specs.Sentences.{Clause, _when_, FirstHolds, AnyHolds, Fails, WrittenAs, PlantSections, VariablesThere, PlantThere, Sentence4, SwitchSentence12, plantClauses, TableHead, HeadOfTable, five-bytes, TableSource, TableActions, ActionsOf, LocationsOf, ProperHead, TableSectionsThere, PlantSectionsOfTable, of-table, SourceThere, ActionsThere, tableClauses, TablePlant, table-plant, runClauses, tableRunClauses}
 use Rattle.semantics.proofs.Facts.{true-not-false, some-is, and-left, and-right, and-both}
 use Rattle.semantics.proofs.Judging.{accepted-is, passed-then}
+use Rattle.semantics.proofs.EventsCut.{room-for-each}
 use Rattle.semantics.proofs.FirstNumber.{plant-is, table-refusal, ran-refusal}
 use Rattle.semantics.proofs.ProperForms.{all-ordered, all-named, driven-once, all-read}
 use Rattle.semantics.proofs.SectionForms.{variables-bytes, equations-bytes}
@@ -207,13 +208,13 @@ module _ {S : Type 0} (ed : Edition) {Accepted : Plant → Type 0} (start events
   pub run-answers : {j : Judged (Program S)} {k : List Clause} → Answers j k →
       ((g : Program S) → j ≡ accepted g → Accepted (g .plant) × ((p : Plant) → Accepted p → g .plant ≡ p) × PlantLimits (g .plant)) →
       Answers (judgeRun ed j start events buffer) (k ++ runClauses ed Accepted start events buffer)
-  unfolding judgeRun roomForRecords
+  unfolding judgeRun
   run-answers f h = by-then f (λ g e.
       let a = h g e in
       let p = g .plant in
       by-read-test (a .0) (a .1) 20 (startIn p start) (startFits p) (admitted p (a .2)) (λ st i h20.
       by-test (a .0) (a .1) 21 (wholeEvents (ed .event-bytes) events) (whole-events (ed .event-bytes) events) (λ h21.
-      by-test (a .0) (a .1) 22 (roomForRecords ed p events buffer) (leb-true (eventCount ed events * recordSize ed p) (length buffer), le-leb (eventCount ed events * recordSize ed p) (length buffer)) (λ h22. by-end _))))
+      by-test (a .0) (a .1) 22 (roomForRecords ed p events buffer) (room-for-each ed p events buffer ((whole-events (ed .event-bytes) events) .0 h21)) (λ h22. by-end _))))
     where
       admitted : (p : Plant) → PlantLimits p → (st : Start) → ((startIn p start ≡ some st) × (startFits p st ≡ true)) ↔ WrittenAs startBytes (StartLimits p) start st
       admitted p l st =

@@ -3,11 +3,14 @@ pub mod Bytes
 pub mod Editions
 pub mod Refusals
 pub mod Expressions
+pub mod Evaluating
 pub mod Sections
 pub mod Plant
 pub mod Events
 pub mod Run
 pub mod Rules
+pub mod Records
+pub mod Counting
 pub mod TableFile
 pub mod Tables
 pub mod TableRuns

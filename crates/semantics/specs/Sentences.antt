@@ -15,7 +15,7 @@ use Rattle.semantics.specs.Tables.{Table}
 use Rattle.semantics.specs.Starts.{Start}
 use Rattle.semantics.specs.Writing.{writeVariables, VariablesLimits, writeEquations, EquationsLimits, writeTableSections, TableSectionsLimits, ActionsLimits, LocationsLimits, startBytes, InRange, StartLimits}
 use Rattle.semantics.specs.Proper.{Named, DrivenOnce, Truths, ProperActions, ProperLocations, TableWritten}
-use Rattle.semantics.specs.Calls.{eventCount, recordSize}
+use Rattle.semantics.specs.Calls.{recordSize}
 
 -- a number and its sentence
 pub record Clause : Type 1 where
@@ -186,9 +186,9 @@ module _ (ed : Edition) (Accepted : Plant → Type 0) (start events buffer : Lis
   abbrev pub Sentence21 : Type 0
   Sentence21 = Fails Accepted (λ p. (n : ℕ) × (length events ≡ n * ed .event-bytes))
 
-  -- 22: "The record buffer is too short."
+  -- 22: "The record buffer is too short.": for a record of each of the n events, whole ones as 21 asks
   abbrev pub Sentence22 : Type 0
-  Sentence22 = Fails Accepted (λ p. eventCount ed events * recordSize ed p ≤ length buffer)
+  Sentence22 = Fails Accepted (λ p. (n : ℕ) → length events ≡ n * ed .event-bytes → n * recordSize ed p ≤ length buffer)
 
   abbrev pub runClauses : List Clause
   runClauses = (20 when Sentence20) ∷ (21 when Sentence21) ∷ (22 when Sentence22) ∷ []

@@ -10,6 +10,8 @@ use Rattle.semantics.specs.Plant.{Plant}
 use Rattle.semantics.specs.Starts.{Start, startIn}
 use Rattle.semantics.specs.Run.{Control, Answered, at, recordOf, howMany, isTaken, isTurnedAway, isFaulted}
 use Rattle.semantics.specs.Rules.{Derives}
+use Rattle.semantics.specs.Records.{AtFront}
+use Rattle.semantics.specs.Counting.{Counted}
 use Rattle.semantics.specs.Calls.{Ran, eventCount}
 
 -- what a run that is taken on returns: what the rules derive from the start, event by event, and nothing else
@@ -25,3 +27,6 @@ pub record RunHolds {S : Type 0} (ed : Edition) (p : Plant) (c : Control S) (sta
     faulted = howMany isFaulted (map (λ (o : Answered S). o .answer) said);
     records = overwrite (flatMap (recordOf ed c) said) buffer;
   }
+  -- the same of the records and the counts without `overwrite`, `howMany` and their tests
+  pub written : AtFront (flatMap (recordOf ed c) said) buffer (r .records)
+  pub counted : Counted (map (λ (o : Answered S). o .answer) said) (r .taken) (r .turned-away) (r .faulted)
