@@ -23,9 +23,9 @@
  *    else reads what the call writes to.
  *
  * Stack, as measured on the largest plants, the deepest trees and the deepest
- * expressions: zimtleiter_compile 411,000 bytes, zimtleiter_table_run 53,000,
+ * expressions: zimtleiter_compile 76,000 bytes, zimtleiter_table_run 53,000,
  * zimtleiter_read_table 42,000, zimtleiter_rule_run 38,000,
- * zimtleiter_size 27,000, zimtleiter_read_schedule 23,000. 512 KiB are room for
+ * zimtleiter_read_schedule 23,000, zimtleiter_size 22,000. 128 KiB are room for
  * any of them.
  *
  * Schedule files, tables, starting values, events and records are those of
