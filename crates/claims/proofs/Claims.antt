@@ -138,6 +138,8 @@ acting-rules = MovesByRule.acting-rules
 pub move-rules : (r : Residual) → Distinct (acting r) → (n : ℕ) (b : Bool) (x : Next Residual) → Acts n r → (move r n b ≡ x) ↔ MoveRule r n b x
 move-rules = MovesByRule.move-rules
 
+-- no node acts in two places of a residual.
+-- Ruled out: a reader that gives two nodes one number; a PARALLEL that lists the acting nodes of a child twice.
 pub acting-distinct : (ns : List Node) (t : Tree) (r : Residual) → treeOf ns ≡ some t → Of t r → Distinct (acting r)
 acting-distinct = MovesByRule.acting-distinct
 
