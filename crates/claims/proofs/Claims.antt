@@ -306,7 +306,7 @@ pub node-order-table : (ed : Edition) (table : List ℕ) (t : Table) → judgeTa
 node-order-table = TableCalls.table-rises
 
 -- "one of a STOP 202": over any control 202 is the answer only to the pick of a STOP that acts.
--- Ruled out: a WHILE whose move halts the run; a tick that is answered 202.
+-- Ruled out: rules by which a WHILE halts the run; rules by which a tick is answered 202.
 pub halts-by-stop : {S : Type 0} {ed : Edition} {p : Plant} {c : Control S} {s t : Situation S} {e : List ℕ} → Rule ed p c s e 202 t → Stopping ed c s e
 halts-by-stop r = StepRules.halts-by-stop r
 
@@ -408,7 +408,7 @@ evaluates-number = Evaluated.evaluates-number
 pub evaluates-truth : (vs : List ℤ) (e : Truth) → TruthNamesKnown (length vs) e → (r : Value Bool) → (holds vs e ≡ r) ↔ Holds vs e r
 evaluates-truth = Evaluated.evaluates-truth
 
--- Ruled out: a run that evaluates the bytes from their end; one that takes variable 1 for variable 0.
+-- Ruled out: an evaluation of the bytes from their end; one that takes variable 1 for variable 0.
 pub evaluates-number-bytes : (ed : Edition) (vs : List ℤ) (s : List ℕ) → All (λ b. b < 256) s → (e : Number) → numberBytes ed e ≡ s → numberDepth e ≤ 16 → NamesKnown (length vs) e →
     (r : Value ℤ) → (numberValue ed vs s ≡ r) ↔ Evaluates vs e r
 evaluates-number-bytes = Evaluated.evaluates-number-bytes
@@ -555,7 +555,7 @@ table-accepted = TablesProper.table-accepted
 
 -- 20: of an accepted file, and of an accepted table, a start is let pass exactly where it is the bytes of a value in its declared range for each variable
 -- and of an existing mode for each CASE; and it is read back as just these.
--- Ruled out: a run that asks for the initial modes; one that takes a value outside its range.
+-- Ruled out: a test of 20 that asks for the initial modes; one that takes a value outside its range.
 pub starts-admitted : (ed : Edition) (file : List ℕ) (s : Schedule) → All (λ b. b < 256) file → judgeFile ed file ≡ accepted s → (start : List ℕ) (st : Start) →
     (All (λ b. b < 256) start × (startIn (s .plant) start ≡ some st) × (startFits (s .plant) st ≡ true)) ↔ ((start ≡ startBytes st) × StartLimits (s .plant) st)
 starts-admitted = FilesProper.starts-admitted
