@@ -77,7 +77,10 @@ fn main() -> ExitCode {
         ["--show", name] => return show(&cases, name),
         ["--check"] => true,
         [] => false,
-        _ => panic!("tests/cases/run [--check | --show NAME]"),
+        _ => {
+            println!("tests/cases/run [--check | --show NAME]");
+            return ExitCode::from(2);
+        }
     };
     wrong.extend(coverage::missing(&cases));
     for (path, parts) in stored(&cases) {
