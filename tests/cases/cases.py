@@ -1,15 +1,43 @@
-"""The cases of plain_test. Each has a name, its bytes, and what document 01 gives for it, read from the paper and not from a program."""
+"""The tests of cases_test that are made by hand: each with a name, its bytes, and what document 01 gives for it,
+read from the paper and not from a program. The bench papers K1 to K11 of document 01 stand in the names.
+
+What the paper gives: parts split by ';'. A part is a line of a call as cases_test writes it, `CALL R, NUMBERS`, of a run with
+its answers behind it where they are told (`200 x3` is an answer three times in a row), or `table = HEX`, `records = HEX`."""
 from forms import *
 
-CASES = []
+
+def test(kind, name, program, begin, es, says, rooms):
+    """Prints the test as a line of fields."""
+    assert says, name
+    print(kind, name, program.hex(), begin.hex(), events(es).hex(), *rooms, says, sep="\t")
 
 
-def of_schedule(name, file, begin=b"", es="", says="", table_room=2000, record_room=2000):
-    CASES.append((1, name, file, begin, events(es), table_room, record_room, says))
+def of_schedule(name, file, begin, es, says, table_room=2000, record_room=2000, other_room=None):
+    """All calls on a schedule, and on its table where it compiles. Examining's other records get a byte more where nothing else is said."""
+    other_room = record_room + 1 if other_room is None else other_room
+    test("schedule", name, file, begin, es, says, (table_room, record_room, other_room))
 
 
-def of_table(name, table, begin=b"", es="", says="", record_room=2000):
-    CASES.append((0, name, table, begin, events(es), 0, record_room, says))
+def of_table(name, table, begin, es, says, record_room=2000):
+    """The two calls on a table."""
+    test("table", name, table, begin, es, says, (0, record_room, 0))
+
+
+def unexamined(n):
+    return f"examine {n}, 0 0 0 0 0 0 0 0"
+
+
+def tight(name, file, begin, es, counts, table, records):
+    """With just the room that a table and records of so many bytes take, and with a byte less for one of the three buffers."""
+    runs = f"rules 0, {counts}; by table 0, {counts}"
+    examined = f"examine 0, {table} {counts} {counts} 1"
+    of_schedule(f"{name}: just the room", file, begin, es, f"compile 0, {table}; {runs}; {examined}", table, records, records)
+    says = f"compile 14, 0; rules 0, {counts}; {unexamined(14)}"
+    of_schedule(f"{name}: a byte less for the table", file, begin, es, says, table - 1, records, records)
+    says = f"compile 0, {table}; rules 22, 0 0 0; by table 22, 0 0 0; {unexamined(22)}"
+    of_schedule(f"{name}: a byte less for the records", file, begin, es, says, table, records - 1, records)
+    says = f"compile 0, {table}; {runs}; {unexamined(22)}"
+    of_schedule(f"{name}: a byte less for the other records", file, begin, es, says, table, records, records - 1)
 
 
 def changed(b, at, v):
@@ -27,10 +55,16 @@ K1_TABLE = bytes.fromhex(
     "0018 02 0B0103001002000100000001 0A02022001000000030200 0000000E 0002 01 01 0001 FFFF 01 02 FFFE FFFF"
 )
 of_schedule("K1 K2, from 0", K1, start([0]), "t p1 p2 t t t p2 t",
-    "read 0, 1 0 3; rules 0, 4 4 0: 27 200 29 200 x2 31 201 23; compiled 0, 75; table 0, 1 0 2 2; by table 0, 4 4 0")
-of_schedule("K1 K3, from 10", K1, start([10]), "p1 t", "rules 0, 0 1 1: 203 23; by table 0, 0 1 1")
-of_schedule("K1 K4, from 9", K1, start([9]), "p1 p2", "rules 0, 2 0 0: 200 201; by table 0, 2 0 0")
-of_table("K1's table as in the paper", K1_TABLE, start([9]), "p1 p2", "table 0, 1 0 2 2; by table 0, 2 0 0: 200 201")
+    "read 0, 1 0 3; size 0, 2 2; compile 0, 75; read table 0, 1 0 2 2; rules 0, 4 4 0: 27 200 29 200 x2 31 201 23; "
+    "by table 0, 4 4 0: 27 200 29 200 x2 31 201 23; examine 0, 75 4 4 0 4 4 0 1; table = " + K1_TABLE.hex())
+of_schedule("K1 K3, from 10", K1, start([10]), "p1 t",
+    "rules 0, 0 1 1: 203 23; by table 0, 0 1 1; examine 0, 75 0 1 1 0 1 1 1; "
+    "records = CB 0000000000000000 0000000A 17 0000000000000000 0000000A")
+of_schedule("K1 K4, from 9", K1, start([9]), "p1 p2",
+    "rules 0, 2 0 0: 200 201; by table 0, 2 0 0; examine 0, 75 2 0 0 2 0 0 1; "
+    "records = C8 0000000000000004 0000000A C9 0000000000000000 0000000A")
+tight("K1 K4", K1, start([9]), "p1 p2", "2 0 0", 75, 26)
+of_table("K1's table as in the paper", K1_TABLE, start([9]), "p1 p2", "read table 0, 1 0 2 2; by table 0, 2 0 0: 200 201")
 
 # what most files below have: one variable from 0 to 10, no equation, one RESET
 V = variables((0, 10, 0))
@@ -40,8 +74,9 @@ Z = start([0])
 
 
 def refused(n, name, file, begin=Z, es="p0"):
-    """Reading, the run by the rules and compiling are all refused with n."""
-    of_schedule(f"{n}: {name}", file, begin, es, f"read {n}, 0 0 0; rules {n}, 0 0 0; compiled {n}, 0")
+    """All calls on it are refused with n."""
+    says = f"read {n}, 0 0 0; size {n}, 0 0; compile {n}, 0; rules {n}, 0 0 0; {unexamined(n)}"
+    of_schedule(f"{n}: {name}", file, begin, es, says)
 
 
 def tree(t, es=NO_EQUATION, vs=V):
@@ -82,9 +117,10 @@ refused(5, "initial below minimum", tree(LEAF, vs=variables((0, 10, -1))))
 refused(5, "initial above maximum", tree(LEAF, vs=variables((0, 10, 11))))
 refused(5, "minimum above maximum", tree(LEAF, vs=variables((5, 4, 4))))
 refused(5, "the last of 32", tree(LEAF, vs=variables(*[(0, 10, 0)] * 31, (LOWEST, HIGHEST - 1, HIGHEST))))
-of_schedule("one value only", tree(LEAF, vs=variables((1, 1, 1))), start([1]), "p0", "read 0, 1 0 1; rules 0, 1 0 0: 201; compiled 0, 47")
-of_schedule("32 variables, the whole range", tree(reset(31, const(LOWEST)), vs=variables(*[(LOWEST, HIGHEST, 0)] * 32)), start([HIGHEST] * 32), "p0",
-    "read 0, 32 0 1; rules 0, 1 0 0: 201; table 0, 32 0 1 1; by table 0, 1 0 0")
+of_schedule("one value only", tree(LEAF, vs=variables((1, 1, 1))), start([1]), "p0", "read 0, 1 0 1; rules 0, 1 0 0: 201; compile 0, 47")
+WIDE = tree(reset(31, const(LOWEST)), vs=variables(*[(LOWEST, HIGHEST, 0)] * 32))
+of_schedule("32 variables, the whole range", WIDE, start([HIGHEST] * 32), "p0",
+    "read 0, 32 0 1; rules 0, 1 0 0: 201; read table 0, 32 0 1 1; by table 0, 1 0 0")
 
 # 6, 7, 8
 ONE_MODE = case(0, mode())
@@ -113,7 +149,9 @@ refused(6, "6 later than what 7 is for", plant(rate(1, 1), b"\x00"))
 of_schedule("no switch, no rate", plant(ONE_MODE), start([0], [0]), "p0", "read 0, 1 1 1; rules 0, 1 0 0: 201")
 of_schedule("16 selectors", schedule(V, equations(*[ONE_MODE] * 16), LEAF), start([0], [0] * 16), "t p0 t",
     "read 0, 1 16 1; rules 0, 1 2 0: 27 201 23; by table 0, 1 2 0")
-of_schedule("8 modes, the last current", plant(case(7, *[mode()] * 7, mode([(0, 3)], [(7, FALSE)]))), start([0], [7]), "s0.0 s0.1 p0", "read 0, 1 1 1; rules 0, 1 2 0: 30 26 201")
+tight("16 selectors", schedule(V, equations(*[ONE_MODE] * 16), LEAF), start([0], [0] * 16), "t p0 t", "1 2 0", 159, 87)
+of_schedule("8 modes, the last current", plant(case(7, *[mode()] * 7, mode([(0, 3)], [(7, FALSE)]))), start([0], [7]), "s0.0 s0.1 p0",
+    "read 0, 1 1 1; rules 0, 1 2 0: 30 26 201")
 refused(7, "a rate of a missing variable", plant(rate(1, 1)))
 refused(7, "initial mode missing", plant(case(1, mode())))
 refused(7, "a mode's rate of a missing variable", plant(case(0, mode(), mode([(0, 1), (1, 1)]))))
@@ -123,7 +161,8 @@ refused(8, "two rates of one variable", plant(rate(0, 1), rate(0, 1)))
 refused(8, "a rate and a CASE", plant(rate(0, 1), case(0, mode(), mode([(0, 1)]))))
 refused(8, "two CASEs", plant(case(0, mode([(0, 1)])), case(0, mode(), mode([(0, 2)]))))
 refused(8, "twice in one mode", plant(case(0, mode(), mode([(0, 1), (0, 1)]))))
-of_schedule("one variable in two modes", plant(case(0, mode([(0, 1)]), mode([(0, 2)]))), start([0], [1]), "p0", "read 0, 1 1 1; rules 0, 1 0 0: 201")
+of_schedule("one variable in two modes", plant(case(0, mode([(0, 1)]), mode([(0, 2)]))), start([0], [1]), "p0",
+    "read 0, 1 1 1; rules 0, 1 0 0: 201")
 
 # 9, 10, 11
 def raw(*ns, count=None):
@@ -173,9 +212,11 @@ def long_number(n):
     return negs((n - 2) % 3, zeros[0])
 
 
-of_schedule("a node of length 200", tree(reset(0, long_number(198))), Z, "p0", "read 0, 1 0 1; rules 0, 1 0 0: 201; compiled 0, 240; table 0, 1 0 1 1")
+of_schedule("a node of length 200", tree(reset(0, long_number(198))), Z, "p0",
+    "read 0, 1 0 1; rules 0, 1 0 0: 201; compile 0, 240; read table 0, 1 0 1 1")
 refused(9, "a node of length 201", tree(reset(0, long_number(199))))
-of_schedule("a node of length 1", tree(STOP), Z, "p0 p0", "read 0, 1 0 1; rules 0, 1 1 0: 202 23; compiled 0, 41; table 0, 1 0 1 1; by table 0, 1 1 0")
+of_schedule("a node of length 1", tree(STOP), Z, "p0 p0",
+    "read 0, 1 0 1; rules 0, 1 1 0: 202 23; compile 0, 41; read table 0, 1 0 1 1; by table 0, 1 1 0")
 
 # 12
 def number(n):
@@ -217,7 +258,8 @@ refused(12, "a switch with a number", switched(var(0)))
 refused(12, "a switch of depth 17", switched(b"\x2A" * 16 + TRUE))
 refused(12, "the second mode's second switch", plant(case(0, mode(), mode([], [(1, TRUE), (0, le(var(1), const(0)))]))))
 # K10, and the same for truths, for comparisons over numbers, and down the right side
-of_schedule("K10: a number of depth 16", number(negs(15, var(0))), Z, "p0", "read 0, 1 0 1; rules 0, 1 0 0: 201; table 0, 1 0 1 1; by table 0, 1 0 0")
+of_schedule("K10: a number of depth 16", number(negs(15, var(0))), Z, "p0",
+    "read 0, 1 0 1; rules 0, 1 0 0: 201; read table 0, 1 0 1 1; by table 0, 1 0 0")
 refused(12, "K10: a number of depth 17", number(negs(16, var(0))))
 of_schedule("a truth of depth 16", truth(b"\x2A" * 15 + TRUE), Z, "p0 t", "read 0, 1 0 1; rules 0, 1 1 0: 29 200")
 refused(12, "a truth of depth 17", truth(b"\x2A" * 16 + TRUE))
@@ -233,31 +275,48 @@ def right(k):
 of_schedule("depth 16 on the right", tree(reset(0, right(15)), vs=variables((0, 15, 0))), Z, "p0", "read 0, 1 0 1; rules 0, 1 0 0: 201")
 of_schedule("depth 16 on the right, beyond the range", tree(reset(0, right(15)), vs=variables((0, 14, 0))), Z, "p0", "rules 0, 0 0 1: 203")
 refused(12, "depth 17 on the right", number(right(16)))
-of_schedule("a switch of length 255", plant(case(0, mode([], [(0, le(const(1), long_number(248)))]))), start([0], [0]), "s0.0 p0", "read 0, 1 1 1; rules 0, 1 1 0: 30 201")
-of_schedule("255 switches", plant(case(0, mode([], [(0, FALSE)] * 254 + [(0, le(const(0), var(0)))]))), start([0], [0]), "s0.0 s0.253 s0.254 s0.255 p0", "read 0, 1 1 1; rules 0, 1 4 0: 30 x2 200 26 28")
+of_schedule("a switch of length 255", plant(case(0, mode([], [(0, le(const(1), long_number(248)))]))), start([0], [0]), "s0.0 p0",
+    "read 0, 1 1 1; rules 0, 1 1 0: 30 201")
+of_schedule("255 switches", plant(case(0, mode([], [(0, FALSE)] * 254 + [(0, le(const(0), var(0)))]))),
+    start([0], [0]), "s0.0 s0.253 s0.254 s0.255 p0",
+    "read 0, 1 1 1; rules 0, 1 4 0: 30 x2 200 26 28")
 
 # trees at their limits
-of_schedule("64 nodes: PARALLEL of 63 STOPs", tree(parallel(*[STOP] * 63)), Z, "p0 p64 t p63 p1", "read 0, 1 0 64; rules 0, 1 4 0: 25 x2 27 202 23; compiled 0, 537; table 0, 1 0 63 1")
-of_schedule("64 nodes: SEQUENCE of 63 RESETs", tree(sequence(*[LEAF] * 63)), Z, "p2 p1 p1 p2 p3", "read 0, 1 0 64; rules 0, 3 2 0: 25 200 25 200 x2; table 0, 1 0 63 63")
+of_schedule("64 nodes: PARALLEL of 63 STOPs", tree(parallel(*[STOP] * 63)), Z, "p0 p64 t p63 p1",
+    "read 0, 1 0 64; size 0, 1 63; rules 0, 1 4 0: 25 x2 27 202 23; compile 0, 537; read table 0, 1 0 63 1")
+of_schedule("64 nodes: SEQUENCE of 63 RESETs", tree(sequence(*[LEAF] * 63)), Z, "p2 p1 p1 p2 p3",
+    "read 0, 1 0 64; rules 0, 3 2 0: 25 200 25 200 x2; read table 0, 1 0 63 63")
 deep = LEAF
 for i in range(63):
     deep = loop(le(var(0), const(9)), deep)
-of_schedule("64 nodes: 63 WHILEs, one in the other", tree(deep), Z, " ".join(f"p{i}" for i in range(64)) + " p62 p63 p61", "read 0, 1 0 64; rules 0, 66 1 0: 200 x66 25; table 0, 1 0 64 64")
+of_schedule("64 nodes: 63 WHILEs, one in the other", tree(deep), Z, " ".join(f"p{i}" for i in range(64)) + " p62 p63 p61",
+    "read 0, 1 0 64; size 0, 64 64; rules 0, 66 1 0: 200 x66 25; read table 0, 1 0 64 64")
 deep = until(TRUE)
 for i in range(63):
     deep = sequence(deep)
-of_schedule("64 nodes: 63 SEQUENCEs, one in the other", tree(deep), Z, "t p63", "read 0, 1 0 64; rules 0, 1 1 0: 31 201; compiled 0, 42; table 0, 1 0 1 1")
-of_schedule("64 nodes: PARALLEL of 63 CONTINUEs", tree(parallel(*[until(lt(const(0), var(0)))] * 63)), Z, "t p63", "read 0, 1 0 64; rules 0, 1 1 0: 200 29; compiled 13, 0")
-of_schedule("64 nodes of length 200", tree(sequence(*[reset(0, long_number(198))] * 63)), Z, "p1 p2", "read 0, 1 0 64; rules 0, 2 0 0: 200 x2; compiled 0, 13136; table 0, 1 0 63 63", table_room=13136)
+of_schedule("64 nodes: 63 SEQUENCEs, one in the other", tree(deep), Z, "t p63",
+    "read 0, 1 0 64; rules 0, 1 1 0: 31 201; compile 0, 42; read table 0, 1 0 1 1")
+of_schedule("64 nodes: PARALLEL of 63 CONTINUEs", tree(parallel(*[until(lt(const(0), var(0)))] * 63)), Z, "t p63",
+    "read 0, 1 0 64; size 0, 1025 0; rules 0, 1 1 0: 200 29; compile 13, 0")
+of_schedule("64 nodes of length 200", tree(sequence(*[reset(0, long_number(198))] * 63)), Z, "p1 p2",
+    "read 0, 1 0 64; rules 0, 2 0 0: 200 x2; compile 0, 13136; read table 0, 1 0 63 63", table_room=13136)
 
 # K5 to K9
-of_schedule("K5: PARALLEL of two RESETs", tree(parallel(LEAF, LEAF)), Z, "p2 p2 p1", "rules 0, 2 1 0: 200 25 201; table 0, 1 0 2 3; by table 0, 2 1 0")
-of_schedule("K6: WHILE over a RESET", tree(loop(lt(var(0), const(2)), reset(0, add(var(0), const(1))))), Z, "p1 p0 p0 p1 p0 p1 p0", "rules 0, 5 2 0: 25 200 25 200 x3 201; table 0, 1 0 2 2")
-of_schedule("K7: PARALLEL of STOP and CONTINUE", tree(parallel(STOP, until(TRUE))), Z, "t p2 p1 p1", "rules 0, 2 2 0: 27 200 202 23; table 0, 1 0 2 2")
+of_schedule("K5: PARALLEL of two RESETs", tree(parallel(LEAF, LEAF)), Z, "p2 p2 p1",
+    "size 0, 3 4; rules 0, 2 1 0: 200 25 201; read table 0, 1 0 2 3; by table 0, 2 1 0")
+of_schedule("K6: WHILE over a RESET", tree(loop(lt(var(0), const(2)), reset(0, add(var(0), const(1))))), Z, "p1 p0 p0 p1 p0 p1 p0",
+    "size 0, 2 2; rules 0, 5 2 0: 25 200 25 200 x3 201; read table 0, 1 0 2 2")
+of_schedule("K7: PARALLEL of STOP and CONTINUE", tree(parallel(STOP, until(TRUE))), Z, "t p2 p1 p1",
+    "size 0, 2 3; rules 0, 2 2 0: 27 200 202 23; read table 0, 1 0 2 2")
 RESETS = [reset(0, const(1))] * 10
-of_schedule("K8: PARALLEL of ten RESETs", tree(parallel(*RESETS)), Z, "p10 p9 p8 p7 p6 p5 p4 p3 p2 p1", "rules 0, 10 0 0: 200 x9 201; compiled 0, 26745; table 0, 1 0 10 1023; by table 0, 10 0 0", table_room=65536)
-of_schedule("K8: one RESET before it", tree(sequence(LEAF, parallel(*RESETS))), Z, "p1 p3 p12 p3", "rules 0, 3 1 0: 200 x3 25; compiled 0, 26760; table 0, 1 0 11 1024", table_room=65536)
-of_schedule("K8: two RESETs before it", tree(sequence(LEAF, LEAF, parallel(*RESETS))), Z, "p1 p2 p4", "read 0, 1 0 14; rules 0, 3 0 0: 200 x3; compiled 13, 0", table_room=65536)
+of_schedule("K8: PARALLEL of ten RESETs", tree(parallel(*RESETS)), Z, "p10 p9 p8 p7 p6 p5 p4 p3 p2 p1",
+    "size 0, 1023 5120; rules 0, 10 0 0: 200 x9 201; compile 0, 26745; read table 0, 1 0 10 1023; by table 0, 10 0 0; "
+    "examine 0, 26745 10 0 0 10 0 0 1", table_room=65536)
+of_schedule("K8: one RESET before it", tree(sequence(LEAF, parallel(*RESETS))), Z, "p1 p3 p12 p3",
+    "size 0, 1024 5121; rules 0, 3 1 0: 200 x3 25; compile 0, 26760; read table 0, 1 0 11 1024", table_room=65536)
+tight("K8: one RESET before it", tree(sequence(LEAF, parallel(*RESETS))), Z, "p1 p3 p12 p3", "3 1 0", 26760, 52)
+of_schedule("K8: two RESETs before it", tree(sequence(LEAF, LEAF, parallel(*RESETS))), Z, "p1 p2 p4",
+    "read 0, 1 0 14; size 0, 1025 0; rules 0, 3 0 0: 200 x3; compile 13, 0; " + unexamined(13), table_room=65536)
 W = variables((LOWEST, HIGHEST, 0))
 of_schedule("K9: negating the lowest", tree(reset(0, neg(var(0))), vs=W), start([LOWEST]), "p0 p0", "rules 0, 0 1 1: 203 23")
 of_schedule("K9: negating the next", tree(reset(0, neg(var(0))), vs=W), start([LOWEST + 1]), "p0", "rules 0, 1 0 0: 201")
@@ -303,14 +362,16 @@ for name, t, holds in [
     of_schedule(name, truth(t), Z, "p0", "rules 0, 1 0 0: 201" if holds else "rules 0, 0 1 0: 29")
 
 # 14: a buffer one byte too short, and just enough
-of_schedule("14: K1 with 74 bytes", K1, start([9]), "p1", "read 0, 1 0 3; rules 0, 1 0 0: 200; compiled 14, 0", table_room=74)
-of_schedule("K1 with 75 bytes", K1, start([9]), "p1", "compiled 0, 75; by table 0, 1 0 0", table_room=75)
-of_schedule("14: K1 with none", K1, start([9]), "p1", "compiled 14, 0", table_room=0)
-of_schedule("13 before 14", tree(sequence(LEAF, LEAF, parallel(*RESETS))), Z, "", "compiled 13, 0", table_room=0)
+of_schedule("14: K1 with 74 bytes", K1, start([9]), "p1", "read 0, 1 0 3; rules 0, 1 0 0: 200; compile 14, 0", table_room=74)
+of_schedule("K1 with 75 bytes", K1, start([9]), "p1", "compile 0, 75; by table 0, 1 0 0", table_room=75)
+of_schedule("14: K1 with none", K1, start([9]), "p1", "compile 14, 0", table_room=0)
+of_schedule("13 before 14", tree(sequence(LEAF, LEAF, parallel(*RESETS))), Z, "", "compile 13, 0; " + unexamined(13), table_room=0)
+of_schedule("14 before 20 and 21", K1, start([11]), "x00", "compile 14, 0; rules 20, 0 0 0; " + unexamined(14), table_room=74)
 
 
-# Tables around 65,536 bytes. Ten RESETs and seven STOPs in a PARALLEL: 1,024 locations, each RESET in 512 of them, each STOP in all; five bytes an entry.
-# With the plant: 5 + 15 + (2 + E) + 3 + 10 * 9 + 7 * 3 + 6 + 1024 + 5 * (10 * 512 + 7 * 1024) = 62,606 + E, where E = 8 and the switches of its one CASE.
+# Tables around 65,536 bytes. Ten RESETs and seven STOPs in a PARALLEL: 1,024 locations, each RESET in 512 of them, each STOP in all;
+# five bytes an entry. With the plant: 5 + 15 + (2 + E) + 3 + 10 * 9 + 7 * 3 + 6 + 1024 + 5 * (10 * 512 + 7 * 1024) = 62,606 + E,
+# where E = 8 and the switches of its one CASE.
 def filled(last):
     """224 switches of 13 bytes that are false, and one that makes up the length."""
     es = equations(case(0, mode([], [(0, lt(const(2), const(1)))] * 224 + [(0, last)])))
@@ -319,12 +380,15 @@ def filled(last):
 
 EXACT = filled(lt(const(2), var(0)))
 OVER = filled(lt(const(2), neg(var(0))))
-of_schedule("a table of 65,536 bytes", EXACT, start([0], [0]), "p1 s0.224 s0.225 p17", "compiled 0, 65536; table 0, 1 1 17 1024; by table 0, 2 2 0", table_room=65536)
-of_schedule("14: a table of 65,536 bytes in 65,535", EXACT, start([0], [0]), "p1", "compiled 14, 0", table_room=65535)
-of_schedule("14: a table of 65,537 bytes in 65,536", OVER, start([0], [0]), "p1", "compiled 14, 0", table_room=65536)
-of_schedule("a table of 65,537 bytes", OVER, start([0], [0]), "p1 p10 p2", "compiled 0, 65537; table 0, 1 1 17 1024; by table 0, 3 0 0", table_room=65537)
+of_schedule("a table of 65,536 bytes", EXACT, start([0], [0]), "p1 s0.224 s0.225 p17",
+    "size 0, 1024 12288; compile 0, 65536; read table 0, 1 1 17 1024; by table 0, 2 2 0", table_room=65536)
+of_schedule("14: a table of 65,536 bytes in 65,535", EXACT, start([0], [0]), "p1", "compile 14, 0", table_room=65535)
+of_schedule("14: a table of 65,537 bytes in 65,536", OVER, start([0], [0]), "p1", "compile 14, 0", table_room=65536)
+of_schedule("a table of 65,537 bytes", OVER, start([0], [0]), "p1 p10 p2",
+    "compile 0, 65537; read table 0, 1 1 17 1024; by table 0, 3 0 0", table_room=65537)
 # ten RESETs and 53 STOPs: 5 + 15 + 3 + 3 + 10 * 9 + 53 * 3 + 6 + 1024 + 5 * (5120 + 53 * 1024)
-of_schedule("the longest rows", tree(parallel(*RESETS, *[STOP] * 53)), Z, "p10 p1 p63", "compiled 0, 298265; table 0, 1 0 63 1024", table_room=298265)
+of_schedule("the longest rows", tree(parallel(*RESETS, *[STOP] * 53)), Z, "p10 p1 p63",
+    "size 0, 1024 59392; compile 0, 298265; read table 0, 1 0 63 1024", table_room=298265)
 
 # 20, 21, 22
 TWO = schedule(variables((-5, 5, 0), (0, 100, 1)), equations(case(0, mode(), mode()), case(0, mode())), LEAF)
@@ -337,18 +401,20 @@ for name, begin in [
     ("a mode too high", start([0, 1], [2, 0])),
     ("the last mode too high", start([0, 1], [1, 1])),
 ]:
-    of_schedule(f"20: {name}", TWO, begin, "p0", "read 0, 2 2 1; rules 20, 0 0 0; by table 20, 0 0 0")
+    of_schedule(f"20: {name}", TWO, begin, "p0", "read 0, 2 2 1; rules 20, 0 0 0; by table 20, 0 0 0; " + unexamined(20))
 of_schedule("20 not: the borders", TWO, start([-5, 100], [1, 0]), "p0", "rules 0, 1 0 0: 201; by table 0, 1 0 0")
-of_schedule("20 before 21 and 22", K1, start([11]), "p1 x00", "rules 20, 0 0 0; by table 20, 0 0 0", record_room=0)
+of_schedule("20 before 21 and 22", K1, start([11]), "p1 x00", "rules 20, 0 0 0; by table 20, 0 0 0; " + unexamined(20), record_room=0)
 of_schedule("12 before 20", number(b""), b"", "x00", "rules 12, 0 0 0", record_room=0)
 for k in (1, 2, 4, 5):
-    of_schedule(f"21: {k} bytes", K1, start([9]), "x" + "01" * k, "rules 21, 0 0 0; by table 21, 0 0 0")
-of_schedule("21 before 22", K1, start([9]), "p1 x00", "rules 21, 0 0 0; by table 21, 0 0 0", record_room=0)
-of_schedule("22: one byte too few", K1, start([9]), "p1 p2", "rules 22, 0 0 0; by table 22, 0 0 0", record_room=25)
+    of_schedule(f"21: {k} bytes", K1, start([9]), "x" + "01" * k, "rules 21, 0 0 0; by table 21, 0 0 0; " + unexamined(21))
+of_schedule("21 before 22", K1, start([9]), "p1 x00", "rules 21, 0 0 0; by table 21, 0 0 0; " + unexamined(21), record_room=0)
+of_schedule("22: one byte too few", K1, start([9]), "p1 p2", "rules 22, 0 0 0; by table 22, 0 0 0; " + unexamined(22), record_room=25)
 of_schedule("22 not: just enough", K1, start([9]), "p1 p2", "rules 0, 2 0 0: 200 201; by table 0, 2 0 0", record_room=26)
-of_schedule("22: no room", K1, start([9]), "t", "rules 22, 0 0 0; by table 22, 0 0 0", record_room=0)
-of_schedule("no events, no room", K1, start([9]), "", "rules 0, 0 0 0; by table 0, 0 0 0", record_room=0)
-of_schedule("22 counts what is after the end", K1, start([9]), "p1 p2 t", "rules 22, 0 0 0; by table 22, 0 0 0", record_room=38)
+of_schedule("22: no room", K1, start([9]), "t", "rules 22, 0 0 0; by table 22, 0 0 0; " + unexamined(22), record_room=0)
+of_schedule("no events, no room", K1, start([9]), "", "rules 0, 0 0 0; by table 0, 0 0 0; examine 0, 75 0 0 0 0 0 0 1",
+    record_room=0, other_room=0)
+of_schedule("22 counts what is after the end", K1, start([9]), "p1 p2 t",
+    "rules 22, 0 0 0; by table 22, 0 0 0; " + unexamined(22), record_room=38)
 
 # events: 23 to 31 and 203, in a plant with a valve: closed, open, draining
 VALVE = case(
@@ -359,17 +425,21 @@ VALVE = case(
 )
 TANK = variables((0, 10, 5), (0, 9, 9))
 FILL = schedule(TANK, equations(VALVE), sequence(switch(0, 1), until(le(const(7), var(0))), switch(0, 2), until(FALSE)))
-of_schedule("24: senseless events", FILL, start([5, 9], [0]), "x030000 xFF0000 x000100 x000001 x010101 x01FF01 x030101 p1", "rules 0, 1 7 0: 24 x7 200")
+of_schedule("24: senseless events", FILL, start([5, 9], [0]), "x030000 xFF0000 x000100 x000001 x010101 x01FF01 x030101 p1",
+    "rules 0, 1 7 0: 24 x7 200")
 of_schedule("24 after 23", tree(STOP), Z, "p0 xFF0000", "rules 0, 1 1 0: 202 23")
 of_schedule("25: a SEQUENCE, a later node, none at all", FILL, start([5, 9], [0]), "p0 p2 p5 p63 p64 p255 p1", "rules 0, 1 6 0: 25 x6 200")
-of_schedule("26: no selector, no switch", FILL, start([5, 9], [0]), "s1.0 s255.255 s0.1 s0.255 p1 s0.3 s0.2", "rules 0, 1 6 0: 26 x4 200 26 30")
+of_schedule("26: no selector, no switch", FILL, start([5, 9], [0]), "s1.0 s255.255 s0.1 s0.255 p1 s0.3 s0.2",
+    "rules 0, 1 6 0: 26 x4 200 26 30")
 of_schedule("27: a tick beside a SWITCH", FILL, start([5, 9], [0]), "t p1 t", "rules 0, 2 1 0: 27 200 x2")
 of_schedule("28 and 30: the valve", FILL, start([1, 9], [0]), "p1 s0.0 s0.0 s0.1 p1 t t t p2 s0.0 p2 p2",
     "rules 0, 5 7 0: 28 200 30 x2 200 x3 31 200 30 25 x2")
-of_schedule("filled, closed, drained", FILL, start([5, 9], [0]), "p1 p2 t t p2 s0.0 s0.1 p2 t p3 t", "rules 0, 6 5 0: 200 29 200 28 x2 200 26 200 27 200 x2")
+of_schedule("filled, closed, drained", FILL, start([5, 9], [0]), "p1 p2 t t p2 s0.0 s0.1 p2 t p3 t",
+    "rules 0, 6 5 0: 200 29 200 28 x2 200 26 200 27 200 x2")
 # a batch of nine ticks, thirty times: 390 events
 BATCHES = schedule(V, equations(rate(0, 1)), loop(TRUE, sequence(reset(0, const(0)), until(le(const(9), var(0))))))
-of_schedule("thirty batches", BATCHES, Z, " ".join(["p0 p2 t t t t t t t t t t p3"] * 30), "rules 0, 360 30 0: 200 x11 31" + " 200 x12 31" * 29 + " 200", record_room=6000)
+of_schedule("thirty batches", BATCHES, Z, " ".join(["p0 p2 t t t t t t t t t t p3"] * 30),
+    "rules 0, 360 30 0: 200 x11 31" + " 200 x12 31" * 29 + " 200", record_room=6000)
 DRAIN = schedule(TANK, equations(VALVE), until(FALSE))
 of_schedule("drained to a fault", DRAIN, start([5, 9], [2]), "t t t t", "rules 0, 2 1 1: 200 x2 203 23")
 of_schedule("a switch taken, then a fault", DRAIN, start([0, 4], [1]), "s0.0 s0.1 t", "rules 0, 1 1 1: 30 200 203")
@@ -398,14 +468,22 @@ for name, cs, modes, answer in [
     ("a fault in a mode that is not current", [case(0, mode([], [(0, FAULT)]), mode([], [(0, FALSE)]))], [1], 0),
 ]:
     counts = {28: "0 1 0", 203: "0 0 1", 0: "1 0 0"}[answer]
-    for kind, t, e, good in [("RESET", LEAF, "p0", 201), ("STOP", STOP, "p0", 202), ("a false CONTINUE", until(FALSE), "t", 200), ("a true WHILE", loop(TRUE, STOP), "p0", 200)]:
+    for kind, t, e, good in [
+        ("RESET", LEAF, "p0", 201),
+        ("STOP", STOP, "p0", 202),
+        ("a false CONTINUE", until(FALSE), "t", 200),
+        ("a true WHILE", loop(TRUE, STOP), "p0", 200),
+    ]:
         of_schedule(f"{name}: {kind}", checked(*cs, t=t), start([0], modes), e, f"rules 0, {counts}: {answer or good}")
 of_schedule("a fault in the check is before 29", checked(one(FAULT), t=until(FALSE)), start([0], [0]), "p0", "rules 0, 0 0 1: 203")
 of_schedule("28 is before 29", checked(one(TRUE), t=until(FALSE)), start([0], [0]), "p0", "rules 0, 0 1 0: 28")
 of_schedule("28 is before 31", checked(one(TRUE), t=until(TRUE)), start([0], [0]), "t", "rules 0, 0 1 0: 28")
 of_schedule("27 is before the check", checked(one(FAULT)), start([0], [0]), "t p5", "rules 0, 0 2 0: 27 25")
-of_schedule("a switch event makes no check", checked(one(FAULT, FALSE, TRUE)), start([0], [0]), "s0.1 s0.2 s0.3 s0.0 s0.2", "rules 0, 1 3 1: 30 200 26 203 23")
-of_schedule("a SWITCH passes the check", checked(case(0, mode(), mode([], [(0, TRUE)])), t=sequence(switch(0, 1), switch(0, 0))), start([0], [0]), "p1 p2 s0.0 p2", "rules 0, 3 1 0: 200 28 200 201")
+of_schedule("a switch event makes no check", checked(one(FAULT, FALSE, TRUE)), start([0], [0]), "s0.1 s0.2 s0.3 s0.0 s0.2",
+    "rules 0, 1 3 1: 30 200 26 203 23")
+of_schedule("a SWITCH passes the check", checked(case(0, mode(), mode([], [(0, TRUE)])), t=sequence(switch(0, 1), switch(0, 0))),
+    start([0], [0]), "p1 p2 s0.0 p2",
+    "rules 0, 3 1 0: 200 28 200 201")
 
 # a tick's walk over the CONTINUE truths, and its rates
 for name, ts, answer in [
@@ -425,30 +503,38 @@ of_schedule("a RESET below the range", number(const(-1)), start([5]), "p0", "rul
 of_schedule("a RESET above the range", number(const(11)), start([5]), "p0", "rules 0, 0 0 1: 203")
 of_schedule("a REINITIAL at the border", tree(reinitial(0, const(10))), start([5]), "p0", "rules 0, 1 0 0: 201")
 WAITING = until(FALSE)
-of_schedule("a tick past the highest number", schedule(W, equations(rate(0, 1)), WAITING), start([HIGHEST - 1]), "t t t", "rules 0, 1 1 1: 200 203 23")
+of_schedule("a tick past the highest number", schedule(W, equations(rate(0, 1)), WAITING), start([HIGHEST - 1]), "t t t",
+    "rules 0, 1 1 1: 200 203 23")
 of_schedule("a tick past the lowest number", schedule(W, equations(rate(0, LOWEST)), WAITING), start([-1]), "t", "rules 0, 0 0 1: 203")
 of_schedule("a tick to the lowest number", schedule(W, equations(rate(0, LOWEST)), WAITING), start([0]), "t t", "rules 0, 1 0 1: 200 203")
-of_schedule("a tick that one variable faults", schedule(variables((0, 10, 0), (0, 10, 0), (0, 10, 0)), equations(rate(2, 4), rate(0, 1), rate(1, -3)), WAITING), start([1, 5, 1]), "t t t",
+THREE_RATES = schedule(variables(*[(0, 10, 0)] * 3), equations(rate(2, 4), rate(0, 1), rate(1, -3)), WAITING)
+of_schedule("a tick that one variable faults", THREE_RATES, start([1, 5, 1]), "t t t",
     "rules 0, 1 1 1: 200 203 23")
 of_schedule("a tick with a rate of 0", schedule(V, equations(rate(0, 0)), WAITING), start([10]), "t t", "rules 0, 2 0 0: 200 x2")
 
 # trees
-of_schedule("an IF that is true", tree(either_of(lt(var(0), const(5)), STOP, LEAF)), start([4]), "p1 p2 p0 p2 p1", "rules 0, 2 3 0: 25 x2 200 25 202; table 0, 1 0 3 3")
+of_schedule("an IF that is true", tree(either_of(lt(var(0), const(5)), STOP, LEAF)), start([4]), "p1 p2 p0 p2 p1",
+    "rules 0, 2 3 0: 25 x2 200 25 202; read table 0, 1 0 3 3")
 of_schedule("an IF that is false", tree(either_of(lt(var(0), const(5)), STOP, LEAF)), start([5]), "p0 p1 p2", "rules 0, 2 1 0: 200 25 201")
-of_schedule("a WHILE that is false", tree(loop(FALSE, LEAF)), Z, "p0 p1", "rules 0, 1 1 0: 201 23; table 0, 1 0 2 2")
-of_schedule("a STOP in a branch ends the whole", tree(parallel(sequence(LEAF, STOP), until(FALSE))), Z, "p2 p4 p3 t", "rules 0, 2 2 0: 200 29 202 23")
-of_schedule("a STOP that is never reached", tree(sequence(until(FALSE), STOP)), Z, "t p2", "rules 0, 1 1 0: 200 25; table 0, 1 0 2 2")
-of_schedule("a WHILE over a PARALLEL", tree(loop(lt(var(0), const(9)), parallel(reset(0, add(var(0), const(1))), reset(0, add(var(0), const(4)))))), Z, "p0 p3 p2 p0 p2 p2 p3 p0 p1",
-    "rules 0, 7 2 0: 200 x5 25 200 201 23; table 0, 1 0 3 4")
-of_schedule("a PARALLEL of SEQUENCEs", tree(parallel(sequence(LEAF, LEAF), sequence(LEAF, LEAF))), Z, "p2 p5 p3 p3 p6", "rules 0, 4 1 0: 200 x3 25 201; table 0, 1 0 4 8")
-of_schedule("PARALLELs one in the other", tree(parallel(parallel(LEAF, parallel(LEAF, LEAF)), LEAF)), Z, "p5 p4 p2 p4 p6", "rules 0, 4 1 0: 200 x3 25 201; table 0, 1 0 4 15")
-of_schedule("an IF in a WHILE in a SEQUENCE", tree(sequence(loop(le(var(0), const(2)), either_of(eq(var(0), const(1)), sequence(LEAF, reset(0, const(3))), reset(0, const(1)))), STOP)), Z, "p1 p2 p6 p1 p2 p4 p5 p1 p7",
+of_schedule("a WHILE that is false", tree(loop(FALSE, LEAF)), Z, "p0 p1", "rules 0, 1 1 0: 201 23; read table 0, 1 0 2 2")
+of_schedule("a STOP in a branch ends the whole", tree(parallel(sequence(LEAF, STOP), until(FALSE))), Z, "p2 p4 p3 t",
+    "rules 0, 2 2 0: 200 29 202 23")
+of_schedule("a STOP that is never reached", tree(sequence(until(FALSE), STOP)), Z, "t p2", "rules 0, 1 1 0: 200 25; read table 0, 1 0 2 2")
+AGAIN = loop(lt(var(0), const(9)), parallel(reset(0, add(var(0), const(1))), reset(0, add(var(0), const(4)))))
+of_schedule("a WHILE over a PARALLEL", tree(AGAIN), Z, "p0 p3 p2 p0 p2 p2 p3 p0 p1",
+    "rules 0, 7 2 0: 200 x5 25 200 201 23; read table 0, 1 0 3 4")
+of_schedule("a PARALLEL of SEQUENCEs", tree(parallel(sequence(LEAF, LEAF), sequence(LEAF, LEAF))), Z, "p2 p5 p3 p3 p6",
+    "rules 0, 4 1 0: 200 x3 25 201; read table 0, 1 0 4 8")
+of_schedule("PARALLELs one in the other", tree(parallel(parallel(LEAF, parallel(LEAF, LEAF)), LEAF)), Z, "p5 p4 p2 p4 p6",
+    "rules 0, 4 1 0: 200 x3 25 201; read table 0, 1 0 4 15")
+BRANCH = either_of(eq(var(0), const(1)), sequence(LEAF, reset(0, const(3))), reset(0, const(1)))
+of_schedule("an IF in a WHILE in a SEQUENCE", tree(sequence(loop(le(var(0), const(2)), BRANCH), STOP)), Z, "p1 p2 p6 p1 p2 p4 p5 p1 p7",
     "rules 0, 9 0 0: 200 x8 202")
 
 
 # Tables: 15 to 19
 def refused_table(n, name, table, begin=Z, es="p0"):
-    of_table(f"{n}: {name}", table, begin, es, f"table {n}, 0 0 0 0; by table {n}, 0 0 0")
+    of_table(f"{n}: {name}", table, begin, es, f"read table {n}, 0 0 0 0; by table {n}, 0 0 0")
 
 
 refused_table(15, "empty table", b"")
@@ -482,8 +568,8 @@ def located(locs):
     return table_of(V, NO_EQUATION, ACTS, locs)
 
 
-of_table("a table of our own", located(LOCS), Z, "p2 p1 p0 p0 p2 p2", "table 0, 1 0 4 2; by table 0, 3 3 0: 25 200 x2 25 201 23")
-of_table("its STOP", located(LOCS), start([3]), "t p0 p5 p5", "table 0, 1 0 4 2; by table 0, 2 2 0: 27 200 202 23")
+of_table("a table of our own", located(LOCS), Z, "p2 p1 p0 p0 p2 p2", "read table 0, 1 0 4 2; by table 0, 3 3 0: 25 200 x2 25 201 23")
+of_table("its STOP", located(LOCS), start([3]), "t p0 p5 p5", "read table 0, 1 0 4 2; by table 0, 2 2 0: 27 200 202 23")
 of_table("its test is false", located(LOCS), start([4]), "p0 p0", "by table 0, 1 1 0: 201 23")
 for n, name, vs, es in [
     (17, "no variables (4)", b"\x00", NO_EQUATION),
@@ -526,9 +612,11 @@ for name, acts in [
     refused_table(18, name, table_of(V, NO_EQUATION, acts, LOCS))
 refused_table(18, "a switch to a missing mode", acted((0, 4, b"\x00\x01"), es=equations(ONE_MODE)), start([0], [0]))
 refused_table(18, "a switch of three bytes", acted((0, 4, b"\x00\x00\x00"), es=equations(ONE_MODE)), start([0], [0]))
-of_table("a switch action", acted((0, 4, b"\x00\x01"), es=equations(case(0, mode(), mode()))), start([0], [0]), "p0 p0", "table 0, 1 1 1 1; by table 0, 2 0 0: 200 x2")
-of_table("200 bytes of kind and operand", acted((63, 3, b"\x00" + long_number(198))), Z, "p63 t", "table 0, 1 0 1 1; by table 0, 1 1 0: 200 27")
-of_table("64 actions", acted(*[(n, 5, b"") for n in range(64)]), Z, "p63 p0 p0", "table 0, 1 0 64 1; by table 0, 1 2 0: 25 202 23")
+of_table("a switch action", acted((0, 4, b"\x00\x01"), es=equations(case(0, mode(), mode()))), start([0], [0]), "p0 p0",
+    "read table 0, 1 1 1 1; by table 0, 2 0 0: 200 x2")
+of_table("200 bytes of kind and operand", acted((63, 3, b"\x00" + long_number(198))), Z, "p63 t",
+    "read table 0, 1 0 1 1; by table 0, 1 1 0: 200 27")
+of_table("64 actions", acted(*[(n, 5, b"") for n in range(64)]), Z, "p63 p0 p0", "read table 0, 1 0 64 1; by table 0, 1 2 0: 25 202 23")
 for name, locs in [
     ("empty location section", b""),
     ("one byte", b"\x00"),
@@ -557,104 +645,16 @@ for name, locs in [
     ("a stop with two targets", locations([(5, HALTED, HALTED)])),
 ]:
     refused_table(19, name, located(locs))
-of_table("1,024 locations", located(locations(*[[(1, (i + 1023) % 1024, NONE)] for i in range(1024)])), Z, "p1 p1 t", "table 0, 1 0 4 1024; by table 0, 2 1 0: 200 x2 31")
-of_table("equal locations that nothing leads to", located(locations([(1, FINISHED, NONE)], [(1, FINISHED, NONE)], [(1, 2, NONE)])), Z, "p1 p1", "table 0, 1 0 4 3; by table 0, 1 1 0: 201 23")
-of_table("a test that leads both ways to itself", located(locations([(0, 0, 0), (2, 0, NONE)])), start([4]), "p0 p2 p0", "by table 0, 3 0 0: 200 x3")
+of_table("1,024 locations", located(locations(*[[(1, (i + 1023) % 1024, NONE)] for i in range(1024)])), Z, "p1 p1 t",
+    "read table 0, 1 0 4 1024; by table 0, 2 1 0: 200 x2 31")
+of_table("equal locations that nothing leads to", located(locations([(1, FINISHED, NONE)], [(1, FINISHED, NONE)], [(1, 2, NONE)])),
+    Z, "p1 p1",
+    "read table 0, 1 0 4 3; by table 0, 1 1 0: 201 23")
+of_table("a test that leads both ways to itself", located(locations([(0, 0, 0), (2, 0, NONE)])), start([4]), "p0 p2 p0",
+    "by table 0, 3 0 0: 200 x3")
 refused_table(17, "17 before 18 and 19", table_of(b"\x00", NO_EQUATION, b"", b""))
 refused_table(18, "18 before 19", table_of(V, NO_EQUATION, b"", b""))
-of_table("19 before 20", located(b""), b"", "x00", "table 19, 0 0 0 0; by table 19, 0 0 0", record_room=0)
-of_table("20: of a table", located(LOCS), start([11]), "p0", "table 0, 1 0 4 2; by table 20, 0 0 0")
-of_table("21: of a table", located(LOCS), Z, "x0000", "table 0, 1 0 4 2; by table 21, 0 0 0")
-of_table("22: of a table", located(LOCS), Z, "p0", "table 0, 1 0 4 2; by table 22, 0 0 0", record_room=12)
-
-
-# Schedules of many shapes with event lists, and the same with a byte changed. What they give is not told here: the interpreter says it.
-SEED = 1
-
-
-def below(n):
-    """The next number below n of a list that a seed gives."""
-    global SEED
-    SEED = (SEED * 1664525 + 1013904223) % 4294967296
-    return (SEED >> 8) % n
-
-
-def any_number(depth):
-    k = below(8) if depth > 1 else below(4)
-    if k < 2:
-        return const([0, 1, -1, 2, 3, 7, HIGHEST, LOWEST][below(6 + 2 * (below(6) == 0))])
-    if k < 4:
-        return var(below(3))
-    if k == 7:
-        return neg(any_number(depth - 1))
-    return [add, sub, mul][k - 4](any_number(depth - 1), any_number(depth - 1))
-
-
-def any_truth(depth):
-    k = below(8) if depth > 1 else below(4)
-    if k < 5:
-        return [le, lt, eq, ne, lt][k](any_number(depth), any_number(depth))
-    if k == 7:
-        return [TRUE, no(any_truth(depth - 1))][below(2)]
-    return [both, either][k - 5](any_truth(depth - 1), any_truth(depth - 1))
-
-
-def any_tree(depth):
-    k = below(14) if depth > 1 else 6 + below(8)
-    if k < 3:
-        return sequence(*[any_tree(depth - 1) for _ in range(1 + below(3))])
-    if k < 4:
-        return parallel(*[any_tree(depth - 1) for _ in range(1 + below(3))])
-    if k < 5:
-        return loop(any_truth(2), any_tree(depth - 1))
-    if k < 6:
-        return either_of(any_truth(2), any_tree(depth - 1), any_tree(depth - 1))
-    if k < 9:
-        return until(any_truth(2))
-    if k < 12:
-        return [reset, reinitial][below(2)](below(3), any_number(2))
-    if k < 13:
-        return switch(below(2), below(2))
-    return STOP if below(4) == 0 else until(any_truth(1))
-
-
-def any_mode(v):
-    rates = [(v, below(5) - 2)] if below(3) else []
-    return mode(rates, [(below(2), both(lt(const(15), var(v)), any_truth(2)))] if below(2) else [])
-
-
-def any_case(v):
-    return case(below(2), any_mode(v), any_mode(v))
-
-
-def any_schedule():
-    vs = variables(*[(-20, 20, below(5))] * 3)
-    t = any_tree(5)
-    while not 8 <= len(t) <= 30:
-        t = any_tree(5)
-    return schedule(vs, equations(rate(0, below(3) - 1), any_case(1), any_case(2)), t), len(t)
-
-
-def any_events(nodes_, k):
-    """Picks of all nodes, up or down, again and again, and among them ticks and switches."""
-    out = []
-    while len(out) < k:
-        up = below(3)
-        for n in range(nodes_):
-            c = below(12)
-            out.append("t" if c == 0 else f"s{below(2)}.{below(2)}" if c == 1 else f"p{n if up else nodes_ - 1 - n}")
-    return " ".join(out[:k])
-
-
-ANY = []
-for i in range(1, 61):
-    f, n = any_schedule()
-    ANY.append(f)
-    of_schedule(f"any {i}", f, start([below(9) - 4 for _ in range(3)], [below(2), below(2)]), any_events(n, 80), table_room=6000)
-for i in range(1, 61):
-    f = ANY[below(len(ANY))]
-    f = changed(f, 3 + below(len(f) - 3), below(256))
-    of_schedule(f"a byte changed {i}", f, start([0] * 3, [0, 0]), any_events(8, 20), table_room=6000)
-for i in range(1, 41):
-    t = [K1_TABLE, located(LOCS)][below(2)]
-    of_table(f"a table's byte changed {i}", changed(t, 5 + below(len(t) - 5), below(256)), Z, any_events(4, 12))
+of_table("19 before 20", located(b""), b"", "x00", "read table 19, 0 0 0 0; by table 19, 0 0 0", record_room=0)
+of_table("20: of a table", located(LOCS), start([11]), "p0", "read table 0, 1 0 4 2; by table 20, 0 0 0")
+of_table("21: of a table", located(LOCS), Z, "x0000", "read table 0, 1 0 4 2; by table 21, 0 0 0")
+of_table("22: of a table", located(LOCS), Z, "p0", "read table 0, 1 0 4 2; by table 22, 0 0 0", record_room=12)

@@ -104,12 +104,12 @@ fn over(written: &[u8], old: &[u8]) -> Vec<u8> {
 }
 
 fn read(r: &mut Random, t: &mut Tally, call: usize, bytes: &[u8]) -> Result<(), Box<Difference>> {
-    let (judged, given) = if call == 0 {
-        (plain::read_schedule(bytes), product::read_schedule(r, bytes))
+    let (refused, given) = if call == 0 {
+        (plain::read_schedule(bytes).err(), product::read_schedule(r, bytes))
     } else {
-        (plain::read_table(bytes), product::read_table(r, bytes))
+        (plain::read_table(bytes).err(), product::read_table(r, bytes))
     };
-    let wanted = Given { refusal: judged.err().unwrap_or(0), ..Given::default() };
+    let wanted = Given { refusal: refused.unwrap_or(0), ..Given::default() };
     t.saw(call, wanted.refusal);
     compare(call, &[("bytes", bytes)], given, wanted)
 }

@@ -1,0 +1,153 @@
+// A case as it is stored: the call, a name, five strings, what is lent, what the call returns.
+ghost use Prim.Native.Nat.{_<_};
+
+// what stands for a byte or a length that the input does not have: longer than every buffer
+pub const CUT: usize = 4294967296;
+// the length that stands for the string of the case before
+const AS_BEFORE: usize = 4294967295;
+
+pub const READ: usize = 1;
+
+pub const READ_TABLE: usize = 2;
+
+pub const SIZE: usize = 3;
+
+pub const COMPILE: usize = 4;
+
+pub const RULES: usize = 5;
+
+pub const BY_TABLE: usize = 6;
+
+pub const EXAMINE: usize = 7;
+
+pub struct Case {
+    pub call: usize,
+    // the lengths of the name and the five strings
+    pub name: usize,
+    pub file: usize,
+    pub table: usize,
+    pub start: usize,
+    pub events: usize,
+    pub records: usize,
+    // how many bytes are lent
+    pub table_room: usize,
+    pub record_room: usize,
+    pub other_room: usize,
+    // what the call returns
+    pub refusal: usize,
+    pub numbers: [usize; 8],
+}
+
+// what stands before the first case: every string is empty
+pub fn none() -> Case {
+    Case {
+        call: 0,
+        name: 0,
+        file: 0,
+        table: 0,
+        start: 0,
+        events: 0,
+        records: 0,
+        table_room: 0,
+        record_room: 0,
+        other_room: 0,
+        refusal: 0,
+        numbers: [0; 8],
+    }
+}
+
+fn wide(b: u8) -> usize
+    ensures { λ r. ⌜ r < 256 ⌝ }
+{
+    b as usize
+}
+
+fn byte() -> usize {
+    let mut b = [0u8; 1];
+    if io::read_full(0, &mut b) < 1 {
+        return CUT;
+    }
+    wide(b[0])
+}
+
+fn number() -> usize {
+    let mut b = [0u8; 4];
+    if io::read_full(0, &mut b) < 4 {
+        return CUT;
+    }
+    wide(b[0]) * 16777216 + wide(b[1]) * 65536 + wide(b[2]) * 256 + wide(b[3])
+}
+
+// n bytes at the front of the buffer; their length
+fn taken(n: usize, buf: &mut [u8]) -> usize {
+    let k = output::front(n, buf);
+    if io::read_full(0, &mut buf[..k]) < n {
+        return CUT;
+    }
+    n
+}
+
+// a string, its length first
+fn string(before: usize, buf: &mut [u8]) -> usize {
+    let n = number();
+    if n == AS_BEFORE {
+        return before;
+    }
+    taken(n, buf)
+}
+
+fn numbers() -> [usize; 8] {
+    [
+        number(),
+        number(),
+        number(),
+        number(),
+        number(),
+        number(),
+        number(),
+        number(),
+    ]
+}
+
+// the next case; its call is CUT where the input ends
+pub fn read(
+    before: Case,
+    name: &mut [u8; 255],
+    file: &mut [u8; 65600],
+    table: &mut [u8; 420000],
+    start: &mut [u8; 200],
+    events: &mut [u8; 30100],
+    records: &mut [u8; 420000],
+) -> Case {
+    Case {
+        call: byte(),
+        name: taken(byte(), name),
+        file: string(before.file, file),
+        table: string(before.table, table),
+        start: string(before.start, start),
+        events: string(before.events, events),
+        records: string(before.records, records),
+        table_room: number(),
+        record_room: number(),
+        other_room: number(),
+        refusal: byte(),
+        numbers: numbers(),
+    }
+}
+
+// whether the case is there to its last number, its call one of the seven, every string and lent buffer no longer than the program's buffer
+pub fn whole(c: Case) -> bool {
+    let numbers = c.numbers;
+    (c.call >= READ)
+        & (c.call <= EXAMINE)
+        & (c.name < CUT)
+        & (c.file < CUT)
+        & (c.table < CUT)
+        & (c.start < CUT)
+        & (c.events < CUT)
+        & (c.records < CUT)
+        & (c.table_room <= 420000)
+        & (c.record_room <= 420000)
+        & (c.other_room <= 420000)
+        & (numbers[7] < CUT)
+}
