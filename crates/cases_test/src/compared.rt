@@ -2,7 +2,6 @@
 ghost use mathlib.Core.Path.{_≡_};
 ghost use lib.ListN.{length};
 use super::calls;
-use super::calls::Answer;
 use super::line;
 use super::stored;
 use super::stored::Case;
@@ -28,20 +27,6 @@ fn left(lent: &[u8], stored: &[u8], is_written: bool) -> bool {
     }
     let n = output::front(stored.len(), lent);
     check::same(&lent[..n], stored) & untouched(&lent[n..])
-}
-
-// whether an answer has the stored numbers
-fn returned(a: Answer, refusal: usize, s: [usize; 8]) -> bool {
-    let n = a.numbers;
-    (a.refusal == refusal)
-        & (n[0] == s[0])
-        & (n[1] == s[1])
-        & (n[2] == s[2])
-        & (n[3] == s[3])
-        & (n[4] == s[4])
-        & (n[5] == s[5])
-        & (n[6] == s[6])
-        & (n[7] == s[7])
 }
 
 // whether the lent buffers are left as the case says: refused, a call writes nothing
@@ -83,9 +68,11 @@ fn made(
         lent_records,
         lent_others,
     );
-    line::answer(a);
+    line::refusal(a.refusal);
+    let got = a.numbers;
     let numbers = c.numbers;
-    returned(a, c.refusal, numbers)
+    (a.refusal == c.refusal)
+        & line::numbers(got, numbers, a.count)
         & written(c, table, records, lent_table, lent_records, lent_others)
 }
 
@@ -124,18 +111,21 @@ pub fn strings(
     start: &[u8],
     events: &[u8],
     records: &[u8],
-) -> bool {
+) -> u64 {
     let f = output::front(c.file, file);
     let t = output::front(c.table, table);
     let s = output::front(c.start, start);
     let e = output::front(c.events, events);
     let r = output::front(c.records, records);
-    call(
+    if call(
         c,
         &file[..f],
         &table[..t],
         &start[..s],
         &events[..e],
         &records[..r],
-    )
+    ) {
+        return stored::AS_STORED;
+    }
+    stored::DIFFERENT
 }

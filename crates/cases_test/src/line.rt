@@ -1,5 +1,4 @@
 // Words and numbers of a line.
-use super::calls::Answer;
 
 pub fn text(s: &[u8]) {
     io::write_all(1, s);
@@ -17,16 +16,30 @@ fn number(n: usize) {
     io::print_decimal(1, n as u64);
 }
 
-// the refusal and the call's numbers
-pub fn answer(a: Answer) {
-    let numbers = a.numbers;
-    number(a.refusal);
+// the refusal, a comma
+pub fn refusal(n: usize) {
+    number(n);
     text(b",");
+}
+
+// the first of eight numbers, so many; whether all eight are the stored ones
+pub fn numbers(got: [usize; 8], stored: [usize; 8], count: usize) -> bool {
+    let mut same = true;
     let mut i = 0;
     while i < 8 {
-        if i < a.count {
-            number(numbers[i]);
+        if i < count {
+            number(got[i]);
         }
+        same = same & (got[i] == stored[i]);
         i += 1;
+    }
+    same
+}
+
+pub fn verdict(v: u64) {
+    if v == super::stored::AS_STORED {
+        text(b"; as stored\n");
+    } else {
+        text(b"; DIFFERENT\n");
     }
 }

@@ -10,62 +10,74 @@ use stored::Case;
 // more than any input has
 const MOST: u64 = 18446744073709551615;
 
-// the case's line; 1 where it is different
-fn shown(
-    c: Case,
-    name: &[u8; 255],
-    file: &[u8; 65600],
-    table: &[u8; 420000],
-    start: &[u8; 200],
-    events: &[u8; 30100],
-    records: &[u8; 420000],
-) -> u64 {
-    line::name(c.name, name);
-    if compared::strings(c, file, table, start, events, records) {
-        line::text(b"; as stored\n");
-        return 0;
+// The next case, and its line: its verdict is whether all is as stored.
+fn next(
+    before: Case,
+    name: &mut [u8; stored::NAME],
+    file: &mut [u8; stored::FILE],
+    table: &mut [u8; stored::TABLE],
+    start: &mut [u8; stored::START],
+    events: &mut [u8; stored::EVENTS],
+    records: &mut [u8; stored::RECORDS],
+) -> Case {
+    let mut c = stored::read(before, name, file, table, start, events, records);
+    if !stored::whole(c) {
+        return c;
     }
-    line::text(b"; DIFFERENT\n");
-    1
+    line::name(c.name, name);
+    let v = compared::strings(c, file, table, start, events, records);
+    line::verdict(v);
+    c.verdict = v;
+    c
 }
 
-fn total(cases: u64, different: u64) {
+// the last line: the counts where the input ended behind a case
+fn last(call: usize, cases: u64, different: u64) {
+    if call != stored::CUT {
+        line::text(b"no list of cases\n");
+        return;
+    }
     io::print_decimal(1, cases);
     line::text(b" cases, ");
     io::print_decimal(1, different);
     line::text(b" different\n");
 }
 
-fn main() {
-    let mut name = [0u8; 255];
-    let mut file = [0u8; 65600];
-    let mut table = [0u8; 420000];
-    let mut start = [0u8; 200];
-    let mut events = [0u8; 30100];
-    let mut records = [0u8; 420000];
+fn all(
+    name: &mut [u8; stored::NAME],
+    file: &mut [u8; stored::FILE],
+    table: &mut [u8; stored::TABLE],
+    start: &mut [u8; stored::START],
+    events: &mut [u8; stored::EVENTS],
+    records: &mut [u8; stored::RECORDS],
+) {
     let mut c = stored::none();
     let mut cases = 0;
     let mut different = 0;
     while cases < MOST {
-        c = stored::read(
-            c,
-            &mut name,
-            &mut file,
-            &mut table,
-            &mut start,
-            &mut events,
-            &mut records,
-        );
-        if c.call == stored::CUT {
-            total(cases, different);
+        c = next(c, name, file, table, start, events, records);
+        if c.verdict > stored::DIFFERENT {
+            last(c.call, cases, different);
             return;
         }
-        if !stored::whole(c) {
-            line::text(b"no list of cases\n");
-            return;
-        }
-        let d = shown(c, &name, &file, &table, &start, &events, &records);
-        different = std::num::wrapping_add_u64(different, d);
+        different = std::num::wrapping_add_u64(different, c.verdict);
         cases += 1;
     }
+}
+
+fn main() {
+    let mut name = [0u8; stored::NAME];
+    let mut file = [0u8; stored::FILE];
+    let mut table = [0u8; stored::TABLE];
+    let mut start = [0u8; stored::START];
+    let mut events = [0u8; stored::EVENTS];
+    let mut records = [0u8; stored::RECORDS];
+    all(
+        &mut name,
+        &mut file,
+        &mut table,
+        &mut start,
+        &mut events,
+        &mut records,
+    );
 }

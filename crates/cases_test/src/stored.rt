@@ -6,6 +6,19 @@ pub const CUT: usize = 4294967296;
 // the length that stands for the string of the case before
 const AS_BEFORE: usize = 4294967295;
 
+// how long a name and each string may be
+pub const NAME: usize = 255;
+
+pub const FILE: usize = 65600;
+
+pub const TABLE: usize = 420000;
+
+pub const START: usize = 200;
+
+pub const EVENTS: usize = 30100;
+
+pub const RECORDS: usize = 420000;
+
 pub const READ: usize = 1;
 
 pub const READ_TABLE: usize = 2;
@@ -19,6 +32,13 @@ pub const RULES: usize = 5;
 pub const BY_TABLE: usize = 6;
 
 pub const EXAMINE: usize = 7;
+
+// verdicts
+pub const AS_STORED: u64 = 0;
+
+pub const DIFFERENT: u64 = 1;
+
+pub const NO_CASE: u64 = 2;
 
 pub struct Case {
     pub call: usize,
@@ -36,6 +56,8 @@ pub struct Case {
     // what the call returns
     pub refusal: usize,
     pub numbers: [usize; 8],
+    // what became of the case
+    pub verdict: u64,
 }
 
 // what stands before the first case: every string is empty
@@ -53,6 +75,7 @@ pub fn none() -> Case {
         other_room: 0,
         refusal: 0,
         numbers: [0; 8],
+        verdict: NO_CASE,
     }
 }
 
@@ -112,12 +135,12 @@ fn numbers() -> [usize; 8] {
 // the next case; its call is CUT where the input ends
 pub fn read(
     before: Case,
-    name: &mut [u8; 255],
-    file: &mut [u8; 65600],
-    table: &mut [u8; 420000],
-    start: &mut [u8; 200],
-    events: &mut [u8; 30100],
-    records: &mut [u8; 420000],
+    name: &mut [u8; NAME],
+    file: &mut [u8; FILE],
+    table: &mut [u8; TABLE],
+    start: &mut [u8; START],
+    events: &mut [u8; EVENTS],
+    records: &mut [u8; RECORDS],
 ) -> Case {
     Case {
         call: byte(),
@@ -132,6 +155,7 @@ pub fn read(
         other_room: number(),
         refusal: byte(),
         numbers: numbers(),
+        verdict: NO_CASE,
     }
 }
 
@@ -146,8 +170,8 @@ pub fn whole(c: Case) -> bool {
         & (c.start < CUT)
         & (c.events < CUT)
         & (c.records < CUT)
-        & (c.table_room <= 420000)
-        & (c.record_room <= 420000)
-        & (c.other_room <= 420000)
+        & (c.table_room <= TABLE)
+        & (c.record_room <= RECORDS)
+        & (c.other_room <= RECORDS)
         & (numbers[7] < CUT)
 }
