@@ -1,14 +1,14 @@
 -- Condition 8 of an equation section that 6 and 7 let pass.
 use mathlib.Core.Path.{_≡_}
 use mathlib.Core.Bool.{Bool, true, false, not, _||_}
-use mathlib.Core.List.{List, [], map, flatMap}
+use mathlib.Core.List.{List}
 use mathlib.Core.Option.{Option, some}
 use Prim.Native.Nat.{ℕ, _≤_, _<_}
 use lib.ListN.{length, getD}
 use Rattle.semantics.specs.Bytes.{every, Reader}
-use Rattle.semantics.specs.Sections.{Rate, Mode, Equation, equationsIn}
+use Rattle.semantics.specs.Sections.{Equation, equationsIn}
 use Rattle.plant.specs.Sound.{There, Sound}
-use Rattle.semantics.specs.Plant.{equationNamed, among, onceAfter, modeDrives}
+use Rattle.semantics.specs.Plant.{equationNamed, among}
 
 -- what 6 and 7 have shown, where there are at most 32 variables
 pub record Named (s : List ℕ) : Type 0 where
@@ -19,15 +19,6 @@ pub record Named (s : List ℕ) : Type 0 where
   pub named : every (equationNamed variables) equations ≡ true
 
 -- ---- for the parts of the code
-unfoldable pub drivers : List Rate → List ℕ
-drivers rs = map (λ (r : Rate). r .driven) rs
-
-unfoldable pub allDrivers : List Mode → List ℕ
-allDrivers ms = flatMap modeDrives ms
-
-unfoldable pub eachOnce : List Mode → Bool
-eachOnce ms = every (λ m. onceAfter [] (modeDrives m)) ms
-
 -- variables that the array has an entry for
 pub record Small (l : List ℕ) : Type 0 where
   pub below : (v : ℕ) → among v l ≡ true → v < 32
