@@ -12,7 +12,7 @@ use Rattle.semantics.proofs.Facts.{true-not-false}
 use Rattle.semantics.proofs.Readers.{read-value}
 use Rattle.codec.proofs.Known.{Cons}
 use Rattle.plant.specs.Sound.{Sound}
-use Rattle.plant.specs.Driven.{Small, Held, unmarked, Marked, Tried}
+use Rattle.plant.specs.Driven.{Small, Held, unmarked, Marked, Tried, ratesTest, modesTest}
 use Rattle.plant.proofs.Marks.{small-first, small-rest, small-left, small-right, marked-set, Owed, owed-start, owed-set, owed-next, owed-end}
 use Rattle.plant.proofs.Walks.{next-of, all-left, none-left, NextRate, next-rate, ModeAt, mode-at}
 
@@ -48,9 +48,6 @@ pub tried-as : {A : Type 0} (test : A → Bool) (l : A → List ℕ) {x y : A} {
 tried-as test l {a = a} {r = r} {b = b} e t = subst (λ z. Tried (test z) a (l z) r b) e t
 
 -- ---- the rates of a mode
-abbrev pub ratesTest : List Bool → List Rate → Bool
-ratesTest before rs = onceAfter [] (ratesDrive rs) && unmarked before (ratesDrive rs)
-
 pub record RatesGoing (s : List ℕ) (at n : ℕ) (before a seen mine : List Bool) (p i : ℕ) : Type 0 where
   pub all : List Rate
   pub end : List ℕ
@@ -138,9 +135,6 @@ module _ {s : List ℕ} {at n : ℕ} {before a seen mine : List Bool} {p i : ℕ
       }
 
 -- ---- the modes of a CASE
-abbrev pub modesTest : List Bool → List Mode → Bool
-modesTest before ms = every modeOnce ms && unmarked before (flatMap modeDrives ms)
-
 ratesDrive-of : (m : Mode) → modeDrives m ≡ ratesDrive (m .rates)
 unfolding modeDrives ratesDrive
 ratesDrive-of m = refl

@@ -14,10 +14,10 @@ use Rattle.semantics.specs.Plant.{rateNamed, switchNamed, modeNamed, equationNa
 use Rattle.semantics.proofs.Facts.{true-not-false, some-is, and-left, and-right, by-cases, All, all-nil, all-cons, every-all}
 use Rattle.codec.proofs.Reading.{nat2At}
 use Rattle.codec.proofs.Known.{Cons}
-use Rattle.plant.specs.Driven.{Named, Small, Held, Few, unmarked, Marked, Tried}
+use Rattle.plant.specs.Driven.{Named, Small, Held, Few, Marked, Tried, equationTest, ratesTest, modesTest}
 use Rattle.plant.proofs.Marks.{among-append, among-there, small-left, small-right, marked-more, unmarked-apart}
 use Rattle.plant.proofs.Walks.{next-of, all-left, none-left, Shape, is-steady, is-choice, shape-of, not-both, equation-inside, EquationAt, equation-at, lent-is, lent-inside, lent-end, section-at}
-use Rattle.plant.proofs.DrivenOnce.{ratesTest, modesTest, marked-none, tried-as}
+use Rattle.plant.proofs.DrivenOnce.{marked-none, tried-as}
 
 -- ---- one equation
 module _ (s : List ℕ) (f : Few (equationIn s) drives) where
@@ -36,10 +36,6 @@ module _ (s : List ℕ) (f : Few (equationIn s) drives) where
       go : Shape s (f .there .value) → Held (times (getD s 2 0) readMode) (flatMap modeDrives) s (1 + 1 + 1)
       go (is-steady r e q t) = absurd (k e)
       go (is-choice c e q i t) = record { sound = record { value = c .modes; end = []; got = t; inside = i }; small = subst (λ x. Small (drives x)) q (f .small) }
-
--- 8 of one equation, against the variables that are marked
-abbrev pub equationTest : List Bool → Equation → Bool
-equationTest a q = modesOnce q && unmarked a (drives q)
 
 module _ (s : List ℕ) (a : List Bool) {r : Bool} {b : List Bool} where
   pub steady-tried : getD s 0 0 ≡ 1 → ((rs : List Rate) (e : List ℕ) → times 1 readRate (drop 1 s) ≡ read rs e → Tried (ratesTest a rs) a (ratesDrive rs) r b) → (q : Equation) → equationIn s ≡ some q → Tried (equationTest a q) a (drives q) r b
