@@ -29,7 +29,7 @@ use Rattle.schedule_read.specs.FileParts.{noParts, partsIn, partsRead, p
 use Rattle.schedule_read.specs.Indexed.{NodesAt, Indexed, Passes}
 use Rattle.tree_read.specs.Index.{notNodes, nodesOf}
 use Rattle.tree_read.specs.Ends.{noTree, subtreesOf, treeIn}
-use Rattle.schedule_read.specs.ScheduleFile.{numbers, noSchedule, indexAt, scheduleIndex, sectionsIndex, PlantAt, Planted}
+use Rattle.schedule_read.specs.ScheduleFile.{numbers, noSchedule, indexAt, scheduleIndex, sectionsIndex, PlantAt, Planted, NodesJudged}
 use Rattle.schedule_read.specs.declared.call.FileRead.{FileRead}
 use Rattle.schedule_read.specs.declared.call.ScheduleIndex.{ScheduleIndex}
 use Rattle.schedule_read.specs.declared.parts.Parts.{Parts}
@@ -110,30 +110,24 @@ module _ {es s kinds starts ends modes : List ℕ} {count v c : ℕ} where
     names-are : (ns : List Node) → NodesAt s kinds starts ends count ns → (p : Plant) → PlantAt es v c modes p → a ≡ every (nodeNamed (length (p .variables)) (selectors p)) ns
     names-are ns d p e = h (selectors p) (e .modes-at) .of ns d ∙ ap (λ n. every (nodeNamed n (selectors p)) ns) (sym (e .counted))
 
-    pub by-11 : a ≡ false → (ns : List Node) → NodesAt s kinds starts ends count ns → (p : Plant) → PlantAt es v c modes p → 11 ≡ refusalOf (judgeNodes edition1 p ns)
+    pub by-11 : a ≡ false → NodesJudged es s kinds starts ends count v c modes 11
     unfolding judgeNodes ensure _>>_ refusalOf
     by-11 x ns d p e = rw (sym (names-are ns d p e) ∙ x) refl
 
-    module _ (x : a ≡ true) {b : Bool} (k : Passes (nodeReads edition1 v) s kinds starts ends count b) where
-      nodes-read : (ns : List Node) → NodesAt s kinds starts ends count ns → (p : Plant) → PlantAt es v c modes p → b ≡ every (nodeReads edition1 (length (p .variables))) ns
-      nodes-read ns d p e = k .of ns d ∙ ap (λ n. every (nodeReads edition1 n) ns) (sym (e .counted))
+    module _ (x : a ≡ true) {t b : Bool} (l : (qs : List Equation) → equationsIn es ≡ some qs → t ≡ every (equationReads edition1 v) qs) (k : (ns : List Node) → NodesAt s kinds starts ends count ns → (every (nodeReads edition1 v) ns && t) ≡ b) where
+      all-read : (ns : List Node) → NodesAt s kinds starts ends count ns → (p : Plant) → PlantAt es v c modes p → b ≡ (every (nodeReads edition1 (length (p .variables))) ns && switchesRead edition1 p)
+      unfolding switchesRead
+      all-read ns d p e =
+          let z = l (p .equations) (e .equations) in
+          sym (k ns d) ∙ ap (λ q. every (nodeReads edition1 v) ns && q) z ∙ ap (λ n. every (nodeReads edition1 n) ns && every (equationReads edition1 n) (p .equations)) (sym (e .counted))
 
-      pub by-12 : b ≡ false → (ns : List Node) → NodesAt s kinds starts ends count ns → (p : Plant) → PlantAt es v c modes p → 12 ≡ refusalOf (judgeNodes edition1 p ns)
+      pub by-12 : b ≡ false → NodesJudged es s kinds starts ends count v c modes 12
       unfolding judgeNodes ensure _>>_ refusalOf
-      by-12 y ns d p e = rw (sym (names-are ns d p e) ∙ x, sym (nodes-read ns d p e) ∙ y) refl
+      by-12 y ns d p e = rw (sym (names-are ns d p e) ∙ x, sym (all-read ns d p e) ∙ y) refl
 
-      module _ (y : b ≡ true) {t : Bool} (l : (qs : List Equation) → equationsIn es ≡ some qs → t ≡ every (equationReads edition1 v) qs) where
-        switches-read : (p : Plant) → PlantAt es v c modes p → t ≡ switchesRead edition1 p
-        unfolding switchesRead
-        switches-read p e = l (p .equations) (e .equations) ∙ ap (λ n. every (equationReads edition1 n) (p .equations)) (sym (e .counted))
-
-        pub by-switches : t ≡ false → (ns : List Node) → NodesAt s kinds starts ends count ns → (p : Plant) → PlantAt es v c modes p → 12 ≡ refusalOf (judgeNodes edition1 p ns)
-        unfolding judgeNodes ensure _>>_ refusalOf
-        by-switches z ns d p e = rw (sym (names-are ns d p e) ∙ x, sym (nodes-read ns d p e) ∙ y, sym (switches-read p e) ∙ z) refl
-
-        pub nodes-passed : t ≡ true → (ns : List Node) → NodesAt s kinds starts ends count ns → (p : Plant) → PlantAt es v c modes p → 0 ≡ refusalOf (judgeNodes edition1 p ns)
-        unfolding judgeNodes ensure _>>_ refusalOf
-        nodes-passed z ns d p e = rw (sym (names-are ns d p e) ∙ x, sym (nodes-read ns d p e) ∙ y, sym (switches-read p e) ∙ z) refl
+      pub nodes-passed : b ≡ true → NodesJudged es s kinds starts ends count v c modes 0
+      unfolding judgeNodes ensure _>>_ refusalOf
+      nodes-passed y ns d p e = rw (sym (names-are ns d p e) ∙ x, sym (all-read ns d p e) ∙ y) refl
 
 -- ---- 4 to 8
 joined : (q : Parts) {p p′ : PlantRead} {n n′ : Nodes} {t t′ : Subtrees} → p ≡ p′ → n ≡ n′ → t ≡ t′ → _≡_ {A = ScheduleIndex} (record { refusal = 0; parts = q; plant = p; nodes = n; subtrees = t }) (record { refusal = 0; parts = q; plant = p′; nodes = n′; subtrees = t′ })
@@ -210,7 +204,7 @@ module _ (at-parts : Parts) (vs es s : List ℕ) {p : PlantRead} (h : p ≡ plan
               go (some u) e = true-not-false (sym (ap (λ (t : Subtrees). t .ok) (tree-answer ∙ ap subtreesOf e)) ∙ x)
 
           -- ---- 11 and 12
-          module _ (x : t .ok ≡ true) {r : ℕ} (q : (ns : List Node) → NodesAt s (n .kinds) (n .starts) (n .ends) (n .count) ns → (p′ : Plant) → PlantAt es (p .variables) (p .selectors) (p .modes) p′ → r ≡ refusalOf (judgeNodes edition1 p′ ns)) where
+          module _ (x : t .ok ≡ true) {r : ℕ} (q : NodesJudged es s (n .kinds) (n .starts) (n .ends) (n .count) (p .variables) (p .selectors) (p .modes) r) where
             last : r ≡ refusalOf (judgeNodes edition1 plant ns)
             last = q ns at plant plant-at
 

@@ -5,13 +5,15 @@ use mathlib.Core.Option.{some}
 use Prim.Native.Nat.{ℕ, _≤_}
 use lib.ListN.{length}
 use Rattle.semantics.specs.Editions.{edition1}
-use Rattle.semantics.specs.Refusals.{Judged, refused, accepted}
+use Rattle.semantics.specs.Refusals.{Judged, refused, accepted, refusalOf}
 use Rattle.semantics.specs.Sections.{equationsIn}
 use Rattle.semantics.specs.Plant.{Plant, selectors}
-use Rattle.schedules.specs.Files.{Schedule, judgeFile, judgeSections}
+use Rattle.schedules.specs.Nodes.{Node}
+use Rattle.schedules.specs.Files.{Schedule, judgeFile, judgeSections, judgeNodes}
 use Rattle.schedules.specs.Calls.{ScheduleRead}
 use Rattle.plant.specs.ModeCounts.{ModesAt}
 use Rattle.plant.specs.PlantRead.{refusedPlant, plantOf}
+use Rattle.schedule_read.specs.Indexed.{NodesAt}
 use Rattle.schedule_read.specs.FileParts.{noParts, partsOf}
 use Rattle.tree_read.specs.Index.{notNodes, nodesOf}
 use Rattle.tree_read.specs.Ends.{noTree, treeIn}
@@ -59,3 +61,8 @@ pub record Planted (es : List ℕ) (v c : ℕ) (modes : List ℕ) : Type 0 where
   pub plant : Plant
   pub at : PlantAt es v c modes plant
   pub room : c ≤ length modes
+
+-- r is the number of 11 and 12, of whatever nodes and plant the code's arrays stand for
+abbrev pub NodesJudged : List ℕ → List ℕ → List ℕ → List ℕ → List ℕ → ℕ → ℕ → ℕ → List ℕ → ℕ → Type 0
+NodesJudged es s kinds starts ends count v c modes r =
+    (ns : List Node) → NodesAt s kinds starts ends count ns → (p : Plant) → PlantAt es v c modes p → r ≡ refusalOf (judgeNodes edition1 p ns)
