@@ -2,7 +2,6 @@ pub mod EquationParts
 pub mod EquationSizes
 pub mod EquationPlaces
 pub mod EquationIndex
-pub mod Padding
 pub mod EquationCases
 pub mod EquationAnswer
 pub mod EquationLookups
@@ -10,6 +9,7 @@ pub mod EquationLaws
 pub mod Costs
 pub mod Walks
 pub mod Turns
+pub mod VariableAnswer
 pub mod VariableSection
 pub mod VariableLaws
 pub mod Marks
@@ -18,4 +18,5 @@ pub mod EquationsOnce
 pub mod TruthTurns
 pub mod PlantJudged
 pub mod PlantLaws
+pub mod ModeCounts
 pub mod PaperNumbers

@@ -1,6 +1,6 @@
 -- A pass over all nodes by their index, with a test of each.
 use mathlib.Core.Path.{_≡_, refl, sym, ap, _∙_}
-use mathlib.Core.Bool.{Bool, true, false}
+use mathlib.Core.Bool.{Bool, true, false, _&&_, and-false}
 use mathlib.Core.List.{List, [], _∷_}
 use mathlib.Core.Option.{some}
 use Prim.Native.Nat.{ℕ, zero, suc, _+_, _-_, _≤_, _<_}
@@ -61,3 +61,29 @@ module _ {s kinds starts ends : List ℕ} {count : ℕ} where
 
       pub pass-stop : r ≡ false → Passes P s kinds starts ends count false
       pass-stop e = record { of = λ ns d. let y = here ns d in sym (k .of ns d ∙ every-stop P ns i (y .1) (y .2 ∙ e)) }
+
+-- ---- a test of each, and t beside it, told so far by r
+pub record Telling (P : Node → Bool) (s kinds starts ends : List ℕ) (count i : ℕ) (t r : Bool) : Type 0 where
+  pub of : (ns : List Node) → NodesAt s kinds starts ends count ns → (every P ns && t) ≡ (every P (drop i ns) && r)
+
+module _ {s kinds starts ends : List ℕ} {count : ℕ} (P : Node → Bool) {t : Bool} where
+  pub tell-start : Telling P s kinds starts ends count 0 t t
+  tell-start = record { of = λ ns d. refl }
+
+  pub tell-end : {i : ℕ} {r : Bool} → count ≤ i → Telling P s kinds starts ends count i t r → (ns : List Node) → NodesAt s kinds starts ends count ns → (every P ns && t) ≡ r
+  tell-end {i} {r} h k ns d = k .of ns d ∙ ap (λ b. b && r) (every-end P ns i (omega (arith, d .counted)))
+
+  pub tell-next : {i : ℕ} {r x q : Bool} → i < count → Telling P s kinds starts ends count i t r → Tells P (getD kinds i 0) (take (getD ends i 0 - getD starts i 0) (drop (getD starts i 0) s)) x → q ≡ (r && x) →
+      Telling P s kinds starts ends count (i + 1) t q
+  tell-next {i} {r} {x} {q} h k u e = record { of = λ ns d. k .of ns d ∙ (let y = node-at ns d in step (every P (drop i ns)) (every P (drop (i + 1) ns)) x r (λ z. rw add-one (every-next P ns i (y .1) (y .2 ∙ z))) (λ z. every-stop P ns i (y .1) (y .2 ∙ z))) ∙ ap (λ b. every P (drop (i + 1) ns) && b) (sym e) }
+    where
+      node-at : (ns : List Node) → NodesAt s kinds starts ends count ns → (y : Node) × (getElem? ns i ≡ some y) × (P y ≡ x)
+      node-at ns d =
+          let y = at-exists ns i (omega (arith, d .counted)) in
+          (y .0, y .1, sym (u .of (y .0) (d .entries i h .node ∙ y .1)))
+
+      step : (a b x r : Bool) → (x ≡ true → a ≡ b) → (x ≡ false → a ≡ false) → (a && r) ≡ (b && (r && x))
+      step a b true true f g = ap (λ z. z && true) (f refl)
+      step a b true false f g = ap (λ z. z && false) (f refl)
+      step a b false true f g = ap (λ z. z && true) (g refl) ∙ sym (and-false b)
+      step a b false false f g = ap (λ z. z && false) (g refl) ∙ sym (and-false b)

@@ -1,7 +1,7 @@
 -- A schedule file judged in order: what the answers about its parts make of the whole.
 use mathlib.Core.Path.{_≡_, refl, sym, ap, subst, _∙_}
 use mathlib.Core.Bool.{Bool, true, false, _&&_}
-use mathlib.Core.List.{List, map}
+use mathlib.Core.List.{List}
 use mathlib.Core.Option.{Option, none, some}
 use Prim.Native.Nat.{ℕ, _-_, _≤_}
 use native.Mathlib.Omega.{arith}
@@ -16,27 +16,26 @@ use Rattle.semantics.proofs.Judging.{refused-not-accepted, refused-is, go-then,
 use Rattle.schedules.specs.FileSections.{FileSections, fileSectionsIn}
 use Rattle.schedules.specs.Nodes.{Node, nodesIn, nodeNamed, nodeReads}
 use Rattle.schedules.specs.Trees.{Tree, treeOf}
-use Rattle.schedules.specs.Files.{Schedule, fileHeader, fileLength, judgeFile}
+use Rattle.schedules.specs.Files.{Schedule, fileHeader, fileLength, judgeFile, judgeSections, judgeNodes}
 use Rattle.schedules.specs.Calls.{scheduleCounts, readSchedule}
 use Rattle.schedules.proofs.FirstNumber as FirstNumber
-use Rattle.plant.specs.Equations.{pad, modeCount}
+use Rattle.plant.specs.ModeCounts.{ModesAt}
 use Rattle.plant.specs.Sound.{There}
 use Rattle.plant.specs.PlantRead.{refusedPlant, acceptedPlant, plantAnswer, plantOf}
 use Rattle.plant.specs.declared.sections.PlantRead.{PlantRead}
-use Rattle.plant.proofs.EquationLaws.{few-selectors}
-use Rattle.plant.proofs.PlantLaws.{passed-all, passes, variables-of, variables-high, selectors-of, modes-of}
+use Rattle.plant.proofs.ModeCounts.{modes-held, modes-full, modes-room}
+use Rattle.plant.proofs.PlantLaws.{passed-all, passes, variables-of, variables-high, selectors-of}
 use Rattle.schedule_read.specs.FileParts.{noParts, partsIn, partsRead, partsOf, sectionsAt}
-use Rattle.schedule_read.specs.Indexed.{NodesAt, Indexed, ModesAt, Selected, Passes}
+use Rattle.schedule_read.specs.Indexed.{NodesAt, Indexed, Passes}
 use Rattle.tree_read.specs.Index.{notNodes, nodesOf}
 use Rattle.tree_read.specs.Ends.{noTree, subtreesOf, treeIn}
-use Rattle.schedule_read.specs.ScheduleFile.{numbers, noSchedule, indexAt, scheduleIndex, judgeSections, sectionsIndex, judgeNodes, PlantAt, Planted}
+use Rattle.schedule_read.specs.ScheduleFile.{numbers, noSchedule, indexAt, scheduleIndex, sectionsIndex, PlantAt, Planted, NodesJudged}
 use Rattle.schedule_read.specs.declared.call.FileRead.{FileRead}
 use Rattle.schedule_read.specs.declared.call.ScheduleIndex.{ScheduleIndex}
 use Rattle.schedule_read.specs.declared.parts.Parts.{Parts}
 use Rattle.tree_read.specs.declared.nodes.Nodes.{Nodes}
 use Rattle.tree_read.specs.declared.tree.Subtrees.{Subtrees}
 use Rattle.schedule_read.proofs.PartsStand.{Opened, Accepted, refused-1, refused-2, refused-3, accepted-parts}
-use Rattle.schedule_read.proofs.ModeCounts.{padded}
 use Rattle.tree_read.proofs.NodeIndex.{nodes-accepted, nodes-refused, indexed}
 use Rattle.schedule_read.proofs.FoundNodes.{found-nodes}
 use Rattle.tree_read.proofs.WholeTree.{of-nodes}
@@ -49,8 +48,8 @@ pub nothing-else : (r : ℕ) {q : Parts} {p : PlantRead} {n : Nodes} {t : Subtre
 nothing-else r e f g h = cc
 
 -- ---- 1 to 3
-after-3 : (f : List ℕ) {parts : FileSections} → Opened f → fileSectionsIn (drop 3 f) ≡ some parts → judgeFile edition1 f ≡ judgeSections parts
-unfolding judgeFile judgeSections
+after-3 : (f : List ℕ) {parts : FileSections} → Opened f → fileSectionsIn (drop 3 f) ≡ some parts → judgeFile edition1 f ≡ judgeSections edition1 parts
+unfolding judgeFile
 after-3 f o e = go-ensure 1 _ (o .header) ∙ go-ensure 2 _ (o .length-field) ∙ go-need 3 _ e
 
 module _ (f : List ℕ) {p : Parts} (h : p ≡ partsOf f) where
@@ -83,15 +82,6 @@ module _ (f : List ℕ) {p : Parts} (h : p ≡ partsOf f) where
   by-sections z = let a = parts-stand z in ap (indexAt p) (sym (after-3 f (a .opened) (a .are))) ∙ ap (λ q. indexAt q (judgeFile edition1 f)) h
 
 -- ---- 11 and 12
-both : (p : Plant) (ns : List Node) (x : Schedule) →
-    (ensure 11 (every (nodeNamed (length (p .variables)) (selectors p)) ns) >> (ensure 12 (every (nodeReads edition1 (length (p .variables))) ns && switchesRead edition1 p) >> accepted x)) ≡ (judgeNodes p ns >> accepted x)
-unfolding judgeNodes ensure _>>_
-both p ns x = go (every (nodeNamed (length (p .variables)) (selectors p)) ns) (every (nodeReads edition1 (length (p .variables))) ns && switchesRead edition1 p)
-  where
-    go : (a b : Bool) → (ensure 11 a >> (ensure 12 b >> accepted x)) ≡ ((ensure 11 a >> ensure 12 b) >> accepted x)
-    go true b = refl
-    go false b = refl
-
 then-refused : {j : Judged (Unit {0})} {n : ℕ} (k : Judged Schedule) → j ≡ refused n → (j >> k) ≡ refused n
 unfolding _>>_
 then-refused k e = rw e refl
@@ -101,7 +91,7 @@ unfolding _>>_
 then-accepted k e = rw e refl
 
 -- neither refuses with 0
-some-number : (p : Plant) (ns : List Node) {m : ℕ} → judgeNodes p ns ≡ refused m → 1 ≤ m
+some-number : (p : Plant) (ns : List Node) {m : ℕ} → judgeNodes edition1 p ns ≡ refused m → 1 ≤ m
 unfolding judgeNodes ensure _>>_
 some-number p ns h = go (every (nodeNamed (length (p .variables)) (selectors p)) ns) (every (nodeReads edition1 (length (p .variables))) ns && switchesRead edition1 p) h
   where
@@ -112,9 +102,6 @@ some-number p ns h = go (every (nodeNamed (length (p .variables)) (selectors p))
 
 -- by the answers about the nodes' names, their truths and numbers, and the switches' truths
 module _ {es modes : List ℕ} {v c : ℕ} where
-  pub selected : Planted es v c modes → Selected modes c
-  selected d = record { all = selectors (d .plant); at = d .at .modes-at }
-
   pub equations-there : Planted es v c modes → There (equationsIn es)
   equations-there d = record { value = d .plant .equations; is = d .at .equations }
 
@@ -123,35 +110,26 @@ module _ {es s kinds starts ends modes : List ℕ} {count v c : ℕ} where
     names-are : (ns : List Node) → NodesAt s kinds starts ends count ns → (p : Plant) → PlantAt es v c modes p → a ≡ every (nodeNamed (length (p .variables)) (selectors p)) ns
     names-are ns d p e = h (selectors p) (e .modes-at) .of ns d ∙ ap (λ n. every (nodeNamed n (selectors p)) ns) (sym (e .counted))
 
-    pub by-11 : a ≡ false → (ns : List Node) → NodesAt s kinds starts ends count ns → (p : Plant) → PlantAt es v c modes p → 11 ≡ refusalOf (judgeNodes p ns)
+    pub by-11 : a ≡ false → NodesJudged es s kinds starts ends count v c modes 11
     unfolding judgeNodes ensure _>>_ refusalOf
     by-11 x ns d p e = rw (sym (names-are ns d p e) ∙ x) refl
 
-    module _ (x : a ≡ true) {b : Bool} (k : Passes (nodeReads edition1 v) s kinds starts ends count b) where
-      nodes-read : (ns : List Node) → NodesAt s kinds starts ends count ns → (p : Plant) → PlantAt es v c modes p → b ≡ every (nodeReads edition1 (length (p .variables))) ns
-      nodes-read ns d p e = k .of ns d ∙ ap (λ n. every (nodeReads edition1 n) ns) (sym (e .counted))
+    module _ (x : a ≡ true) {t b : Bool} (l : (qs : List Equation) → equationsIn es ≡ some qs → t ≡ every (equationReads edition1 v) qs) (k : (ns : List Node) → NodesAt s kinds starts ends count ns → (every (nodeReads edition1 v) ns && t) ≡ b) where
+      all-read : (ns : List Node) → NodesAt s kinds starts ends count ns → (p : Plant) → PlantAt es v c modes p → b ≡ (every (nodeReads edition1 (length (p .variables))) ns && switchesRead edition1 p)
+      unfolding switchesRead
+      all-read ns d p e =
+          let z = l (p .equations) (e .equations) in
+          sym (k ns d) ∙ ap (λ q. every (nodeReads edition1 v) ns && q) z ∙ ap (λ n. every (nodeReads edition1 n) ns && every (equationReads edition1 n) (p .equations)) (sym (e .counted))
 
-      pub by-12 : b ≡ false → (ns : List Node) → NodesAt s kinds starts ends count ns → (p : Plant) → PlantAt es v c modes p → 12 ≡ refusalOf (judgeNodes p ns)
+      pub by-12 : b ≡ false → NodesJudged es s kinds starts ends count v c modes 12
       unfolding judgeNodes ensure _>>_ refusalOf
-      by-12 y ns d p e = rw (sym (names-are ns d p e) ∙ x, sym (nodes-read ns d p e) ∙ y) refl
+      by-12 y ns d p e = rw (sym (names-are ns d p e) ∙ x, sym (all-read ns d p e) ∙ y) refl
 
-      module _ (y : b ≡ true) {t : Bool} (l : (qs : List Equation) → equationsIn es ≡ some qs → t ≡ every (equationReads edition1 v) qs) where
-        switches-read : (p : Plant) → PlantAt es v c modes p → t ≡ switchesRead edition1 p
-        unfolding switchesRead
-        switches-read p e = l (p .equations) (e .equations) ∙ ap (λ n. every (equationReads edition1 n) (p .equations)) (sym (e .counted))
-
-        pub by-switches : t ≡ false → (ns : List Node) → NodesAt s kinds starts ends count ns → (p : Plant) → PlantAt es v c modes p → 12 ≡ refusalOf (judgeNodes p ns)
-        unfolding judgeNodes ensure _>>_ refusalOf
-        by-switches z ns d p e = rw (sym (names-are ns d p e) ∙ x, sym (nodes-read ns d p e) ∙ y, sym (switches-read p e) ∙ z) refl
-
-        pub nodes-passed : t ≡ true → (ns : List Node) → NodesAt s kinds starts ends count ns → (p : Plant) → PlantAt es v c modes p → 0 ≡ refusalOf (judgeNodes p ns)
-        unfolding judgeNodes ensure _>>_ refusalOf
-        nodes-passed z ns d p e = rw (sym (names-are ns d p e) ∙ x, sym (nodes-read ns d p e) ∙ y, sym (switches-read p e) ∙ z) refl
+      pub nodes-passed : b ≡ true → NodesJudged es s kinds starts ends count v c modes 0
+      unfolding judgeNodes ensure _>>_ refusalOf
+      nodes-passed y ns d p e = rw (sym (names-are ns d p e) ∙ x, sym (all-read ns d p e) ∙ y) refl
 
 -- ---- 4 to 8
-counts-at : {modes ms : List ℕ} {c d : ℕ} {cs : List Selector} → modes ≡ ms → c ≡ d → ModesAt ms d cs → ModesAt modes c cs
-counts-at e f a = rw (e, f) a
-
 joined : (q : Parts) {p p′ : PlantRead} {n n′ : Nodes} {t t′ : Subtrees} → p ≡ p′ → n ≡ n′ → t ≡ t′ → _≡_ {A = ScheduleIndex} (record { refusal = 0; parts = q; plant = p; nodes = n; subtrees = t }) (record { refusal = 0; parts = q; plant = p′; nodes = n′; subtrees = t′ })
 joined q e f g = cc
 
@@ -178,23 +156,19 @@ module _ (at-parts : Parts) (vs es s : List ℕ) {p : PlantRead} (h : p ≡ plan
     variables-are : p .variables ≡ length (plant .variables)
     variables-are = ap (λ (p : PlantRead). p .variables) h ∙ variables-of vs es plant-is
 
-    selectors-are : p .selectors ≡ length (selectors plant)
-    selectors-are = ap (λ (p : PlantRead). p .selectors) h ∙ selectors-of vs es plant-is
-
-    modes-are : p .modes ≡ pad 16 0 (map modeCount (selectors plant))
-    modes-are = ap (λ (p : PlantRead). p .modes) h ∙ modes-of vs es plant-is
-
     plant-at : PlantAt es (p .variables) (p .selectors) (p .modes) plant
-    unfolding pad modeCount selectors
     plant-at = record {
       equations = passed-all vs es plant-is .equations;
       counted = sym variables-are;
       few = omega (arith, variables-are, variables-high vs es plant-is);
-      modes-at = counts-at modes-are selectors-are (padded modeCount (λ c. refl) (selectors plant) (few-selectors es (passed-all vs es plant-is .equations)));
+      modes-at = subst (λ (p : PlantRead). ModesAt (p .modes) (p .selectors) (selectors plant)) (sym h) (modes-held vs es plant-is);
     }
 
+    pub counts-full : length (p .modes) ≡ 16
+    counts-full = ap (λ (p : PlantRead). length (p .modes)) h ∙ modes-full vs es plant-is
+
     pub planted : Planted es (p .variables) (p .selectors) (p .modes)
-    planted = record { plant = plant; at = plant-at }
+    planted = record { plant = plant; at = plant-at; room = subst (λ (p : PlantRead). p .selectors ≤ length (p .modes)) (sym h) (modes-room vs es plant-is) }
 
     -- ---- 9
     module _ {n : Nodes} (k : n ≡ nodesOf s) where
@@ -230,31 +204,31 @@ module _ (at-parts : Parts) (vs es s : List ℕ) {p : PlantRead} (h : p ≡ plan
               go (some u) e = true-not-false (sym (ap (λ (t : Subtrees). t .ok) (tree-answer ∙ ap subtreesOf e)) ∙ x)
 
           -- ---- 11 and 12
-          module _ (x : t .ok ≡ true) {r : ℕ} (q : (ns : List Node) → NodesAt s (n .kinds) (n .starts) (n .ends) (n .count) ns → (p′ : Plant) → PlantAt es (p .variables) (p .selectors) (p .modes) p′ → r ≡ refusalOf (judgeNodes p′ ns)) where
-            last : r ≡ refusalOf (judgeNodes plant ns)
+          module _ (x : t .ok ≡ true) {r : ℕ} (q : NodesJudged es s (n .kinds) (n .starts) (n .ends) (n .count) (p .variables) (p .selectors) (p .modes) r) where
+            last : r ≡ refusalOf (judgeNodes edition1 plant ns)
             last = q ns at plant plant-at
 
-            after-10 : (u : Tree) × (judgeSections sections ≡ (judgeNodes plant ns >> accepted (record { sections = sections; plant = plant; nodes = ns; root = u })))
+            after-10 : (u : Tree) × (judgeSections edition1 sections ≡ (judgeNodes edition1 plant ns >> accepted (record { sections = sections; plant = plant; nodes = ns; root = u })))
             unfolding judgeSections subtreesOf sections
             after-10 = go (treeOf ns) refl
               where
-                go : (o : Option Tree) → treeOf ns ≡ o → (u : Tree) × (judgeSections sections ≡ (judgeNodes plant ns >> accepted (record { sections = sections; plant = plant; nodes = ns; root = u })))
+                go : (o : Option Tree) → treeOf ns ≡ o → (u : Tree) × (judgeSections edition1 sections ≡ (judgeNodes edition1 plant ns >> accepted (record { sections = sections; plant = plant; nodes = ns; root = u })))
                 go none e = true-not-false (sym x ∙ ap (λ (t : Subtrees). t .ok) (tree-answer ∙ ap subtreesOf e))
-                go (some u) e = (u, go-then _ plant-is ∙ go-need 9 _ nodes-are ∙ go-need 10 _ e ∙ both plant ns _)
+                go (some u) e = (u, go-then _ plant-is ∙ go-need 9 _ nodes-are ∙ go-need 10 _ e)
 
             pub by-last : (r ≡ 0 → ⊥) → noSchedule r ≡ sectionsIndex at-parts vs es s
             unfolding sectionsIndex sections refusalOf
-            by-last v = go (judgeNodes plant ns) refl
+            by-last v = go (judgeNodes edition1 plant ns) refl
               where
-                go : (j : Judged (Unit {0})) → judgeNodes plant ns ≡ j → noSchedule r ≡ sectionsIndex at-parts vs es s
+                go : (j : Judged (Unit {0})) → judgeNodes edition1 plant ns ≡ j → noSchedule r ≡ sectionsIndex at-parts vs es s
                 go (refused m) e = ap noSchedule (last ∙ ap refusalOf e) ∙ answer-refused at-parts (after-10 .1 ∙ then-refused _ e)
                 go (accepted m) e = absurd (v (last ∙ ap refusalOf e))
 
             pub all-passed : r ≡ 0 → record { refusal = 0; parts = at-parts; plant = p; nodes = n; subtrees = t } ≡ sectionsIndex at-parts vs es s
             unfolding sectionsIndex sections refusalOf indexAt
-            all-passed v = go (judgeNodes plant ns) refl
+            all-passed v = go (judgeNodes edition1 plant ns) refl
               where
-                go : (j : Judged (Unit {0})) → judgeNodes plant ns ≡ j → record { refusal = 0; parts = at-parts; plant = p; nodes = n; subtrees = t } ≡ sectionsIndex at-parts vs es s
+                go : (j : Judged (Unit {0})) → judgeNodes edition1 plant ns ≡ j → record { refusal = 0; parts = at-parts; plant = p; nodes = n; subtrees = t } ≡ sectionsIndex at-parts vs es s
                 go (refused m) e = let i : r ≡ m = last ∙ ap refusalOf e in absurd (omega (arith, some-number plant ns e))
                 go (accepted m) e = joined at-parts h k w ∙ sym (ap (indexAt at-parts) (after-10 .1 ∙ then-accepted _ e))
 

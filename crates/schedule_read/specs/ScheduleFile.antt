@@ -1,25 +1,22 @@
 -- The call "reading a schedule" (1 to 12), as the code answers it and in the parts that the code has.
 use mathlib.Core.Path.{_≡_}
-use mathlib.Core.Bool.{_&&_}
 use mathlib.Core.List.{List}
 use mathlib.Core.Option.{some}
 use Prim.Native.Nat.{ℕ, _≤_}
 use lib.ListN.{length}
-use Rattle.semantics.specs.Bytes.{every}
 use Rattle.semantics.specs.Editions.{edition1}
-use Rattle.semantics.specs.Refusals.{Judged, refused, accepted, _>>=_, _>>_, ensure, need}
+use Rattle.semantics.specs.Refusals.{Judged, refused, accepted, refusalOf}
 use Rattle.semantics.specs.Sections.{equationsIn}
-use Rattle.semantics.specs.Plant.{Plant, judgePlant, switchesRead, selectors}
-use Rattle.schedules.specs.FileSections.{FileSections}
-use Rattle.schedules.specs.Nodes.{Node, nodesIn, nodeNamed, nodeReads}
-use Rattle.schedules.specs.Trees.{treeOf}
-use Rattle.schedules.specs.Files.{Schedule, judgeFile}
+use Rattle.semantics.specs.Plant.{Plant, selectors}
+use Rattle.schedules.specs.Nodes.{Node}
+use Rattle.schedules.specs.Files.{Schedule, judgeFile, judgeSections, judgeNodes}
 use Rattle.schedules.specs.Calls.{ScheduleRead}
+use Rattle.plant.specs.ModeCounts.{ModesAt}
 use Rattle.plant.specs.PlantRead.{refusedPlant, plantOf}
+use Rattle.schedule_read.specs.Indexed.{NodesAt}
 use Rattle.schedule_read.specs.FileParts.{noParts, partsOf}
 use Rattle.tree_read.specs.Index.{notNodes, nodesOf}
 use Rattle.tree_read.specs.Ends.{noTree, treeIn}
-use Rattle.schedule_read.specs.Indexed.{ModesAt}
 use Rattle.schedule_read.specs.declared.call.FileRead.{FileRead}
 use Rattle.schedule_read.specs.declared.call.ScheduleIndex.{ScheduleIndex}
 use Rattle.schedule_read.specs.declared.parts.Parts.{Parts}
@@ -48,24 +45,9 @@ unfoldable pub scheduleIndex : List ℕ → ScheduleIndex
 scheduleIndex f = indexAt (partsOf f) (judgeFile edition1 f)
 
 -- ---- for the code's own contracts
--- 4 to 12, as judgeFile has them after 3
-unfoldable pub judgeSections : FileSections → Judged Schedule
-judgeSections parts = do
-  p ← judgePlant edition1 (parts .variables) (parts .equations)
-  ns ← need 9 (nodesIn edition1 (parts .schedule))
-  t ← need 10 (treeOf ns)
-  ensure 11 (every (nodeNamed (length (p .variables)) (selectors p)) ns)
-  ensure 12 (every (nodeReads edition1 (length (p .variables))) ns && switchesRead edition1 p)
-  accepted (record { sections = parts; plant = p; nodes = ns; root = t })
-
+-- 4 to 12, of the sections that stand there
 unfoldable pub sectionsIndex : Parts → List ℕ → List ℕ → List ℕ → ScheduleIndex
-sectionsIndex p vs es s = indexAt p (judgeSections (record { variables = vs; equations = es; schedule = s }))
-
--- 11 and 12
-unfoldable pub judgeNodes : Plant → List Node → Judged (Unit {0})
-judgeNodes p ns = do
-  ensure 11 (every (nodeNamed (length (p .variables)) (selectors p)) ns)
-  ensure 12 (every (nodeReads edition1 (length (p .variables))) ns && switchesRead edition1 p)
+sectionsIndex p vs es s = indexAt p (judgeSections edition1 (record { variables = vs; equations = es; schedule = s }))
 
 -- p is a plant of v variables and c selectors with these equations and mode counts
 pub record PlantAt (es : List ℕ) (v c : ℕ) (modes : List ℕ) (p : Plant) : Type 0 where
@@ -78,3 +60,9 @@ pub record PlantAt (es : List ℕ) (v c : ℕ) (modes : List ℕ) (p : Plant) : 
 pub record Planted (es : List ℕ) (v c : ℕ) (modes : List ℕ) : Type 0 where
   pub plant : Plant
   pub at : PlantAt es v c modes plant
+  pub room : c ≤ length modes
+
+-- r is the number of 11 and 12, of whatever nodes and plant the code's arrays stand for
+abbrev pub NodesJudged : List ℕ → List ℕ → List ℕ → List ℕ → List ℕ → ℕ → ℕ → ℕ → List ℕ → ℕ → Type 0
+NodesJudged es s kinds starts ends count v c modes r =
+    (ns : List Node) → NodesAt s kinds starts ends count ns → (p : Plant) → PlantAt es v c modes p → r ≡ refusalOf (judgeNodes edition1 p ns)

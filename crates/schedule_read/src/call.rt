@@ -4,15 +4,16 @@ ghost use mathlib.Core.List.{List};
 ghost use Rattle.semantics.specs.Editions.{edition1};
 ghost use Rattle.semantics.specs.Refusals.{refusalOf};
 ghost use Rattle.semantics.specs.Plant.{Plant};
-ghost use Rattle.plant.specs.PlantRead.{refusedPlant};
 ghost use Rattle.schedules.specs.Nodes.{Node};
+ghost use Rattle.schedules.specs.Files.{judgeNodes};
 ghost use Rattle.schedules.specs.Calls.{readSchedule};
-ghost use Rattle.schedule_read.specs.Indexed.{NodesAt, Indexed};
-ghost use Rattle.schedule_read.specs.ScheduleFile.{numbers, noSchedule, sectionsIndex, scheduleIndex, judgeNodes, PlantAt, Planted};
+ghost use Rattle.schedule_read.specs.Indexed.{Indexed};
+ghost use Rattle.schedule_read.specs.ScheduleFile.{numbers, noSchedule, sectionsIndex, scheduleIndex, Planted, NodesJudged};
 use super::names;
 use super::operands;
 use super::parts;
 use super::parts::Parts;
+use plant::equations::both;
 use plant::sections::PlantRead;
 use tree_read::nodes;
 use tree_read::nodes::Nodes;
@@ -37,26 +38,11 @@ pub struct ScheduleIndex {
     pub subtrees: Subtrees,
 }
 
-fn no_plant() -> PlantRead
-    ensures { λ r. ⌜ r ≡ refusedPlant 0 ⌝ }
-{
-    PlantRead {
-        refusal: 0,
-        variables: 0,
-        lows: [0; 32],
-        highs: [0; 32],
-        selectors: 0,
-        modes: [0; 16],
-        mode_offsets: [0; 128],
-        steady: [0; 32],
-    }
-}
-
 fn refused(n: u8) -> ScheduleIndex
     ensures { λ r. ⌜ r ≡ noSchedule n ⌝ }
 {
     let parts = parts::refused(n);
-    let plant = no_plant();
+    let plant = plant::sections::refused(0);
     let nodes = nodes::refused();
     let subtrees = tree::no_tree();
     ScheduleIndex {
@@ -68,7 +54,7 @@ fn refused(n: u8) -> ScheduleIndex
     }
 }
 
-// 11 and 12, or 0: kinds, starts and ends are the nodes' index in s, modes has the mode counts of the equations es
+// 11 and 12, or 0, in one pass: 11 of any node comes before 12; kinds, starts and ends are the nodes' index in s, modes has the mode counts of the equations es
 fn checked(
     es: &[u8],
     s: &[u8],
@@ -81,18 +67,21 @@ fn checked(
     modes: &[usize],
 ) -> u8
     requires { ⌜ Indexed (now s) (now kinds) (now starts) (now ends) count × Planted (now es) variables selectors (now modes) ⌝ }
-    ensures { λ r. ⌜ ((ns : List Node) → NodesAt (now (s .entry)) (now (kinds .entry)) (now (starts .entry)) (now (ends .entry)) count ns → (p : Plant) → PlantAt (now (es .entry)) variables selectors (now (modes .entry)) p → r ≡ refusalOf (judgeNodes p ns)) ⌝ }
+    ensures { λ r. ⌜ NodesJudged (now (es .entry)) (now (s .entry)) (now (kinds .entry)) (now (starts .entry)) (now (ends .entry)) count variables selectors (now (modes .entry)) r ⌝ }
 {
-    if !names::named(s, kinds, starts, ends, count, variables, selectors, modes) {
-        return 11;
+    let mut read = plant::truths::read(es, variables);
+    let mut i = 0;
+    while i < count {
+        let k = kinds[i];
+        let b = starts[i];
+        let e = ends[i];
+        if !names::one(k, &s[b..e], variables, selectors, modes) {
+            return 11;
+        }
+        read = both(read, operands::one(k, &s[b..e], variables));
+        i += 1;
     }
-    if !operands::read(s, kinds, starts, ends, count, variables) {
-        return 12;
-    }
-    if !plant::truths::read(es, variables) {
-        return 12;
-    }
-    0
+    if read { 0 } else { 12 }
 }
 
 // 4 to 12, of the three sections that stand at these places

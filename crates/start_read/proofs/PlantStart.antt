@@ -10,7 +10,7 @@ use Rattle.semantics.specs.Sections.{Variable}
 use Rattle.semantics.specs.Plant.{Plant, selectors, judgePlant}
 use Rattle.plant.specs.Equations.{modeCount}
 use Rattle.plant.specs.PlantRead.{plantOf}
-use Rattle.plant.proofs.Padding.{pad-long}
+use Rattle.codec.proofs.Padding.{pad-long}
 use Rattle.plant.proofs.VariableLaws.{column-long}
 use Rattle.plant.proofs.EquationLaws.{few-selectors, mode-count-at}
 use Rattle.plant.proofs.PlantLaws.{passed-all, variables-of, variables-high, lows-of, highs-of, low-at, high-at, selectors-of, modes-of}

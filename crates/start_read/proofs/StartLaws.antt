@@ -8,7 +8,6 @@ use native.Mathlib.Nat.{add-zero, zero-add}
 use native.Mathlib.Omega.{arith}
 use lib.IntN.{ℤ, pos}
 use lib.ListN.{length, getD, getElem?, take, replicate, length-replicate}
-use lib.Seq.{take-append-seam}
 use Rattle.semantics.specs.Bytes.{byte, int4, times}
 use Rattle.semantics.specs.Conditions.{given}
 use Rattle.semantics.specs.Sections.{Variable, Selector, choice}
@@ -16,8 +15,8 @@ use Rattle.semantics.specs.Plant.{Plant, selectorsOf, selectors, noMode}
 use Rattle.semantics.specs.Starts.{Start, readStart, startIn, startFits}
 use Rattle.semantics.proofs.Facts.{true-not-false, none-not-some, some-is}
 use Rattle.semantics.proofs.Readers.{whole-read, split, given as given-value}
+use Rattle.codec.proofs.Padding.{take-pad}
 use Rattle.codec.proofs.Known.{times-length}
-use Rattle.plant.specs.Variables.{pad}
 use Rattle.start_read.specs.StartRead.{noStart, startOf, startRead, Arrays, entries}
 use Rattle.start_read.proofs.StartLoop.{entries-length}
 use Rattle.start_read.proofs.StartBytes.{not-there, not-fit, fit}
@@ -66,10 +65,6 @@ start-counted p s h =
       modes = ap (λ (st : Start). length (st .modes)) (sym e) ∙ times-length byte (length (selectors p)) (v .rest) (m .first);
     }
 
-take-pad : {A : Type 0} (n w : ℕ) (d : A) (l : List A) → length l ≡ n → take n (pad w d l) ≡ l
-unfolding pad
-take-pad n w d l e = rw (← e) (take-append-seam l _)
-
 -- the start that the arrays hold
 abbrev pub startIs : Plant → List ℕ → Start
 startIs p s = record { values = take (length (p .variables)) (startRead p s .values); modes = take (length (selectors p)) (startRead p s .modes) }
@@ -85,8 +80,8 @@ started-of p s h = go (cases p s)
     at : {st : Start} → startIn p s ≡ some st → startRead p s ≡ startOf st → startIs p s ≡ st
     at {st} e a =
         let c = start-counted p s e in
-        let v = ap (λ r. take (length (p .variables)) (r .values)) a ∙ take-pad (length (p .variables)) 32 (pos 0) (st .values) (c .values) in
-        let m = ap (λ r. take (length (selectors p)) (r .modes)) a ∙ take-pad (length (selectors p)) 16 0 (st .modes) (c .modes) in
+        let v = ap (λ r. take (length (p .variables)) (r .values)) a ∙ take-pad 32 (pos 0) (st .values) (length (p .variables)) (c .values) in
+        let m = ap (λ r. take (length (selectors p)) (r .modes)) a ∙ take-pad 16 0 (st .modes) (length (selectors p)) (c .modes) in
         λ i. record { values = v i; modes = m i }
 
     go : Cases p s → Started p s

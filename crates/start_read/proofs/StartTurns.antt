@@ -12,7 +12,7 @@ use mir.ValLaws.{toZ-ofZ}
 use Rattle.semantics.specs.Expressions.{ranged}
 use Rattle.semantics.specs.Starts.{isOk, modesFit}
 use Rattle.semantics.proofs.Facts.{true-not-false}
-use Rattle.plant.specs.Variables.{pad}
+use Rattle.codec.specs.Padding.{pad}
 use Rattle.start_read.specs.StartRead.{Ranges, Counts, valueAt, modeAt, ValuesOf, ModesOf}
 use Rattle.start_read.proofs.StartLoop.{Going, going-start, going-next, stopped, ended, filled-all}
 use Rattle.start_read.proofs.StartBytes.{held, valuesFit, valueFits, modeFits, values-step, values-none, modes-step, modes-none, value-at, mode-at}

@@ -7,7 +7,7 @@ use lib.Dec.{eqb, leb}
 use Rattle.semantics.specs.Editions.{edition1}
 use Rattle.semantics.specs.Plant.{Plant}
 use Rattle.semantics.specs.Calls.{recordSize}
-use Rattle.plant.specs.Variables.{pad}
+use Rattle.codec.specs.Padding.{pad}
 use Rattle.start_read.specs.StartRead.{startRead}
 use Rattle.start_read.specs.declared.StartRead.{StartRead}
 use Rattle.start_read.specs.declared.admission.Admitted.{Admitted}

@@ -1,16 +1,16 @@
 -- Condition 20: the values and modes that a run starts from, as the code answers them.
 use mathlib.Core.Path.{_≡_}
 use mathlib.Core.Bool.{true, false, cond}
-use mathlib.Core.List.{List, [], _∷_, _++_}
+use mathlib.Core.List.{List, [], _∷_}
 use mathlib.Core.Option.{none, some}
-use Prim.Native.Nat.{ℕ, zero, suc, _+_, _-_, _*_, _≤_}
-use lib.ListN.{length, getD, getElem?, replicate}
+use Prim.Native.Nat.{ℕ, zero, suc, _+_, _*_, _≤_}
+use lib.ListN.{length, getD, getElem?}
 use lib.IntN.{ℤ, pos}
 use Rattle.semantics.specs.Bytes.{be4, signed}
 use Rattle.semantics.specs.Sections.{Variable, Selector}
 use Rattle.semantics.specs.Plant.{Plant, selectors, allDeclared}
 use Rattle.semantics.specs.Starts.{Start, startIn, isOk, modesFit, startFits}
-use Rattle.plant.specs.Variables.{pad}
+use Rattle.codec.specs.Padding.{pad}
 use Rattle.start_read.specs.declared.StartRead.{StartRead}
 use Rattle.start_read.specs.declared.Values.{Values}
 use Rattle.start_read.specs.declared.Modes.{Modes}

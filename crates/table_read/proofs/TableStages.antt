@@ -18,7 +18,7 @@ use Rattle.plant.specs.Equations.{modeCount}
 use Rattle.plant.specs.Sound.{There}
 use Rattle.plant.specs.PlantRead.{refusedPlant, acceptedPlant, plantAnswer, plantOf}
 use Rattle.plant.specs.declared.sections.PlantRead.{PlantRead}
-use Rattle.plant.proofs.Padding.{length-pad}
+use Rattle.codec.proofs.Padding.{length-pad}
 use Rattle.plant.proofs.EquationLaws.{few-selectors, mode-count-at}
 use Rattle.plant.proofs.PlantLaws.{passed-all, passes, variables-of, variables-high, selectors-of, modes-of}
 use Rattle.table_read.specs.declared.parts.Parts.{Parts}
