@@ -362,14 +362,14 @@ module _ {p : Plant} {ms : List ℕ} {v : ℕ} {z : ℤ} where
       go (by-mode {n = n} {c = c} a h i j) = mode-rate (record { selector = c; number = n; is-selector = a; is-number = h; is-mode = i }) j (q .drives-it) (q .is-rate)
 
 -- the rate that is found is one of them, or there is none and it is 0
-data RateFound (l : List Rate) (v : ℕ) : Type 0 where
+pub data RateFound (l : List Rate) (v : ℕ) : Type 0 where
   found-rate : Rated l v (rateAmong l v) → RateFound l v
   no-rate : ((z : ℤ) → Rated l v z → ⊥) → rateAmong l v ≡ pos 0 → RateFound l v
 
 rated-later : {r : Rate} {l : List Rate} {v : ℕ} {z : ℤ} → Rated l v z → Rated (r ∷ l) v z
 rated-later q = record { rate = q .rate; listed = later (q .listed); drives-it = q .drives-it; is-rate = q .is-rate }
 
-rate-found : (l : List Rate) (v : ℕ) → RateFound l v
+pub rate-found : (l : List Rate) (v : ℕ) → RateFound l v
 unfolding rateAmong
 rate-found [] v = no-rate (λ z q. List·Memᴰ·not-nil (q .listed)) refl
 rate-found (r ∷ l) v = go (eqb (r .driven) v) refl (rate-found l v)
