@@ -17,7 +17,7 @@ use Rattle.semantics.specs.Sections.{Variable, Switch, Mode, Selector}
 use Rattle.semantics.specs.Plant.{Plant, selectors, noMode, currentOf, currentModes, currentTruths, declared, declaredAt, allDeclared, added, rateOf, advance}
 use Rattle.semantics.specs.Events.{Event, tick, pick, take-switch, senseless, eventIn}
 use Rattle.semantics.specs.Run as Run
-use Rattle.semantics.specs.Run.{Action, test, wait, assign, switch, stop, Next, to, finished, halted, idle, Control, Verdict, away, faulty, pass, allow, find, valued, Moved, nobody, mover, Done, walk, checkModes, assigned, act, judgeSwitch, switchCheck, judgePick, judgeTick, judge, Situation, Answered, faultAnswer, turnedAway, arrive, follow, settle, step, answers, valueBytes, recordOf}
+use Rattle.semantics.specs.Run.{Action, test, wait, assign, switch, stop, Next, to, finished, halted, idle, Control, Verdict, away, faulty, pass, allow, find, valued, Moved, nobody, mover, Done, walk, checkModes, assigned, act, judgeSwitch, switchCheck, judgePick, judgeTick, judge, Situation, Answered, faultAnswer, turnedAway, arrive, follow, settle, step, answers, valueBytes, recordBytes, recordOf}
 use Rattle.semantics.proofs.Verdicts.{assigned-is}
 use Rattle.semantics.proofs.Facts.{true-not-false, and-left, and-right, and-both, All, all-nil, all-cons, all-append, all-map, all-mem, all-flat, at-mem}
 
@@ -311,7 +311,7 @@ module _ {S : Type 0} (ed : Edition) (p : Plant) (c : Control S) (pb : PlantByte
       go (some x) = settle-bytes p c x s h (judge-fine ed p pb (c .action) (c .acting x) (s .values) (s .modes) (eventIn ed e) (cb .actions) h)
 
   pub record-bytes : (o : Answered S) → AnsweredBytes p o → All Byte (recordOf ed c o)
-  unfolding recordOf
+  unfolding recordOf recordBytes
   record-bytes o h = all-cons (h .answer) (all-append (bigEndian-bytes (ed .set-bytes) _) (all-append (values-bytes (h .left .bits)) (h .left .modes)))
 
   pub records-bytes : (s : Situation S) → SituationBytes p s → (es : List (List ℕ)) → All Byte (flatMap (recordOf ed c) (answers ed p c s es))

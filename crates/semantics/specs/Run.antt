@@ -261,10 +261,11 @@ unfoldable pub valueBytes : ℤ → List ℕ
 valueBytes z = out4 (unsigned z)
 
 -- "The record of an event: answer byte, set of acting nodes (..), values (4 bytes each), modes (1 byte each)."
+unfoldable pub recordBytes : Edition → ℕ → ℕ → List ℤ → List ℕ → List ℕ
+recordBytes ed answer acting vs ms = answer ∷ bigEndian (ed .set-bytes) acting ++ (flatMap valueBytes vs ++ ms)
+
 unfoldable pub recordOf : {S : Type 0} → Edition → Control S → Answered S → List ℕ
-recordOf ed c o =
-    let s = o .left in
-    o .answer ∷ bigEndian (ed .set-bytes) (actingSet c (s .place)) ++ (flatMap valueBytes (s .values) ++ s .modes)
+recordOf ed c o = let s = o .left in recordBytes ed (o .answer) (actingSet c (s .place)) (s .values) (s .modes)
 
 -- "taken (200..202), turned away (23..31) and faulted (203)"
 unfoldable pub isTaken : ℕ → Bool
