@@ -127,7 +127,7 @@ module _ (k : ℕ) (t : List ℕ) {a : Action} (is : actionOfKind (actionKind k)
       go (s ∷ m ∷ []) h i = (s, m, h, sym (some-is i))
       go (s ∷ m ∷ x ∷ l) h i = none-not-some i
 
-  is-stop : (k ≡ 1 → ⊥) → (k ≡ 2 → ⊥) → (k ≡ 3 → ⊥) → (k ≡ 4 → ⊥) → a ≡ stop
+  pub is-stop : (k ≡ 1 → ⊥) → (k ≡ 2 → ⊥) → (k ≡ 3 → ⊥) → (k ≡ 4 → ⊥) → a ≡ stop
   unfolding actionKind actionOfKind noBytes
   is-stop f g h i = go (eqb k 5) t (rw (ne-eqb k 1 f, ne-eqb k 2 g, ne-eqb k 3 h, ne-eqb k 4 i) at is)
     where

@@ -120,6 +120,7 @@ force-parts (choice c ∷ es) (n ∷ ms) {r} m = go (List·Memᴰ·append-cases 
 -- ---- the array
 pub laid-in-force : {es places ms : List ℕ} {old new : List ℤ} → Laid old (flatMap (λ (m : Mode). m .rates) (modesFrom es places 0 ms)) new → InForce es places ms old new
 laid-in-force {es} {places} {ms} x = record {
+  long = x .long;
   rates = λ eqs once e s. record {
     each = λ v h. x .holds (steadyRates eqs) s .each v h ∙ ap (λ (l : List Mode). rateAmong (before (flatMap (λ (m : Mode). m .rates) l) (steadyRates eqs)) v) e ∙ same eqs once v;
   };

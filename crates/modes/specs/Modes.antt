@@ -72,6 +72,7 @@ pub record Laid (old : List ℤ) (rs : List Rate) (new : List ℤ) : Type 0 wher
 
 -- the rates in force, where the array had those of kind 1 and the current modes stand at these places
 pub record InForce (es places ms : List ℕ) (old new : List ℤ) : Type 0 where
+  pub long : length new ≡ length old
   pub rates : (eqs : List Equation) → drivenOnce [] eqs ≡ true → modesFrom es places 0 ms ≡ currentOf (selectorsOf eqs) ms → RatesIn old (steadyRates eqs) → RatesIn new (ratesOf eqs ms)
 
 -- a switch event on the modes at these places
