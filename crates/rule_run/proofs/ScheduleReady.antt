@@ -5,18 +5,14 @@ use mathlib.Core.List.{List}
 use mathlib.Core.Option.{Option, none, some, bind}
 use Prim.Native.Nat.{ℕ, _-_, _<_, _≤_}
 use native.Mathlib.Omega.{arith}
-use lib.Dec.{ltb}
 use lib.ListN.{length, getD, getElem?, take, drop}
-use Rattle.semantics.specs.Bytes.{isSome}
 use Rattle.semantics.specs.Editions.{edition1}
-use Rattle.semantics.specs.Expressions.{numberIn}
-use Rattle.semantics.specs.Sections.{Selector}
 use Rattle.semantics.specs.Plant.{selectors}
-use Rattle.semantics.specs.Run.{Action, test, wait, assign, switch, stop}
+use Rattle.semantics.specs.Run.{Action, stop}
 use Rattle.semantics.specs.TableFile as TableFile
 use Rattle.semantics.specs.TableFile.{actionKind}
 use Rattle.semantics.specs.Tables.{operandFits, actionAt, actionOrStop}
-use Rattle.semantics.proofs.Facts.{none-not-some, and-left, among-mem, every-all, all-mem, at-mem}
+use Rattle.semantics.proofs.Facts.{none-not-some, among-mem, every-all, all-mem, at-mem}
 use Rattle.schedules.specs.Nodes.{Node, nodeNamed, nodeReads, actionOf, nodeAction, actionsOf}
 use Rattle.schedules.specs.Residuals.{acting}
 use Rattle.schedules.specs.Files.{Schedule}

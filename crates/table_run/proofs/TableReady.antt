@@ -1,22 +1,17 @@
 -- A table that is read is lent: what a run asks of the arrays, from the promises of the table's index.
-use mathlib.Core.Path.{_≡_, refl, ap, _∙_}
+use mathlib.Core.Path.{_≡_, ap, _∙_}
 use mathlib.Core.Bool.{true}
 use mathlib.Core.List.{List}
 use mathlib.Core.Option.{some}
 use Prim.Native.Nat.{ℕ, _-_, _<_, _≤_}
 use native.Mathlib.Omega.{arith}
-use lib.Dec.{ltb}
 use lib.ListN.{length, getD, take, drop}
-use Rattle.semantics.specs.Bytes.{isSome}
 use Rattle.semantics.specs.Editions.{edition1}
-use Rattle.semantics.specs.Expressions.{numberIn}
 use Rattle.semantics.specs.Refusals.{accepted}
-use Rattle.semantics.specs.Sections.{Selector}
 use Rattle.semantics.specs.Plant.{judgePlant}
-use Rattle.semantics.specs.Run.{Action, test, wait, assign, switch, stop}
+use Rattle.semantics.specs.Run.{Action}
 use Rattle.semantics.specs.TableFile.{TableSections, actionKind, actionOfKind}
-use Rattle.semantics.specs.Tables.{Table, operandFits, actionAt, entriesAt, judgeTable}
-use Rattle.semantics.proofs.Facts.{and-left}
+use Rattle.semantics.specs.Tables.{Table, actionAt, entriesAt, judgeTable}
 use Rattle.plant.specs.PlantRead.{plantOf}
 use Rattle.plant.specs.declared.sections.PlantRead.{PlantRead}
 use Rattle.table_read.specs.TableParts.{partsOf, sectionsAt}
