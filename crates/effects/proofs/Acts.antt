@@ -1,26 +1,31 @@
 -- What a picked node does.
 use mathlib.Core.Path.{_≡_, refl, sym, ap, _∙_}
-use mathlib.Core.Bool.{Bool, true, false}
+use mathlib.Core.Bool.{Bool, true, false, cond}
 use mathlib.Core.List.{List, [], _∷_}
-use Prim.Native.Nat.{ℕ, zero, suc, _-_, _<_}
+use mathlib.Core.Option.{some}
+use Prim.Native.Nat.{ℕ, zero, suc, _-_, _≤_, _<_}
 use native.Mathlib.Omega.{arith}
 use borrow.Author.Tests.{ne-eqb}
 use lib.IntN.{ℤ, pos}
-use lib.ListN.{length, getD, set, take, drop, length-drop}
+use lib.Dec.{eqb}
+use lib.ListN.{length, getD, set, take, drop}
 use lib.Seq.{take-all}
 use Rattle.semantics.specs.Editions.{edition1}
 use Rattle.semantics.specs.Expressions.{Side, Value, ok, fault, above, below, ranged, thenValue, numberIn, numberValue, truthValue}
-use Rattle.semantics.specs.Plant.{declared, declaredAt}
-use Rattle.semantics.specs.Run.{_>>=_, _>>_, pass, allow, valued, mover, act}
-use Rattle.semantics.proofs.Facts.{true-not-false}
+use Rattle.semantics.specs.Bytes.{noBytes, twoBytes, byteAndRest}
+use Rattle.semantics.specs.Sections.{Variable}
+use Rattle.semantics.specs.Plant.{declared, declaredAt, stored}
+use Rattle.semantics.specs.Run.{Action, test, wait, assign, switch, stop, _>>=_, _>>_, pass, allow, valued, mover, assigned, act}
+use Rattle.semantics.specs.TableFile.{actionKind, actionOfKind, a-stop, no-kind}
+use Rattle.semantics.proofs.Facts.{true-not-false, none-not-some, some-is}
 use Rattle.expression.specs.Answers.{numberAnswer}
 use Rattle.expression.specs.declared.Number.{Number}
 use Rattle.expression.specs.declared.Number.the-variants as Numbers
 use Rattle.expression.proofs.Values.{numberTold, number-valued, number-malformed}
-use Rattle.effects.specs.Verdicts.{doneVerdict, stepVerdict, goesOn, truthVerdict, movedVerdict, eventVerdict, valuesLeft, modesLeft, Left, orElse}
+use Rattle.effects.specs.Verdicts.{doneVerdict, stepVerdict, goesOn, truthVerdict, movedVerdict, eventVerdict, valuesLeft, modesLeft, Left, orElse, Gives}
 use Rattle.effects.proofs.PaperNumbers.{left-by}
-use Rattle.effects.specs.Ranges.{rangesOf, stored, assigned, rangesOnly}
-use Rattle.effects.specs.ActionForms.{Kind, an-assign, a-switch, kindOf, form}
+use Rattle.effects.specs.Ranges.{rangesOf}
+use Rattle.effects.specs.ActionForms.{Performs, Assigns, Does}
 use Rattle.effects.specs.declared.Verdict.{Verdict}
 use Rattle.effects.specs.declared.Verdict.the-variants.{Away, Above, Below, Move}
 use Rattle.effects.proofs.Adds.{inside}
@@ -32,14 +37,6 @@ declared-at [] hs v z e h = absurd (omega arith)
 declared-at (l ∷ ls) [] v z e h = absurd (omega arith)
 declared-at (l ∷ ls) (k ∷ hs) zero z e h = refl
 declared-at (l ∷ ls) (k ∷ hs) (suc v) z e h = declared-at ls hs v z (omega arith) (omega arith)
-
--- the answer of a value, and what it leaves
-pub record Gives {A : Type 0} (d : Verdict) (a : A) (v : Value A) (r : Verdict) (b : A) : Type 0 where
-  pub answer : r ≡ doneVerdict d (valued v)
-  pub left : b ≡ orElse a v
-
-pub gives-pair : {A : Type 0} {d : Verdict} {a : A} {v : Value A} {r : Verdict} {b : A} → Gives d a v r b → (r ≡ doneVerdict d (valued v)) × (b ≡ orElse a v)
-gives-pair g = (g .answer, g .left)
 
 gives-ok : {A : Type 0} (d : Verdict) (a : A) {v : Value A} {b : A} → v ≡ ok b → Gives d a v d b
 unfolding doneVerdict valued orElse
@@ -54,109 +51,140 @@ gives-fault d a (fault below) f r e h = record { answer = e; left = refl }
 
 module _ (ls hs vs : List ℤ) (v : ℕ) (d : Verdict) where
   module _ (z : ℤ) (same : length ls ≡ length hs) (h : v < length ls) (r : Verdict) (e : r ≡ stepVerdict (valued (ranged (getD ls v (pos 0)) (getD hs v (pos 0)) z))) where
-    pub stored-in : goesOn r ≡ true → Gives d vs (stored ls hs vs v z) d (set vs v z)
+    pub stored-in : goesOn r ≡ true → Gives d vs (stored (rangesOf ls hs) vs v z) d (set vs v z)
     unfolding stored thenValue
     stored-in f = gives-ok d vs (rw (declared-at ls hs v z same h, inside (getD ls v (pos 0)) (getD hs v (pos 0)) z (ap goesOn (sym e) ∙ f) .same) refl)
 
-    pub stored-out : goesOn r ≡ false → Gives d vs (stored ls hs vs v z) r vs
+    pub stored-out : goesOn r ≡ false → Gives d vs (stored (rangesOf ls hs) vs v z) r vs
     unfolding stored
     stored-out f = gives-fault d vs (declaredAt (rangesOf ls hs) v z) _ r (e ∙ ap (λ x. stepVerdict (valued x)) (sym (declared-at ls hs v z same h))) f
 
   -- ---- a number that is assigned
   module _ (e : List ℕ) (n : Number) (told : n ≡ numberAnswer vs (numberIn edition1 (length vs) e)) where
-    number-is : (w : Value ℤ) → numberTold n ≡ mathlib.Core.Option.some w → numberValue edition1 vs e ≡ w
+    number-is : (w : Value ℤ) → numberTold n ≡ some w → numberValue edition1 vs e ≡ w
     number-is w h = number-valued vs e told h .value
 
     malformed-is : n ≡ Numbers.Malformed → numberValue edition1 vs e ≡ fault above
     unfolding numberValue
     malformed-is h = rw (number-malformed vs e told h, numberValue) refl
 
-    pub assigned-number : (z : ℤ) (r : Verdict) (ys : List ℤ) → n ≡ Numbers.Is z → Gives d vs (stored ls hs vs v z) r ys → Gives d vs (assigned ls hs vs v e) r ys
+    pub assigned-number : (z : ℤ) (r : Verdict) (ys : List ℤ) → n ≡ Numbers.Is z → Gives d vs (stored (rangesOf ls hs) vs v z) r ys → Gives d vs (assigned edition1 (rangesOf ls hs) vs v e) r ys
     unfolding assigned thenValue
     assigned-number z r ys h g = rw (number-is (ok z) (ap numberTold h)) g
 
-    faults : (s : Side) (r : Verdict) → numberValue edition1 vs e ≡ fault s → r ≡ stepVerdict (valued {A = ℤ} (fault s)) → goesOn r ≡ false → Gives d vs (assigned ls hs vs v e) r vs
+    faults : (s : Side) (r : Verdict) → numberValue edition1 vs e ≡ fault s → r ≡ stepVerdict (valued {A = ℤ} (fault s)) → goesOn r ≡ false → Gives d vs (assigned edition1 (rangesOf ls hs) vs v e) r vs
     unfolding assigned
     faults s r h k f = gives-fault d vs (numberValue edition1 vs e) _ r (k ∙ sym (ap (λ x. stepVerdict (valued x)) h)) f
 
-    pub assigned-above : n ≡ Numbers.Above → Gives d vs (assigned ls hs vs v e) Above vs
+    pub assigned-above : n ≡ Numbers.Above → Gives d vs (assigned edition1 (rangesOf ls hs) vs v e) Above vs
     unfolding doneVerdict valued goesOn
     assigned-above h = faults above Above (number-is (fault above) (ap numberTold h)) refl refl
 
-    pub assigned-below : n ≡ Numbers.Below → Gives d vs (assigned ls hs vs v e) Below vs
+    pub assigned-below : n ≡ Numbers.Below → Gives d vs (assigned edition1 (rangesOf ls hs) vs v e) Below vs
     unfolding doneVerdict valued goesOn
     assigned-below h = faults below Below (number-is (fault below) (ap numberTold h)) refl refl
 
-    pub assigned-malformed : n ≡ Numbers.Malformed → Gives d vs (assigned ls hs vs v e) Above vs
+    pub assigned-malformed : n ≡ Numbers.Malformed → Gives d vs (assigned edition1 (rangesOf ls hs) vs v e) Above vs
     unfolding doneVerdict valued goesOn
     assigned-malformed h = faults above Above (malformed-is h) refl refl
 
 -- the same variable and number, said in another way
-pub stored-as : (ls hs vs : List ℤ) (d : Verdict) {v w : ℕ} {z y : ℤ} {r : Verdict} {ys : List ℤ} → v ≡ w → z ≡ y → Gives d vs (stored ls hs vs v z) r ys → Gives d vs (stored ls hs vs w y) r ys
+pub stored-as : (ls hs vs : List ℤ) (d : Verdict) {v w : ℕ} {z y : ℤ} {r : Verdict} {ys : List ℤ} → v ≡ w → z ≡ y → Gives d vs (stored (rangesOf ls hs) vs v z) r ys → Gives d vs (stored (rangesOf ls hs) vs w y) r ys
 stored-as ls hs vs d e f g = rw (← e, ← f) g
 
--- an operand without its first byte
-pub tail-is : (t : List ℕ) → take (length t - 1) (drop 1 t) ≡ drop 1 t
-tail-is t = take-all (length t - 1) (drop 1 t) (omega (arith, length-drop 1 t))
+-- an operand of an assignment: its variable, and its number from the second byte on
+pub operand-is : {t : List ℕ} {v : ℕ} {e : List ℕ} → t ≡ v ∷ e → (getD t 0 0 ≡ v) × (take (length t - 1) (drop 1 t) ≡ e)
+operand-is {t} {v} {e} h = rw h (refl, take-all (suc (length e) - 1) e (omega arith))
 
 -- ---- the five kinds
-module _ (ls hs vs : List ℤ) (ms t : List ℕ) (n k : ℕ) where
-  abbrev A : Kind → Rattle.semantics.specs.Run.Verdict Rattle.semantics.specs.Run.Done
-  A j = act edition1 (rangesOnly ls hs) vs ms n (form j t)
+module _ (k : ℕ) (t : List ℕ) {a : Action} (is : actionOfKind (actionKind k) t ≡ some a) where
+  by-kind : {j : ℕ} → k ≡ j → actionOfKind (actionKind j) t ≡ some a
+  by-kind e = sym (ap (λ i. actionOfKind (actionKind i) t) e) ∙ is
 
-  tested : (u : Value Bool) (r : Verdict) → r ≡ truthVerdict (Move n true) (Move n false) u → Left (valued u >>= (λ b. pass (record { moved = mover n b; values = vs; modes = ms }))) vs ms r vs ms
-  unfolding valued _>>=_ truthVerdict movedVerdict eventVerdict valuesLeft modesLeft
-  tested (ok true) r e = left-by e refl refl
-  tested (ok false) r e = left-by e refl refl
-  tested (fault above) r e = left-by e refl refl
-  tested (fault below) r e = left-by e refl refl
+  pub is-test : k ≡ 1 → a ≡ test t
+  unfolding actionKind actionOfKind
+  is-test e = sym (some-is (by-kind e))
 
-  pub tests : (r : Verdict) → k ≡ 1 → r ≡ truthVerdict (Move n true) (Move n false) (truthValue edition1 vs t) → Left (A (kindOf k)) vs ms r vs ms
-  unfolding kindOf form act
-  tests r e h = rw e (tested (truthValue edition1 vs t) r h)
+  pub is-wait : k ≡ 2 → a ≡ wait t
+  unfolding actionKind actionOfKind
+  is-wait e = sym (some-is (by-kind e))
 
-  awaited : (u : Value Bool) (r : Verdict) → r ≡ truthVerdict (Move n true) (Away 29) u → Left (valued u >>= (λ b. allow 29 b >> pass (record { moved = mover n true; values = vs; modes = ms }))) vs ms r vs ms
-  unfolding valued _>>=_ _>>_ allow truthVerdict movedVerdict eventVerdict valuesLeft modesLeft
-  awaited (ok true) r e = left-by e refl refl
-  awaited (ok false) r e = left-by e refl refl
-  awaited (fault above) r e = left-by e refl refl
-  awaited (fault below) r e = left-by e refl refl
-
-  pub waits : (r : Verdict) → k ≡ 2 → r ≡ truthVerdict (Move n true) (Away 29) (truthValue edition1 vs t) → Left (A (kindOf k)) vs ms r vs ms
-  unfolding kindOf form act
-  waits r e h = rw e (awaited (truthValue edition1 vs t) r h)
-
-  assigned-left : (u : Value ℤ) (w : ℤ → Value ℤ) (r : Verdict) (ys : List ℤ) → r ≡ doneVerdict (Move n true) (valued (thenValue u (λ z. thenValue (w z) (λ y. ok (set vs (getD t 0 0) y)))))
-      → ys ≡ orElse vs (thenValue u (λ z. thenValue (w z) (λ y. ok (set vs (getD t 0 0) y))))
-      → Left (valued u >>= (λ z. valued (w z) >>= (λ y. pass (record { moved = mover n true; values = set vs (getD t 0 0) y; modes = ms })))) vs ms r ys ms
-  unfolding valued _>>=_ thenValue doneVerdict orElse movedVerdict eventVerdict valuesLeft modesLeft
-  assigned-left (fault above) w r ys e f = left-by e f refl
-  assigned-left (fault below) w r ys e f = left-by e f refl
-  assigned-left (ok z) w r ys e f = go (w z) e f
+  pub is-assign : k ≡ 3 → (v : ℕ) × (e : List ℕ) × (t ≡ v ∷ e) × (a ≡ assign v e)
+  unfolding actionKind actionOfKind byteAndRest
+  is-assign e = go t refl (by-kind e)
     where
-      go : (u : Value ℤ) → r ≡ doneVerdict (Move n true) (valued (thenValue u (λ y. ok (set vs (getD t 0 0) y)))) → ys ≡ orElse vs (thenValue u (λ y. ok (set vs (getD t 0 0) y)))
-          → Left (valued u >>= (λ y. pass (record { moved = mover n true; values = set vs (getD t 0 0) y; modes = ms }))) vs ms r ys ms
-      go (fault above) e f = left-by e f refl
-      go (fault below) e f = left-by e f refl
-      go (ok y) e f = left-by e f refl
+      go : (s : List ℕ) → t ≡ s → byteAndRest assign s ≡ some a → (v : ℕ) × (e : List ℕ) × (t ≡ v ∷ e) × (a ≡ assign v e)
+      go [] h i = none-not-some i
+      go (v ∷ s) h i = (v, s, h, sym (some-is i))
 
-  pub assigns : (r : Verdict) (ys : List ℤ) → k ≡ 3 → r ≡ doneVerdict (Move n true) (valued (assigned ls hs vs (getD t 0 0) (drop 1 t))) → ys ≡ orElse vs (assigned ls hs vs (getD t 0 0) (drop 1 t))
-      → Left (A (kindOf k)) vs ms r ys ms
-  unfolding kindOf form act assigned stored
-  assigns r ys e h q = rw e (assigned-left (numberValue edition1 vs (drop 1 t)) (declaredAt (rangesOf ls hs) (getD t 0 0)) r ys h q)
+  pub is-switch : k ≡ 4 → (s : ℕ) × (m : ℕ) × (t ≡ s ∷ m ∷ []) × (a ≡ switch s m)
+  unfolding actionKind actionOfKind twoBytes
+  is-switch e = go t refl (by-kind e)
+    where
+      go : (l : List ℕ) → t ≡ l → twoBytes switch l ≡ some a → (s : ℕ) × (m : ℕ) × (t ≡ s ∷ m ∷ []) × (a ≡ switch s m)
+      go [] h i = none-not-some i
+      go (s ∷ []) h i = none-not-some i
+      go (s ∷ m ∷ []) h i = (s, m, h, sym (some-is i))
+      go (s ∷ m ∷ x ∷ l) h i = none-not-some i
 
-  pub switches : (s : ℕ) → k ≡ 4 → s ≡ getD t 0 0 → Left (A (kindOf k)) vs ms (Move n true) vs (set ms s (getD t 1 0))
-  unfolding kindOf form act movedVerdict eventVerdict valuesLeft modesLeft
-  switches s e h = rw (e, h) (left-by refl refl refl)
+  pub is-stop : (k ≡ 1 → ⊥) → (k ≡ 2 → ⊥) → (k ≡ 3 → ⊥) → (k ≡ 4 → ⊥) → a ≡ stop
+  unfolding actionKind actionOfKind noBytes
+  is-stop f g h i = go (eqb k 5) t (rw (ne-eqb k 1 f, ne-eqb k 2 g, ne-eqb k 3 h, ne-eqb k 4 i) at is)
+    where
+      go : (b : Bool) (l : List ℕ) → actionOfKind (cond b a-stop no-kind) l ≡ some a → a ≡ stop
+      go true [] q = sym (some-is q)
+      go true (x ∷ l) q = none-not-some q
+      go false l q = none-not-some q
 
-  pub others : (k ≡ 1 → ⊥) → (k ≡ 2 → ⊥) → (k ≡ 3 → ⊥) → (k ≡ 4 → ⊥) → Left (A (kindOf k)) vs ms (Move n true) vs ms
-  unfolding kindOf form act movedVerdict eventVerdict valuesLeft modesLeft
-  others a b c d = rw (ne-eqb k 1 a, ne-eqb k 2 b, ne-eqb k 3 c, ne-eqb k 4 d) (left-by refl refl refl)
+-- what a kind 3 or 4 names: so many bytes at least, and a number below the bound
+pub record Named (t : List ℕ) (bytes bound : ℕ) : Type 0 where
+  pub long : bytes ≤ length t
+  pub known : getD t 0 0 < bound
 
-pub kind-assign : (k : ℕ) → k ≡ 3 → kindOf k ≡ an-assign
-unfolding kindOf
-kind-assign k e = rw e refl
+pub assign-named : {k : ℕ} {t : List ℕ} {variables selectors : ℕ} → Performs k t variables selectors → k ≡ 3 → Named t 1 variables
+assign-named {k} {t} p e = let q = is-assign k t (p .is) e in rw (q .2) (record { long = omega arith; known = p .assigns (q .0) (q .1) (q .3) })
 
-pub kind-switch : (k : ℕ) → k ≡ 4 → kindOf k ≡ a-switch
-unfolding kindOf
-kind-switch k e = rw e refl
+pub switch-named : {k : ℕ} {t : List ℕ} {variables selectors : ℕ} → Performs k t variables selectors → k ≡ 4 → Named t 2 selectors
+switch-named {k} {t} p e = let q = is-switch k t (p .is) e in rw (q .2) (record { long = omega arith; known = p .switches (q .0) (q .1) (q .3) })
+
+module _ (xs : List Variable) (vs : List ℤ) (ms : List ℕ) (n : ℕ) where
+  tested : (u : Value Bool) {r : Verdict} → r ≡ truthVerdict (Move n true) (Move n false) u → Left (valued u >>= (λ b. pass (record { moved = mover n b; values = vs; modes = ms }))) vs ms r vs ms
+  unfolding valued _>>=_ truthVerdict movedVerdict eventVerdict valuesLeft modesLeft
+  tested (ok true) e = left-by e refl refl
+  tested (ok false) e = left-by e refl refl
+  tested (fault above) e = left-by e refl refl
+  tested (fault below) e = left-by e refl refl
+
+  awaited : (u : Value Bool) {r : Verdict} → r ≡ truthVerdict (Move n true) (Away 29) u → Left (valued u >>= (λ b. allow 29 b >> pass (record { moved = mover n true; values = vs; modes = ms }))) vs ms r vs ms
+  unfolding valued _>>=_ _>>_ allow truthVerdict movedVerdict eventVerdict valuesLeft modesLeft
+  awaited (ok true) e = left-by e refl refl
+  awaited (ok false) e = left-by e refl refl
+  awaited (fault above) e = left-by e refl refl
+  awaited (fault below) e = left-by e refl refl
+
+  put : (u : Value (List ℤ)) {r : Verdict} {ys : List ℤ} → Gives (Move n true) vs u r ys → Left (valued u >>= (λ zs. pass (record { moved = mover n true; values = zs; modes = ms }))) vs ms r ys ms
+  unfolding valued _>>=_ doneVerdict orElse movedVerdict eventVerdict valuesLeft modesLeft
+  put (ok zs) g = left-by (g .answer) (g .left) refl
+  put (fault above) g = left-by (g .answer) (g .left) refl
+  put (fault below) g = left-by (g .answer) (g .left) refl
+
+  module _ (k : ℕ) (t : List ℕ) where
+    pub tests : {r : Verdict} → k ≡ 1 → r ≡ truthVerdict (Move n true) (Move n false) (truthValue edition1 vs t) → Does k t xs n vs ms r vs ms
+    unfolding act
+    tests e h = record { leaves = λ a i. rw (is-test k t i e) (tested (truthValue edition1 vs t) h) }
+
+    pub waits : {r : Verdict} → k ≡ 2 → r ≡ truthVerdict (Move n true) (Away 29) (truthValue edition1 vs t) → Does k t xs n vs ms r vs ms
+    unfolding act
+    waits e h = record { leaves = λ a i. rw (is-wait k t i e) (awaited (truthValue edition1 vs t) h) }
+
+    pub assigns : {r : Verdict} {ys : List ℤ} → k ≡ 3 → Assigns t xs (Move n true) vs r ys → Does k t xs n vs ms r ys ms
+    unfolding act
+    assigns e g = record { leaves = λ a i. let q = is-assign k t i e in rw (q .3) (put (assigned edition1 xs vs (q .0) (q .1)) (g .gives (q .0) (q .1) (q .2))) }
+
+    pub switches : k ≡ 4 → Does k t xs n vs ms (Move n true) vs (set ms (getD t 0 0) (getD t 1 0))
+    unfolding act movedVerdict eventVerdict valuesLeft modesLeft
+    switches e = record { leaves = λ a i. let q = is-switch k t i e in rw (q .3) (left-by refl refl (ap (λ l. set ms (getD l 0 0) (getD l 1 0)) (q .2))) }
+
+    pub others : (k ≡ 1 → ⊥) → (k ≡ 2 → ⊥) → (k ≡ 3 → ⊥) → (k ≡ 4 → ⊥) → Does k t xs n vs ms (Move n true) vs ms
+    unfolding act movedVerdict eventVerdict valuesLeft modesLeft
+    others f g h j = record { leaves = λ a i. rw (is-stop k t i f g h j) (left-by refl refl refl) }

@@ -16,11 +16,11 @@ use mir.Val.{SFits, toZ, ofZ}
 use mir.ValLaws.{toZ-ofZ}
 use Rattle.semantics.specs.Expressions.{Value, ok, fault, above, below, ranged, thenValue}
 use Rattle.semantics.specs.Sections.{Variable}
-use Rattle.semantics.specs.Plant.{declared, allDeclared, added}
+use Rattle.semantics.specs.Plant.{declared, allDeclared, added, advance}
 use Rattle.semantics.specs.Run.{valued}
 use Rattle.semantics.proofs.Facts.{true-not-false}
-use Rattle.effects.specs.Verdicts.{doneVerdict, stepVerdict, goesOn, orElse}
-use Rattle.effects.specs.Ranges.{rangesOf, rateIn, sums, advanced, Sized, firstSums, sumTold, staysIn, FirstStay, Until}
+use Rattle.effects.specs.Verdicts.{doneVerdict, stepVerdict, goesOn, orElse, Gives}
+use Rattle.effects.specs.Ranges.{rangesOf, rateIn, Sized, firstSums, sumTold, staysIn, FirstStay, Until}
 use Rattle.effects.specs.declared.Verdict.{Verdict}
 use Rattle.effects.specs.declared.Verdict.the-variants.{Stay}
 
@@ -43,7 +43,7 @@ unfolding added
 length-added f k [] = refl
 length-added f k (v ∷ vs) = ap suc (length-added f (suc k) vs)
 
-pub length-sums : (rs vs : List ℤ) → length (sums rs vs) ≡ length vs
+pub length-sums : (rs vs : List ℤ) → length (added (rateIn rs) 0 vs) ≡ length vs
 length-sums rs vs = length-added (rateIn rs) 0 vs
 
 added-at : (f : ℕ → ℤ) (k : ℕ) (vs : List ℤ) (i : ℕ) → i < length vs → getD (added f k vs) i (pos 0) ≡ getD vs i (pos 0) +ℤ f (k + i)
@@ -54,7 +54,7 @@ added-at f k (v ∷ vs) (suc i) h =
     let e : suc k + i ≡ k + suc i = omega arith in
     added-at f (suc k) vs i (omega arith) ∙ ap (λ (n : ℕ). getD vs i (pos 0) +ℤ f n) e
 
-pub sums-at : (rs vs : List ℤ) (i : ℕ) → i < length vs → getD (sums rs vs) i (pos 0) ≡ getD vs i (pos 0) +ℤ getD rs i (pos 0)
+pub sums-at : (rs vs : List ℤ) (i : ℕ) → i < length vs → getD (added (rateIn rs) 0 vs) i (pos 0) ≡ getD vs i (pos 0) +ℤ getD rs i (pos 0)
 sums-at rs vs i h = let e : 0 + i ≡ i = omega arith in added-at (rateIn rs) 0 vs i h ∙ ap (λ (n : ℕ). getD vs i (pos 0) +ℤ rateIn rs n) e
 
 -- ---- what passes is what it was
@@ -151,10 +151,6 @@ all-same (x ∷ xs) (z ∷ zs) e = go (goesOn (stepVerdict (valued (declared x z
     go true k ih = rw (inside (x .minimum) (x .maximum) z k .same, ih (ap goesOn (sym (first-in x xs z zs k)) ∙ e)) refl
     go false k ih = true-not-false (sym e ∙ ap goesOn (first-out x xs z zs k) ∙ k)
 
-advanced-in : (ls hs rs vs : List ℤ) → Passes (advanced ls hs rs vs) → sums rs vs ≡ orElse vs (advanced ls hs rs vs)
-unfolding orElse
-advanced-in ls hs rs vs e = sym (ap (orElse vs) (all-same (rangesOf ls hs) (sums rs vs) e))
-
 advanced-out : {A : Type 0} (a : A) (v : Value A) → goesOn (stepVerdict (valued v)) ≡ false → a ≡ orElse a v
 unfolding orElse goesOn doneVerdict valued
 advanced-out a (ok b) e = true-not-false e
@@ -176,7 +172,11 @@ module _ (ls hs rs vs : List ℤ) where
       go v p (no q) = let same : v ≡ k = omega arith in ap (staysIn ls hs rs vs) same ∙ e
 
 module _ (ls hs rs vs : List ℤ) (z : Sized ls hs rs vs) where
-  told-from : (k : ℕ) → FirstStay ls hs rs vs k → stepVerdict (valued (advanced ls hs rs vs)) ≡ stepVerdict (valued (from ls hs rs vs k))
+  abbrev ticked : Value (List ℤ)
+  ticked = advance (rangesOf ls hs) (rateIn rs) vs
+
+  told-from : (k : ℕ) → FirstStay ls hs rs vs k → stepVerdict (valued ticked) ≡ stepVerdict (valued (from ls hs rs vs k))
+  unfolding advance
   told-from zero f = refl
   told-from (suc k) f =
       let c = f .count in
@@ -184,21 +184,19 @@ module _ (ls hs rs vs : List ℤ) (z : Sized ls hs rs vs) where
       told-from k (fewer ls hs rs vs k f) ∙ on ls hs rs vs k z (omega arith) _ refl (f .each k (omega arith)) ∙ ap (λ (n : ℕ). stepVerdict (valued (from ls hs rs vs n))) e
 
   -- variable k leaves its range: its side is the answer, and nothing is added
-  pub leaves-told : (k : ℕ) → Until ls hs rs vs k → k < length vs → (r : Verdict) → r ≡ sumTold ls hs rs vs k → r ≡ stepVerdict (valued (advanced ls hs rs vs))
-  leaves-told k u h r e = out ls hs rs vs k z h r e (ap goesOn e ∙ u .leaves h) ∙ sym (told-from k (u .first))
-
-  pub leaves-values : (k : ℕ) → Until ls hs rs vs k → k < length vs → vs ≡ orElse vs (advanced ls hs rs vs)
-  leaves-values k u h = advanced-out vs (advanced ls hs rs vs) (sym (ap goesOn (leaves-told k u h _ refl)) ∙ u .leaves h)
+  pub one-leaves : (k : ℕ) → Until ls hs rs vs k → k < length vs → {r : Verdict} → r ≡ sumTold ls hs rs vs k → Gives Stay vs ticked r vs
+  one-leaves k u h {r} e =
+      let told : r ≡ stepVerdict (valued ticked) = out ls hs rs vs k z h r e (ap goesOn e ∙ u .leaves h) ∙ sym (told-from k (u .first)) in
+      record { answer = told; left = advanced-out vs ticked (sym (ap goesOn told) ∙ ap goesOn e ∙ u .leaves h) }
 
   -- all stay in their ranges: all add
-  pub all-told : (k : ℕ) → FirstStay ls hs rs vs k → length vs ≤ k → Stay ≡ stepVerdict (valued (advanced ls hs rs vs))
-  all-told k f h = end ls hs rs vs k z h ∙ sym (told-from k f)
-
-  pub all-values : (k : ℕ) → FirstStay ls hs rs vs k → length vs ≤ k → firstSums rs vs k ≡ orElse vs (advanced ls hs rs vs)
-  unfolding goesOn
-  all-values k f h =
+  pub all-stay : (k : ℕ) → FirstStay ls hs rs vs k → length vs ≤ k → {ys : List ℤ} → ys ≡ firstSums rs vs k → Gives Stay vs ticked Stay ys
+  unfolding goesOn advance orElse
+  all-stay k f h e =
       let c = f .count in
-      fill-all (sums rs vs) vs k (length-sums rs vs) (omega arith) ∙ advanced-in ls hs rs vs (sym (ap goesOn (all-told k f h)))
+      let told : Stay ≡ stepVerdict (valued ticked) = end ls hs rs vs k z h ∙ sym (told-from k f) in
+      let same = all-same (rangesOf ls hs) (added (rateIn rs) 0 vs) (sym (ap goesOn told)) in
+      record { answer = told; left = e ∙ fill-all (added (rateIn rs) 0 vs) vs k (length-sums rs vs) (omega arith) ∙ sym (ap (orElse vs) same) }
 
 -- ---- numbers as they are read back from their bits
 abbrev pub Held : ℤ → ℤ

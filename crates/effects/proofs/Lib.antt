@@ -1,4 +1,4 @@
 pub mod Steps
 mod Adds
-mod Acts
+pub mod Acts
 pub mod PaperNumbers

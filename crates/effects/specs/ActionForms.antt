@@ -1,27 +1,27 @@
--- What a node does, from the bytes in which its kind and its operand lie.
+-- What a node does, by the table's kind of its action and the operand's bytes.
 use mathlib.Core.Path.{_≡_}
-use mathlib.Core.Bool.{cond}
-use mathlib.Core.List.{List}
-use Prim.Native.Nat.{ℕ, _≤_, _<_}
-use lib.Dec.{eqb}
-use lib.ListN.{length, getD, drop}
-use Rattle.semantics.specs.Run.{Action, test, wait, assign, switch, stop}
+use mathlib.Core.List.{List, _∷_}
+use mathlib.Core.Option.{some}
+use Prim.Native.Nat.{ℕ, _<_}
+use lib.IntN.{ℤ}
+use Rattle.semantics.specs.Editions.{edition1}
+use Rattle.semantics.specs.Sections.{Variable}
+use Rattle.semantics.specs.Run.{Action, assign, switch, assigned, act}
+use Rattle.semantics.specs.TableFile.{actionKind, actionOfKind}
+use Rattle.effects.specs.Verdicts.{Left, Gives}
+use Rattle.effects.specs.declared.Verdict.{Verdict}
 
-pub data Kind : Type 0 where
-  a-test a-wait an-assign a-switch a-stop : Kind
+-- an action of this kind with this operand, and the variable or selector that it names exists
+pub record Performs (k : ℕ) (t : List ℕ) (variables selectors : ℕ) : Type 0 where
+  pub action : Action
+  pub is : actionOfKind (actionKind k) t ≡ some action
+  pub assigns : (v : ℕ) (e : List ℕ) → action ≡ assign v e → v < variables
+  pub switches : (s m : ℕ) → action ≡ switch s m → s < selectors
 
-unfoldable pub kindOf : ℕ → Kind
-kindOf k = cond (eqb k 1) a-test (cond (eqb k 2) a-wait (cond (eqb k 3) an-assign (cond (eqb k 4) a-switch a-stop)))
+-- an assignment by its operand: the variable, then the number; d where it is done
+pub record Assigns (t : List ℕ) (xs : List Variable) (d : Verdict) (vs : List ℤ) (r : Verdict) (vs' : List ℤ) : Type 0 where
+  pub gives : (v : ℕ) (e : List ℕ) → t ≡ v ∷ e → Gives d vs (assigned edition1 xs vs v e) r vs'
 
--- an assignment's variable stands before its number, a switch's selector before its mode
-unfoldable pub form : Kind → List ℕ → Action
-form a-test t = test t
-form a-wait t = wait t
-form an-assign t = assign (getD t 0 0) (drop 1 t)
-form a-switch t = switch (getD t 0 0) (getD t 1 0)
-form a-stop t = stop
-
--- an operand whose places exist, of so many variables and selectors
-pub record Fit (k : Kind) (t : List ℕ) (variables selectors : ℕ) : Type 0 where
-  pub assigns : k ≡ an-assign → (1 ≤ length t) × (getD t 0 0 < variables)
-  pub switches : k ≡ a-switch → (2 ≤ length t) × (getD t 0 0 < selectors)
+-- what that action of node n does, on variables with these ranges
+pub record Does (k : ℕ) (t : List ℕ) (xs : List Variable) (n : ℕ) (vs : List ℤ) (ms : List ℕ) (r : Verdict) (vs' : List ℤ) (ms' : List ℕ) : Type 0 where
+  pub leaves : (a : Action) → actionOfKind (actionKind k) t ≡ some a → Left (act edition1 xs vs ms n a) vs ms r vs' ms'

@@ -4,11 +4,10 @@ use mathlib.Core.Bool.{Bool, true, false}
 use mathlib.Core.List.{List, [], _∷_, _++_}
 use Prim.Native.Nat.{ℕ, _≤_, _<_}
 use lib.IntN.{ℤ, pos, _+ℤ_}
-use lib.ListN.{length, getD, set, take, drop}
-use Rattle.semantics.specs.Editions.{edition1}
-use Rattle.semantics.specs.Expressions.{Value, ok, ranged, thenValue, numberValue}
+use lib.ListN.{length, getD, take, drop}
+use Rattle.semantics.specs.Expressions.{ranged}
 use Rattle.semantics.specs.Sections.{Variable}
-use Rattle.semantics.specs.Plant.{Plant, declaredAt, allDeclared, added}
+use Rattle.semantics.specs.Plant.{added}
 use Rattle.semantics.specs.Run.{valued}
 use Rattle.effects.specs.Verdicts.{stepVerdict, goesOn}
 use Rattle.effects.specs.declared.Verdict.{Verdict}
@@ -23,25 +22,10 @@ rangesOf (l ∷ ls) (h ∷ hs) = record { minimum = l; maximum = h; initial = l 
 abbrev pub rateIn : List ℤ → ℕ → ℤ
 rateIn rs v = getD rs v (pos 0)
 
--- each value with its rate added, all from the old values
-abbrev pub sums : List ℤ → List ℤ → List ℤ
-sums rs vs = added (rateIn rs) 0 vs
-
--- all of them in range, or the first fault
-abbrev pub advanced : List ℤ → List ℤ → List ℤ → List ℤ → Value (List ℤ)
-advanced ls hs rs vs = allDeclared (rangesOf ls hs) (sums rs vs)
-
--- variable v made z where its range allows it
-unfoldable pub stored : List ℤ → List ℤ → List ℤ → ℕ → ℤ → Value (List ℤ)
-stored ls hs vs v z = thenValue (declaredAt (rangesOf ls hs) v z) (λ y. ok (set vs v y))
-
--- a number assigned to variable v
-unfoldable pub assigned : List ℤ → List ℤ → List ℤ → ℕ → List ℕ → Value (List ℤ)
-assigned ls hs vs v e = thenValue (numberValue edition1 vs e) (stored ls hs vs v)
-
--- a plant with these ranges; a picked node asks no more of it
-abbrev pub rangesOnly : List ℤ → List ℤ → Plant
-rangesOnly ls hs = record { variables = rangesOf ls hs; equations = [] }
+-- a range for each value
+pub record Ranged (ls hs vs : List ℤ) : Type 0 where
+  pub lows : length ls ≡ length vs
+  pub highs : length hs ≡ length vs
 
 -- a range for each value, and a rate at least
 pub record Sized (ls hs rs vs : List ℤ) : Type 0 where
@@ -51,7 +35,7 @@ pub record Sized (ls hs rs vs : List ℤ) : Type 0 where
 
 -- the first k values with their rates added, the others as they are
 abbrev pub firstSums : List ℤ → List ℤ → ℕ → List ℤ
-firstSums rs vs k = take k (sums rs vs) ++ drop k vs
+firstSums rs vs k = take k (added (rateIn rs) 0 vs) ++ drop k vs
 
 -- variable v with its rate added: Stay, or the side on which it leaves its range
 abbrev pub sumTold : List ℤ → List ℤ → List ℤ → List ℤ → ℕ → Verdict

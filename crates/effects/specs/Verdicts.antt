@@ -6,7 +6,7 @@ use Prim.Native.Nat.{ℕ}
 use lib.IntN.{ℤ}
 use Rattle.semantics.specs.Expressions.{above, below, Value, ok, fault}
 use Rattle.semantics.specs.Run as Run
-use Rattle.semantics.specs.Run.{away, faulty, pass, Moved, nobody, mover, Done}
+use Rattle.semantics.specs.Run.{away, faulty, pass, valued, Moved, nobody, mover, Done}
 use Rattle.effects.specs.PaperNumbers.{paperAnswer, paperMove, eventAnswer, eventMove}
 use Rattle.effects.specs.declared.Verdict.{Verdict}
 use Rattle.effects.specs.declared.Verdict.the-variants.{Away, Above, Below, Stay, Move}
@@ -71,3 +71,8 @@ pub record Left (j : Run.Verdict Done) (vs : List ℤ) (ms : List ℕ) (r : Verd
 unfoldable pub orElse : {A : Type 0} → A → Value A → A
 orElse a (ok b) = b
 orElse a (fault s) = a
+
+-- the answer of a value, d where it is one, and what is left of what was a
+pub record Gives {A : Type 0} (d : Verdict) (a : A) (v : Value A) (r : Verdict) (b : A) : Type 0 where
+  pub answer : r ≡ doneVerdict d (valued v)
+  pub left : b ≡ orElse a v

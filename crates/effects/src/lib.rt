@@ -4,14 +4,16 @@ use expression::Truth;
 ghost use mathlib.Core.Path.{_≡_};
 ghost use mathlib.Core.Bool.{true};
 ghost use Prim.Native.Nat.{_≤_, _<_};
-ghost use lib.ListN.{length, getD, drop};
+ghost use lib.ListN.{length, getD};
 ghost use lib.IntN.{_+ℤ_};
 ghost use Rattle.semantics.specs.Editions.{edition1};
 ghost use Rattle.semantics.specs.Expressions.{ranged as rangedOf, truthValue};
-ghost use Rattle.semantics.specs.Run.{valued, act};
-ghost use Rattle.effects.specs.Verdicts.{doneVerdict, stepVerdict, goesOn, truthVerdict, orElse, Left};
-ghost use Rattle.effects.specs.Ranges.{Sized, Side, Until, FirstStay, firstSums, advanced, stored, assigned, rangesOnly};
-ghost use Rattle.effects.specs.ActionForms.{kindOf, form, Fit};
+ghost use Rattle.semantics.specs.Plant.{stored, advance as advanced};
+ghost use Rattle.semantics.specs.Run.{valued};
+ghost use Rattle.effects.specs.declared.Verdict.the-variants.{Stay};
+ghost use Rattle.effects.specs.Verdicts.{stepVerdict, goesOn, truthVerdict, Gives};
+ghost use Rattle.effects.specs.Ranges.{rangesOf, rateIn, Ranged, Sized, Side, Until, FirstStay, firstSums};
+ghost use Rattle.effects.specs.ActionForms.{Performs, Does, Assigns};
 
 // How an event is answered: turned away with a number, a fault on a side of its range, or taken, with nobody's move or with
 // the move of a node, on done or true, or on false.
@@ -114,7 +116,7 @@ fn add_first(lows: &[i32], highs: &[i32], rates: &[i32], values: &mut [i32], k: 
 // Each value adds its rate, or none does.
 pub fn advance(lows: &[i32], highs: &[i32], rates: &[i32], values: &mut [i32]) -> Verdict
     requires { ⌜ Sized (now lows) (now highs) (now rates) (now values) ⌝ }
-    ensures { λ r. ⌜ (r ≡ stepVerdict (valued (advanced (now (lows .entry)) (now (highs .entry)) (now (rates .entry)) (now (values .entry))))) × (now (values .exit) ≡ orElse (now (values .entry)) (advanced (now (lows .entry)) (now (highs .entry)) (now (rates .entry)) (now (values .entry)))) ⌝ }
+    ensures { λ r. ⌜ Gives Stay (now (values .entry)) (advanced (rangesOf (now (lows .entry)) (now (highs .entry))) (rateIn (now (rates .entry))) (now (values .entry))) r (now (values .exit)) ⌝ }
 {
     let k = staying(lows, highs, rates, values);
     let fit = side(lows, highs, rates, values, k);
@@ -123,12 +125,6 @@ pub fn advance(lows: &[i32], highs: &[i32], rates: &[i32], values: &mut [i32]) -
         return Verdict::Stay;
     }
     fit
-}
-
-pub fn wide(x: u8) -> usize
-    ensures { λ r. ⌜ r ≡ x ⌝ }
-{
-    x as usize
 }
 
 // Variable v becomes z where its range allows it.
@@ -140,8 +136,8 @@ fn store(
     values: &mut [i32],
     done: Verdict,
 ) -> Verdict
-    requires { ⌜ (v < length (now values)) × (length (now lows) ≡ length (now values)) × (length (now highs) ≡ length (now values)) ⌝ }
-    ensures { λ r. ⌜ (r ≡ doneVerdict done (valued (stored (now (lows .entry)) (now (highs .entry)) (now (values .entry)) v z))) × (now (values .exit) ≡ orElse (now (values .entry)) (stored (now (lows .entry)) (now (highs .entry)) (now (values .entry)) v z)) ⌝ }
+    requires { ⌜ (v < length (now values)) × Ranged (now lows) (now highs) (now values) ⌝ }
+    ensures { λ r. ⌜ Gives done (now (values .entry)) (stored (rangesOf (now (lows .entry)) (now (highs .entry))) (now (values .entry)) v z) r (now (values .exit)) ⌝ }
 {
     let r = ranged(lows[v], highs[v], z as i64);
     if goes_on(r) {
@@ -153,10 +149,10 @@ fn store(
 
 // An assignment: its operand is the variable, then the number.
 fn assign(t: &[u8], lows: &[i32], highs: &[i32], values: &mut [i32], done: Verdict) -> Verdict
-    requires { ⌜ (1 ≤ length (now t)) × (getD (now t) 0 0 < length (now values)) × (length (now lows) ≡ length (now values)) × (length (now highs) ≡ length (now values)) ⌝ }
-    ensures { λ r. ⌜ (r ≡ doneVerdict done (valued (assigned (now (lows .entry)) (now (highs .entry)) (now (values .entry)) (getD (now (t .entry)) 0 0) (drop 1 (now (t .entry)))))) × (now (values .exit) ≡ orElse (now (values .entry)) (assigned (now (lows .entry)) (now (highs .entry)) (now (values .entry)) (getD (now (t .entry)) 0 0) (drop 1 (now (t .entry))))) ⌝ }
+    requires { ⌜ (1 ≤ length (now t)) × (getD (now t) 0 0 < length (now values)) × Ranged (now lows) (now highs) (now values) ⌝ }
+    ensures { λ r. ⌜ Assigns (now (t .entry)) (rangesOf (now (lows .entry)) (now (highs .entry))) done (now (values .entry)) r (now (values .exit)) ⌝ }
 {
-    let v = wide(t[0]);
+    let v = t[0] as usize;
     match expression::number_value(&t[1..], values) {
         Number::Is(z) => store(z, v, lows, highs, values, done),
         Number::Above => Verdict::Above,
@@ -175,15 +171,15 @@ pub fn effect(
     values: &mut [i32],
     modes: &mut [u8],
 ) -> Verdict
-    requires { ⌜ Fit (kindOf kind) (now t) (length (now values)) (length (now modes)) × (length (now lows) ≡ length (now values)) × (length (now highs) ≡ length (now values)) ⌝ }
-    ensures { λ r. ⌜ Left (act edition1 (rangesOnly (now (lows .entry)) (now (highs .entry))) (now (values .entry)) (now (modes .entry)) n (form (kindOf kind) (now (t .entry)))) (now (values .entry)) (now (modes .entry)) r (now (values .exit)) (now (modes .exit)) ⌝ }
+    requires { ⌜ Performs kind (now t) (length (now values)) (length (now modes)) × Ranged (now lows) (now highs) (now values) ⌝ }
+    ensures { λ r. ⌜ Does kind (now (t .entry)) (rangesOf (now (lows .entry)) (now (highs .entry))) n (now (values .entry)) (now (modes .entry)) r (now (values .exit)) (now (modes .exit)) ⌝ }
 {
     match kind {
         1 => ask(t, values, Verdict::Move(n, true), Verdict::Move(n, false)),
         2 => ask(t, values, Verdict::Move(n, true), Verdict::Away(29)),
         3 => assign(t, lows, highs, values, Verdict::Move(n, true)),
         4 => {
-            let s = wide(t[0]);
+            let s = t[0] as usize;
             modes[s] = t[1];
             Verdict::Move(n, true)
         }

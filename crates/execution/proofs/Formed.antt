@@ -1,88 +1,41 @@
--- An action from its kind and its operand.
+-- What is known of an action by its kind and its operand.
 use mathlib.Core.Path.{_≡_, refl, sym, ap, ap₂, _∙_}
-use mathlib.Core.Bool.{Bool, true, false, cond}
+use mathlib.Core.Bool.{Bool, true, false}
 use mathlib.Core.List.{List, [], _∷_, map}
 use mathlib.Core.Option.{Option, none, some}
 use Prim.Native.Nat.{ℕ, zero, suc, _<_}
-use native.Mathlib.Omega.{arith}
-use borrow.Author.Tests.{eqb-true, ltb-true}
+use borrow.Author.Tests.{eqb-true, eqb-false, ltb-true}
 use lib.Dec.{eqb, ltb}
 use lib.ListN.{length, getElem?}
-use Rattle.semantics.specs.Bytes.{every, noBytes, twoBytes, byteAndRest}
+use Rattle.semantics.specs.Bytes.{every, isSome}
 use Rattle.semantics.specs.Editions.{edition1}
+use Rattle.semantics.specs.Expressions.{numberIn}
 use Rattle.semantics.specs.Sections.{Selector}
 use Rattle.semantics.specs.Plant.{modeExists}
-use Rattle.semantics.specs.Run.{Action, test, wait, assign, switch, stop, isWait, waitTruth}
-use Rattle.semantics.specs.TableFile.{actionKind, actionOfKind, a-test, a-wait, an-assignment, a-switch, a-stop, no-kind}
+use Rattle.semantics.specs.Run.{Action, assign, switch, isWait, waitTruth}
+use Rattle.semantics.specs.TableFile.{actionKind, actionOfKind}
 use Rattle.semantics.specs.Tables.{operandFits}
-use Rattle.semantics.proofs.Facts.{true-not-false, none-not-some, some-is, at-below, and-left}
+use Rattle.semantics.proofs.Facts.{true-not-false, by-cases, at-below, and-left}
 use Rattle.nodeset.specs.Sets.{mem, membersFrom, members}
-use Rattle.effects.specs.ActionForms.{kindOf, form, Fit}
-use Rattle.execution.specs.Ready.{actionNamed}
+use Rattle.effects.proofs.Acts.{is-test, is-wait, is-assign, is-switch, is-stop}
 
--- ---- the five forms
-pub data Formed (k : ℕ) (t : List ℕ) (a : Action) : Type 0 where
-  is-test : k ≡ 1 → a ≡ test t → Formed k t a
-  is-wait : k ≡ 2 → a ≡ wait t → Formed k t a
-  is-assign : {v : ℕ} {e : List ℕ} → k ≡ 3 → t ≡ v ∷ e → a ≡ assign v e → Formed k t a
-  is-switch : {s m : ℕ} → k ≡ 4 → t ≡ s ∷ m ∷ [] → a ≡ switch s m → Formed k t a
-  is-stop : k ≡ 5 → a ≡ stop → Formed k t a
+-- ---- the kind is that of a wait just where the action is
+module _ (k : ℕ) (t : List ℕ) {a : Action} (h : actionOfKind (actionKind k) t ≡ some a) where
+  no-wait : (k ≡ 2 → ⊥) → isWait a ≡ false
+  unfolding isWait
+  no-wait n =
+      by-cases (eqb k 1) (λ e. rw (is-test k t h (eqb-true k 1 e)) refl) (λ e.
+      by-cases (eqb k 3) (λ f. rw (is-assign k t h (eqb-true k 3 f) .3) refl) (λ f.
+      by-cases (eqb k 4) (λ g. rw (is-switch k t h (eqb-true k 4 g) .3) refl) (λ g.
+      rw (is-stop k t h (eqb-false k 1 e) n (eqb-false k 3 f) (eqb-false k 4 g)) refl)))
 
-assign-formed : (k : ℕ) (t : List ℕ) {a : Action} → k ≡ 3 → byteAndRest assign t ≡ some a → Formed k t a
-unfolding byteAndRest
-assign-formed k [] e h = none-not-some h
-assign-formed k (v ∷ t) e h = is-assign e refl (sym (some-is h))
+  pub wait-kind : isWait a ≡ eqb k 2
+  unfolding isWait
+  wait-kind = by-cases (eqb k 2) (λ e. rw (is-wait k t h (eqb-true k 2 e), e) refl) (λ e. no-wait (eqb-false k 2 e) ∙ sym e)
 
-switch-formed : (k : ℕ) (t : List ℕ) {a : Action} → k ≡ 4 → twoBytes switch t ≡ some a → Formed k t a
-unfolding twoBytes
-switch-formed k [] e h = none-not-some h
-switch-formed k (s ∷ []) e h = none-not-some h
-switch-formed k (s ∷ m ∷ []) e h = is-switch e refl (sym (some-is h))
-switch-formed k (s ∷ m ∷ x ∷ t) e h = none-not-some h
-
-stop-formed : (k : ℕ) (t : List ℕ) {a : Action} → k ≡ 5 → noBytes stop t ≡ some a → Formed k t a
-unfolding noBytes
-stop-formed k [] e h = is-stop e (sym (some-is h))
-stop-formed k (x ∷ t) e h = none-not-some h
-
-pub formed : (k : ℕ) (t : List ℕ) (a : Action) → actionOfKind (actionKind k) t ≡ some a → Formed k t a
-unfolding actionKind actionOfKind
-formed k t a h = go (eqb k 1) (eqb k 2) (eqb k 3) (eqb k 4) (eqb k 5) refl refl refl refl refl h
-  where
-    go : (b c d e f : Bool) → eqb k 1 ≡ b → eqb k 2 ≡ c → eqb k 3 ≡ d → eqb k 4 ≡ e → eqb k 5 ≡ f
-        → actionOfKind (cond b a-test (cond c a-wait (cond d an-assignment (cond e a-switch (cond f a-stop no-kind))))) t ≡ some a → Formed k t a
-    go true c d e f p q r s u h = is-test (eqb-true k 1 p) (sym (some-is h))
-    go false true d e f p q r s u h = is-wait (eqb-true k 2 q) (sym (some-is h))
-    go false false true e f p q r s u h = assign-formed k t (eqb-true k 3 r) h
-    go false false false true f p q r s u h = switch-formed k t (eqb-true k 4 s) h
-    go false false false false true p q r s u h = stop-formed k t (eqb-true k 5 u) h
-    go false false false false false p q r s u h = none-not-some h
-
--- ---- what the code takes it for
-pub formed-is : {k : ℕ} {t : List ℕ} {a : Action} → Formed k t a → a ≡ form (kindOf k) t
-unfolding kindOf form
-formed-is {k} (is-test e f) = f ∙ rw e refl
-formed-is (is-wait e f) = f ∙ rw e refl
-formed-is (is-assign e g f) = f ∙ rw (e, g) refl
-formed-is (is-switch e g f) = f ∙ rw (e, g) refl
-formed-is (is-stop e f) = f ∙ rw e refl
-
--- the kind is that of a wait just where the action is
-pub wait-kind : {k : ℕ} {t : List ℕ} {a : Action} → Formed k t a → isWait a ≡ eqb k 2
-unfolding isWait
-wait-kind (is-test e f) = rw (e, f) refl
-wait-kind (is-wait e f) = rw (e, f) refl
-wait-kind (is-assign e g f) = rw (e, f) refl
-wait-kind (is-switch e g f) = rw (e, f) refl
-wait-kind (is-stop e f) = rw (e, f) refl
-
-pub wait-operand : {k : ℕ} {t : List ℕ} {a : Action} → Formed k t a → eqb k 2 ≡ true → waitTruth a ≡ t
-unfolding waitTruth
-wait-operand {k} (is-wait e f) h = rw f refl
-wait-operand {k} (is-test e f) h = let z = eqb-true k 2 h in absurd (omega arith)
-wait-operand {k} (is-assign e g f) h = let z = eqb-true k 2 h in absurd (omega arith)
-wait-operand {k} (is-switch e g f) h = let z = eqb-true k 2 h in absurd (omega arith)
-wait-operand {k} (is-stop e f) h = let z = eqb-true k 2 h in absurd (omega arith)
+  pub wait-operand : eqb k 2 ≡ true → waitTruth a ≡ t
+  unfolding waitTruth
+  wait-operand e = rw (is-wait k t h (eqb-true k 2 e)) refl
 
 -- ---- what it names exists
 selector-below : (cs : List Selector) (s m : ℕ) → modeExists cs s m ≡ true → s < length cs
@@ -93,23 +46,14 @@ selector-below cs s m h = go (getElem? cs s) refl h
     go none e h = true-not-false (sym h)
     go (some c) e h = at-below cs s e
 
-module _ (variables : ℕ) (cs : List Selector) where
-  pub formed-fit : {k : ℕ} {t : List ℕ} {a : Action} → Formed k t a → actionNamed variables cs a ≡ true → Fit (kindOf k) t variables (length cs)
-  unfolding actionNamed kindOf
-  formed-fit (is-test e f) h = rw e (record { assigns = λ q. let z : _≡_ {A = ℕ} 0 1 = cc in absurd (omega arith); switches = λ q. let z : _≡_ {A = ℕ} 0 1 = cc in absurd (omega arith) })
-  formed-fit (is-wait e f) h = rw e (record { assigns = λ q. let z : _≡_ {A = ℕ} 0 1 = cc in absurd (omega arith); switches = λ q. let z : _≡_ {A = ℕ} 0 1 = cc in absurd (omega arith) })
-  formed-fit (is-stop e f) h = rw e (record { assigns = λ q. let z : _≡_ {A = ℕ} 0 1 = cc in absurd (omega arith); switches = λ q. let z : _≡_ {A = ℕ} 0 1 = cc in absurd (omega arith) })
-  formed-fit (is-assign {v = v} {e = x} e g f) h = rw (e, g) (record { assigns = λ q. (omega arith, ltb-true v variables (sym (ap (actionNamed variables cs) f) ∙ h)); switches = λ q. let z : _≡_ {A = ℕ} 0 1 = cc in absurd (omega arith) })
-  formed-fit (is-switch {s = s} {m = m} e g f) h = rw (e, g) (record { assigns = λ q. (let z : _≡_ {A = ℕ} 0 1 = cc in absurd (omega arith)); switches = λ q. (omega arith, selector-below cs s m (sym (ap (actionNamed variables cs) f) ∙ h)) })
+module _ (variables : ℕ) (cs : List Selector) {a : Action} (h : operandFits edition1 variables cs a ≡ true) where
+  pub variable-known : (v : ℕ) (e : List ℕ) → a ≡ assign v e → v < variables
+  unfolding operandFits
+  variable-known v e f = ltb-true v variables (and-left (ltb v variables) (isSome (numberIn edition1 variables e)) (sym (ap (operandFits edition1 variables cs) f) ∙ h))
 
-  -- a table's condition 18 gives it
-  pub fits-named : (a : Action) → operandFits edition1 variables cs a ≡ true → actionNamed variables cs a ≡ true
-  unfolding operandFits actionNamed
-  fits-named (test t) h = refl
-  fits-named (wait t) h = refl
-  fits-named (assign v e) h = and-left (ltb v variables) _ h
-  fits-named (switch s m) h = h
-  fits-named stop h = refl
+  pub selector-known : (s m : ℕ) → a ≡ switch s m → s < length cs
+  unfolding operandFits
+  selector-known s m f = selector-below cs s m (sym (ap (operandFits edition1 variables cs) f) ∙ h)
 
 -- ---- the acting nodes
 module _ (ws : List ℕ) where

@@ -10,19 +10,20 @@ use lib.Dec.{ltb}
 use lib.IntN.{ℤ}
 use lib.ListN.{length, getElem?, set, length-set}
 use Rattle.semantics.specs.Editions.{edition1}
-use Rattle.semantics.specs.Expressions.{Value, ok, fault, numberValue, truthValue}
+use Rattle.semantics.specs.Expressions.{Value, ok, fault, truthValue}
 use Rattle.semantics.specs.Sections.{Switch, Mode, Selector}
-use Rattle.semantics.specs.Plant.{Plant, among, switchNamed, selectors, modeExists, currentModes, declaredAt, advance}
+use Rattle.semantics.specs.Plant.{Plant, among, switchNamed, selectors, modeExists, currentModes, rateOf, advance}
 use Rattle.semantics.specs.Starts.{modesFit}
 use Rattle.semantics.specs.Events.{Event, tick, pick, take-switch, senseless}
 use Rattle.semantics.specs.Run as Run
-use Rattle.semantics.specs.Run.{Action, test, wait, assign, switch, stop, away, faulty, pass, _>>=_, _>>_, allow, find, valued, Done, act, judge, judgeTick, judgePick, judgeSwitch}
+use Rattle.semantics.specs.Run.{Action, test, wait, assign, switch, stop, away, faulty, pass, _>>=_, _>>_, allow, find, valued, Done, assigned, act, judge, judgeTick, judgePick, judgeSwitch}
 use Rattle.semantics.proofs.Facts.{true-not-false, some-is, and-both, at-below, at-mem, every-all, all-mem}
-use Rattle.semantics.proofs.Verdicts.{advance-length}
+use Rattle.semantics.specs.Tables.{operandFits}
+use Rattle.semantics.proofs.Verdicts.{advance-length, assigned-is}
 use Rattle.nodeset.specs.Sets.{mem, members}
 use Rattle.nodeset.proofs.Members.{among-members, members-below}
 use Rattle.modes.specs.Modes.{modeAt, placeAt}
-use Rattle.execution.specs.Ready.{Lent, Ready, Fits, actionNamed}
+use Rattle.execution.specs.Ready.{Lent, Ready, Fits}
 use Rattle.modes.proofs.Taking.{modes-length, mode-now}
 use Rattle.execution.proofs.Lending.{here, fit-head, modes-current, mode-named, mode-targets-named}
 
@@ -99,18 +100,20 @@ module _ (p : Plant) (vs : List ℤ) (ms : List ℕ) (f : Fits p vs ms) where
   set-value : (v : ℕ) (y : ℤ) → Fits p (set vs v y) ms
   set-value v y = record { values = length-set vs v y ∙ f .values; modes = f .modes; exist = f .exist }
 
-  act-keeps : (n : ℕ) (a : Action) → actionNamed (length (p .variables)) (selectors p) a ≡ true → Keeps p (act edition1 p vs ms n a)
-  unfolding act actionNamed
+  act-keeps : (n : ℕ) (a : Action) → operandFits edition1 (length (p .variables)) (selectors p) a ≡ true → Keeps p (act edition1 (p .variables) vs ms n a)
+  unfolding act operandFits
   act-keeps n (test t) h = keeps-bind (valued (truthValue edition1 vs t)) _ (λ b _. keeps-pass f)
   act-keeps n (wait t) h = keeps-bind (valued (truthValue edition1 vs t)) _ (λ b _. keeps-then (allow 29 b) (λ _ _. keeps-pass f))
-  act-keeps n (assign v e) h = keeps-bind (valued (numberValue edition1 vs e)) _ (λ z _. keeps-bind (valued (declaredAt (p .variables) v z)) _ (λ y _. keeps-pass (set-value v y)))
+  act-keeps n (assign v e) h = keeps-bind (valued (assigned edition1 (p .variables) vs v e)) _ (λ ys i.
+      let x = assigned-is edition1 (p .variables) vs v e (good (assigned edition1 (p .variables) vs v e) i) in
+      keeps-pass (rw (x .is) (set-value v (x .value))))
   act-keeps n (switch s m) h = keeps-pass (set-mode s m (exists-of (selectors p) s m h))
   act-keeps n stop h = keeps-pass f
 
   tick-keeps : (action : ℕ → Action) (acting : List ℕ) → Keeps p (judgeTick edition1 p action acting vs ms)
   unfolding judgeTick
-  tick-keeps action acting = keeps-then (allow 27 _) (λ _ _. keeps-then _ (λ _ _. keeps-then _ (λ _ _. keeps-bind (valued (advance p ms vs)) _ (λ ys e.
-      keeps-pass (record { values = advance-length p ms vs ys (good (advance p ms vs) e) ∙ f .values; modes = f .modes; exist = f .exist })))))
+  tick-keeps action acting = keeps-then (allow 27 _) (λ _ _. keeps-then _ (λ _ _. keeps-then _ (λ _ _. keeps-bind (valued (advance (p .variables) (rateOf p ms) vs)) _ (λ ys e.
+      keeps-pass (record { values = advance-length p ms vs ys (good (advance (p .variables) (rateOf p ms) vs) e) ∙ f .values; modes = f .modes; exist = f .exist })))))
 
 module _ (p : Plant) (action : ℕ → Action) (l : Lent) (ws : List ℕ) (vs : List ℤ) (ms : List ℕ) (q : Ready p action l ws vs ms) where
   acts : (n : ℕ) → among n (members ws) ≡ true → mem ws n ≡ true
@@ -118,7 +121,7 @@ module _ (p : Plant) (action : ℕ → Action) (l : Lent) (ws : List ℕ) (vs : 
 
   pick-keeps : (n : ℕ) → Keeps p (judgePick edition1 p action (members ws) vs ms n)
   unfolding judgePick
-  pick-keeps n = keeps-then (allow 25 (among n (members ws))) (λ _ e. keeps-then _ (λ _ _. act-keeps p vs ms (q .fits) n (action n) (q .nodes n (acts n (allowed 25 (among n (members ws)) e)) .named)))
+  pick-keeps n = keeps-then (allow 25 (among n (members ws))) (λ _ e. keeps-then _ (λ _ _. act-keeps p vs ms (q .fits) n (action n) (q .nodes n (acts n (allowed 25 (among n (members ws)) e)) .fits)))
 
   -- a switch's target is a mode of its selector
   target-exists : (s k : ℕ) (m : Mode) (w : Switch) → getElem? (currentModes p ms) s ≡ some m → getElem? (m .switches) k ≡ some w → Exists (selectors p) s (w .target)
@@ -136,7 +139,7 @@ module _ (p : Plant) (action : ℕ → Action) (l : Lent) (ws : List ℕ) (vs : 
       inside-modes : (s : ℕ) → s < length (currentModes p ms) → s < length ms
       inside-modes s h = let j = ap length (sym (modes-current p l (q .plant) vs ms (q .fits))) in omega (arith, modes-length (l .equations) (l .places) 0 ms)
 
-  switch-keeps : (s k : ℕ) → Keeps p (judgeSwitch edition1 p vs ms s k)
+  switch-keeps : (s k : ℕ) → Keeps p (judgeSwitch edition1 (currentModes p ms) vs ms s k)
   unfolding judgeSwitch
   switch-keeps s k =
       keeps-bind (find 26 (getElem? (currentModes p ms) s)) _ (λ m e. keeps-bind (find 26 (getElem? (m .switches) k)) _ (λ w g. keeps-bind (valued (truthValue edition1 vs (w .truth))) _ (λ b _. keeps-then (allow 30 b) (λ _ _.

@@ -1,7 +1,7 @@
 -- What the promises give the code: the current modes, the rates in force, the ranges.
 use mathlib.Core.Path.{_≡_, refl, sym, ap, ap₂, _∙_, subst}
 use mathlib.Core.Bool.{true}
-use mathlib.Core.List.{List, [], _∷_, map, flatMap}
+use mathlib.Core.List.{List, [], _∷_, map}
 use mathlib.Core.Option.{some}
 use Prim.Native.Nat.{ℕ, zero, suc, _+_, _*_, _≤_, _<_}
 use native.Mathlib.Omega.{arith}
@@ -15,11 +15,9 @@ use Rattle.semantics.specs.Sections.{Variable, Rate, Mode, Selector, Equation, 
 use Rattle.semantics.specs.Plant.{Plant, rateNamed, switchNamed, modeNamed, equationNamed, selectorsOf, selectors, noMode, currentOf, currentModes, rateOf, declared, declaredAt, allDeclared, added, advance}
 use Rattle.semantics.specs.Starts.{modesFit}
 use Rattle.semantics.proofs.Facts.{some-is, none-not-some, and-left, and-right, at-exists, All, all-nil, all-cons, every-all, all-every, all-map}
-use Rattle.effects.specs.Ranges.{rangesOf, rateIn, advanced, Sized}
-use Rattle.modes.specs.Modes.{modeAt, Stands, placeAt, modesFrom, modesNow, Current, Driving, laid}
+use Rattle.effects.specs.Ranges.{rangesOf, rateIn, Ranged, Sized}
+use Rattle.modes.specs.Modes.{modeAt, Stands, placeAt, modesFrom, Current, Driving, InForce}
 use Rattle.execution.specs.Ready.{Lent, ModeLent, PlantLent, Fits}
-use Rattle.modes.proofs.Walks.{length-laid}
-use Rattle.modes.proofs.Rates.{rates-laid}
 
 -- ---- the mode at its place
 pub stands-mode : {es : List ℕ} {at : ℕ} {m : Mode} → Stands es at m → modeAt es at ≡ m
@@ -101,7 +99,7 @@ module _ (p : Plant) (l : Lent) (q : PlantLent p l) (vs : List ℤ) (ms : List �
       let e = fit-at (selectors p) ms j (f .exist) (f .modes) (x .1) in
       record { selector = x .0; is = x .1; exists = e; lent = q .modes j (x .0) (x .1) (getD ms j 0) e }
 
-  pub modes-current : modesNow (l .equations) (l .places) ms ≡ currentModes p ms
+  pub modes-current : modesFrom (l .equations) (l .places) 0 ms ≡ currentModes p ms
   unfolding currentModes
   modes-current = modes-are l (selectors p) 0 ms (λ i c e m h. let z : i ≡ 0 + i = omega arith in subst (λ (y : ℕ). ModeLent l y c m) z (q .modes i c e m h)) (f .exist) (f .modes)
 
@@ -118,32 +116,31 @@ module _ (p : Plant) (l : Lent) (q : PlantLent p l) (vs : List ℤ) (ms : List �
   pub is-driving : Driving (l .equations) (l .places) ms 32
   is-driving = record { named = λ j h. more-named (length (p .variables)) 32 (modeAt (l .equations) (placeAt (l .places) ms j) .rates) (q .few) (mode-rates-named (length (p .variables)) _ _ (mode-named j h)) }
 
-  -- the rates that the code puts over each other
-  abbrev rates : List ℤ
-  rates = laid (l .steady) (flatMap (λ (m : Mode). m .rates) (modesNow (l .equations) (l .places) ms))
-
-  rate-is : (v : ℕ) → v < length vs → rateOf p ms v ≡ getD rates v (pos 0)
-  unfolding rateOf currentModes selectors
-  rate-is v h =
-      let e = f .values in
-      let i = q .few in
-      let o = q .long in
-      sym (ap (λ x. getD (laid (l .steady) (flatMap (λ (m : Mode). m .rates) x)) v (pos 0)) modes-current
-      ∙ rates-laid v [] (p .equations) ms (l .steady) (q .once) (f .modes) (omega arith) (q .steady v (omega arith)))
-
-  pub low-count : length (l .lows) ≡ length vs
+  low-count : length (l .lows) ≡ length vs
   low-count = ap length (q .lows) ∙ length-map (p .variables) (λ (x : Variable). x .minimum) ∙ sym (f .values)
 
-  pub high-count : length (l .highs) ≡ length vs
+  high-count : length (l .highs) ≡ length vs
   high-count = ap length (q .highs) ∙ length-map (p .variables) (λ (x : Variable). x .maximum) ∙ sym (f .values)
 
-  pub is-sized : (rs : List ℤ) → rs ≡ rates → Sized (l .lows) (l .highs) rs vs
-  is-sized rs e =
-      let i = q .few in
-      let o = q .long in
-      let k = f .values in
-      let a = ap length e ∙ length-laid (l .steady) (flatMap (λ (m : Mode). m .rates) (modesNow (l .equations) (l .places) ms)) in
-      record { lows = low-count; highs = high-count; rates = omega arith }
+  pub is-ranged : Ranged (l .lows) (l .highs) vs
+  is-ranged = record { lows = low-count; highs = high-count }
+
+  -- the rates that the code works out
+  module _ (rs : List ℤ) (x : InForce (l .equations) (l .places) ms (l .steady) rs) where
+    many : length vs ≤ length rs
+    many =
+        let i = q .few in
+        let o = q .long in
+        let k = f .values in
+        let n = x .long in
+        omega arith
+
+    pub rate-is : (v : ℕ) → v < length vs → rateOf p ms v ≡ getD rs v (pos 0)
+    unfolding rateOf currentModes selectors
+    rate-is v h = let n = many in sym (x .rates (p .equations) (q .once) modes-current (q .steady) .each v (omega arith))
+
+    pub is-sized : Sized (l .lows) (l .highs) rs vs
+    is-sized = record { lows = low-count; highs = high-count; rates = many }
 
 -- ---- the same ranges
 all-same : (xs : List Variable) (zs : List ℤ) → allDeclared (rangesOf (map (λ (x : Variable). x .minimum) xs) (map (λ (x : Variable). x .maximum) xs)) zs ≡ allDeclared xs zs
@@ -170,9 +167,9 @@ added-same f g k (v ∷ vs) h =
     ap₂ _∷_ (ap (λ (x : ℤ). v +ℤ x) (ap f (sym z) ∙ h 0 (omega arith) ∙ ap g z))
     (added-same f g (suc k) vs (λ i j. let w : k + suc i ≡ suc k + i = omega arith in ap f (sym w) ∙ h (suc i) (omega arith) ∙ ap g w))
 
-pub advance-is : (p : Plant) (l : Lent) (q : PlantLent p l) (vs : List ℤ) (ms : List ℕ) (f : Fits p vs ms) (rs : List ℤ)
-    → rs ≡ laid (l .steady) (flatMap (λ (m : Mode). m .rates) (modesNow (l .equations) (l .places) ms)) → advanced (l .lows) (l .highs) rs vs ≡ advance p ms vs
+pub advance-is : (p : Plant) (l : Lent) (q : PlantLent p l) (vs : List ℤ) (ms : List ℕ) (f : Fits p vs ms) (rs : List ℤ) → InForce (l .equations) (l .places) ms (l .steady) rs
+    → advance (rangesOf (l .lows) (l .highs)) (rateIn rs) vs ≡ advance (p .variables) (rateOf p ms) vs
 unfolding advance
-advance-is p l q vs ms f rs e =
+advance-is p l q vs ms f rs x =
     ap₂ (λ a b. allDeclared (rangesOf a b) (added (rateIn rs) 0 vs)) (q .lows) (q .highs) ∙ all-same (p .variables) (added (rateIn rs) 0 vs)
-    ∙ ap (allDeclared (p .variables)) (added-same (rateIn rs) (rateOf p ms) 0 vs (λ i h. let z : 0 + i ≡ i = omega arith in ap (rateIn rs) z ∙ ap (λ x. getD x i (pos 0)) e ∙ sym (rate-is p l q vs ms f i h) ∙ ap (rateOf p ms) (sym z)))
+    ∙ ap (allDeclared (p .variables)) (added-same (rateIn rs) (rateOf p ms) 0 vs (λ i h. let z : 0 + i ≡ i = omega arith in ap (rateIn rs) z ∙ sym (rate-is p l q vs ms f rs x i h) ∙ ap (rateOf p ms) (sym z)))

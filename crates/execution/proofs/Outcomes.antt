@@ -1,14 +1,13 @@
 -- What an answer of `judge` tells its caller.
 use mathlib.Core.Path.{_≡_, refl, sym, ap, _∙_, subst}
 use mathlib.Core.Bool.{Bool}
-use mathlib.Core.List.{List, _∷_, _++_, flatMap}
+use mathlib.Core.List.{List}
 use Prim.Native.Nat.{ℕ}
 use lib.IntN.{ℤ}
-use Rattle.semantics.specs.Bytes.{bigEndian}
 use Rattle.semantics.specs.Editions.{edition1}
 use Rattle.semantics.specs.Expressions.{above, below}
 use Rattle.semantics.specs.Run as Run
-use Rattle.semantics.specs.Run.{away, faulty, pass, Moved, nobody, mover, Done, Control, Answered, setNumber, actingSet, valueBytes, recordOf}
+use Rattle.semantics.specs.Run.{away, faulty, pass, Moved, nobody, mover, Done, Control, Answered, setNumber, actingSet, recordBytes, recordOf}
 use Rattle.nodeset.specs.Sets.{members}
 use Rattle.effects.specs.Verdicts.{movedVerdict, eventVerdict, valuesLeft, modesLeft, Left}
 use Rattle.effects.specs.declared.Verdict.{Verdict}
@@ -79,7 +78,6 @@ module _ (j : Run.Verdict Done) (vs : List ℤ) (ms : List ℕ) (vs' : List ℤ)
         go (of-move x) = x
 
 -- what `put_record` writes is the record, where the set is that of the acting nodes
-pub record-is : {S : Type 0} (c : Control S) (o : Answered S) (ws : List ℕ) → actingSet c (o .left .place) ≡ setNumber (members ws)
-    → o .answer ∷ bigEndian 8 (setNumber (members ws)) ++ (flatMap valueBytes (o .left .values) ++ o .left .modes) ≡ recordOf edition1 c o
+pub record-is : {S : Type 0} (c : Control S) (o : Answered S) (ws : List ℕ) → actingSet c (o .left .place) ≡ setNumber (members ws) → recordBytes edition1 (o .answer) (setNumber (members ws)) (o .left .values) (o .left .modes) ≡ recordOf edition1 c o
 unfolding recordOf
-record-is c o ws e = ap (λ n. o .answer ∷ bigEndian 8 n ++ (flatMap valueBytes (o .left .values) ++ o .left .modes)) (sym e)
+record-is c o ws e = ap (λ n. recordBytes edition1 (o .answer) n (o .left .values) (o .left .modes)) (sym e)

@@ -77,7 +77,7 @@ module _ (vs es : List ℕ) {p : Plant} (h : judgePlant edition1 vs es ≡ accep
       highs = b ∙ highs-lent;
       few = variables-high vs es h;
       long = ap length s ∙ steady-length;
-      steady = λ v i. ap (λ z. getD z v (pos 0)) (s ∙ steady-of vs es h) ∙ rate-among-at (ratesOf (p .equations) []) 32 v (omega (arith, variables-high vs es h));
+      steady = record { each = λ v i. ap (λ z. getD z v (pos 0)) (s ∙ steady-of vs es h) ∙ rate-among-at (ratesOf (p .equations) []) 32 v (omega (arith, ap length s, steady-length)) };
       modes = mode-lent;
       named = passed-all vs es h .named;
       once = passed-all vs es h .once;

@@ -9,13 +9,13 @@ use native.Mathlib.Omega.{arith}
 use lib.IntN.{ℤ}
 use lib.ListN.{length, getD, take, drop, length-append}
 use lib.Seq.{drop-drop}
-use Rattle.semantics.specs.Bytes.{bigEndian, overwrite}
+use Rattle.semantics.specs.Bytes.{overwrite}
 use Rattle.semantics.specs.Editions.{edition1}
 use Rattle.semantics.specs.Refusals.{refused, accepted}
 use Rattle.semantics.specs.Plant.{Plant, selectors}
 use Rattle.semantics.specs.Starts.{Start}
 use Rattle.semantics.specs.Events.{eventsIn}
-use Rattle.semantics.specs.Run.{Control, Situation, Answered, at, step, answers, setNumber, actingSet, valueBytes, recordOf}
+use Rattle.semantics.specs.Run.{Control, Situation, Answered, at, step, answers, setNumber, actingSet, recordBytes, recordOf}
 use Rattle.semantics.specs.Calls.{eventCount, recordSize, Program, runFrom, outcomeOf, report}
 use Rattle.semantics.proofs.RunCounts.{record-length}
 use Rattle.codec.specs.Writing.{Wrote}
@@ -125,7 +125,7 @@ module _ {S : Type 0} (p : Plant) (c : Control S) (st₀ : Situation S) (events 
         → step edition1 p c st e ≡ record { answer = answer; left = record { place = place; values = vs; modes = ms } }
         → actingSet c place ≡ setNumber (members ws)
         → Fits p vs ms
-        → Wrote d i (answer ∷ bigEndian 8 (setNumber (members ws)) ++ (flatMap valueBytes vs ++ ms)) d'
+        → Wrote d i (recordBytes edition1 answer (setNumber (members ws)) vs ms) d'
         → i' ≡ i + (9 + 4 * length vs + length ms)
         → cs' ≡ bookedOf cs answer
         → RunSoFar p c st₀ events n d₀ (k + 1) i' (record { place = place; values = vs; modes = ms }) cs' d'

@@ -1,21 +1,23 @@
 -- Which event three bytes are.
-use mathlib.Core.Path.{_≡_, refl, sym, ap, ap₂, _∙_}
-use mathlib.Core.Bool.{Bool, false, cond}
+use mathlib.Core.Path.{_≡_, refl, sym, ap}
+use mathlib.Core.Bool.{Bool, true, false, cond}
 use mathlib.Core.List.{List, [], _∷_}
 use mathlib.Core.Option.{none, some}
 use Prim.Native.Nat.{ℕ}
-use borrow.Author.Tests.{eq-eqb, ne-eqb}
+use native.Mathlib.Omega.{arith}
+use borrow.Author.Tests.{eq-eqb, ne-eqb, eqb-true, eqb-false}
 use lib.Dec.{eqb}
 use lib.IntN.{ℤ}
 use Rattle.semantics.specs.Bytes.{every, Read, broken, read, _>>=_, andThen, byte, number, fail, just, whole}
 use Rattle.semantics.specs.Editions.{edition1}
 use Rattle.semantics.specs.Plant.{Plant}
 use Rattle.semantics.specs.Events.{Event, tick, pick, take-switch, senseless, EventKind, no-kind, eventKind, unused, readEventBody, readEvent, eventIn}
-use Rattle.semantics.specs.Run.{Action, judge, judgeTick, judgePick, judgeSwitch}
-use Rattle.semantics.specs.Run as Run
+use Rattle.semantics.specs.Run.{Action, judge}
+use Rattle.semantics.proofs.Facts.{true-not-false}
 use Rattle.effects.specs.Verdicts.{Left}
 use Rattle.effects.specs.declared.Verdict.{Verdict}
 use Rattle.effects.specs.declared.Verdict.the-variants.{Away}
+use Rattle.execution.specs.Sense.{Sense, eventOf}
 use Rattle.execution.proofs.Events.{left-away, left-eq}
 
 -- an event whose unused bytes are 0, or not
@@ -38,30 +40,27 @@ unfolding every
 not-second b s e h = rw (eq-eqb b 0 e, every) h
 
 module _ (a b c : ℕ) where
-  abbrev event : Event
-  event = eventIn edition1 (a ∷ b ∷ c ∷ [])
-
-  is-tick : a ≡ 0 → b ≡ 0 → c ≡ 0 → event ≡ tick
+  is-tick : a ≡ 0 → b ≡ 0 → c ≡ 0 → eventOf a b c ≡ tick
   unfolding eventIn readEvent readEventBody eventKind unused every _>>=_ andThen byte just whole
   is-tick e f g = rw (e, f, g) refl
 
-  no-tick : a ≡ 0 → unusedZero (b ∷ c ∷ []) ≡ false → event ≡ senseless
+  no-tick : a ≡ 0 → unusedZero (b ∷ c ∷ []) ≡ false → eventOf a b c ≡ senseless
   unfolding eventIn readEvent readEventBody eventKind unused _>>=_ andThen byte just whole
   no-tick e h = rw e (ap (made tick) h)
 
-  is-pick : a ≡ 1 → c ≡ 0 → event ≡ pick b
+  is-pick : a ≡ 1 → c ≡ 0 → eventOf a b c ≡ pick b
   unfolding eventIn readEvent readEventBody eventKind unused every _>>=_ andThen byte number just whole
   is-pick e g = rw (e, g) refl
 
-  no-pick : a ≡ 1 → unusedZero (c ∷ []) ≡ false → event ≡ senseless
+  no-pick : a ≡ 1 → unusedZero (c ∷ []) ≡ false → eventOf a b c ≡ senseless
   unfolding eventIn readEvent readEventBody eventKind unused _>>=_ andThen byte number just whole
   no-pick e h = rw e (ap (made (pick b)) h)
 
-  is-switch : a ≡ 2 → event ≡ take-switch b c
+  is-switch : a ≡ 2 → eventOf a b c ≡ take-switch b c
   unfolding eventIn readEvent readEventBody eventKind unused every _>>=_ andThen byte just whole
   is-switch e = rw e refl
 
-  unknown : eventKind a ≡ no-kind → event ≡ senseless
+  unknown : eventKind a ≡ no-kind → eventOf a b c ≡ senseless
   unfolding eventIn readEvent readEventBody _>>=_ andThen byte fail just whole
   unknown e = ap (kinded (b ∷ c ∷ [])) e
 
@@ -69,39 +68,40 @@ no-kind-of : (a : ℕ) → (a ≡ 0 → ⊥) → (a ≡ 1 → ⊥) → (a ≡ 2 
 unfolding eventKind
 no-kind-of a e f g = rw (ne-eqb a 0 e, ne-eqb a 1 f, ne-eqb a 2 g) refl
 
+-- ---- what the tests of the bytes say
+module _ {a b c : ℕ} where
+  pub second-used : a ≡ 0 → (b ≡ 0 → ⊥) → Sense a b c false
+  second-used e h = record { none = λ r. no-tick a b c e (not-first b (c ∷ []) h); ticks = λ r. true-not-false (sym r); picks = λ r. true-not-false (sym r); switches = λ r. true-not-false (sym r) }
+
+  pub third-tells : a ≡ 0 → b ≡ 0 → Sense a b c (eqb c 0)
+  third-tells e h = record {
+    none = λ r. no-tick a b c e (not-second b (c ∷ []) h (not-first c [] (eqb-false c 0 r)));
+    ticks = λ r f. is-tick a b c e h (eqb-true c 0 r);
+    picks = λ r f. absurd (omega arith);
+    switches = λ r f g. absurd (f e);
+  }
+
+  pub pick-tells : a ≡ 1 → Sense a b c (eqb c 0)
+  pick-tells e = record {
+    none = λ r. no-pick a b c e (not-first c [] (eqb-false c 0 r));
+    ticks = λ r f. absurd (omega arith);
+    picks = λ r f. is-pick a b c e (eqb-true c 0 r);
+    switches = λ r f g. absurd (g e);
+  }
+
+  pub kind-tells : (a ≡ 0 → ⊥) → (a ≡ 1 → ⊥) → Sense a b c (eqb a 2)
+  kind-tells e h = record {
+    none = λ r. unknown a b c (no-kind-of a e h (eqb-false a 2 r));
+    ticks = λ r f. absurd (e f);
+    picks = λ r f. absurd (h f);
+    switches = λ r f g. is-switch a b c (eqb-true a 2 r);
+  }
+
 -- ---- judged
-module _ (p : Plant) (f : ℕ → Action) (acting : List ℕ) (vs : List ℤ) (ms : List ℕ) (a b c : ℕ) where
-  abbrev judged : Run.Verdict Run.Done
-  judged = judge edition1 p f acting vs ms (eventIn edition1 (a ∷ b ∷ c ∷ []))
-
-  as-event : {e : Event} → eventIn edition1 (a ∷ b ∷ c ∷ []) ≡ e → judged ≡ judge edition1 p f acting vs ms e
-  as-event h = ap (judge edition1 p f acting vs ms) h
-
-  senseless-left : eventIn edition1 (a ∷ b ∷ c ∷ []) ≡ senseless → Left judged vs ms (Away 24) vs ms
+module _ (vs : List ℤ) (ms : List ℕ) (p : Plant) (f : ℕ → Action) (acting : List ℕ) {e : Event} where
+  pub senseless-left : e ≡ senseless → Left (judge edition1 p f acting vs ms e) vs ms (Away 24) vs ms
   unfolding judge
-  senseless-left h = left-away vs ms (as-event h)
+  senseless-left h = left-away vs ms (ap (judge edition1 p f acting vs ms) h)
 
-  pub second-used : a ≡ 0 → (b ≡ 0 → ⊥) → Left judged vs ms (Away 24) vs ms
-  second-used e h = senseless-left (no-tick a b c e (not-first b (c ∷ []) h))
-
-  pub third-used : a ≡ 0 → b ≡ 0 → (c ≡ 0 → ⊥) → Left judged vs ms (Away 24) vs ms
-  third-used e h g = senseless-left (no-tick a b c e (not-second b (c ∷ []) h (not-first c [] g)))
-
-  pub pick-used : a ≡ 1 → (c ≡ 0 → ⊥) → Left judged vs ms (Away 24) vs ms
-  pick-used e g = senseless-left (no-pick a b c e (not-first c [] g))
-
-  pub kind-unknown : (a ≡ 0 → ⊥) → (a ≡ 1 → ⊥) → (a ≡ 2 → ⊥) → Left judged vs ms (Away 24) vs ms
-  kind-unknown e h g = senseless-left (unknown a b c (no-kind-of a e h g))
-
-  module _ {r : Verdict} {ys : List ℤ} {ns : List ℕ} where
-    pub ticks : a ≡ 0 → b ≡ 0 → c ≡ 0 → Left (judgeTick edition1 p f acting vs ms) vs ms r ys ns → Left judged vs ms r ys ns
-    unfolding judge
-    ticks e h g x = left-eq vs ms (as-event (is-tick a b c e h g)) x
-
-    pub picks : a ≡ 1 → c ≡ 0 → {n : ℕ} → n ≡ b → Left (judgePick edition1 p f acting vs ms n) vs ms r ys ns → Left judged vs ms r ys ns
-    unfolding judge
-    picks e g h x = left-eq vs ms (as-event (is-pick a b c e g) ∙ ap (judgePick edition1 p f acting vs ms) (sym h)) x
-
-    pub takes : a ≡ 2 → {s k : ℕ} → s ≡ b → k ≡ c → Left (judgeSwitch edition1 p vs ms s k) vs ms r ys ns → Left judged vs ms r ys ns
-    unfolding judge
-    takes e h g x = left-eq vs ms (as-event (is-switch a b c e) ∙ ap₂ (judgeSwitch edition1 p vs ms) (sym h) (sym g)) x
+  pub event-left : {d : Event} {r : Verdict} {ys : List ℤ} {ns : List ℕ} → e ≡ d → Left (judge edition1 p f acting vs ms d) vs ms r ys ns → Left (judge edition1 p f acting vs ms e) vs ms r ys ns
+  event-left h x = left-eq vs ms (ap (judge edition1 p f acting vs ms) h) x

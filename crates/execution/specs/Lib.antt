@@ -1,3 +1,4 @@
 pub mod Operands
 pub mod Ready
 pub mod Runs
+pub mod Sense

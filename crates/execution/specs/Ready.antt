@@ -1,21 +1,25 @@
 -- What a runner promises of the plain data that it lends.
 use mathlib.Core.Path.{_≡_}
-use mathlib.Core.Bool.{Bool, true}
+use mathlib.Core.Bool.{true}
 use mathlib.Core.List.{List, [], map}
 use mathlib.Core.Option.{some}
 use Prim.Native.Nat.{ℕ, _+_, _*_, _≤_, _<_}
-use lib.Dec.{ltb}
-use lib.IntN.{ℤ, pos}
+use lib.IntN.{ℤ}
 use lib.ListN.{length, getD, getElem?}
 use Rattle.semantics.specs.Bytes.{every}
+use Rattle.semantics.specs.Editions.{edition1}
 use Rattle.semantics.specs.Sections.{Variable, Selector}
-use Rattle.semantics.specs.Plant.{Plant, equationNamed, drivenOnce, selectors, modeExists, noMode, rateAmong}
+use Rattle.semantics.specs.Plant.{Plant, equationNamed, drivenOnce, selectors, noMode, ratesOf}
 use Rattle.semantics.specs.Starts.{modesFit}
-use Rattle.semantics.specs.Run.{Action, test, wait, assign, switch, stop}
+use Rattle.semantics.specs.Events.{Event}
+use Rattle.semantics.specs.Run.{Action, judge}
 use Rattle.semantics.specs.TableFile.{actionKind, actionOfKind}
-use Rattle.nodeset.specs.Sets.{mem}
+use Rattle.semantics.specs.Tables.{operandFits}
+use Rattle.nodeset.specs.Sets.{mem, members}
 use Rattle.execution.specs.Operands.{cutAt, Cut}
-use Rattle.modes.specs.Modes.{Stands}
+use Rattle.modes.specs.Modes.{Stands, RatesIn}
+use Rattle.effects.specs.Verdicts.{Left}
+use Rattle.effects.specs.declared.Verdict.{Verdict}
 
 pub record Lent : Type 0 where
   -- the equation section, and the place of mode m of selector j at 8 * j + m
@@ -55,21 +59,13 @@ pub record PlantLent (p : Plant) (l : Lent) : Type 0 where
   pub highs : l .highs ≡ map (λ (x : Variable). x .maximum) (p .variables)
   pub few : length (p .variables) ≤ 32
   pub long : length (l .steady) ≡ 32
-  pub steady : (v : ℕ) → v < length (p .variables) → getD (l .steady) v (pos 0) ≡ rateAmong (ratesOf (p .equations) []) v
+  pub steady : RatesIn (l .steady) (ratesOf (p .equations) [])
   pub modes : (j : ℕ) (c : Selector) → getElem? (selectors p) j ≡ some c → (m : ℕ) → m < length (c .modes) → ModeLent l j c m
   -- conditions 7 and 8
   pub named : every (equationNamed (length (p .variables))) (p .equations) ≡ true
   pub once : drivenOnce [] (p .equations) ≡ true
 
 -- ---- a node
--- condition 11: what an action names exists
-unfoldable pub actionNamed : ℕ → List Selector → Action → Bool
-actionNamed variables cs (test t) = true
-actionNamed variables cs (wait t) = true
-actionNamed variables cs (assign v e) = ltb v variables
-actionNamed variables cs (switch s m) = modeExists cs s m
-actionNamed variables cs stop = true
-
 abbrev pub operandAt : Lent → ℕ → List ℕ
 operandAt l n = cutAt (l .operands) (l .starts) (l .ends) n
 
@@ -78,7 +74,7 @@ pub record NodeLent (p : Plant) (a : Action) (l : Lent) (n : ℕ) : Type 0 where
   pub kind : n < length (l .kinds)
   pub cut : Cut (l .operands) (l .starts) (l .ends) n
   pub is : actionOfKind (actionKind (getD (l .kinds) n 0)) (operandAt l n) ≡ some a
-  pub named : actionNamed (length (p .variables)) (selectors p) a ≡ true
+  pub fits : operandFits edition1 (length (p .variables)) (selectors p) a ≡ true
 
 -- ---- an event
 -- a value for each variable, and an existing mode for each selector
@@ -98,3 +94,7 @@ pub record Promised (l : Lent) (acting : List ℕ) (vs : List ℤ) (ms : List �
   pub plant : Plant
   pub action : ℕ → Action
   pub ready : Ready plant action l acting vs ms
+
+-- what an event makes of values and modes, whatever plant and actions are lent so
+abbrev pub Judges : Lent → List ℕ → Event → List ℤ → List ℕ → Verdict → List ℤ → List ℕ → Type 0
+Judges l acting e vs ms r vs' ms' = (p : Plant) (f : ℕ → Action) → Ready p f l acting vs ms → Left (judge edition1 p f (members acting) vs ms e) vs ms r vs' ms'

@@ -19,7 +19,8 @@ unfoldable pub answerBytes : {S : Type 0} → List (Answered S) → List ℕ
 answerBytes {S} l = map (λ (o : Answered S). o .answer) l
 
 -- k of n events are answered: where the run stands, its counts, and d, which was d₀, with their records up to place i
-pub record RunSoFar {S : Type 0} (p : Plant) (c : Control S) (st₀ : Situation S) (events : List ℕ) (n : ℕ) (d₀ : List ℕ) (k i : ℕ) (st : Situation S) (cs : Counts) (d : List ℕ) : Type 0 where
+pub record RunSoFar {S : Type 0} (p : Plant) (c : Control S) (st₀ : Situation S) (events : List ℕ) (n : ℕ) (d₀ : List ℕ)
+    (k i : ℕ) (st : Situation S) (cs : Counts) (d : List ℕ) : Type 0 where
   pub said : List (Answered S)
   pub rest : answers edition1 p c st₀ (eventsIn 3 n events) ≡ said ++ answers edition1 p c st (eventsIn 3 (n - k) (drop (3 * k) events))
   pub many : length said ≡ k

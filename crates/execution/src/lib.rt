@@ -3,20 +3,20 @@ use effects::Verdict;
 use nodeset::NodeSet;
 ghost use mathlib.Core.Path.{_≡_};
 ghost use mathlib.Core.Bool.{true};
-ghost use mathlib.Core.List.{[], _∷_, map};
+ghost use mathlib.Core.List.{map};
 ghost use Prim.Native.Nat.{ℕ, _<_};
 ghost use lib.ListN.{length};
 ghost use Rattle.semantics.specs.Editions.{edition1};
 ghost use Rattle.semantics.specs.Bytes.{every};
-ghost use Rattle.semantics.specs.Plant.{Plant};
-ghost use Rattle.semantics.specs.Events.{eventIn};
+ghost use Rattle.semantics.specs.Events.{tick as ticked, pick as picked};
 ghost use Rattle.semantics.specs.Expressions.{truthValue};
-ghost use Rattle.semantics.specs.Run.{Action, walk, judgeTick, judgePick, judge as judgeOf};
+ghost use Rattle.semantics.specs.Run.{walk};
 ghost use Rattle.nodeset.specs.Sets.{mem, members};
-ghost use Rattle.effects.specs.Verdicts.{stepVerdict, truthVerdict, Left};
+ghost use Rattle.effects.specs.Verdicts.{stepVerdict, truthVerdict};
 ghost use Rattle.effects.specs.declared.Verdict.the-variants.{Away, Stay};
 ghost use Rattle.execution.specs.Operands.{cutAt, Cut, isWaitKind};
-ghost use Rattle.execution.specs.Ready.{Ready, Promised, lent};
+ghost use Rattle.execution.specs.Ready.{Promised, Judges, lent};
+ghost use Rattle.execution.specs.Sense.{Sense, eventOf};
 
 // Are all acting nodes waits?
 fn all_wait(kinds: &[u8], acting: NodeSet) -> bool
@@ -81,7 +81,9 @@ fn tick(
     modes: &[u8],
 ) -> Verdict
     requires { ⌜ Promised (lent (now es) (now places) steady (now lows) (now highs) (now ops) (now kinds) (now starts) (now ends)) (acting .words) (now values) (now modes) ⌝ }
-    ensures { λ r. ⌜ ((p : Plant) (f : ℕ → Action) → Ready p f (lent (now (es .entry)) (now (places .entry)) steady (now (lows .entry)) (now (highs .entry)) (now (ops .entry)) (now (kinds .entry)) (now (starts .entry)) (now (ends .entry))) (acting .words) (now (values .entry)) (now (modes .entry)) → Left (judgeTick edition1 p f (members (acting .words)) (now (values .entry)) (now (modes .entry))) (now (values .entry)) (now (modes .entry)) r (now (values .exit)) (now (modes .entry))) ⌝ }
+    ensures { λ r. ⌜ Judges
+        (lent (now (es .entry)) (now (places .entry)) steady (now (lows .entry)) (now (highs .entry)) (now (ops .entry)) (now (kinds .entry)) (now (starts .entry)) (now (ends .entry)))
+        (acting .words) ticked (now (values .entry)) (now (modes .entry)) r (now (values .exit)) (now (modes .entry)) ⌝ }
 {
     if !all_wait(kinds, acting) {
         return Verdict::Away(27);
@@ -115,7 +117,9 @@ fn pick(
     modes: &mut [u8],
 ) -> Verdict
     requires { ⌜ Promised (lent (now es) (now places) steady (now lows) (now highs) (now ops) (now kinds) (now starts) (now ends)) (acting .words) (now values) (now modes) × (n < 256) ⌝ }
-    ensures { λ r. ⌜ ((p : Plant) (f : ℕ → Action) → Ready p f (lent (now (es .entry)) (now (places .entry)) steady (now (lows .entry)) (now (highs .entry)) (now (ops .entry)) (now (kinds .entry)) (now (starts .entry)) (now (ends .entry))) (acting .words) (now (values .entry)) (now (modes .entry)) → Left (judgePick edition1 p f (members (acting .words)) (now (values .entry)) (now (modes .entry)) n) (now (values .entry)) (now (modes .entry)) r (now (values .exit)) (now (modes .exit))) ⌝ }
+    ensures { λ r. ⌜ Judges
+        (lent (now (es .entry)) (now (places .entry)) steady (now (lows .entry)) (now (highs .entry)) (now (ops .entry)) (now (kinds .entry)) (now (starts .entry)) (now (ends .entry)))
+        (acting .words) (picked n) (now (values .entry)) (now (modes .entry)) r (now (values .exit)) (now (modes .exit)) ⌝ }
 {
     if !nodeset::contains(acting, n) {
         return Verdict::Away(25);
@@ -127,6 +131,22 @@ fn pick(
     let b = starts[n];
     let e = ends[n];
     effects::effect(kinds[n], &ops[b..e], lows, highs, n, values, modes)
+}
+
+// Are the three bytes an event? A tick uses one of them, a pick two, a switch event all.
+fn sensible(a: u8, b: u8, c: u8) -> bool
+    ensures { λ r. ⌜ Sense a b c r ⌝ }
+{
+    if a == 0 {
+        if b != 0 {
+            return false;
+        }
+        return c == 0;
+    }
+    if a == 1 {
+        return c == 0;
+    }
+    a == 2
 }
 
 // One event, of the three bytes a, b, c. Values and modes are those that it leaves.
@@ -148,15 +168,14 @@ pub fn judge(
     modes: &mut [u8],
 ) -> Verdict
     requires { ⌜ Promised (lent (now es) (now places) steady (now lows) (now highs) (now ops) (now kinds) (now starts) (now ends)) (acting .words) (now values) (now modes) ⌝ }
-    ensures { λ r. ⌜ ((p : Plant) (f : ℕ → Action) → Ready p f (lent (now (es .entry)) (now (places .entry)) steady (now (lows .entry)) (now (highs .entry)) (now (ops .entry)) (now (kinds .entry)) (now (starts .entry)) (now (ends .entry))) (acting .words) (now (values .entry)) (now (modes .entry)) → Left (judgeOf edition1 p f (members (acting .words)) (now (values .entry)) (now (modes .entry)) (eventIn edition1 (a ∷ b ∷ c ∷ []))) (now (values .entry)) (now (modes .entry)) r (now (values .exit)) (now (modes .exit))) ⌝ }
+    ensures { λ r. ⌜ Judges
+        (lent (now (es .entry)) (now (places .entry)) steady (now (lows .entry)) (now (highs .entry)) (now (ops .entry)) (now (kinds .entry)) (now (starts .entry)) (now (ends .entry)))
+        (acting .words) (eventOf a b c) (now (values .entry)) (now (modes .entry)) r (now (values .exit)) (now (modes .exit)) ⌝ }
 {
+    if !sensible(a, b, c) {
+        return Verdict::Away(24);
+    }
     if a == 0 {
-        if b != 0 {
-            return Verdict::Away(24);
-        }
-        if c != 0 {
-            return Verdict::Away(24);
-        }
         return tick(
             es,
             places,
@@ -173,9 +192,6 @@ pub fn judge(
         );
     }
     if a == 1 {
-        if c != 0 {
-            return Verdict::Away(24);
-        }
         return pick(
             es,
             places,
@@ -187,20 +203,10 @@ pub fn judge(
             starts,
             ends,
             acting,
-            effects::wide(b),
+            b as usize,
             values,
             modes,
         );
     }
-    if a == 2 {
-        return modes::take_switch(
-            es,
-            places,
-            effects::wide(b),
-            effects::wide(c),
-            values,
-            modes,
-        );
-    }
-    Verdict::Away(24)
+    modes::take_switch(es, places, b as usize, c as usize, values, modes)
 }

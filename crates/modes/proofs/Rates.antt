@@ -1,255 +1,129 @@
--- Rates put over each other are the rates in force: condition 8 has each variable driven once.
+-- Rates put before each other are the rates in force: condition 8 has each variable driven once, so that only which rates there are counts.
 use mathlib.Core.Path.{_≡_, refl, sym, ap, _∙_}
-use mathlib.Core.Bool.{Bool, true, false, not, _&&_}
-use mathlib.Core.List.{List, [], _∷_, _++_, map, flatMap}
-use Prim.Native.Nat.{ℕ, zero, suc, _<_}
-use native.Mathlib.Omega.{arith}
-use borrow.Author.Tests.{eqb-true, eqb-false}
-use lib.Dec.{eqb}
-use lib.IntN.{ℤ, pos}
-use lib.ListN.{length, getD, set, length-set}
-use lib.Seq.{getD-set-same, getD-set-other}
-use Rattle.semantics.specs.Bytes.{every}
+use mathlib.Core.Bool.{true}
+use mathlib.Core.List.{List, [], _∷_, _++_, flatMap, List·Memᴰ as Mem, List·Memᴰ·head as first, List·Memᴰ·tail as later, List·Memᴰ·not-nil, List·Memᴰ·cases-cons, List·Memᴰ·append-cases, Memᴰ·append-left, Memᴰ·append-right}
+use mathlib.Core.Logic.{_⊎_, inl, inr}
+use Prim.Native.Nat.{ℕ}
+use lib.IntN.{ℤ}
+use lib.ListN.{getD}
 use Rattle.semantics.specs.Sections.{Rate, Mode, Selector, Equation, steady, choice}
-use Rattle.semantics.specs.Plant.{noMode, among, apart, onceAfter, modeDrives, drives, modesOnce, drivenOnce, selectorsOf, currentOf, ratesOf, rateAmong, ratesDrive, modeOnce}
-use Rattle.semantics.proofs.Facts.{true-not-false, and-left, and-right, by-cases, All, all-nil, all-cons}
-use Rattle.modes.specs.Modes.{laid}
-use Rattle.modes.proofs.Walks.{length-laid, laid-append}
+use Rattle.semantics.specs.Plant.{noMode, drivenOnce, selectorsOf, currentOf, ratesOf, rateAmong}
+use Rattle.semantics.proofs.Currents.{Rated, RateFound, found-rate, no-rate, rate-found}
+use Rattle.semantics.proofs.OneRate.{one-of}
+use Rattle.modes.specs.Modes.{modesFrom, before, RatesIn, Laid, InForce}
 
-abbrev drivenBy : List Rate → List ℕ
-drivenBy rs = map (λ (r : Rate). r .driven) rs
+-- ---- two lists of the same rates
+-- each of the first is in the second
+abbrev Within : List Rate → List Rate → Type 0
+Within l k = (r : Rate) → Mem r l → Mem r k
 
--- ---- membership
-among-append : (v : ℕ) (a b : List ℕ) → among v a ≡ false → among v (a ++ b) ≡ among v b
-unfolding among
-among-append v [] b h = refl
-among-append v (n ∷ a) b h = go (eqb n v) refl h (among-append v a b)
+rated-in : {l k : List Rate} → Within l k → {v : ℕ} {z : ℤ} → Rated l v z → Rated k v z
+rated-in f q = record { rate = q .rate; listed = f (q .rate) (q .listed); drives-it = q .drives-it; is-rate = q .is-rate }
+
+same-rate : (l k : List Rate) → Within l k → Within k l → ((r q : Rate) → Mem r k → Mem q k → r .driven ≡ q .driven → r .rate ≡ q .rate) → (v : ℕ) → rateAmong l v ≡ rateAmong k v
+same-rate l k f g one v = go (rate-found l v) (rate-found k v)
   where
-    go : (t : Bool) → eqb n v ≡ t → elim t [ true ↦ true | false ↦ among v a ] ≡ false → (among v a ≡ false → among v (a ++ b) ≡ among v b) → elim (eqb n v) [ true ↦ true | false ↦ among v (a ++ b) ] ≡ among v b
-    go true e h ih = true-not-false h
-    go false e h ih = rw e (ih h)
+    go : RateFound l v → RateFound k v → rateAmong l v ≡ rateAmong k v
+    go (found-rate a) (found-rate b) = sym (a .is-rate) ∙ one (a .rate) (b .rate) (f (a .rate) (a .listed)) (b .listed) (a .drives-it ∙ sym (b .drives-it)) ∙ b .is-rate
+    go (found-rate a) (no-rate n e) = absurd (n _ (rated-in f a))
+    go (no-rate n e) (found-rate b) = absurd (n _ (rated-in g b))
+    go (no-rate n e) (no-rate m h) = e ∙ sym h
 
-among-first : (v : ℕ) (a b : List ℕ) → among v a ≡ true → among v (a ++ b) ≡ true
-unfolding among
-among-first v [] b h = true-not-false (sym h)
-among-first v (n ∷ a) b h = go (eqb n v) refl h (among-first v a b)
+-- ---- which rates there are
+before-parts : (rs l : List Rate) {r : Rate} → Mem r (before rs l) → Mem r rs ⊎ Mem r l
+unfolding before
+before-parts [] l m = inr m
+before-parts (q ∷ rs) l {r} m = go (before-parts rs (q ∷ l) m)
   where
-    go : (t : Bool) → eqb n v ≡ t → elim t [ true ↦ true | false ↦ among v a ] ≡ true → (among v a ≡ true → among v (a ++ b) ≡ true) → elim (eqb n v) [ true ↦ true | false ↦ among v (a ++ b) ] ≡ true
-    go true e h ih = rw e refl
-    go false e h ih = rw e (ih h)
+    there : (r ≡ q) ⊎ Mem r l → Mem r (q ∷ rs) ⊎ Mem r l
+    there (inl e) = inl (first e)
+    there (inr i) = inr i
 
-among-second : (v : ℕ) (a b : List ℕ) → among v b ≡ true → among v (a ++ b) ≡ true
-unfolding among
-among-second v [] b h = h
-among-second v (n ∷ a) b h = go (eqb n v) (among-second v a b h)
+    go : Mem r rs ⊎ Mem r (q ∷ l) → Mem r (q ∷ rs) ⊎ Mem r l
+    go (inl i) = inl (later i)
+    go (inr i) = there (List·Memᴰ·cases-cons i)
+
+before-old : (rs l : List Rate) {r : Rate} → Mem r l → Mem r (before rs l)
+unfolding before
+before-old [] l m = m
+before-old (q ∷ rs) l m = before-old rs (q ∷ l) (later m)
+
+before-new : (rs l : List Rate) {r : Rate} → Mem r rs → Mem r (before rs l)
+unfolding before
+before-new [] l m = absurd (List·Memᴰ·not-nil m)
+before-new (q ∷ rs) l {r} m = go (List·Memᴰ·cases-cons m) (λ i. before-new rs (q ∷ l) i)
   where
-    go : (t : Bool) → among v (a ++ b) ≡ true → elim t [ true ↦ true | false ↦ among v (a ++ b) ] ≡ true
-    go true i = refl
-    go false i = i
+    go : (r ≡ q) ⊎ Mem r rs → (Mem r rs → Mem r (before rs (q ∷ l))) → Mem r (before rs (q ∷ l))
+    go (inl e) f = before-old rs (q ∷ l) (first e)
+    go (inr i) f = f i
 
--- ---- rates that leave a variable alone
-module _ (v : ℕ) where
-  free-rate : (rs : List Rate) → among v (drivenBy rs) ≡ false → rateAmong rs v ≡ pos 0
-  unfolding among rateAmong
-  free-rate [] h = refl
-  free-rate (r ∷ rs) h = go (eqb (r .driven) v) refl h (free-rate rs)
-    where
-      go : (t : Bool) → eqb (r .driven) v ≡ t → elim t [ true ↦ true | false ↦ among v (drivenBy rs) ] ≡ false → (among v (drivenBy rs) ≡ false → rateAmong rs v ≡ pos 0) → elim (eqb (r .driven) v) [ true ↦ r .rate | false ↦ rateAmong rs v ] ≡ pos 0
-      go true e h ih = true-not-false h
-      go false e h ih = rw e (ih h)
+before-in : (rs l : List Rate) {r : Rate} → Mem r rs ⊎ Mem r l → Mem r (before rs l)
+before-in rs l (inl i) = before-new rs l i
+before-in rs l (inr i) = before-old rs l i
 
-  skip-rate : (ps rs : List Rate) → among v (drivenBy ps) ≡ false → rateAmong (ps ++ rs) v ≡ rateAmong rs v
-  unfolding among rateAmong
-  skip-rate [] rs h = refl
-  skip-rate (r ∷ ps) rs h = go (eqb (r .driven) v) refl h (skip-rate ps rs)
-    where
-      go : (t : Bool) → eqb (r .driven) v ≡ t → elim t [ true ↦ true | false ↦ among v (drivenBy ps) ] ≡ false → (among v (drivenBy ps) ≡ false → rateAmong (ps ++ rs) v ≡ rateAmong rs v) → elim (eqb (r .driven) v) [ true ↦ r .rate | false ↦ rateAmong (ps ++ rs) v ] ≡ rateAmong rs v
-      go true e h ih = true-not-false h
-      go false e h ih = rw e (ih h)
+-- the rates of the current modes
+abbrev current : List Equation → List ℕ → List Rate
+current es ms = flatMap (λ (m : Mode). m .rates) (currentOf (selectorsOf es) ms)
 
-  first-rate : (ps rs : List Rate) → among v (drivenBy ps) ≡ true → rateAmong (ps ++ rs) v ≡ rateAmong ps v
-  unfolding among rateAmong
-  first-rate [] rs h = true-not-false (sym h)
-  first-rate (r ∷ ps) rs h = go (eqb (r .driven) v) refl h (first-rate ps rs)
-    where
-      go : (t : Bool) → eqb (r .driven) v ≡ t → elim t [ true ↦ true | false ↦ among v (drivenBy ps) ] ≡ true → (among v (drivenBy ps) ≡ true → rateAmong (ps ++ rs) v ≡ rateAmong ps v) → _≡_ {A = ℤ} (elim (eqb (r .driven) v) [ true ↦ r .rate | false ↦ rateAmong (ps ++ rs) v ]) (elim (eqb (r .driven) v) [ true ↦ r .rate | false ↦ rateAmong ps v ])
-      go true e h ih = rw e refl
-      go false e h ih = rw e (ih h)
+no-modes : (cs : List Selector) → currentOf cs [] ≡ []
+unfolding currentOf
+no-modes [] = refl
+no-modes (c ∷ cs) = refl
 
-  free-laid : (zs : List ℤ) (rs : List Rate) → among v (drivenBy rs) ≡ false → getD (laid zs rs) v (pos 0) ≡ getD zs v (pos 0)
-  unfolding among laid
-  free-laid zs [] h = refl
-  free-laid zs (r ∷ rs) h = go (eqb (r .driven) v) refl h (free-laid (set zs (r .driven) (r .rate)) rs)
-    where
-      go : (t : Bool) → eqb (r .driven) v ≡ t → elim t [ true ↦ true | false ↦ among v (drivenBy rs) ] ≡ false → (among v (drivenBy rs) ≡ false → getD (laid (set zs (r .driven) (r .rate)) rs) v (pos 0) ≡ getD (set zs (r .driven) (r .rate)) v (pos 0)) → getD (laid (set zs (r .driven) (r .rate)) rs) v (pos 0) ≡ getD zs v (pos 0)
-      go true e h ih = true-not-false h
-      go false e h ih = ih h ∙ getD-set-other zs (r .driven) v (r .rate) (pos 0) (λ q. eqb-false (r .driven) v e (sym q))
+in-force : (es : List Equation) (ms : List ℕ) {r : Rate} → Mem r (current es ms) ⊎ Mem r (ratesOf es []) → Mem r (ratesOf es ms)
+unfolding ratesOf selectorsOf currentOf flatMap
+in-force [] ms (inl m) = absurd (List·Memᴰ·not-nil m)
+in-force [] ms (inr m) = absurd (List·Memᴰ·not-nil m)
+in-force (steady q ∷ es) ms (inl m) = later (in-force es ms (inl m))
+in-force (steady q ∷ es) ms {r} (inr m) = go (List·Memᴰ·cases-cons m) (λ i. in-force es ms (inr i))
+  where
+    go : (r ≡ q) ⊎ Mem r (ratesOf es []) → (Mem r (ratesOf es []) → Mem r (ratesOf es ms)) → Mem r (q ∷ ratesOf es ms)
+    go (inl e) f = first e
+    go (inr i) f = later (f i)
+in-force (choice c ∷ es) [] (inl m) = absurd (List·Memᴰ·not-nil m)
+in-force (choice c ∷ es) [] (inr m) = in-force es [] (inr m)
+in-force (choice c ∷ es) (n ∷ ms) {r} (inl m) = go (List·Memᴰ·append-cases ((getD (c .modes) n noMode) .rates) m) (λ i. in-force es ms (inl i))
+  where
+    go : Mem r ((getD (c .modes) n noMode) .rates) ⊎ Mem r (current es ms) → (Mem r (current es ms) → Mem r (ratesOf es ms)) → Mem r ((getD (c .modes) n noMode) .rates ++ ratesOf es ms)
+    go (inl i) f = Memᴰ·append-left (ratesOf es ms) i
+    go (inr i) f = Memᴰ·append-right ((getD (c .modes) n noMode) .rates) (f i)
+in-force (choice c ∷ es) (n ∷ ms) (inr m) = Memᴰ·append-right ((getD (c .modes) n noMode) .rates) (in-force es ms (inr m))
 
-  -- ---- rates of one mode
-  here-seen : (n : ℕ) (seen : List ℕ) → eqb n v ≡ true → among v (n ∷ seen) ≡ true
-  unfolding among
-  here-seen n seen e = rw (e, among) refl
+force-parts : (es : List Equation) (ms : List ℕ) {r : Rate} → Mem r (ratesOf es ms) → Mem r (current es ms) ⊎ Mem r (ratesOf es [])
+unfolding ratesOf selectorsOf currentOf flatMap
+force-parts [] ms m = absurd (List·Memᴰ·not-nil m)
+force-parts (steady q ∷ es) ms {r} m = go (List·Memᴰ·cases-cons m) (λ i. force-parts es ms i)
+  where
+    more : Mem r (current es ms) ⊎ Mem r (ratesOf es []) → Mem r (current es ms) ⊎ Mem r (q ∷ ratesOf es [])
+    more (inl i) = inl i
+    more (inr i) = inr (later i)
 
-  later-seen : (n : ℕ) (seen : List ℕ) → among v seen ≡ true → among v (n ∷ seen) ≡ true
-  later-seen n seen h = among-second v (n ∷ []) seen h
+    go : (r ≡ q) ⊎ Mem r (ratesOf es ms) → (Mem r (ratesOf es ms) → Mem r (current es ms) ⊎ Mem r (ratesOf es [])) → Mem r (current es ms) ⊎ Mem r (q ∷ ratesOf es [])
+    go (inl e) f = inr (first e)
+    go (inr i) f = more (f i)
+force-parts (choice c ∷ es) [] {r} m = go (force-parts es [] m) (no-modes (selectorsOf es))
+  where
+    go : Mem r (current es []) ⊎ Mem r (ratesOf es []) → currentOf (selectorsOf es) [] ≡ [] → Mem r [] ⊎ Mem r (ratesOf es [])
+    go (inl i) e = inl (rw e at i)
+    go (inr i) e = inr i
+force-parts (choice c ∷ es) (n ∷ ms) {r} m = go (List·Memᴰ·append-cases ((getD (c .modes) n noMode) .rates) m) (λ i. force-parts es ms i)
+  where
+    more : Mem r (current es ms) ⊎ Mem r (ratesOf es []) → Mem r ((getD (c .modes) n noMode) .rates ++ current es ms) ⊎ Mem r (ratesOf es [])
+    more (inl i) = inl (Memᴰ·append-right ((getD (c .modes) n noMode) .rates) i)
+    more (inr i) = inr i
 
-  -- what was seen does not come again
-  once-free : (seen l : List ℕ) → among v seen ≡ true → onceAfter seen l ≡ true → among v l ≡ false
-  unfolding among onceAfter
-  once-free seen [] k h = refl
-  once-free seen (n ∷ l) k h = go (eqb n v) refl (among n seen) refl h (once-free (n ∷ seen) l (later-seen n seen k))
-    where
-      go : (t : Bool) → eqb n v ≡ t → (u : Bool) → among n seen ≡ u → elim u [ true ↦ false | false ↦ onceAfter (n ∷ seen) l ] ≡ true → (onceAfter (n ∷ seen) l ≡ true → among v l ≡ false) → elim (eqb n v) [ true ↦ true | false ↦ among v l ] ≡ false
-      go t e true f h ih = true-not-false (sym h)
-      go true e false f h ih = true-not-false (sym k ∙ ap (λ i. among i seen) (sym (eqb-true n v e)) ∙ f)
-      go false e false f h ih = rw e (ih h)
+    go : Mem r ((getD (c .modes) n noMode) .rates) ⊎ Mem r (ratesOf es ms) → (Mem r (ratesOf es ms) → Mem r (current es ms) ⊎ Mem r (ratesOf es [])) → Mem r ((getD (c .modes) n noMode) .rates ++ current es ms) ⊎ Mem r (ratesOf es [])
+    go (inl i) f = inl (Memᴰ·append-left (current es ms) i)
+    go (inr i) f = more (f i)
 
-  laid-once : (zs : List ℤ) (rs : List Rate) (seen : List ℕ) → onceAfter seen (drivenBy rs) ≡ true → v < length zs → among v (drivenBy rs) ≡ true → getD (laid zs rs) v (pos 0) ≡ rateAmong rs v
-  unfolding among onceAfter laid rateAmong
-  laid-once zs [] seen h i k = true-not-false (sym k)
-  laid-once zs (r ∷ rs) seen h i k = go (eqb (r .driven) v) refl (among (r .driven) seen) h k (laid-once zs' rs (r .driven ∷ seen))
-    where
-      zs' : List ℤ
-      zs' = set zs (r .driven) (r .rate)
-
-      go : (t : Bool) → eqb (r .driven) v ≡ t → (u : Bool) → elim u [ true ↦ false | false ↦ onceAfter (r .driven ∷ seen) (drivenBy rs) ] ≡ true → elim t [ true ↦ true | false ↦ among v (drivenBy rs) ] ≡ true
-          → (onceAfter (r .driven ∷ seen) (drivenBy rs) ≡ true → v < length zs' → among v (drivenBy rs) ≡ true → getD (laid zs' rs) v (pos 0) ≡ rateAmong rs v)
-          → getD (laid zs' rs) v (pos 0) ≡ elim (eqb (r .driven) v) [ true ↦ r .rate | false ↦ rateAmong rs v ]
-      go t e true h k ih = true-not-false (sym h)
-      go true e false h k ih =
-          let d = eqb-true (r .driven) v e in
-          rw e (free-laid zs' rs (once-free (r .driven ∷ seen) (drivenBy rs) (here-seen (r .driven) seen e) h)
-          ∙ ap (λ j. getD (set zs j (r .rate)) v (pos 0)) d ∙ getD-set-same zs v (r .rate) (pos 0) i)
-      go false e false h k ih = rw e (ih h (rw length-set i) k)
-
-  -- ---- equations that leave a variable alone
-  apart-free : (seen l : List ℕ) → among v seen ≡ true → apart seen l ≡ true → among v l ≡ false
-  unfolding among apart every
-  apart-free seen [] k h = refl
-  apart-free seen (n ∷ l) k h = go (eqb n v) refl (among n seen) refl h (apart-free seen l k)
-    where
-      go : (t : Bool) → eqb n v ≡ t → (u : Bool) → among n seen ≡ u → elim (not u) [ true ↦ every (λ i. not (among i seen)) l | false ↦ false ] ≡ true → (every (λ i. not (among i seen)) l ≡ true → among v l ≡ false) → elim (eqb n v) [ true ↦ true | false ↦ among v l ] ≡ false
-      go t e true f h ih = true-not-false (sym h)
-      go true e false f h ih = true-not-false (sym k ∙ ap (λ i. among i seen) (sym (eqb-true n v e)) ∙ f)
-      go false e false f h ih = rw e (ih h)
-
-  abbrev Leaves : Equation → Type 0
-  Leaves e = among v (drives e) ≡ false
-
-  pub record OnceParts (seen : List ℕ) (e : Equation) (es : List Equation) : Type 0 where
-    pub modes : modesOnce e ≡ true
-    pub others : apart seen (drives e) ≡ true
-    pub rest : drivenOnce (drives e ++ seen) es ≡ true
-
-  once-parts : (seen : List ℕ) (e : Equation) (es : List Equation) → drivenOnce seen (e ∷ es) ≡ true → OnceParts seen e es
-  unfolding drivenOnce
-  once-parts seen e es h =
-      let i = and-left (modesOnce e && apart seen (drives e)) (drivenOnce (drives e ++ seen) es) h in
-      record { modes = and-left (modesOnce e) (apart seen (drives e)) i; others = and-right (modesOnce e) (apart seen (drives e)) i; rest = and-right (modesOnce e && apart seen (drives e)) (drivenOnce (drives e ++ seen) es) h }
-
-  seen-left : (seen : List ℕ) (es : List Equation) → among v seen ≡ true → drivenOnce seen es ≡ true → All Leaves es
-  seen-left seen [] k h = all-nil
-  seen-left seen (e ∷ es) k h =
-      let i = once-parts seen e es h in
-      all-cons (apart-free seen (drives e) k (i .others)) (seen-left (drives e ++ seen) es (among-second v (drives e) seen k) (i .rest))
-
-  -- in two lists
-  none-first : (a b : List ℕ) → among v (a ++ b) ≡ false → among v a ≡ false
-  none-first a b h = by-cases (among v a) (λ k. true-not-false (sym (among-first v a b k) ∙ h)) (λ k. k)
-
-  none-second : (a b : List ℕ) → among v (a ++ b) ≡ false → among v b ≡ false
-  none-second a b h = by-cases (among v b) (λ k. true-not-false (sym (among-second v a b k) ∙ h)) (λ k. k)
-
-  free-both : (ps rs : List Rate) → among v (drivenBy ps) ≡ false → among v (drivenBy rs) ≡ false → among v (drivenBy (ps ++ rs)) ≡ false
-  unfolding among
-  free-both [] rs h k = k
-  free-both (r ∷ ps) rs h k = go (eqb (r .driven) v) refl h (λ i. free-both ps rs i k)
-    where
-      go : (t : Bool) → eqb (r .driven) v ≡ t → elim t [ true ↦ true | false ↦ among v (drivenBy ps) ] ≡ false → (among v (drivenBy ps) ≡ false → among v (drivenBy (ps ++ rs)) ≡ false) → elim (eqb (r .driven) v) [ true ↦ true | false ↦ among v (drivenBy (ps ++ rs)) ] ≡ false
-      go true e h ih = true-not-false h
-      go false e h ih = rw e (ih h)
-
-  -- the rates of one mode of those
-  free-mode : (modes : List Mode) (m : ℕ) → among v (flatMap modeDrives modes) ≡ false → among v (drivenBy ((getD modes m noMode) .rates)) ≡ false
-  unfolding flatMap ratesDrive modeDrives among
-  free-mode [] m h = refl
-  free-mode (x ∷ modes) zero h = none-first (modeDrives x) (flatMap modeDrives modes) h
-  free-mode (x ∷ modes) (suc m) h = free-mode modes m (none-second (modeDrives x) (flatMap modeDrives modes) h)
-
-  one-mode : (modes : List Mode) (m : ℕ) → every (λ x. onceAfter [] (modeDrives x)) modes ≡ true → onceAfter [] (drivenBy ((getD modes m noMode) .rates)) ≡ true
-  unfolding every ratesDrive modeDrives onceAfter
-  one-mode [] m h = refl
-  one-mode (x ∷ modes) m h = go (onceAfter [] (modeDrives x)) refl m h (one-mode modes)
-    where
-      go : (t : Bool) → onceAfter [] (modeDrives x) ≡ t → (m : ℕ) → elim t [ true ↦ every (λ y. onceAfter [] (modeDrives y)) modes | false ↦ false ] ≡ true
-          → ((m : ℕ) → every (λ y. onceAfter [] (modeDrives y)) modes ≡ true → onceAfter [] (drivenBy ((getD modes m noMode) .rates)) ≡ true)
-          → onceAfter [] (drivenBy ((getD (x ∷ modes) m noMode) .rates)) ≡ true
-      go false e m h ih = true-not-false (sym h)
-      go true e zero h ih = e
-      go true e (suc m) h ih = ih m h
-
-  abbrev current : List Equation → List ℕ → List Rate
-  current es ms = flatMap (λ (m : Mode). m .rates) (currentOf (selectorsOf es) ms)
-
-  free-steady : {es : List Equation} → All Leaves es → among v (drivenBy (ratesOf es [])) ≡ false
-  unfolding ratesOf drives among
-  free-steady all-nil = refl
-  free-steady (all-cons {x = steady r} {l = es} h a) = among-append v (r .driven ∷ []) (drivenBy (ratesOf es [])) h ∙ free-steady a
-  free-steady (all-cons {x = choice c} h a) = free-steady a
-
-  free-force : {es : List Equation} (ms : List ℕ) → All Leaves es → among v (drivenBy (ratesOf es ms)) ≡ false
-  unfolding ratesOf drives among
-  free-force ms all-nil = refl
-  free-force ms (all-cons {x = steady r} {l = es} h a) = among-append v (r .driven ∷ []) (drivenBy (ratesOf es ms)) h ∙ free-force ms a
-  free-force [] (all-cons {x = choice c} h a) = free-force [] a
-  free-force (m ∷ ms) (all-cons {x = choice c} {l = es} h a) = free-both ((getD (c .modes) m noMode) .rates) (ratesOf es ms) (free-mode (c .modes) m h) (free-force ms a)
-
-  free-current : {es : List Equation} (ms : List ℕ) → All Leaves es → among v (drivenBy (current es ms)) ≡ false
-  unfolding selectorsOf currentOf flatMap drives among
-  free-current ms all-nil = refl
-  free-current ms (all-cons {x = steady r} h a) = free-current ms a
-  free-current [] (all-cons {x = choice c} h a) = refl
-  free-current (m ∷ ms) (all-cons {x = choice c} {l = es} h a) = free-both ((getD (c .modes) m noMode) .rates) (current es ms) (free-mode (c .modes) m h) (free-current ms a)
-
-  -- ---- the rate in force
-  one-rate : (r : Rate) (rs : List Rate) → eqb (r .driven) v ≡ true → rateAmong (r ∷ rs) v ≡ r .rate
-  unfolding rateAmong
-  one-rate r rs e = rw (e, rateAmong) refl
-
-  other-rate : (r : Rate) (rs : List Rate) → eqb (r .driven) v ≡ false → rateAmong (r ∷ rs) v ≡ rateAmong rs v
-  unfolding rateAmong
-  other-rate r rs e = rw (e, rateAmong) refl
-
-  laid-at : {a b : List ℤ} → a ≡ b → getD a v (pos 0) ≡ getD b v (pos 0)
-  laid-at e = ap (λ (l : List ℤ). getD l v (pos 0)) e
-
-  -- this CASE drives it, so nothing else does
-  driven-here : (c : Selector) (m : ℕ) (es : List Equation) (ms : List ℕ) (zs : List ℤ) → v < length zs → getD zs v (pos 0) ≡ rateAmong (ratesOf es []) v → onceAfter [] (drivenBy ((getD (c .modes) m noMode) .rates)) ≡ true → All Leaves es
-      → getD (laid (laid zs ((getD (c .modes) m noMode) .rates)) (current es ms)) v (pos 0) ≡ rateAmong ((getD (c .modes) m noMode) .rates ++ ratesOf es ms) v
-  driven-here c m es ms zs i k o a =
-      let M = (getD (c .modes) m noMode) .rates in
-      free-laid (laid zs M) (current es ms) (free-current ms a)
-      ∙ by-cases (among v (drivenBy M))
-      (λ e. laid-once zs M [] o i e ∙ sym (first-rate M (ratesOf es ms) e))
-      (λ e. free-laid zs M e ∙ k ∙ free-rate (ratesOf es []) (free-steady a) ∙ sym (skip-rate M (ratesOf es ms) e ∙ free-rate (ratesOf es ms) (free-force ms a)))
-
-  pub rates-laid : (seen : List ℕ) (es : List Equation) (ms : List ℕ) (zs : List ℤ) → drivenOnce seen es ≡ true → length ms ≡ length (selectorsOf es) → v < length zs → getD zs v (pos 0) ≡ rateAmong (ratesOf es []) v
-      → getD (laid zs (current es ms)) v (pos 0) ≡ rateAmong (ratesOf es ms) v
-  unfolding ratesOf selectorsOf currentOf flatMap laid drives modeOnce modesOnce rateAmong
-  rates-laid seen [] ms zs h l i k = k
-  rates-laid seen (steady r ∷ es) ms zs h l i k =
-      let o = once-parts seen (steady r) es h in
-      by-cases (eqb (r .driven) v)
-      (λ e. free-laid zs (current es ms) (free-current ms (seen-left (r .driven ∷ seen) es (here-seen (r .driven) seen e) (o .rest))) ∙ k ∙ one-rate r (ratesOf es []) e ∙ sym (one-rate r (ratesOf es ms) e))
-      (λ e. rates-laid (r .driven ∷ seen) es ms zs (o .rest) l i (k ∙ other-rate r (ratesOf es []) e) ∙ sym (other-rate r (ratesOf es ms) e))
-  rates-laid seen (choice c ∷ es) [] zs h l i k = absurd (omega arith)
-  rates-laid seen (choice c ∷ es) (m ∷ ms) zs h l i k =
-      let o = once-parts seen (choice c) es h in
-      let M = (getD (c .modes) m noMode) .rates in
-      let longer : v < length (laid zs M) = rw length-laid i in
-      laid-at (laid-append zs M (current es ms))
-      ∙ by-cases (among v (flatMap modeDrives (c .modes)))
-      (λ e. driven-here c m es ms zs i k (one-mode (c .modes) m (o .modes)) (seen-left (flatMap modeDrives (c .modes) ++ seen) es (among-first v (flatMap modeDrives (c .modes)) seen e) (o .rest)))
-      (λ e.
-      let f = free-mode (c .modes) m e in
-      rates-laid (flatMap modeDrives (c .modes) ++ seen) es ms (laid zs M) (o .rest) (omega arith) longer (free-laid zs M f ∙ k) ∙ sym (skip-rate M (ratesOf es ms) f))
+-- ---- the array
+pub laid-in-force : {es places ms : List ℕ} {old new : List ℤ} → Laid old (flatMap (λ (m : Mode). m .rates) (modesFrom es places 0 ms)) new → InForce es places ms old new
+laid-in-force {es} {places} {ms} x = record {
+  long = x .long;
+  rates = λ eqs once e s. record {
+    each = λ v h. x .holds (ratesOf eqs []) s .each v h ∙ ap (λ (l : List Mode). rateAmong (before (flatMap (λ (m : Mode). m .rates) l) (ratesOf eqs [])) v) e ∙ same eqs once v;
+  };
+}
+  where
+    same : (eqs : List Equation) → drivenOnce [] eqs ≡ true → (v : ℕ) → rateAmong (before (current eqs ms) (ratesOf eqs [])) v ≡ rateAmong (ratesOf eqs ms) v
+    same eqs once = same-rate _ (ratesOf eqs ms) (λ r m. in-force eqs ms (before-parts (current eqs ms) (ratesOf eqs []) m)) (λ r m. before-in (current eqs ms) (ratesOf eqs []) (force-parts eqs ms m)) (λ r q i j d. one-of [] eqs once ms i j d)

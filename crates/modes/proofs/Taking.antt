@@ -10,12 +10,12 @@ use lib.ListN.{length, getD, set, take, drop, getElem?}
 use Rattle.semantics.specs.Editions.{edition1}
 use Rattle.semantics.specs.Expressions.{Value, ok, fault, above, below, truthValue}
 use Rattle.semantics.specs.Sections.{Switch, Mode, readSwitch}
-use Rattle.semantics.specs.Run.{pass, _>>=_, _>>_, allow, find, valued, nobody}
+use Rattle.semantics.specs.Run.{pass, _>>=_, _>>_, allow, find, valued, nobody, judgeSwitch}
 use Rattle.semantics.proofs.Facts.{true-not-false, at-exists}
 use Rattle.codec.proofs.Known.{times-length, past-end}
 use Rattle.effects.specs.Verdicts.{goesOn, truthVerdict, movedVerdict, eventVerdict, valuesLeft, modesLeft, Left}
 use Rattle.effects.proofs.PaperNumbers.{left-by}
-use Rattle.modes.specs.Modes.{modeAt, Stands, SwitchAt, modesFrom, modesNow, placeAt, switchTaken}
+use Rattle.modes.specs.Modes.{modeAt, Stands, SwitchAt, Asked, modesFrom, placeAt}
 use Rattle.effects.specs.declared.Verdict.{Verdict}
 use Rattle.effects.specs.declared.Verdict.the-variants.{Away, Stay}
 use Rattle.modes.proofs.Standing.{parts}
@@ -45,26 +45,26 @@ modes-at es places j (m ∷ ms) (suc i) h =
     modes-at es places (suc j) ms i (omega arith) ∙ ap (λ (n : ℕ). some (modeAt es (getD places (8 * n + getD ms i 0) 0))) e
 
 module _ (es places ms : List ℕ) (s : ℕ) where
-  pub mode-now : s < length ms → getElem? (modesNow es places ms) s ≡ some (modeAt es (placeAt places ms s))
+  pub mode-now : s < length ms → getElem? (modesFrom es places 0 ms) s ≡ some (modeAt es (placeAt places ms s))
   mode-now h = let e : 0 + s ≡ s = omega arith in modes-at es places 0 ms s h ∙ ap (λ (n : ℕ). some (modeAt es (getD places (8 * n + getD ms s 0) 0))) e
 
-  pub no-mode : length ms ≤ s → getElem? (modesNow es places ms) s ≡ none
-  no-mode h = past-end (modesNow es places ms) s (omega (arith, modes-length es places 0 ms))
+  pub no-mode : length ms ≤ s → getElem? (modesFrom es places 0 ms) s ≡ none
+  no-mode h = past-end (modesFrom es places 0 ms) s (omega (arith, modes-length es places 0 ms))
 
 -- ---- what it does
 module _ (modes : List Mode) (vs : List ℤ) (ms : List ℕ) (s k : ℕ) where
-  pub no-selector-left : getElem? modes s ≡ none → Left (switchTaken modes vs ms s k) vs ms (Away 26) vs ms
-  unfolding switchTaken find _>>=_ eventVerdict valuesLeft modesLeft
+  pub no-selector-left : getElem? modes s ≡ none → Left (judgeSwitch edition1 modes vs ms s k) vs ms (Away 26) vs ms
+  unfolding judgeSwitch find _>>=_ eventVerdict valuesLeft modesLeft
   no-selector-left e = rw e (left-by refl refl refl)
 
   module _ (m : Mode) (e : getElem? modes s ≡ some m) where
-    pub no-switch-left : getElem? (m .switches) k ≡ none → Left (switchTaken modes vs ms s k) vs ms (Away 26) vs ms
-    unfolding switchTaken find _>>=_ eventVerdict valuesLeft modesLeft
+    pub no-switch-left : getElem? (m .switches) k ≡ none → Left (judgeSwitch edition1 modes vs ms s k) vs ms (Away 26) vs ms
+    unfolding judgeSwitch find _>>=_ eventVerdict valuesLeft modesLeft
     no-switch-left f = rw (e, f) (left-by refl refl refl)
 
     module _ (w : Switch) (f : getElem? (m .switches) k ≡ some w) (r : Verdict) (g : r ≡ truthVerdict Stay (Away 30) (truthValue edition1 vs (w .truth))) where
-      pub not-taken-left : goesOn r ≡ false → Left (switchTaken modes vs ms s k) vs ms r vs ms
-      unfolding switchTaken find _>>=_ _>>_ valued allow truthVerdict goesOn movedVerdict eventVerdict valuesLeft modesLeft
+      pub not-taken-left : goesOn r ≡ false → Left (judgeSwitch edition1 modes vs ms s k) vs ms r vs ms
+      unfolding judgeSwitch find _>>=_ _>>_ valued allow truthVerdict goesOn movedVerdict eventVerdict valuesLeft modesLeft
       not-taken-left h = rw (e, f) (go (truthValue edition1 vs (w .truth)) g)
         where
           go : (u : Value Bool) → r ≡ truthVerdict Stay (Away 30) u → Left (valued u >>= (λ b. allow 30 b >> pass (record { moved = nobody; values = vs; modes = set ms s (w .target) }))) vs ms r vs ms
@@ -73,8 +73,8 @@ module _ (modes : List Mode) (vs : List ℤ) (ms : List ℕ) (s k : ℕ) where
           go (fault above) g = left-by g refl refl
           go (fault below) g = left-by g refl refl
 
-      pub taken-left : goesOn r ≡ true → {t : ℕ} → t ≡ w .target → Left (switchTaken modes vs ms s k) vs ms r vs (set ms s t)
-      unfolding switchTaken find _>>=_ _>>_ valued allow truthVerdict goesOn movedVerdict eventVerdict valuesLeft modesLeft
+      pub taken-left : goesOn r ≡ true → {t : ℕ} → t ≡ w .target → Left (judgeSwitch edition1 modes vs ms s k) vs ms r vs (set ms s t)
+      unfolding judgeSwitch find _>>=_ _>>_ valued allow truthVerdict goesOn movedVerdict eventVerdict valuesLeft modesLeft
       taken-left h {t} q = rw (e, f) (go (truthValue edition1 vs (w .truth)) g)
         where
           go : (u : Value Bool) → r ≡ truthVerdict Stay (Away 30) u → Left (valued u >>= (λ b. allow 30 b >> pass (record { moved = nobody; values = vs; modes = set ms s (w .target) }))) vs ms r vs (set ms s t)
@@ -83,9 +83,10 @@ module _ (modes : List Mode) (vs : List ℤ) (ms : List ℕ) (s k : ℕ) where
           go (fault above) g = true-not-false (sym h ∙ ap goesOn g)
           go (fault below) g = true-not-false (sym h ∙ ap goesOn g)
 
--- ---- its truth is asked at its place
-pub asked-at : (vs : List ℤ) (es : List ℕ) (q : ℕ) (w : Switch) → SwitchAt es q w → (i : ℕ) → i ≡ getD es q 0 → (r : Verdict) → r ≡ truthVerdict Stay (Away 30) (truthValue edition1 vs (take (q + 1 + i - (q + 2)) (drop (q + 2) es)))
-    → r ≡ truthVerdict Stay (Away 30) (truthValue edition1 vs (w .truth))
-asked-at vs es q w s i e r h =
-    let n : q + 1 + i - (q + 2) ≡ getD es q 0 - 1 = omega arith in
-    h ∙ ap (λ t. truthVerdict Stay (Away 30) (truthValue edition1 vs t)) (ap (λ j. take j (drop (q + 2) es)) n ∙ sym (s .truth))
+-- ---- a switch's truth, asked by the bytes from two past its place to its end
+pub asked-at : {vs : List ℤ} {es : List ℕ} {q : ℕ} {yes no r : Verdict} → r ≡ truthVerdict yes no (truthValue edition1 vs (take (q + 1 + getD es q 0 - (q + 2)) (drop (q + 2) es))) → Asked es q vs yes no r
+asked-at {vs} {es} {q} {yes} {no} h = record {
+  answer = λ w s.
+      let n : q + 1 + getD es q 0 - (q + 2) ≡ getD es q 0 - 1 = omega arith in
+      h ∙ ap (λ t. truthVerdict yes no (truthValue edition1 vs t)) (ap (λ j. take j (drop (q + 2) es)) n ∙ sym (s .truth));
+}

@@ -1,42 +1,56 @@
 -- The walks of the code over a mode's rates and switches, and over the current modes.
 use mathlib.Core.Path.{_≡_, refl, sym, ap, ap₂, _∙_, subst}
 use mathlib.Core.Bool.{Bool, true, false}
-use mathlib.Core.List.{List, [], _∷_, _++_, map, flatMap}
+use mathlib.Core.List.{List, [], _∷_, _++_, map, flatMap, append-nil}
 use mathlib.Core.Option.{some}
 use Prim.Native.Nat.{ℕ, suc, _+_, _*_, _-_, _≤_, _<_}
 use native.Mathlib.Numerals.{add-one}
 use native.Mathlib.Omega.{arith}
-use borrow.Author.Tests.{ltb-true}
-use lib.Dec.{ltb}
-use lib.IntN.{ℤ}
-use lib.ListN.{length, getD, set, take, drop, getElem?, length-set, drop-of-length-le}
-use lib.Seq.{drop-cons}
+use borrow.Author.Tests.{ltb-true, eqb-true, eqb-false}
+use lib.Dec.{ltb, eqb}
+use lib.IntN.{ℤ, pos}
+use lib.ListN.{length, getD, set, drop, getElem?, length-set, drop-of-length-le}
+use lib.Seq.{drop-cons, getD-set-same, getD-set-other}
 use Rattle.semantics.specs.Bytes.{signed, every}
 use Rattle.semantics.specs.Editions.{edition1}
 use Rattle.semantics.specs.Expressions.{truthValue}
 use Rattle.semantics.specs.Sections.{Rate, Switch, Mode, readRate, readSwitch}
-use Rattle.semantics.specs.Plant.{rateNamed, switchTruths}
+use Rattle.semantics.specs.Plant.{rateNamed, switchTruths, currentTruths, rateAmong}
 use Rattle.semantics.specs.Run as Run
-use Rattle.semantics.specs.Run.{_>>_, walk}
+use Rattle.semantics.specs.Run.{_>>_, walk, checkModes}
 use Rattle.semantics.proofs.Facts.{true-not-false, some-is}
 use Rattle.codec.proofs.Reading.{nat4At}
 use Rattle.effects.specs.Verdicts.{doneVerdict, stepVerdict, goesOn, truthVerdict}
-use Rattle.modes.specs.Modes.{modeAt, Stands, SwitchAt, modesFrom, placeAt, Driving, laid}
+use Rattle.modes.specs.Modes.{modeAt, Stands, SwitchAt, SwitchHere, Asked, modesFrom, placeAt, Driving, RatesIn, before, Laid}
 use Rattle.effects.specs.declared.Verdict.{Verdict}
 use Rattle.effects.specs.declared.Verdict.the-variants.{Away, Stay}
 use Rattle.effects.proofs.Steps.{walk-out, walk-on, walk-then, then-out, then-on}
 use Rattle.modes.proofs.Standing.{Ahead, none-ahead, parts, next-rate, next-switch}
 
--- ---- rates laid over a list
-pub length-laid : (zs : List ℤ) (rs : List Rate) → length (laid zs rs) ≡ length zs
-unfolding laid
-length-laid zs [] = refl
-length-laid zs (r ∷ rs) = length-laid (set zs (r .driven) (r .rate)) rs ∙ length-set zs (r .driven) (r .rate)
+-- ---- rates written into an array
+rate-set : (zs : List ℤ) (r : Rate) (l : List Rate) {v : ℕ} {z : ℤ} → v ≡ r .driven → z ≡ r .rate → RatesIn zs l → RatesIn (set zs v z) (r ∷ l)
+unfolding rateAmong
+rate-set zs r l e f h = rw (e, f) (record { each = λ v i. go v (omega (arith, length-set zs (r .driven) (r .rate))) (eqb (r .driven) v) refl })
+  where
+    go : (v : ℕ) → v < length zs → (b : Bool) → eqb (r .driven) v ≡ b → getD (set zs (r .driven) (r .rate)) v (pos 0) ≡ elim b [ true ↦ r .rate | false ↦ rateAmong l v ]
+    go v i true q = ap (λ (j : ℕ). getD (set zs j (r .rate)) v (pos 0)) (eqb-true (r .driven) v q) ∙ getD-set-same zs v (r .rate) (pos 0) i
+    go v i false q = getD-set-other zs (r .driven) v (r .rate) (pos 0) (λ n. eqb-false (r .driven) v q (sym n)) ∙ h .each v i
 
-pub laid-append : (zs : List ℤ) (ps rs : List Rate) → laid zs (ps ++ rs) ≡ laid (laid zs ps) rs
-unfolding laid
-laid-append zs [] rs = refl
-laid-append zs (r ∷ ps) rs = laid-append (set zs (r .driven) (r .rate)) ps rs
+pub laid-none : (zs : List ℤ) → Laid zs [] zs
+unfolding before
+laid-none zs = record { long = refl; holds = λ l h. h }
+
+laid-first : (zs : List ℤ) (r : Rate) (rs : List Rate) {v : ℕ} {z : ℤ} {ys : List ℤ} → v ≡ r .driven → z ≡ r .rate → Laid (set zs v z) rs ys → Laid zs (r ∷ rs) ys
+unfolding before
+laid-first zs r rs {v} {z} e f x = record { long = x .long ∙ length-set zs v z; holds = λ l h. x .holds (r ∷ l) (rate-set zs r l e f h) }
+
+before-append : (rs qs l : List Rate) → before (rs ++ qs) l ≡ before qs (before rs l)
+unfolding before
+before-append [] qs l = refl
+before-append (r ∷ rs) qs l = before-append rs qs (r ∷ l)
+
+pub laid-then : {xs ys zs : List ℤ} {rs qs : List Rate} → Laid xs rs ys → Laid ys qs zs → Laid xs (rs ++ qs) zs
+laid-then {rs = rs} {qs} x y = record { long = y .long ∙ x .long; holds = λ l h. rw (before-append rs qs l) (y .holds (before rs l) (x .holds l h)) }
 
 named-head : (n : ℕ) (r : Rate) (rs : List Rate) → every (rateNamed n) (r ∷ rs) ≡ true → (r .driven < n) × (every (rateNamed n) rs ≡ true)
 unfolding every rateNamed
@@ -52,18 +66,17 @@ pub record Laying (es : List ℕ) (k p : ℕ) (first : List ℤ) (rs : List Rate
   pub ahead : Ahead readRate es k p rates
   pub named : every (rateNamed (length first)) rates ≡ true
   pub long : length zs ≡ length first
-  pub same : laid first rs ≡ laid zs rates
+  pub rest : (ys : List ℤ) → Laid zs rates ys → Laid first rs ys
 
-pub lay-start : {es : List ℕ} {at : ℕ} {m : Mode} (zs : List ℤ) → Stands es at m → every (rateNamed (length zs)) (m .rates) ≡ true → (k : ℕ) → k ≡ getD es at 0 → Laying es k (at + 1) zs (m .rates) zs
-lay-start {m = m} zs s h k e = record { rates = m .rates; ahead = rw e (parts s .rates); named = h; long = refl; same = refl }
+pub lay-start : {es : List ℕ} {at : ℕ} {m : Mode} (zs : List ℤ) → Stands es at m → every (rateNamed (length zs)) (m .rates) ≡ true → Laying es (getD es at 0) (at + 1) zs (m .rates) zs
+lay-start {m = m} zs s h = record { rates = m .rates; ahead = parts s .rates; named = h; long = refl; rest = λ ys x. x }
 
-pub record Laid (es : List ℕ) (k p : ℕ) (first : List ℤ) (rs : List Rate) (zs : List ℤ) : Type 0 where
+pub record OneRate (es : List ℕ) (k p : ℕ) (first : List ℤ) (rs : List Rate) (zs : List ℤ) : Type 0 where
   pub inside : p + 5 ≤ length es
   pub known : getD es p 0 < length zs
-  pub on : {v : ℕ} {z : ℤ} → v ≡ getD es p 0 → z ≡ signed (nat4At es (p + 1)) → Laying es (k - 1) (p + 5) first rs (set zs v z)
+  pub on : {z : ℤ} → z ≡ signed (nat4At es (p + 1)) → Laying es (k - 1) (p + 5) first rs (set zs (getD es p 0) z)
 
-pub lay-next : {es : List ℕ} {k p : ℕ} {first : List ℤ} {rs : List Rate} {zs : List ℤ} → Laying es k p first rs zs → 0 < k → Laid es k p first rs zs
-unfolding laid
+pub lay-next : {es : List ℕ} {k p : ℕ} {first : List ℤ} {rs : List Rate} {zs : List ℤ} → Laying es k p first rs zs → 0 < k → OneRate es k p first rs zs
 lay-next {es} {k} {p} {first} {rs} {zs} l h =
     let n = next-rate (l .ahead) h in
     let x = n .here in
@@ -73,18 +86,17 @@ lay-next {es} {k} {p} {first} {rs} {zs} l h =
     record {
       inside = x .inside;
       known = omega (arith, m .0);
-      on = λ {v} {z} e f. record {
+      on = λ {z} f. record {
         rates = n .tail;
         ahead = n .ahead;
         named = m .1;
-        long = length-set zs v z ∙ l .long;
-        same = l .same ∙ ap (laid zs) (n .is) ∙ ap₂ (λ (i : ℕ) (y : ℤ). laid (set zs i y) (n .tail)) (d ∙ sym e) (x .rate ∙ sym f);
+        long = length-set zs (getD es p 0) z ∙ l .long;
+        rest = λ ys q. l .rest ys (rw (n .is) (laid-first zs (n .head) (n .tail) (sym d) (f ∙ sym (x .rate)) q));
       };
     }
 
-pub lay-end : {es : List ℕ} {k p : ℕ} {first : List ℤ} {rs : List Rate} {zs : List ℤ} → Laying es k p first rs zs → k ≡ 0 → zs ≡ laid first rs
-unfolding laid
-lay-end {zs = zs} l h = sym (l .same ∙ ap (laid zs) (none-ahead (l .ahead) h))
+pub lay-end : {es : List ℕ} {k p : ℕ} {first : List ℤ} {rs : List Rate} {zs : List ℤ} → Laying es k p first rs zs → k ≡ 0 → Laid first rs zs
+lay-end {zs = zs} l h = l .rest zs (rw (none-ahead (l .ahead) h) (laid-none zs))
 
 -- ---- a mode's switches
 -- k switches are left, from place p on
@@ -93,36 +105,32 @@ pub record Walking (n : ℕ) (vs : List ℤ) (es : List ℕ) (k p : ℕ) (ws : L
   pub ahead : Ahead readSwitch es k p switches
   pub same : walk edition1 n vs (map (λ (w : Switch). w .truth) ws) ≡ walk edition1 n vs (map (λ (w : Switch). w .truth) switches)
 
-pub walk-start : (n : ℕ) (vs : List ℤ) {es : List ℕ} {at : ℕ} {m : Mode} → Stands es at m → (c k : ℕ) → c ≡ at + 1 + 5 * getD es at 0 → k ≡ getD es c 0 → Walking n vs es k (c + 1) (m .switches)
-walk-start n vs {m = m} s c k e f = record { switches = m .switches; ahead = rw (f, e) (parts s .switches); same = refl }
-
--- the bytes of a truth, from its place to its end
-cut-is : (es : List ℕ) (p l : ℕ) → l ≡ getD es p 0 → take (p + 1 + l - (p + 2)) (drop (p + 2) es) ≡ take (getD es p 0 - 1) (drop (p + 2) es)
-cut-is es p l e = let q : p + 1 + l - (p + 2) ≡ getD es p 0 - 1 = omega arith in ap (λ n. take n (drop (p + 2) es)) q
+pub walk-start : (n : ℕ) (vs : List ℤ) {es : List ℕ} {at : ℕ} {m : Mode} → Stands es at m → (c : ℕ) → c ≡ at + 1 + 5 * getD es at 0 → Walking n vs es (getD es c 0) (c + 1) (m .switches)
+walk-start n vs {m = m} s c e = record { switches = m .switches; ahead = rw e (parts s .switches); same = refl }
 
 module _ {n : ℕ} {vs : List ℤ} {es : List ℕ} {k p : ℕ} {ws : List Switch} (l : Walking n vs es k p ws) where
-  pub walk-here : (h : 0 < k) → SwitchAt es p (next-switch (l .ahead) h .head)
-  walk-here h = next-switch (l .ahead) h .here
+  module _ (h : 0 < k) where
+    abbrev head : Switch
+    head = next-switch (l .ahead) h .head
 
-  truths-are : (h : 0 < k) → walk edition1 n vs (map (λ (w : Switch). w .truth) ws) ≡ walk edition1 n vs (take (getD es p 0 - 1) (drop (p + 2) es) ∷ map (λ (w : Switch). w .truth) (next-switch (l .ahead) h .tail))
-  truths-are h =
-      let x = next-switch (l .ahead) h in
-      l .same ∙ ap (λ z. walk edition1 n vs (map (λ (w : Switch). w .truth) z)) (x .is) ∙ ap (λ t. walk edition1 n vs (t ∷ map (λ (w : Switch). w .truth) (x .tail))) (x .here .truth)
+    abbrev tail : List (List ℕ)
+    tail = map (λ (w : Switch). w .truth) (next-switch (l .ahead) h .tail)
 
-  module _ (h : 0 < k) (i : ℕ) (q : i ≡ getD es p 0) (r : Verdict) (e : r ≡ truthVerdict (Away n) Stay (truthValue edition1 vs (take (p + 1 + i - (p + 2)) (drop (p + 2) es)))) where
-    abbrev cut : List ℕ
-    cut = take (getD es p 0 - 1) (drop (p + 2) es)
+    pub walk-here : SwitchHere es p
+    walk-here = record { switch = head; stands = next-switch (l .ahead) h .here }
 
-    told : r ≡ truthVerdict (Away n) Stay (truthValue edition1 vs cut)
-    told = e ∙ ap (λ t. truthVerdict (Away n) Stay (truthValue edition1 vs t)) (cut-is es p i q)
+    truths-are : walk edition1 n vs (map (λ (w : Switch). w .truth) ws) ≡ walk edition1 n vs (head .truth ∷ tail)
+    truths-are = l .same ∙ ap (λ z. walk edition1 n vs (map (λ (w : Switch). w .truth) z)) (next-switch (l .ahead) h .is)
 
-    pub walk-stops : goesOn r ≡ false → r ≡ stepVerdict (walk edition1 n vs (map (λ (w : Switch). w .truth) ws))
-    walk-stops f = walk-out n vs cut (map (λ (w : Switch). w .truth) (next-switch (l .ahead) h .tail)) r told f ∙ sym (ap stepVerdict (truths-are h))
+    module _ {r : Verdict} (e : Asked es p vs (Away n) Stay r) where
+      told : r ≡ truthVerdict (Away n) Stay (truthValue edition1 vs (head .truth))
+      told = e .answer head (next-switch (l .ahead) h .here)
 
-    pub walk-next : goesOn r ≡ true → Walking n vs es (k - 1) (p + 1 + i) ws
-    walk-next f =
-        let x = next-switch (l .ahead) h in
-        record { switches = x .tail; ahead = rw q (x .ahead); same = truths-are h ∙ walk-on n vs cut (map (λ (w : Switch). w .truth) (x .tail)) r told f }
+      pub walk-stops : goesOn r ≡ false → r ≡ stepVerdict (walk edition1 n vs (map (λ (w : Switch). w .truth) ws))
+      walk-stops f = walk-out n vs (head .truth) tail r told f ∙ sym (ap stepVerdict truths-are)
+
+      pub walk-next : goesOn r ≡ true → Walking n vs es (k - 1) (p + 1 + getD es p 0) ws
+      walk-next f = record { switches = next-switch (l .ahead) h .tail; ahead = next-switch (l .ahead) h .ahead; same = truths-are ∙ walk-on n vs (head .truth) tail r told f }
 
   pub walk-end : k ≡ 0 → Stay ≡ stepVerdict (walk edition1 n vs (map (λ (w : Switch). w .truth) ws))
   unfolding walk doneVerdict
@@ -143,18 +151,14 @@ module _ {es : List ℕ} {i p : ℕ} {ws : List Switch} {k : ℕ} (l : Seeking e
   seek-some : 0 < l .count
   seek-some = let h = l .enough in omega arith
 
-  pub record Found : Type 0 where
-    pub switch : Switch
-    pub stands : SwitchAt es p switch
-
-  pub seek-here : Found
+  pub seek-here : SwitchHere es p
   seek-here = record { switch = _; stands = next-switch (l .ahead) seek-some .here }
 
-  pub seek-next : 0 < i → (n : ℕ) → n ≡ getD es p 0 → Seeking es (i - 1) (p + 1 + n) ws k
-  seek-next h n q =
+  pub seek-next : 0 < i → Seeking es (i - 1) (p + 1 + getD es p 0) ws k
+  seek-next h =
       let x = next-switch (l .ahead) seek-some in
       let e : i ≡ suc (i - 1) = omega arith in
-      record { count = l .count - 1; switches = x .tail; ahead = rw q (x .ahead); enough = omega (arith, l .enough); same = l .same ∙ ap₂ getElem? (x .is) e }
+      record { count = l .count - 1; switches = x .tail; ahead = x .ahead; enough = omega (arith, l .enough); same = l .same ∙ ap₂ getElem? (x .is) e }
 
   pub seek-end : i ≡ 0 → (w : Switch) → getElem? ws k ≡ some w → SwitchAt es p w
   seek-end h w e =
@@ -181,34 +185,61 @@ module _ (es places ms : List ℕ) (j : ℕ) where
   unfolding modesFrom
   modes-end h = ap (modesFrom es places j) (drop-of-length-le ms {i = j} h)
 
-module _ (vs : List ℤ) (es places ms : List ℕ) (j : ℕ) where
-  abbrev pub checkFrom : Run.Verdict (Unit {0})
-  checkFrom = walk edition1 28 vs (flatMap switchTruths (modesFrom es places j (drop j ms)))
+-- one mode, then the others
+module _ (vs : List ℤ) (m : Mode) where
+  pub check-one : walk edition1 28 vs (map (λ (w : Switch). w .truth) (m .switches)) ≡ checkModes edition1 (m ∷ []) vs
+  unfolding checkModes currentTruths flatMap switchTruths
+  check-one = ap (walk edition1 28 vs) (sym (append-nil (map (λ (w : Switch). w .truth) (m .switches))))
 
-module _ (vs : List ℤ) (es places ms : List ℕ) (j : ℕ) (h : j < length ms) where
-  check-more : checkFrom vs es places ms j ≡ (walk edition1 28 vs (switchTruths (modeAt es (placeAt places ms j))) >> checkFrom vs es places ms (j + 1))
-  unfolding flatMap
-  check-more = ap (λ z. walk edition1 28 vs (flatMap switchTruths z)) (modes-more es places ms j h) ∙ walk-then 28 vs (switchTruths (modeAt es (placeAt places ms j))) (flatMap switchTruths (modesFrom es places (j + 1) (drop (j + 1) ms)))
+  check-cons : (l : List Mode) → checkModes edition1 (m ∷ l) vs ≡ (checkModes edition1 (m ∷ []) vs >> checkModes edition1 l vs)
+  unfolding checkModes currentTruths flatMap switchTruths
+  check-cons l = walk-then 28 vs (switchTruths m) (currentTruths l) ∙ ap (λ v. v >> checkModes edition1 l vs) check-one
 
-  module _ (r : Verdict) (e : r ≡ stepVerdict (walk edition1 28 vs (switchTruths (modeAt es (placeAt places ms j))))) where
-    pub check-stops : goesOn r ≡ false → r ≡ stepVerdict (checkFrom vs es places ms j)
-    check-stops f = then-out (walk edition1 28 vs (switchTruths (modeAt es (placeAt places ms j)))) (checkFrom vs es places ms (j + 1)) r e f ∙ sym (ap stepVerdict check-more)
+module _ (vs : List ℤ) (es places ms : List ℕ) where
+  abbrev pub checkFrom : ℕ → Run.Verdict (Unit {0})
+  checkFrom j = checkModes edition1 (modesFrom es places j (drop j ms)) vs
 
-    pub check-next : goesOn r ≡ true → checkFrom vs es places ms j ≡ checkFrom vs es places ms (j + 1)
-    check-next f = check-more ∙ then-on (walk edition1 28 vs (switchTruths (modeAt es (placeAt places ms j)))) (checkFrom vs es places ms (j + 1)) r e f
+  module _ (j : ℕ) (h : j < length ms) {i : ℕ} (at : i ≡ placeAt places ms j) {r : Verdict} (told : r ≡ stepVerdict (checkModes edition1 (modeAt es i ∷ []) vs)) where
+    abbrev one : Run.Verdict (Unit {0})
+    one = checkModes edition1 (modeAt es (placeAt places ms j) ∷ []) vs
 
-pub check-end : (vs : List ℤ) (es places ms : List ℕ) (j : ℕ) → length ms ≤ j → Stay ≡ stepVerdict (checkFrom vs es places ms j)
-unfolding walk flatMap doneVerdict
-check-end vs es places ms j h = sym (ap (λ z. stepVerdict (walk edition1 28 vs (flatMap switchTruths z))) (modes-end es places ms j h))
+    here : r ≡ stepVerdict one
+    here = told ∙ ap (λ (i : ℕ). stepVerdict (checkModes edition1 (modeAt es i ∷ []) vs)) at
 
--- ---- the rates in force
+    check-more : checkFrom j ≡ (one >> checkFrom (j + 1))
+    check-more = ap (λ z. checkModes edition1 z vs) (modes-more es places ms j h) ∙ check-cons vs _ (modesFrom es places (j + 1) (drop (j + 1) ms))
+
+    pub check-stops : goesOn r ≡ false → r ≡ stepVerdict (checkFrom j)
+    check-stops f = then-out one (checkFrom (j + 1)) r here f ∙ sym (ap stepVerdict check-more)
+
+    pub check-next : goesOn r ≡ true → checkFrom j ≡ checkFrom (j + 1)
+    check-next f = check-more ∙ then-on one (checkFrom (j + 1)) r here f
+
+  pub check-end : (j : ℕ) → length ms ≤ j → Stay ≡ stepVerdict (checkFrom j)
+  unfolding checkModes currentTruths walk flatMap doneVerdict
+  check-end j h = sym (ap (λ z. stepVerdict (checkModes edition1 z vs)) (modes-end es places ms j h))
+
+-- ---- the rates of the current modes, one mode after the other
 abbrev pub ratesFrom : List ℕ → List ℕ → List ℕ → ℕ → List Rate
 ratesFrom es places ms j = flatMap (λ (m : Mode). m .rates) (modesFrom es places j (drop j ms))
 
-pub rates-more : (es places ms : List ℕ) (j : ℕ) (zs : List ℤ) → j < length ms → laid zs (ratesFrom es places ms j) ≡ laid (laid zs (modeAt es (placeAt places ms j) .rates)) (ratesFrom es places ms (j + 1))
-unfolding flatMap
-rates-more es places ms j zs h = ap (λ z. laid zs (flatMap (λ (m : Mode). m .rates) z)) (modes-more es places ms j h) ∙ laid-append zs (modeAt es (placeAt places ms j) .rates) (ratesFrom es places ms (j + 1))
+pub record LayingAll (es places ms : List ℕ) (first : List ℤ) (j : ℕ) (zs : List ℤ) : Type 0 where
+  pub few : j ≤ length ms
+  pub long : length zs ≡ length first
+  pub rest : (ys : List ℤ) → Laid zs (ratesFrom es places ms j) ys → Laid first (ratesFrom es places ms 0) ys
 
-pub rates-none : (es places ms : List ℕ) (j : ℕ) (zs : List ℤ) → length ms ≤ j → laid zs (ratesFrom es places ms j) ≡ zs
-unfolding flatMap laid
-rates-none es places ms j zs h = ap (λ z. laid zs (flatMap (λ (m : Mode). m .rates) z)) (modes-end es places ms j h)
+module _ {es places ms : List ℕ} {first : List ℤ} where
+  pub all-start : LayingAll es places ms first 0 first
+  all-start = record { few = omega arith; long = refl; rest = λ ys x. x }
+
+  pub all-next : {j : ℕ} {zs : List ℤ} → LayingAll es places ms first j zs → j < length ms → {i : ℕ} → i ≡ placeAt places ms j → {ys : List ℤ} → Laid zs (modeAt es i .rates) ys → LayingAll es places ms first (j + 1) ys
+  unfolding flatMap
+  all-next {j} {zs} a h {i} at {ys} x = record {
+    few = omega arith;
+    long = x .long ∙ a .long;
+    rest = λ us y. a .rest us (rw (modes-more es places ms j h, ← at) (laid-then x y));
+  }
+
+  pub all-end : {j : ℕ} {zs : List ℤ} → LayingAll es places ms first j zs → length ms ≤ j → Laid first (ratesFrom es places ms 0) zs
+  unfolding flatMap
+  all-end {j} {zs} a h = a .rest zs (rw (modes-end es places ms j h) (laid-none zs))

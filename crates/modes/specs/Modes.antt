@@ -3,14 +3,16 @@ use mathlib.Core.Path.{_≡_}
 use mathlib.Core.Bool.{true}
 use mathlib.Core.List.{List, [], _∷_}
 use Prim.Native.Nat.{ℕ, suc, _+_, _*_, _-_, _≤_, _<_}
-use lib.IntN.{ℤ}
-use lib.ListN.{length, getD, set, take, drop, getElem?}
+use lib.IntN.{ℤ, pos}
+use lib.ListN.{length, getD, take, drop}
 use Rattle.semantics.specs.Bytes.{every, read}
 use Rattle.semantics.specs.Editions.{edition1}
 use Rattle.semantics.specs.Expressions.{truthValue}
-use Rattle.semantics.specs.Sections.{Rate, Switch, Mode, readMode}
-use Rattle.semantics.specs.Plant.{rateNamed}
-use Rattle.semantics.specs.Run.{Verdict, Done, pass, _>>=_, _>>_, allow, find, valued, nobody}
+use Rattle.semantics.specs.Sections.{Rate, Switch, Mode, Equation, readMode}
+use Rattle.semantics.specs.Plant.{rateNamed, drivenOnce, selectorsOf, currentOf, ratesOf, rateAmong}
+use Rattle.semantics.specs.Run.{judgeSwitch}
+use Rattle.effects.specs.Verdicts.{truthVerdict, Left}
+use Rattle.effects.specs.declared.Verdict.{Verdict}
 -- the mode that is read at a place
 unfoldable pub use Rattle.plant.specs.Equations.{modeAt}
 
@@ -26,6 +28,15 @@ pub record SwitchAt (es : List ℕ) (at : ℕ) (w : Switch) : Type 0 where
   pub target : w .target ≡ getD es (at + 1) 0
   pub truth : w .truth ≡ take (getD es at 0 - 1) (drop (at + 2) es)
 
+-- some switch stands there
+pub record SwitchHere (es : List ℕ) (at : ℕ) : Type 0 where
+  pub switch : Switch
+  pub stands : SwitchAt es at switch
+
+-- the answer of its truth
+pub record Asked (es : List ℕ) (at : ℕ) (vs : List ℤ) (yes no r : Verdict) : Type 0 where
+  pub answer : (w : Switch) → SwitchAt es at w → r ≡ truthVerdict yes no (truthValue edition1 vs (w .truth))
+
 -- mode m of selector j stands at entry 8 * j + m
 abbrev pub placeAt : List ℕ → List ℕ → ℕ → ℕ
 placeAt places ms j = getD places (8 * j + getD ms j 0) 0
@@ -34,9 +45,6 @@ placeAt places ms j = getD places (8 * j + getD ms j 0) 0
 unfoldable pub modesFrom : List ℕ → List ℕ → ℕ → List ℕ → List Mode
 modesFrom es places j [] = []
 modesFrom es places j (m ∷ ms) = modeAt es (getD places (8 * j + m) 0) ∷ modesFrom es places (suc j) ms
-
-abbrev pub modesNow : List ℕ → List ℕ → List ℕ → List Mode
-modesNow es places ms = modesFrom es places 0 ms
 
 -- the current modes are there
 pub record Current (es places ms : List ℕ) : Type 0 where
@@ -47,16 +55,25 @@ pub record Current (es places ms : List ℕ) : Type 0 where
 pub record Driving (es places ms : List ℕ) (n : ℕ) : Type 0 where
   pub named : (j : ℕ) → j < length ms → every (rateNamed n) (modeAt es (placeAt places ms j) .rates) ≡ true
 
--- rates put over those of their variables
-unfoldable pub laid : List ℤ → List Rate → List ℤ
-laid zs [] = zs
-laid zs (r ∷ rs) = laid (set zs (r .driven) (r .rate)) rs
+-- ---- an array with a rate for each variable
+pub record RatesIn (zs : List ℤ) (rs : List Rate) : Type 0 where
+  pub each : (v : ℕ) → v < length zs → getD zs v (pos 0) ≡ rateAmong rs v
 
--- switch k of selector s, where these are the current modes
-unfoldable pub switchTaken : List Mode → List ℤ → List ℕ → ℕ → ℕ → Verdict Done
-switchTaken modes vs ms s k = do
-  m ← find 26 (getElem? modes s)
-  w ← find 26 (getElem? (m .switches) k)
-  b ← valued (truthValue edition1 vs (w .truth))
-  allow 30 b
-  pass (record { moved = nobody; values = vs; modes = set ms s (w .target) })
+-- rates put before others one after the other: the last stands first
+unfoldable pub before : List Rate → List Rate → List Rate
+before [] l = l
+before (r ∷ rs) l = before rs (r ∷ l)
+
+-- these rates written over those of their variables
+pub record Laid (old : List ℤ) (rs : List Rate) (new : List ℤ) : Type 0 where
+  pub long : length new ≡ length old
+  pub holds : (l : List Rate) → RatesIn old l → RatesIn new (before rs l)
+
+-- the rates in force, where the array had those of kind 1 and the current modes stand at these places
+pub record InForce (es places ms : List ℕ) (old new : List ℤ) : Type 0 where
+  pub long : length new ≡ length old
+  pub rates : (eqs : List Equation) → drivenOnce [] eqs ≡ true → modesFrom es places 0 ms ≡ currentOf (selectorsOf eqs) ms → RatesIn old (ratesOf eqs []) → RatesIn new (ratesOf eqs ms)
+
+-- a switch event on the modes at these places
+pub record Switched (es places : List ℕ) (s k : ℕ) (vs : List ℤ) (ms : List ℕ) (r : Verdict) (ms' : List ℕ) : Type 0 where
+  pub leaves : Left (judgeSwitch edition1 (modesFrom es places 0 ms) vs ms s k) vs ms r vs ms'

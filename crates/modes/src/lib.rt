@@ -2,42 +2,50 @@
 use effects::Verdict;
 ghost use mathlib.Core.Path.{_≡_};
 ghost use mathlib.Core.Bool.{true};
-ghost use mathlib.Core.List.{flatMap};
+ghost use mathlib.Core.List.{[], _∷_, flatMap};
 ghost use mathlib.Core.Option.{some};
 ghost use Prim.Native.Nat.{_+_, _*_, _<_};
 ghost use lib.ListN.{length, getD, getElem?};
 ghost use Rattle.semantics.specs.Editions.{edition1};
 ghost use Rattle.semantics.specs.Bytes.{every};
 ghost use Rattle.semantics.specs.Sections.{Mode, Switch};
-ghost use Rattle.semantics.specs.Plant.{rateNamed, switchTruths};
-ghost use Rattle.semantics.specs.Run.{walk};
-ghost use Rattle.effects.specs.Verdicts.{stepVerdict, Left};
-ghost use Rattle.modes.specs.Modes.{modeAt, Stands, SwitchAt, placeAt, modesNow, Current, Driving, laid, switchTaken};
+ghost use Rattle.semantics.specs.Plant.{rateNamed};
+ghost use Rattle.semantics.specs.Run.{checkModes};
+ghost use Rattle.effects.specs.Verdicts.{stepVerdict};
+ghost use Rattle.modes.specs.Modes.{modeAt, Stands, SwitchAt, SwitchHere, Asked, placeAt, modesFrom, Current, Driving, Laid, InForce, Switched};
 
 // The place of a mode's switch count: past its rates, of 5 bytes each.
 fn switches_at(es: &[u8], at: usize) -> usize
     requires { ⌜ Stands (now es) at (modeAt (now es) at) ⌝ }
     ensures { λ r. ⌜ r ≡ at + 1 + 5 * getD (now (es .entry)) at 0 ⌝ }
 {
-    at + 1 + 5 * effects::wide(es[at])
+    at + 1 + 5 * (es[at] as usize)
+}
+
+// The truth of the switch at a place: yes where it is true, no where it is false.
+fn truth(es: &[u8], at: usize, values: &[i32], yes: Verdict, no: Verdict) -> Verdict
+    requires { ⌜ SwitchHere (now es) at ⌝ }
+    ensures { λ r. ⌜ Asked (now (es .entry)) at (now (values .entry)) yes no r ⌝ }
+{
+    let b = at + 2;
+    let e = at + 1 + (es[at] as usize);
+    effects::ask(&es[b..e], values, yes, no)
 }
 
 // The switches of the mode at a place, up to the first that is true or faults.
 fn mode_check(es: &[u8], at: usize, values: &[i32]) -> Verdict
     requires { ⌜ Stands (now es) at (modeAt (now es) at) ⌝ }
-    ensures { λ r. ⌜ r ≡ stepVerdict (walk edition1 28 (now (values .entry)) (switchTruths (modeAt (now (es .entry)) at))) ⌝ }
+    ensures { λ r. ⌜ r ≡ stepVerdict (checkModes edition1 (modeAt (now (es .entry)) at ∷ []) (now (values .entry))) ⌝ }
 {
     let count = switches_at(es, at);
-    let mut left = effects::wide(es[count]);
+    let mut left = es[count] as usize;
     let mut p = count + 1;
     while 0 < left {
-        let b = p + 2;
-        let e = p + 1 + effects::wide(es[p]);
-        let r = effects::ask(&es[b..e], values, Verdict::Away(28), Verdict::Stay);
+        let r = truth(es, p, values, Verdict::Away(28), Verdict::Stay);
         if !effects::goes_on(r) {
             return r;
         }
-        p = e;
+        p = p + 1 + (es[p] as usize);
         left -= 1;
     }
     Verdict::Stay
@@ -48,14 +56,14 @@ fn place(places: &[usize], modes: &[u8], j: usize) -> usize
     requires { ⌜ (j < length (now modes)) × (8 * j + getD (now modes) j 0 < length (now places)) ⌝ }
     ensures { λ r. ⌜ r ≡ placeAt (now (places .entry)) (now (modes .entry)) j ⌝ }
 {
-    let row = 8 * j + effects::wide(modes[j]);
+    let row = 8 * j + (modes[j] as usize);
     places[row]
 }
 
 // The switches of all current modes, selectors rising.
 pub fn switch_check(es: &[u8], places: &[usize], values: &[i32], modes: &[u8]) -> Verdict
     requires { ⌜ Current (now es) (now places) (now modes) ⌝ }
-    ensures { λ r. ⌜ r ≡ stepVerdict (walk edition1 28 (now (values .entry)) (flatMap switchTruths (modesNow (now (es .entry)) (now (places .entry)) (now (modes .entry))))) ⌝ }
+    ensures { λ r. ⌜ r ≡ stepVerdict (checkModes edition1 (modesFrom (now (es .entry)) (now (places .entry)) 0 (now (modes .entry))) (now (values .entry))) ⌝ }
 {
     let mut j = 0;
     while j < modes.len() {
@@ -71,12 +79,12 @@ pub fn switch_check(es: &[u8], places: &[usize], values: &[i32], modes: &[u8]) -
 // The rates of the mode at a place, put over those of their variables.
 fn lay_rates(es: &[u8], at: usize, rates: &mut [i32])
     requires { ⌜ Stands (now es) at (modeAt (now es) at) × (every (rateNamed (length (now rates))) (modeAt (now es) at .rates) ≡ true) ⌝ }
-    ensures { λ _. ⌜ now (rates .exit) ≡ laid (now (rates .entry)) (modeAt (now (es .entry)) at .rates) ⌝ }
+    ensures { λ _. ⌜ Laid (now (rates .entry)) (modeAt (now (es .entry)) at .rates) (now (rates .exit)) ⌝ }
 {
-    let mut left = effects::wide(es[at]);
+    let mut left = es[at] as usize;
     let mut p = at + 1;
     while 0 < left {
-        let v = effects::wide(es[p]);
+        let v = es[p] as usize;
         rates[v] = codec::int4(es, p + 1);
         p += 5;
         left -= 1;
@@ -86,7 +94,7 @@ fn lay_rates(es: &[u8], at: usize, rates: &mut [i32])
 // The rates of all current modes.
 fn lay_all(es: &[u8], places: &[usize], modes: &[u8], rates: &mut [i32])
     requires { ⌜ Current (now es) (now places) (now modes) × Driving (now es) (now places) (now modes) (length (now rates)) ⌝ }
-    ensures { λ _. ⌜ now (rates .exit) ≡ laid (now (rates .entry)) (flatMap (λ (m : Mode). m .rates) (modesNow (now (es .entry)) (now (places .entry)) (now (modes .entry)))) ⌝ }
+    ensures { λ _. ⌜ Laid (now (rates .entry)) (flatMap (λ (m : Mode). m .rates) (modesFrom (now (es .entry)) (now (places .entry)) 0 (now (modes .entry)))) (now (rates .exit)) ⌝ }
 {
     let mut j = 0;
     while j < modes.len() {
@@ -98,7 +106,7 @@ fn lay_all(es: &[u8], places: &[usize], modes: &[u8], rates: &mut [i32])
 // The rates in force: those of kind 1, and the current modes' over them.
 pub fn rates_now(es: &[u8], places: &[usize], steady: [i32; 32], modes: &[u8]) -> [i32; 32]
     requires { ⌜ Current (now es) (now places) (now modes) × Driving (now es) (now places) (now modes) 32 ⌝ }
-    ensures { λ r. ⌜ r ≡ laid steady (flatMap (λ (m : Mode). m .rates) (modesNow (now (es .entry)) (now (places .entry)) (now (modes .entry)))) ⌝ }
+    ensures { λ r. ⌜ InForce (now (es .entry)) (now (places .entry)) (now (modes .entry)) steady r ⌝ }
 {
     let mut rates = steady;
     lay_all(es, places, modes, &mut rates);
@@ -113,7 +121,7 @@ fn switch_at(es: &[u8], at: usize, count: usize, k: usize) -> usize
     let mut p = count + 1;
     let mut left = k;
     while 0 < left {
-        p = p + 1 + effects::wide(es[p]);
+        p = p + 1 + (es[p] as usize);
         left -= 1;
     }
     p
@@ -129,20 +137,18 @@ pub fn take_switch(
     modes: &mut [u8],
 ) -> Verdict
     requires { ⌜ Current (now es) (now places) (now modes) ⌝ }
-    ensures { λ r. ⌜ Left (switchTaken (modesNow (now (es .entry)) (now (places .entry)) (now (modes .entry))) (now (values .entry)) (now (modes .entry)) s k) (now (values .entry)) (now (modes .entry)) r (now (values .entry)) (now (modes .exit)) ⌝ }
+    ensures { λ r. ⌜ Switched (now (es .entry)) (now (places .entry)) s k (now (values .entry)) (now (modes .entry)) r (now (modes .exit)) ⌝ }
 {
     if modes.len() <= s {
         return Verdict::Away(26);
     }
     let at = place(places, modes, s);
     let count = switches_at(es, at);
-    if effects::wide(es[count]) <= k {
+    if (es[count] as usize) <= k {
         return Verdict::Away(26);
     }
     let q = switch_at(es, at, count, k);
-    let b = q + 2;
-    let e = q + 1 + effects::wide(es[q]);
-    let r = effects::ask(&es[b..e], values, Verdict::Stay, Verdict::Away(30));
+    let r = truth(es, q, values, Verdict::Stay, Verdict::Away(30));
     if effects::goes_on(r) {
         modes[s] = es[q + 1];
     }

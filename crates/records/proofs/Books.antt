@@ -9,7 +9,7 @@ use lib.Dec.{eqb, leb}
 use lib.ListN.{length}
 use Rattle.semantics.specs.Bytes.{within}
 use Rattle.semantics.specs.Run.{isTaken, isTurnedAway, isFaulted, howMany}
-use Rattle.records.specs.Booking.{bumped, bookedOf, countsOf, tallied, Room}
+use Rattle.records.specs.Booking.{bumped, bookedOf, countsOf, Room}
 use Rattle.records.specs.declared.Counts.{Counts}
 
 -- ---- bounds
@@ -78,12 +78,3 @@ counts-more l a = let t = more isTaken l a in let u = more isTurnedAway l a in l
 pub counts-room : (l : List ℕ) → length l + 1 < 2 ^ 64 → Room (countsOf l)
 unfolding countsOf
 counts-room l h = record { taken = omega (arith, at-most isTaken l); turned-away = omega (arith, at-most isTurnedAway l); faulted = omega (arith, at-most isFaulted l) }
-
--- booked one by one, from no answers on
-tallied-from : (l k : List ℕ) → tallied (countsOf l) k ≡ countsOf (l ++ k)
-unfolding tallied
-tallied-from l [] = ap countsOf (sym (mathlib.Core.List.append-nil l))
-tallied-from l (a ∷ k) = ap (λ c. tallied c k) (sym (counts-more l a)) ∙ tallied-from (l ++ (a ∷ [])) k ∙ ap countsOf (mathlib.Core.List.append-assoc l (a ∷ []) k)
-
-pub tallied-counts : (l : List ℕ) → tallied (record { taken = 0; «turned_away» = 0; faulted = 0 }) l ≡ countsOf l
-tallied-counts l = ap (λ c. tallied c l) (sym counts-none) ∙ tallied-from [] l

@@ -1,6 +1,6 @@
 -- The counts of a run.
 use mathlib.Core.Bool.{Bool, true, false}
-use mathlib.Core.List.{List, [], _∷_}
+use mathlib.Core.List.{List}
 use Prim.Native.Nat.{ℕ, _+_, _^_, _<_}
 use Rattle.semantics.specs.Run.{isTaken, isTurnedAway, isFaulted, howMany}
 use Rattle.records.specs.declared.Counts.{Counts}
@@ -16,11 +16,6 @@ bookedOf c a = record { taken = bumped (c .taken) (isTaken a); «turned_away» =
 -- the counts of a list of answers
 unfoldable pub countsOf : List ℕ → Counts
 countsOf l = record { taken = howMany isTaken l; «turned_away» = howMany isTurnedAway l; faulted = howMany isFaulted l }
-
--- answers booked one after the other
-unfoldable pub tallied : Counts → List ℕ → Counts
-tallied c [] = c
-tallied c (a ∷ l) = tallied (bookedOf c a) l
 
 -- each count may be one more
 pub record Room (c : Counts) : Type 0 where

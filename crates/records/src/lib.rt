@@ -2,11 +2,12 @@
 use nodeset::NodeSet;
 ghost use mathlib.Core.Path.{_≡_};
 ghost use mathlib.Core.Bool.{true};
-ghost use mathlib.Core.List.{_∷_, _++_, flatMap};
+ghost use mathlib.Core.List.{flatMap};
 ghost use Prim.Native.Nat.{ℕ, _+_, _*_, _^_, _≤_, _<_};
 ghost use lib.ListN.{length};
 ghost use Rattle.semantics.specs.Bytes.{within, bigEndian};
-ghost use Rattle.semantics.specs.Run.{setNumber, valueBytes};
+ghost use Rattle.semantics.specs.Editions.{edition1};
+ghost use Rattle.semantics.specs.Run.{setNumber, valueBytes, recordBytes};
 ghost use Rattle.codec.specs.Writing.{Wrote};
 ghost use Rattle.nodeset.specs.Sets.{mem, members};
 ghost use Rattle.records.specs.Booking.{bumped, bookedOf, Room};
@@ -97,7 +98,8 @@ pub fn put_record(
     modes: &[u8],
 ) -> usize
     requires { ⌜ (i + (9 + 4 * length (now values) + length (now modes)) ≤ length (now d)) × ((n : ℕ) → mem (acting .words) n ≡ true → n < 64) ⌝ }
-    ensures { λ r. ⌜ (r ≡ i + (9 + 4 * length (now (values .entry)) + length (now (modes .entry)))) × Wrote (now (d .entry)) i (answer ∷ bigEndian 8 (setNumber (members (acting .words))) ++ (flatMap valueBytes (now (values .entry)) ++ now (modes .entry))) (now (d .exit)) ⌝ }
+    ensures { λ r. ⌜ (r ≡ i + (9 + 4 * length (now (values .entry)) + length (now (modes .entry)))) ×
+        Wrote (now (d .entry)) i (recordBytes edition1 answer (setNumber (members (acting .words))) (now (values .entry)) (now (modes .entry))) (now (d .exit)) ⌝ }
 {
     let j = codec::put1(d, i, answer);
     let k = put_set(d, j, acting);

@@ -1,17 +1,16 @@
 -- The loop of a run by the rules.
 use mathlib.Core.Path.{_≡_, refl, sym, ap, _∙_}
 use mathlib.Core.Bool.{true, false}
-use mathlib.Core.List.{List, _∷_, _++_, flatMap}
+use mathlib.Core.List.{List}
 use mathlib.Core.Option.{Option, some}
 use Prim.Native.Nat.{ℕ, _+_, _*_, _/_, _^_, _≤_, _<_}
 use native.Mathlib.Nat.{mul-le-mul-right}
 use native.Mathlib.Omega.{arith}
 use lib.IntN.{ℤ}
 use lib.ListN.{length}
-use Rattle.semantics.specs.Bytes.{bigEndian}
 use Rattle.semantics.specs.Editions.{edition1}
 use Rattle.semantics.specs.Plant.{among}
-use Rattle.semantics.specs.Run.{setNumber, actingSet, valueBytes}
+use Rattle.semantics.specs.Run.{setNumber, actingSet, recordBytes}
 use Rattle.semantics.specs.Calls.{recordSize}
 use Rattle.semantics.proofs.Facts.{true-not-false}
 use Rattle.schedules.specs.Residuals.{Residual, fresh, acting}
@@ -87,7 +86,7 @@ module _ {vs₀ : List ℤ} {ms₀ events d₀ : List ℕ} {k i : ℕ} {x : Situ
   going-counts h m = run-counts (s .plant) (ruleControl s) (begins s vs₀ ms₀) events (length events / 3) d₀ (g .so-far) h (omega arith)
 
   pub going-next : k < length events / 3 → {e : List ℕ} {a : Answered} {vs' : List ℤ} {ms' : List ℕ} → e ≡ eventAt events (3 * k) → Steps s (g .place) vs ms e a vs' ms' → Fits (s .plant) vs' ms' → {i' : ℕ} {cs' : Counts} {d' : List ℕ} →
-      Wrote d i (a .answer ∷ bigEndian 8 (setNumber (members (a .situation .acting .words))) ++ (flatMap valueBytes vs' ++ ms')) d' → i' ≡ i + (9 + 4 * length vs' + length ms') → cs' ≡ bookedOf cs (a .answer) →
+      Wrote d i (recordBytes edition1 (a .answer) (setNumber (members (a .situation .acting .words))) vs' ms') d' → i' ≡ i + (9 + 4 * length vs' + length ms') → cs' ≡ bookedOf cs (a .answer) →
       Going s vs₀ ms₀ events d₀ (k + 1) i' (a .situation) cs' vs' ms' d'
   going-next h {a = a} {vs' = vs'} {ms' = ms'} q t f w j b = record {
     place = t .place;

@@ -5,18 +5,14 @@ use mathlib.Core.List.{List}
 use mathlib.Core.Option.{Option, none, some, bind}
 use Prim.Native.Nat.{ℕ, _-_, _<_, _≤_}
 use native.Mathlib.Omega.{arith}
-use lib.Dec.{ltb}
 use lib.ListN.{length, getD, getElem?, take, drop}
-use Rattle.semantics.specs.Bytes.{isSome}
 use Rattle.semantics.specs.Editions.{edition1}
-use Rattle.semantics.specs.Expressions.{numberIn}
-use Rattle.semantics.specs.Sections.{Selector}
 use Rattle.semantics.specs.Plant.{selectors}
-use Rattle.semantics.specs.Run.{Action, test, wait, assign, switch, stop}
+use Rattle.semantics.specs.Run.{Action, stop}
 use Rattle.semantics.specs.TableFile as TableFile
 use Rattle.semantics.specs.TableFile.{actionKind}
 use Rattle.semantics.specs.Tables.{operandFits, actionAt, actionOrStop}
-use Rattle.semantics.proofs.Facts.{none-not-some, and-left, among-mem, every-all, all-mem, at-mem}
+use Rattle.semantics.proofs.Facts.{none-not-some, among-mem, every-all, all-mem, at-mem}
 use Rattle.schedules.specs.Nodes.{Node, nodeNamed, nodeReads, actionOf, nodeAction, actionsOf}
 use Rattle.schedules.specs.Residuals.{acting}
 use Rattle.schedules.specs.Files.{Schedule}
@@ -29,7 +25,7 @@ use Rattle.schedule_read.proofs.NodeActions.{action-of-node, numbers-long, acti
 use Rattle.schedule_read.proofs.Promises.{Promised}
 use Rattle.plant.specs.declared.sections.PlantRead.{PlantRead}
 use Rattle.execution.specs.Operands.{Cut, cutAt}
-use Rattle.execution.specs.Ready.{Lent, PlantLent, NodeLent, actionNamed}
+use Rattle.execution.specs.Ready.{Lent, PlantLent, NodeLent}
 use Rattle.execution.proofs.PlantReady.{plant-lent}
 use Rattle.rule_step.specs.Situations.{ScheduleLent}
 
@@ -45,26 +41,18 @@ pub record LentFrom (f : List ℕ) (ix : ScheduleIndex) (l : Lent) : Type 0 wher
   pub starts : l .starts ≡ ix .nodes .starts
   pub ends : l .ends ≡ ix .nodes .ends
 
--- ---- condition 11, of the action
-fits-named : (v : ℕ) (cs : List Selector) (a : Action) → operandFits edition1 v cs a ≡ true → actionNamed v cs a ≡ true
-unfolding operandFits actionNamed
-fits-named v cs (test t) h = refl
-fits-named v cs (wait t) h = refl
-fits-named v cs (assign u e) h = and-left (ltb u v) (isSome (numberIn edition1 v e)) h
-fits-named v cs (switch c m) h = h
-fits-named v cs stop h = refl
-
+-- ---- conditions 11 and 12, of the action
 module _ {f : List ℕ} {ix : ScheduleIndex} {s : Schedule} (p : Promised f ix s) where
-  action-named : (n : ℕ) {a : Action} → actionAt (actionsOf (s .nodes)) n ≡ some a → actionNamed (length (s .plant .variables)) (selectors (s .plant)) a ≡ true
+  action-fits : (n : ℕ) {a : Action} → actionAt (actionsOf (s .nodes)) n ≡ some a → operandFits edition1 (length (s .plant .variables)) (selectors (s .plant)) a ≡ true
   unfolding bind
-  action-named n {a} h = go (getElem? (s .nodes) n) refl
+  action-fits n {a} h = go (getElem? (s .nodes) n) refl
     where
-      go : (o : Option Node) → getElem? (s .nodes) n ≡ o → actionNamed (length (s .plant .variables)) (selectors (s .plant)) a ≡ true
+      go : (o : Option Node) → getElem? (s .nodes) n ≡ o → operandFits edition1 (length (s .plant .variables)) (selectors (s .plant)) a ≡ true
       go none e = none-not-some (sym (action-of-node (s .nodes) n ∙ ap (λ o. bind o actionOf) e) ∙ h)
       go (some x) e =
           let i : actionOf x ≡ some a = sym (action-of-node (s .nodes) n ∙ ap (λ o. bind o actionOf) e) ∙ h in
           let m = at-mem (s .nodes) n e in
-          fits-named _ _ a (operand-fits edition1 _ _ x a i (all-mem (every-all (nodeNamed (length (s .plant .variables)) (selectors (s .plant))) (s .nodes) (p .named)) m) (all-mem (every-all (nodeReads edition1 (length (s .plant .variables))) (s .nodes) (p .reads)) m))
+          operand-fits edition1 _ _ x a i (all-mem (every-all (nodeNamed (length (s .plant .variables)) (selectors (s .plant))) (s .nodes) (p .named)) m) (all-mem (every-all (nodeReads edition1 (length (s .plant .variables))) (s .nodes) (p .reads)) m)
 
   module _ {l : Lent} (q : LentFrom f ix l) where
     equations-are : l .equations ≡ s .sections .equations
@@ -91,7 +79,7 @@ module _ {f : List ℕ} {ix : ScheduleIndex} {s : Schedule} (p : Promised f ix s
           kind = omega (arith, ap length (q .kinds), numbers-long (ix .nodes .kinds) (ix .nodes .count) (d .few) (omega (arith, d .few, d .kinds-full)), d .few);
           cut = cut-at (e .ordered) (e .inside) (omega (arith, d .few, d .starts-full)) (omega (arith, d .few, d .ends-full));
           is = payload-is (action-is d n i ∙ h);
-          named = action-named n h;
+          fits = action-fits n h;
         }
       where
         cut-at : getD (ix .nodes .starts) n 0 ≤ getD (ix .nodes .ends) n 0 → getD (ix .nodes .ends) n 0 ≤ length (s .sections .schedule) → n < length (ix .nodes .starts) → n < length (ix .nodes .ends) → Cut (l .operands) (l .starts) (l .ends) n

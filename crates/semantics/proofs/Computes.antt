@@ -30,7 +30,7 @@ unfolding Sections.readVariable Sections.readVariables Sections.variablesIn Sect
 sections = tt
 
 unfoldable pub plant : Unit {0}
-unfolding Plant.ordered Plant.rateNamed Plant.switchNamed Plant.modeNamed Plant.equationNamed Plant.among Plant.apart Plant.onceAfter Plant.ratesDrive Plant.modeDrives Plant.drives Plant.modeOnce Plant.modesOnce Plant.drivenOnce Plant.switchReads Plant.modeReads Plant.equationReads Plant.switchesRead Plant.judgeVariables Plant.judgeEquations Plant.judgePlant Plant.selectorsOf Plant.selectors Plant.modeExists Plant.currentOf Plant.currentModes Plant.switchTruths Plant.currentTruths Plant.ratesOf Plant.rateAmong Plant.rateOf Plant.declared Plant.declaredAt Plant.allDeclared Plant.added Plant.advance
+unfolding Plant.ordered Plant.rateNamed Plant.switchNamed Plant.modeNamed Plant.equationNamed Plant.among Plant.apart Plant.onceAfter Plant.ratesDrive Plant.modeDrives Plant.drives Plant.modeOnce Plant.modesOnce Plant.drivenOnce Plant.switchReads Plant.modeReads Plant.equationReads Plant.switchesRead Plant.judgeVariables Plant.judgeEquations Plant.judgePlant Plant.selectorsOf Plant.selectors Plant.modeExists Plant.currentOf Plant.currentModes Plant.switchTruths Plant.currentTruths Plant.ratesOf Plant.rateAmong Plant.rateOf Plant.declared Plant.declaredAt Plant.stored Plant.allDeclared Plant.added Plant.advance
 plant = tt
 
 unfoldable pub events : Unit {0}
@@ -38,7 +38,7 @@ unfolding Events.eventKind Events.unused Events.readEventBody Events.readEvent E
 events = tt
 
 unfoldable pub run : Unit {0}
-unfolding Run.isTest Run.possible Run._>>=_ Run._>>_ Run.allow Run.find Run.valued Run.isWait Run.waitTruth Run.walk Run.switchCheck Run.act Run.judgePick Run.judgeSwitch Run.judgeTick Run.judge Run.faultAnswer Run.turnedAway Run.arrive Run.follow Run.settle Run.step Run.answers Run.setNumber Run.actingSet Run.valueBytes Run.recordOf Run.isTaken Run.isTurnedAway Run.isFaulted Run.howMany
+unfolding Run.isTest Run.possible Run._>>=_ Run._>>_ Run.allow Run.find Run.valued Run.isWait Run.waitTruth Run.walk Run.checkModes Run.assigned Run.act Run.judgeSwitch Run.switchCheck Run.judgePick Run.judgeTick Run.judge Run.faultAnswer Run.turnedAway Run.arrive Run.follow Run.settle Run.step Run.answers Run.setNumber Run.actingSet Run.valueBytes Run.recordBytes Run.recordOf Run.isTaken Run.isTurnedAway Run.isFaulted Run.howMany
 run = tt
 
 unfoldable pub tableFile : Unit {0}

@@ -235,24 +235,24 @@ unfolding flatMap truths switchTruths
 flat-rows [] = refl
 flat-rows (m ∷ l) = ap (λ k. truths (m .switches) ++ k) (flat-rows l)
 
-rows-truths : (p : Plant) (ms : List ℕ) → flatMap truths (rows (p .equations) ms) ≡ currentTruths p ms
+rows-truths : (p : Plant) (ms : List ℕ) → flatMap truths (rows (p .equations) ms) ≡ currentTruths (currentModes p ms)
 unfolding rows currentTruths currentModes selectors
 rows-truths p ms = flat-rows (currentOf (selectorsOf (p .equations)) ms)
 
 -- the switch check of the rules is the step's walk
 module _ {ed : Edition} {p : Plant} {vs : List ℤ} {ms : List ℕ} {f : Found} where
-  pub check-walk : Checks ed vs (CurrentSwitch p ms) f → Walks ed vs (currentTruths p ms) f
+  pub check-walk : Checks ed vs (CurrentSwitch p ms) f → Walks ed vs (currentTruths (currentModes p ms)) f
   check-walk h =
       let i = same-check ed vs (λ s k w c. to-row p ms c) (λ s k w c. from-row p ms c) h in
       subst (λ ts. Walks ed vs ts f) (rows-truths p ms) (check-rows ed vs (rows (p .equations) ms) i)
 
-  pub walk-check : Walks ed vs (currentTruths p ms) f → Checks ed vs (CurrentSwitch p ms) f
+  pub walk-check : Walks ed vs (currentTruths (currentModes p ms)) f → Checks ed vs (CurrentSwitch p ms) f
   walk-check h =
       let i = rows-check ed vs (rows (p .equations) ms) (subst (λ ts. Walks ed vs ts f) (sym (rows-truths p ms)) h) in
       same-check ed vs (λ s k w c. from-row p ms c) (λ s k w c. to-row p ms c) i
 
 pub found-check : (ed : Edition) (p : Plant) (vs : List ℤ) (ms : List ℕ) → (f : Found) × Checks ed vs (CurrentSwitch p ms) f
-found-check ed p vs ms = let w = found-walk ed vs (currentTruths p ms) in (w .0, walk-check (w .1))
+found-check ed p vs ms = let w = found-walk ed vs (currentTruths (currentModes p ms)) in (w .0, walk-check (w .1))
 
 -- ---- a switch event's switch
 in-of : (l : List Mode) (s : ℕ) {k : ℕ} {m : Mode} {w : Switch} → getElem? l s ≡ some m → getElem? (m .switches) k ≡ some w → In (map (λ (m : Mode). m .switches) l) s k w
@@ -362,14 +362,14 @@ module _ {p : Plant} {ms : List ℕ} {v : ℕ} {z : ℤ} where
       go (by-mode {n = n} {c = c} a h i j) = mode-rate (record { selector = c; number = n; is-selector = a; is-number = h; is-mode = i }) j (q .drives-it) (q .is-rate)
 
 -- the rate that is found is one of them, or there is none and it is 0
-data RateFound (l : List Rate) (v : ℕ) : Type 0 where
+pub data RateFound (l : List Rate) (v : ℕ) : Type 0 where
   found-rate : Rated l v (rateAmong l v) → RateFound l v
   no-rate : ((z : ℤ) → Rated l v z → ⊥) → rateAmong l v ≡ pos 0 → RateFound l v
 
 rated-later : {r : Rate} {l : List Rate} {v : ℕ} {z : ℤ} → Rated l v z → Rated (r ∷ l) v z
 rated-later q = record { rate = q .rate; listed = later (q .listed); drives-it = q .drives-it; is-rate = q .is-rate }
 
-rate-found : (l : List Rate) (v : ℕ) → RateFound l v
+pub rate-found : (l : List Rate) (v : ℕ) → RateFound l v
 unfolding rateAmong
 rate-found [] v = no-rate (λ z q. List·Memᴰ·not-nil (q .listed)) refl
 rate-found (r ∷ l) v = go (eqb (r .driven) v) refl (rate-found l v)

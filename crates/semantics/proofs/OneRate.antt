@@ -132,7 +132,7 @@ not-seen seen (e ∷ es) h ms {r} m i =
     go o (inl k) f = apart-mem seen (drives e) (o .unseen) (here-driven e ms k) i
     go o (inr k) f = f k
 
-one-of : (seen : List ℕ) (es : List Equation) → drivenOnce seen es ≡ true → (ms : List ℕ) {r q : Rate} → Mem r (ratesOf es ms) → Mem q (ratesOf es ms) → r .driven ≡ q .driven → r .rate ≡ q .rate
+pub one-of : (seen : List ℕ) (es : List Equation) → drivenOnce seen es ≡ true → (ms : List ℕ) {r q : Rate} → Mem r (ratesOf es ms) → Mem q (ratesOf es ms) → r .driven ≡ q .driven → r .rate ≡ q .rate
 unfolding ratesOf
 one-of seen [] h ms i j e = absurd (List·Memᴰ·not-nil i)
 one-of seen (x ∷ es) h ms {r} {q} i j e =

@@ -16,7 +16,7 @@ use lib.Pow.{pow-add, shr-shr, field, mod-mod-pow}
 use lib.Seq.{take-append-seam, drop-append-seam}
 use Rattle.semantics.specs.Bytes.{bigEndian, out4, unsigned, overwrite}
 use Rattle.semantics.specs.Editions.{Edition}
-use Rattle.semantics.specs.Run.{Control, Answered, setNumber, actingSet, valueBytes, recordOf}
+use Rattle.semantics.specs.Run.{Control, Answered, setNumber, actingSet, valueBytes, recordBytes, recordOf}
 use Rattle.semantics.specs.Tables.{risingFrom}
 use Rattle.semantics.specs.Records.{AtFront, Fits32, FourBytes, from-0, below-0, ValuesIn, no-value, one-value, ActsAt, acts-at, RecordIs}
 use Rattle.semantics.proofs.Facts.{true-not-false, none-not-some, some-is, All, all-nil, all-cons}
@@ -202,7 +202,7 @@ module _ {S : Type 0} (ed : Edition) (c : Control S) where
       (λ e. acts-at (k .0 e), λ a. (let q = acts a in k .1 (subst (λ y. Mem n (c .acting y)) (sym (some-is (q .1))) (q .2))))
 
   pub record-is : (o : Answered S) → ((x : S) → o .left .place ≡ some x → risingFrom 0 (c .acting x) ≡ true) → All Fits32 (o .left .values) → RecordIs ed c o (recordOf ed c o)
-  unfolding recordOf
+  unfolding recordOf recordBytes
   record-is o rising fits =
       let number = actingSet c (o .left .place) in
       record {

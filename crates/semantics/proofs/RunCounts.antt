@@ -14,7 +14,7 @@ use Rattle.semantics.specs.Editions.{Edition}
 use Rattle.semantics.specs.Expressions.{Side, above, below}
 use Rattle.semantics.specs.Plant.{Plant, selectors}
 use Rattle.semantics.specs.Events.{eventIn}
-use Rattle.semantics.specs.Run.{Next, to, finished, halted, idle, Control, Verdict, Moved, nobody, mover, Done, judge, Situation, Answered, faultAnswer, turnedAway, arrive, follow, settle, step, answers, actingSet, valueBytes, recordOf, isTaken, isTurnedAway, isFaulted, howMany}
+use Rattle.semantics.specs.Run.{Next, to, finished, halted, idle, Control, Verdict, Moved, nobody, mover, Done, judge, Situation, Answered, faultAnswer, turnedAway, arrive, follow, settle, step, answers, actingSet, valueBytes, recordBytes, recordOf, isTaken, isTurnedAway, isFaulted, howMany}
 use Rattle.semantics.specs.Counting.{Counted, no-answer, one-taken, one-away, one-faulted}
 use Rattle.semantics.specs.Calls.{recordSize, outcomeOf}
 use Rattle.semantics.proofs.Facts.{within-low, within-high, within-both}
@@ -170,7 +170,7 @@ module _ {S : Type 0} (ed : Edition) (p : Plant) (c : Control S) where
   -- ---- as many bytes as the records need
   pub record-length : (o : Answered S) → length (o .left .values) ≡ length (p .variables) → length (o .left .modes) ≡ length (selectors p) →
       length (recordOf ed c o) ≡ recordSize ed p
-  unfolding recordOf recordSize
+  unfolding recordOf recordBytes recordSize
   record-length o h k =
       let set = bigEndian (ed .set-bytes) (actingSet c (o .left .place)) in
       let values = flatMap valueBytes (o .left .values) in

@@ -8,7 +8,7 @@ use lib.IntN.{ℤ}
 use Rattle.semantics.specs.Editions.{Edition}
 use Rattle.semantics.specs.Plant.{Plant}
 use Rattle.semantics.specs.Events.{Event, eventIn}
-use Rattle.semantics.specs.Run.{possible, Next, to, finished, halted, idle, Control, Verdict, Moved, Done, judge, Situation, Answered, at, turnedAway, arrive, follow, settle, step, answers, setNumber, actingSet, recordOf}
+use Rattle.semantics.specs.Run.{possible, Next, to, finished, halted, idle, Control, Verdict, Moved, Done, judge, Situation, Answered, at, turnedAway, arrive, follow, settle, step, answers, setNumber, actingSet, recordBytes, recordOf}
 use Rattle.semantics.specs.Calls.{outcomeOf}
 use Rattle.semantics.proofs.Verdicts.{Verdicts, is-away, is-faulty, is-pass, Movable, nobody-moves, one-moves, Fair, judge-verdicts}
 
@@ -107,7 +107,7 @@ module _ {S R : Type 0} {c : Control S} {d : Control R} {Sim : S → R → Type 
   set-same (both-at {x = x} {y = y} h) = ap setNumber (agree .acting-same x y h)
 
   record-same : {o : Answered S} {q : Answered R} → AnsweredRel Sim o q → recordOf ed c o ≡ recordOf ed d q
-  unfolding recordOf
+  unfolding recordOf recordBytes
   record-same h = rw (h .answer-same, set-same (h .lefts .places), h .lefts .values-same, h .lefts .modes-same)
 
   written-same : {l : List (Answered S)} {k : List (Answered R)} → AllAnswered Sim l k → flatMap (recordOf ed c) l ≡ flatMap (recordOf ed d) k

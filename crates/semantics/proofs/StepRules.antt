@@ -9,11 +9,11 @@ use native.Mathlib.Omega.{arith}
 use lib.IntN.{ℤ}
 use lib.ListN.{getElem?, set}
 use Rattle.semantics.specs.Editions.{Edition}
-use Rattle.semantics.specs.Expressions.{Side, above, below, Value, ok, fault, numberValue, truthValue}
+use Rattle.semantics.specs.Expressions.{Side, above, below, Value, ok, fault, numberValue, truthValue, thenValue}
 use Rattle.semantics.specs.Sections.{Variable, Switch, Mode}
-use Rattle.semantics.specs.Plant.{Plant, among, currentModes, declared, declaredAt, advance, added, rateOf}
+use Rattle.semantics.specs.Plant.{Plant, among, currentModes, declared, declaredAt, stored, advance, added, rateOf}
 use Rattle.semantics.specs.Events.{Event, senseless, eventIn}
-use Rattle.semantics.specs.Run.{Action, test, wait, assign, switch, stop, isTest, possible, Next, to, finished, halted, idle, Control, Verdict, away, pass, _>>=_, _>>_, allow, find, valued, nobody, Done, walk, switchCheck, act, judgePick, judgeSwitch, judgeTick, judge, Situation, Answered, at, over, faultAnswer, turnedAway, arrive, follow, settle, step, answers}
+use Rattle.semantics.specs.Run.{Action, test, wait, assign, switch, stop, isTest, possible, Next, to, finished, halted, idle, Control, Verdict, away, pass, _>>=_, _>>_, allow, find, valued, nobody, Done, walk, checkModes, assigned, act, judgeSwitch, switchCheck, judgePick, judgeTick, judge, Situation, Answered, at, over, faultAnswer, turnedAway, arrive, follow, settle, step, answers}
 use Rattle.semantics.specs.Rules.{SaysTick, SaysPick, SaysSwitch, Found, nothing, found-true, found-fault, Walks, Waits, Inside, Added, AllInside, FirstOutside, Goes, goes-on, finishes, Rule, when-over, when-senseless, pick-idle, pick-switch-true, pick-switch-fault, pick-test, pick-test-fault, pick-wait, pick-wait-false, pick-wait-fault, pick-assign, pick-assign-fault, pick-assign-outside, pick-switch, pick-stop, switch-missing, switch-taken, switch-false, switch-fault, tick-busy, tick-switch-true, tick-switch-fault, tick-wait-true, tick-wait-fault, tick-taken, tick-outside, Derives, no-events, one-event, CurrentSwitch, Checks, Comes, by-move, Standing, stands-at, stands-over, Sound, Stopping}
 use Rattle.semantics.proofs.Facts.{true-not-false, none-not-some, some-is, by-cases, among-mem, mem-among, at-exists}
 use Rattle.semantics.proofs.EventDecoding.{decoded-tick, decoded-pick, decoded-switch, Said, says-tick, says-pick, says-switch, says-nothing, said-of}
@@ -28,7 +28,7 @@ declared-at xs v z h = rw (h, declaredAt) refl
 -- the last stage of a tick
 moveOn : Plant → List ℤ → List ℕ → Verdict Done
 moveOn p vs ms = do
-  ys ← valued (advance p ms vs)
+  ys ← valued (advance (p .variables) (rateOf p ms) vs)
   pass (record { moved = nobody; values = ys; modes = ms })
 
 -- the stages of a switch event once the switch exists
@@ -47,8 +47,8 @@ module _ (ed : Edition) (p : Plant) where
       not-among = by-cases (among n ns) (λ h. absurd (f (among-mem n ns h))) (λ h. h)
 
   pick-verdict : (action : ℕ → Action) (ns : List ℕ) (vs : List ℤ) (ms : List ℕ) {n : ℕ} {f : Found} → Mem n ns → Checks ed vs (CurrentSwitch p ms) f →
-      judgePick ed p action ns vs ms n ≡ (foundAs 28 f >> act ed p vs ms n (action n))
-  unfolding judgePick _>>_ allow switchCheck
+      judgePick ed p action ns vs ms n ≡ (foundAs 28 f >> act ed (p .variables) vs ms n (action n))
+  unfolding judgePick _>>_ allow switchCheck checkModes
   pick-verdict action ns vs ms {n} m w = rw (mem-among n ns m, walk-found (check-walk w) 28) refl
 
   busy-verdict : (action : ℕ → Action) (ns : List ℕ) (vs : List ℤ) (ms : List ℕ) {n : ℕ} → Mem n ns → ((t : List ℕ) → action n ≡ wait t → ⊥) → judgeTick ed p action ns vs ms ≡ away 27
@@ -57,10 +57,10 @@ module _ (ed : Edition) (p : Plant) where
 
   tick-verdict : (action : ℕ → Action) (ns : List ℕ) (vs : List ℤ) (ms : List ℕ) {ts : List (List ℕ)} {f : Found} → Waits action ns ts → Checks ed vs (CurrentSwitch p ms) f →
       judgeTick ed p action ns vs ms ≡ (foundAs 28 f >> (walk ed 31 vs ts >> moveOn p vs ms))
-  unfolding judgeTick _>>_ allow switchCheck moveOn
+  unfolding judgeTick _>>_ allow switchCheck checkModes moveOn
   tick-verdict action ns vs ms w k = rw (waits-every w, walk-found (check-walk k) 28, waits-truths w) refl
 
-  missing-verdict : (vs : List ℤ) (ms : List ℕ) (s k : ℕ) → ((w : Switch) → CurrentSwitch p ms s k w → ⊥) → judgeSwitch ed p vs ms s k ≡ away 26
+  missing-verdict : (vs : List ℤ) (ms : List ℕ) (s k : ℕ) → ((w : Switch) → CurrentSwitch p ms s k w → ⊥) → judgeSwitch ed (currentModes p ms) vs ms s k ≡ away 26
   unfolding judgeSwitch _>>=_ find
   missing-verdict vs ms s k f = go (getElem? (currentModes p ms) s) refl
     where
@@ -68,11 +68,11 @@ module _ (ed : Edition) (p : Plant) where
       no-switch m h none g = refl
       no-switch m h (some w) g = absurd (f w (is-current p ms s k h g))
 
-      go : (o : Option Mode) → getElem? (currentModes p ms) s ≡ o → judgeSwitch ed p vs ms s k ≡ away 26
+      go : (o : Option Mode) → getElem? (currentModes p ms) s ≡ o → judgeSwitch ed (currentModes p ms) vs ms s k ≡ away 26
       go none h = rw h refl
       go (some m) h = rw (h, no-switch m h (getElem? (m .switches) k) refl) refl
 
-  switch-verdict : (vs : List ℤ) (ms : List ℕ) (s k : ℕ) {w : Switch} → CurrentSwitch p ms s k w → judgeSwitch ed p vs ms s k ≡ switched ed vs ms s w
+  switch-verdict : (vs : List ℤ) (ms : List ℕ) (s k : ℕ) {w : Switch} → CurrentSwitch p ms s k w → judgeSwitch ed (currentModes p ms) vs ms s k ≡ switched ed vs ms s w
   unfolding judgeSwitch _>>=_ find switched
   switch-verdict vs ms s k c = let q = current-is p ms s k c in rw (q .1, q .2) refl
 
@@ -104,11 +104,11 @@ senseless-event ed e f g h = go (said-of ed e)
     go (says-switch w) = absurd (h _ _ w)
     go (says-nothing f g h) = refl
 
-inside-advance : (p : Plant) (ms : List ℕ) (vs : List ℤ) {ys : List ℤ} → Added p ms vs ys → AllInside (p .variables) ys → advance p ms vs ≡ ok ys
+inside-advance : (p : Plant) (ms : List ℕ) (vs : List ℤ) {ys : List ℤ} → Added p ms vs ys → AllInside (p .variables) ys → advance (p .variables) (rateOf p ms) vs ≡ ok ys
 unfolding advance
 inside-advance p ms vs {ys} h i = rw (← added-rates h) (inside-all (p .variables) ys i)
 
-outside-advance : (p : Plant) (ms : List ℕ) (vs : List ℤ) {ys : List ℤ} {side : Side} → Added p ms vs ys → FirstOutside (p .variables) ys side → advance p ms vs ≡ fault side
+outside-advance : (p : Plant) (ms : List ℕ) (vs : List ℤ) {ys : List ℤ} {side : Side} → Added p ms vs ys → FirstOutside (p .variables) ys side → advance (p .variables) (rateOf p ms) vs ≡ fault side
 unfolding advance
 outside-advance p ms vs {ys} h o = rw (← added-rates h) (outside-first (p .variables) ys o)
 
@@ -120,7 +120,7 @@ module _ {S : Type 0} (ed : Edition) (p : Plant) (c : Control S) where
 
   -- once the picked node acts, and once all acting nodes wait, the switch check decides how it goes on
   by-pick : (x : S) (vs : List ℤ) (ms : List ℕ) {e : List ℕ} {n : ℕ} {f : Found} → SaysPick ed e n → Mem n (c .acting x) → Checks ed vs (CurrentSwitch p ms) f →
-      step ed p c (at x vs ms) e ≡ settle c x (at x vs ms) (foundAs 28 f >> act ed p vs ms n (c .action n))
+      step ed p c (at x vs ms) e ≡ settle c x (at x vs ms) (foundAs 28 f >> act ed (p .variables) vs ms n (c .action n))
   unfolding judge
   by-pick x vs ms {e} w m k = by-event x vs ms e (decoded-pick ed w) (pick-verdict ed p (c .action) (c .acting x) vs ms m k)
 
@@ -135,7 +135,7 @@ module _ {S : Type 0} (ed : Edition) (p : Plant) (c : Control S) where
   by-switch x vs ms {e} {s} {k} h c = by-event x vs ms e (decoded-switch ed h) (switch-verdict ed p vs ms s k c)
 
   pub rule-step : {s t : Situation S} {e : List ℕ} {a : ℕ} → StopsHalt c s → Rule ed p c s e a t → step ed p c s e ≡ record { answer = a; left = t }
-  unfolding step judge settle turnedAway follow arrive foundAs _>>_ _>>=_ valued allow act moveOn switched
+  unfolding step judge settle turnedAway follow arrive foundAs _>>_ _>>=_ valued allow act assigned stored thenValue moveOn switched
   rule-step y when-over = refl
   rule-step y (when-senseless {x = x} {vs} {ms} {e} f g h) = by-event x vs ms e (senseless-event ed e f g h) refl
   rule-step y (pick-idle {x = x} {vs} {ms} {e} w f) = by-event x vs ms e (decoded-pick ed w) (idle-verdict ed p (c .action) (c .acting x) vs ms f)

@@ -5,15 +5,15 @@ use mathlib.Core.List.{List, [], _∷_, map, List·Memᴰ as Mem, Memᴰ·cast}
 use mathlib.Core.Option.{Option, none, some}
 use Prim.Native.Nat.{ℕ, suc}
 use native.Mathlib.Omega.{arith}
-use lib.ListN.{length, getElem?, length-set}
+use lib.ListN.{length, getElem?, set, length-set}
 use lib.IntN.{ℤ}
 use Rattle.semantics.specs.Bytes.{every, within}
 use Rattle.semantics.specs.Editions.{Edition}
 use Rattle.semantics.specs.Expressions.{Side, Value, ok, fault, numberValue, truthValue, thenValue}
 use Rattle.semantics.specs.Sections.{Variable}
-use Rattle.semantics.specs.Plant.{Plant, among, currentModes, currentTruths, declared, declaredAt, allDeclared, added, rateOf, advance}
+use Rattle.semantics.specs.Plant.{Plant, among, currentModes, currentTruths, declared, declaredAt, stored, allDeclared, added, rateOf, advance}
 use Rattle.semantics.specs.Events.{Event, tick, pick, take-switch, senseless}
-use Rattle.semantics.specs.Run.{Action, test, wait, assign, switch, stop, isTest, possible, Verdict, away, faulty, pass, _>>=_, _>>_, allow, find, valued, Moved, nobody, mover, Done, isWait, waitTruth, walk, switchCheck, act, judgePick, judgeSwitch, judgeTick, judge}
+use Rattle.semantics.specs.Run.{Action, test, wait, assign, switch, stop, isTest, possible, Verdict, away, faulty, pass, _>>=_, _>>_, allow, find, valued, Moved, nobody, mover, Done, isWait, waitTruth, walk, checkModes, assigned, act, judgeSwitch, switchCheck, judgePick, judgeTick, judge}
 use Rattle.semantics.proofs.Facts.{among-mem}
 
 -- 24 to 31; 23 is said before an event is judged
@@ -89,9 +89,28 @@ declared-length (x ∷ xs) (z ∷ zs) ys h = go (declared x z) (allDeclared xs z
     go (ok y) (fault s) e h ih = ok-not-fault h
     go (fault s) w e h ih = ok-not-fault h
 
-pub advance-length : (p : Plant) (ms : List ℕ) (vs ys : List ℤ) → advance p ms vs ≡ ok ys → length ys ≡ length vs
+pub advance-length : (p : Plant) (ms : List ℕ) (vs ys : List ℤ) → advance (p .variables) (rateOf p ms) vs ≡ ok ys → length ys ≡ length vs
 unfolding advance
 advance-length p ms vs ys h = declared-length (p .variables) (added (rateOf p ms) 0 vs) ys h ∙ added-length (rateOf p ms) 0 vs
+
+-- an assignment puts one number in its place
+pub record Assigned (xs : List Variable) (vs : List ℤ) (v : ℕ) (ys : List ℤ) : Type 0 where
+  pub number : ℤ
+  pub value : ℤ
+  pub in-range : declaredAt xs v number ≡ ok value
+  pub is : ys ≡ set vs v value
+
+pub assigned-is : (ed : Edition) (xs : List Variable) (vs : List ℤ) (v : ℕ) (e : List ℕ) {ys : List ℤ} → assigned ed xs vs v e ≡ ok ys → Assigned xs vs v ys
+unfolding assigned stored thenValue
+assigned-is ed xs vs v e {ys} h = go (numberValue ed vs e) h
+  where
+    put : (z : ℤ) (u : Value ℤ) → declaredAt xs v z ≡ u → thenValue u (λ y. ok (set vs v y)) ≡ ok ys → Assigned xs vs v ys
+    put z (ok y) i h = record { number = z; value = y; in-range = i; is = sym (ok-is h) }
+    put z (fault s) i h = ok-not-fault h
+
+    go : (u : Value ℤ) → thenValue u (stored xs vs v) ≡ ok ys → Assigned xs vs v ys
+    go (ok z) h = put z (declaredAt xs v z) refl h
+    go (fault s) h = ok-not-fault h
 
 -- ---- a taken event
 -- whose move it may be
@@ -122,10 +141,10 @@ module _ (ed : Edition) where
 
   module _ (p : Plant) (action : ℕ → Action) (acting : List ℕ) (vs : List ℤ) (ms : List ℕ) where
     check-verdicts : Verdicts (λ u. Unit {0}) (switchCheck ed p vs ms)
-    unfolding switchCheck inJudging within
-    check-verdicts = walk-verdicts 28 refl vs (currentTruths p ms)
+    unfolding switchCheck checkModes inJudging within
+    check-verdicts = walk-verdicts 28 refl vs (currentTruths (currentModes p ms))
 
-    act-verdicts : (n : ℕ) (a : Action) → action n ≡ a → Mem n acting → Verdicts (Fair action acting vs ms) (act ed p vs ms n a)
+    act-verdicts : (n : ℕ) (a : Action) → action n ≡ a → Mem n acting → Verdicts (Fair action acting vs ms) (act ed (p .variables) vs ms n a)
     unfolding act possible isTest inJudging within
     act-verdicts n (test t) e m =
         bind-verdicts _ (valued-verdicts (truthValue ed vs t))
@@ -138,8 +157,9 @@ module _ (ed : Edition) where
         bind-verdicts _ (valued-verdicts (truthValue ed vs t)) (λ b _. then-verdicts _ (allow-verdicts 29 b refl)
         (λ _ _. is-pass (record { mover-acts = one-moves m refl; values-kept = refl; modes-kept = refl })))
     act-verdicts n (assign v t) e m =
-        bind-verdicts _ (valued-verdicts (numberValue ed vs t)) (λ z _. bind-verdicts _ (valued-verdicts (declaredAt (p .variables) v z))
-        (λ y _. is-pass (record { mover-acts = one-moves m refl; values-kept = length-set vs v y; modes-kept = refl })))
+        bind-verdicts _ (valued-verdicts (assigned ed (p .variables) vs v t)) (λ ys h.
+        let q = assigned-is ed (p .variables) vs v t h in
+        is-pass (record { mover-acts = one-moves m refl; values-kept = ap length (q .is) ∙ length-set vs v (q .value); modes-kept = refl }))
     act-verdicts n (switch s k) e m = is-pass (record { mover-acts = one-moves m refl; values-kept = refl; modes-kept = length-set ms s k })
     act-verdicts n stop e m = is-pass (record { mover-acts = one-moves m refl; values-kept = refl; modes-kept = refl })
 
@@ -149,7 +169,7 @@ module _ (ed : Edition) where
         then-verdicts _ (allow-verdicts 25 (among n acting) refl) (λ _ h.
         then-verdicts _ check-verdicts (λ _ _. act-verdicts n (action n) refl (among-mem n acting h)))
 
-    switch-verdicts : (s k : ℕ) → Verdicts (Fair action acting vs ms) (judgeSwitch ed p vs ms s k)
+    switch-verdicts : (s k : ℕ) → Verdicts (Fair action acting vs ms) (judgeSwitch ed (currentModes p ms) vs ms s k)
     unfolding judgeSwitch inJudging within
     switch-verdicts s k =
         bind-verdicts _ (find-verdicts 26 (getElem? (currentModes p ms) s) refl) (λ m _.
@@ -164,7 +184,7 @@ module _ (ed : Edition) where
         then-verdicts _ (allow-verdicts 27 (every (λ n. isWait (action n)) acting) refl) (λ _ _.
         then-verdicts _ check-verdicts (λ _ _.
         then-verdicts _ (walk-verdicts 31 refl vs (map (λ n. waitTruth (action n)) acting)) (λ _ _.
-        bind-verdicts _ (valued-verdicts (advance p ms vs)) (λ ys h.
+        bind-verdicts _ (valued-verdicts (advance (p .variables) (rateOf p ms) vs)) (λ ys h.
         is-pass (record { mover-acts = nobody-moves; values-kept = advance-length p ms vs ys h; modes-kept = refl })))))
 
     pub judge-verdicts : (e : Event) → Verdicts (Fair action acting vs ms) (judge ed p action acting vs ms e)

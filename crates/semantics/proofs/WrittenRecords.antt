@@ -12,12 +12,13 @@ use lib.IntN.{ℤ, pos, negsuc}
 use lib.Signed.{ltZ, mag}
 use Rattle.semantics.specs.Bytes.{out2, out4, out, bigEndian, unsigned, Width, one-byte, two-bytes}
 use Rattle.semantics.specs.Editions.{Edition, capacity}
-use Rattle.semantics.specs.Expressions.{Side, above, below, Value, ok, fault, ranged, thenValue, fits32, numberValue, truthValue}
+use Rattle.semantics.specs.Expressions.{Side, above, below, Value, ok, fault, ranged, thenValue, fits32, truthValue}
 use Rattle.semantics.specs.Sections.{Variable, Switch, Mode, Selector}
 use Rattle.semantics.specs.Plant.{Plant, selectors, noMode, currentOf, currentModes, currentTruths, declared, declaredAt, allDeclared, added, rateOf, advance}
 use Rattle.semantics.specs.Events.{Event, tick, pick, take-switch, senseless, eventIn}
 use Rattle.semantics.specs.Run as Run
-use Rattle.semantics.specs.Run.{Action, test, wait, assign, switch, stop, Next, to, finished, halted, idle, Control, Verdict, away, faulty, pass, allow, find, valued, Moved, nobody, mover, Done, walk, switchCheck, act, judgePick, judgeSwitch, judgeTick, judge, Situation, Answered, faultAnswer, turnedAway, arrive, follow, settle, step, answers, valueBytes, recordOf}
+use Rattle.semantics.specs.Run.{Action, test, wait, assign, switch, stop, Next, to, finished, halted, idle, Control, Verdict, away, faulty, pass, allow, find, valued, Moved, nobody, mover, Done, walk, checkModes, assigned, act, judgeSwitch, switchCheck, judgePick, judgeTick, judge, Situation, Answered, faultAnswer, turnedAway, arrive, follow, settle, step, answers, valueBytes, recordBytes, recordOf}
+use Rattle.semantics.proofs.Verdicts.{assigned-is}
 use Rattle.semantics.proofs.Facts.{true-not-false, and-left, and-right, and-both, All, all-nil, all-cons, all-append, all-map, all-mem, all-flat, at-mem}
 
 abbrev pub Byte : ℕ → Type 0
@@ -219,21 +220,22 @@ module _ (ed : Edition) (p : Plant) (pb : PlantBytes p) where
   walk-fine n vs (t ∷ ts) h = fine-then _ (fine-any (truthValue ed vs t)) (λ b u. fine-next _ (fine-allow n (not b) h) (walk-fine n vs ts h))
 
   check-fine : (vs : List ℤ) (ms : List ℕ) → Fine Any (switchCheck ed p vs ms)
-  unfolding switchCheck
-  check-fine vs ms = walk-fine 28 vs (currentTruths p ms) (lit< tt)
+  unfolding switchCheck checkModes
+  check-fine vs ms = walk-fine 28 vs (currentTruths (currentModes p ms)) (lit< tt)
 
-  act-fine : (vs : List ℤ) (ms : List ℕ) (n : ℕ) (a : Action) → StateBytes p vs ms → ActionByte a → Fine (DoneBytes p) (act ed p vs ms n a)
+  act-fine : (vs : List ℤ) (ms : List ℕ) (n : ℕ) (a : Action) → StateBytes p vs ms → ActionByte a → Fine (DoneBytes p) (act ed (p .variables) vs ms n a)
   unfolding act
   act-fine vs ms n (test t) h k = fine-then _ (fine-any (truthValue ed vs t)) (λ b u. fine-pass h)
   act-fine vs ms n (wait t) h k = fine-then _ (fine-any (truthValue ed vs t)) (λ b u. fine-next _ (fine-allow 29 b (lit< tt)) (fine-pass h))
   act-fine vs ms n (assign v e) h k =
-      fine-then _ (fine-any (numberValue ed vs e)) (λ z u.
-      fine-then _ (fine-valued {P = Bits32} (declaredAt (p .variables) v z) (λ y. declared-bytes (p .variables) v z (pb .variables))) (λ y b.
-      fine-pass (record { few = rw (length-set vs v y) (h .few); bits = all-set v y b (h .bits); modes = h .modes })))
+      fine-then _ (fine-valued {P = λ ys. StateBytes p ys ms} (assigned ed (p .variables) vs v e) (λ ys i.
+      let q = assigned-is ed (p .variables) vs v e i in
+      let b = declared-bytes (p .variables) v (q .number) (pb .variables) (q .in-range) in
+      rw (q .is) (record { few = rw (length-set vs v (q .value)) (h .few); bits = all-set v (q .value) b (h .bits); modes = h .modes }))) (λ ys b. fine-pass b)
   act-fine vs ms n (switch s m) h k = fine-pass (record { few = h .few; bits = h .bits; modes = all-set s m (k s m refl) (h .modes) })
   act-fine vs ms n stop h k = fine-pass h
 
-  switch-fine : (vs : List ℤ) (ms : List ℕ) (s k : ℕ) → StateBytes p vs ms → Fine (DoneBytes p) (judgeSwitch ed p vs ms s k)
+  switch-fine : (vs : List ℤ) (ms : List ℕ) (s k : ℕ) → StateBytes p vs ms → Fine (DoneBytes p) (judgeSwitch ed (currentModes p ms) vs ms s k)
   unfolding judgeSwitch currentModes
   switch-fine vs ms s k h =
       let modes = currentModes p ms in
@@ -242,7 +244,7 @@ module _ (ed : Edition) (p : Plant) (pb : PlantBytes p) where
       fine-then _ (fine-any (truthValue ed vs (w .truth))) (λ b u.
       fine-next _ (fine-allow 30 b (lit< tt)) (fine-pass (record { few = h .few; bits = h .bits; modes = all-set s (w .target) t (h .modes) })))))
 
-  advance-bytes : (vs : List ℤ) (ms : List ℕ) {ys : List ℤ} → StateBytes p vs ms → advance p ms vs ≡ ok ys → StateBytes p ys ms
+  advance-bytes : (vs : List ℤ) (ms : List ℕ) {ys : List ℤ} → StateBytes p vs ms → advance (p .variables) (rateOf p ms) vs ≡ ok ys → StateBytes p ys ms
   unfolding advance
   advance-bytes vs ms {ys} h e =
       let n = length-added (rateOf p ms) 0 vs in
@@ -255,7 +257,7 @@ module _ (ed : Edition) (p : Plant) (pb : PlantBytes p) where
   unfolding judgeTick
   tick-fine action acting vs ms h =
       fine-next _ (fine-allow 27 _ (lit< tt)) (fine-next _ (check-fine vs ms) (fine-next _ (walk-fine 31 vs _ (lit< tt))
-      (fine-then _ (fine-valued {P = λ ys. StateBytes p ys ms} (advance p ms vs) (λ ys. advance-bytes vs ms h)) (λ ys b. fine-pass b))))
+      (fine-then _ (fine-valued {P = λ ys. StateBytes p ys ms} (advance (p .variables) (rateOf p ms) vs) (λ ys. advance-bytes vs ms h)) (λ ys b. fine-pass b))))
 
   judge-fine : (action : ℕ → Action) (acting : List ℕ) (vs : List ℤ) (ms : List ℕ) (e : Event) → ((n : ℕ) → ActionByte (action n)) → StateBytes p vs ms →
       Fine (DoneBytes p) (judge ed p action acting vs ms e)
@@ -309,7 +311,7 @@ module _ {S : Type 0} (ed : Edition) (p : Plant) (c : Control S) (pb : PlantByte
       go (some x) = settle-bytes p c x s h (judge-fine ed p pb (c .action) (c .acting x) (s .values) (s .modes) (eventIn ed e) (cb .actions) h)
 
   pub record-bytes : (o : Answered S) → AnsweredBytes p o → All Byte (recordOf ed c o)
-  unfolding recordOf
+  unfolding recordOf recordBytes
   record-bytes o h = all-cons (h .answer) (all-append (bigEndian-bytes (ed .set-bytes) _) (all-append (values-bytes (h .left .bits)) (h .left .modes)))
 
   pub records-bytes : (s : Situation S) → SituationBytes p s → (es : List (List ℕ)) → All Byte (flatMap (recordOf ed c) (answers ed p c s es))

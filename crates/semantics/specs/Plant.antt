@@ -3,7 +3,7 @@ use mathlib.Core.Bool.{Bool, true, false, not, _&&_}
 use mathlib.Core.List.{List, [], _∷_, _++_, map, flatMap}
 use mathlib.Core.Option.{none, some}
 use Prim.Native.Nat.{ℕ, suc}
-use lib.ListN.{length, getD, getElem?}
+use lib.ListN.{length, getD, getElem?, set}
 use lib.Dec.{ltb, eqb}
 use lib.IntN.{ℤ, pos, _+ℤ_}
 use lib.Signed.{leZ}
@@ -136,8 +136,8 @@ currentModes p ms = currentOf (selectors p) ms
 unfoldable pub switchTruths : Mode → List (List ℕ)
 switchTruths m = map (λ (w : Switch). w .truth) (m .switches)
 
-unfoldable pub currentTruths : Plant → List ℕ → List (List ℕ)
-currentTruths p ms = flatMap switchTruths (currentModes p ms)
+unfoldable pub currentTruths : List Mode → List (List ℕ)
+currentTruths modes = flatMap switchTruths modes
 
 -- the rates in force, equations in order
 unfoldable pub ratesOf : List Equation → List ℕ → List Rate
@@ -162,6 +162,10 @@ declared x z = ranged (x .minimum) (x .maximum) z
 unfoldable pub declaredAt : List Variable → ℕ → ℤ → Value ℤ
 declaredAt xs v z = elim (getElem? xs v) [ none ↦ fault above | some x ↦ declared x z ]
 
+-- variable v becomes z where its range allows it
+unfoldable pub stored : List Variable → List ℤ → ℕ → ℤ → Value (List ℤ)
+stored xs vs v z = thenValue (declaredAt xs v z) (λ y. ok (set vs v y))
+
 -- all of them in range, or the fault of the lowest variable that is not; there are as many values as variables
 unfoldable pub allDeclared : List Variable → List ℤ → Value (List ℤ)
 allDeclared [] zs = ok zs
@@ -173,5 +177,5 @@ unfoldable pub added : (ℕ → ℤ) → ℕ → List ℤ → List ℤ
 added rate v [] = []
 added rate v (z ∷ zs) = (z +ℤ rate v) ∷ added rate (suc v) zs
 
-unfoldable pub advance : Plant → List ℕ → List ℤ → Value (List ℤ)
-advance p ms vs = allDeclared (p .variables) (added (rateOf p ms) 0 vs)
+unfoldable pub advance : List Variable → (ℕ → ℤ) → List ℤ → Value (List ℤ)
+advance xs rate vs = allDeclared xs (added rate 0 vs)

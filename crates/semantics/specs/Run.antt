@@ -8,8 +8,9 @@ use lib.Dec.{eqb}
 use lib.IntN.{ℤ}
 use Rattle.semantics.specs.Bytes.{every, within, bigEndian, out4, unsigned}
 use Rattle.semantics.specs.Editions.{Edition}
-use Rattle.semantics.specs.Expressions.{Side, above, below, Value, ok, fault, numberValue, truthValue}
-use Rattle.semantics.specs.Plant.{Plant, among, currentModes, currentTruths, declaredAt, advance}
+use Rattle.semantics.specs.Expressions.{Side, above, below, Value, ok, fault, thenValue, numberValue, truthValue}
+use Rattle.semantics.specs.Sections.{Variable, Mode}
+use Rattle.semantics.specs.Plant.{Plant, among, currentModes, currentTruths, stored, rateOf, advance}
 use Rattle.semantics.specs.Events.{Event, tick, pick, take-switch, senseless, eventIn}
 
 -- ---- control
@@ -117,27 +118,44 @@ module _ (ed : Edition) where
     allow n (not b)
     walk n vs ts
 
-  module _ (p : Plant) where
-    -- 28: "The switch check of a pick or tick stops at a true switch."
-    unfoldable pub switchCheck : List ℤ → List ℕ → Verdict (Unit {0})
-    switchCheck vs ms = walk 28 vs (currentTruths p ms)
+  -- of the current modes. 28: "The switch check of a pick or tick stops at a true switch."
+  unfoldable pub checkModes : List Mode → List ℤ → Verdict (Unit {0})
+  checkModes modes vs = walk 28 vs (currentTruths modes)
 
-    -- the picked node's truth or assignment
-    unfoldable pub act : List ℤ → List ℕ → ℕ → Action → Verdict Done
-    act vs ms n (test t) = do
-      b ← valued (truthValue ed vs t)
-      pass (record { moved = mover n b; values = vs; modes = ms })
-    act vs ms n (wait t) = do
-      b ← valued (truthValue ed vs t)
-      -- 29: "The CONTINUE is not yet true."
-      allow 29 b
-      pass (record { moved = mover n true; values = vs; modes = ms })
-    act vs ms n (assign v e) = do
-      z ← valued (numberValue ed vs e)
-      y ← valued (declaredAt (p .variables) v z)
-      pass (record { moved = mover n true; values = set vs v y; modes = ms })
-    act vs ms n (switch s m) = pass (record { moved = mover n true; values = vs; modes = set ms s m })
-    act vs ms n stop = pass (record { moved = mover n true; values = vs; modes = ms })
+  -- a number assigned to variable v
+  unfoldable pub assigned : List Variable → List ℤ → ℕ → List ℕ → Value (List ℤ)
+  assigned xs vs v e = thenValue (numberValue ed vs e) (stored xs vs v)
+
+  -- the picked node's truth or assignment; it asks the plant for its variables' ranges alone
+  unfoldable pub act : List Variable → List ℤ → List ℕ → ℕ → Action → Verdict Done
+  act xs vs ms n (test t) = do
+    b ← valued (truthValue ed vs t)
+    pass (record { moved = mover n b; values = vs; modes = ms })
+  act xs vs ms n (wait t) = do
+    b ← valued (truthValue ed vs t)
+    -- 29: "The CONTINUE is not yet true."
+    allow 29 b
+    pass (record { moved = mover n true; values = vs; modes = ms })
+  act xs vs ms n (assign v e) = do
+    ys ← valued (assigned xs vs v e)
+    pass (record { moved = mover n true; values = ys; modes = ms })
+  act xs vs ms n (switch s m) = pass (record { moved = mover n true; values = vs; modes = set ms s m })
+  act xs vs ms n stop = pass (record { moved = mover n true; values = vs; modes = ms })
+
+  -- "Switch (no switch check): it exists, its truth holds, the mode changes." These are the current modes.
+  unfoldable pub judgeSwitch : List Mode → List ℤ → List ℕ → ℕ → ℕ → Verdict Done
+  judgeSwitch modes vs ms s k = do
+    -- 26: "There is no such switch."
+    m ← find 26 (getElem? modes s)
+    w ← find 26 (getElem? (m .switches) k)
+    b ← valued (truthValue ed vs (w .truth))
+    -- 30: "The switch's truth is false."
+    allow 30 b
+    pass (record { moved = nobody; values = vs; modes = set ms s (w .target) })
+
+  module _ (p : Plant) where
+    unfoldable pub switchCheck : List ℤ → List ℕ → Verdict (Unit {0})
+    switchCheck vs ms = checkModes (currentModes p ms) vs
 
     -- "Pick: acting, switch check, then the node's truth or assignment."
     unfoldable pub judgePick : (ℕ → Action) → List ℕ → List ℤ → List ℕ → ℕ → Verdict Done
@@ -145,18 +163,7 @@ module _ (ed : Edition) where
       -- 25: "The picked node is not acting."
       allow 25 (among n acting)
       switchCheck vs ms
-      act vs ms n (action n)
-
-    -- "Switch (no switch check): it exists, its truth holds, the mode changes."
-    unfoldable pub judgeSwitch : List ℤ → List ℕ → ℕ → ℕ → Verdict Done
-    judgeSwitch vs ms s k = do
-      -- 26: "There is no such switch."
-      m ← find 26 (getElem? (currentModes p ms) s)
-      w ← find 26 (getElem? (m .switches) k)
-      b ← valued (truthValue ed vs (w .truth))
-      -- 30: "The switch's truth is false."
-      allow 30 b
-      pass (record { moved = nobody; values = vs; modes = set ms s (w .target) })
+      act (p .variables) vs ms n (action n)
 
     -- "Tick: all acting nodes are CONTINUE, switch check, their truths in node order up to the first that is true or faults,
     -- then each driven variable adds its current rate"
@@ -167,13 +174,13 @@ module _ (ed : Edition) where
       switchCheck vs ms
       -- 31: "A tick whose walk over the CONTINUE truths stops at a true one."
       walk 31 vs (map (λ n. waitTruth (action n)) acting)
-      ys ← valued (advance p ms vs)
+      ys ← valued (advance (p .variables) (rateOf p ms) vs)
       pass (record { moved = nobody; values = ys; modes = ms })
 
     unfoldable pub judge : (ℕ → Action) → List ℕ → List ℤ → List ℕ → Event → Verdict Done
     judge action acting vs ms tick = judgeTick action acting vs ms
     judge action acting vs ms (pick n) = judgePick action acting vs ms n
-    judge action acting vs ms (take-switch s k) = judgeSwitch vs ms s k
+    judge action acting vs ms (take-switch s k) = judgeSwitch (currentModes p ms) vs ms s k
     -- 24: "The event's kind is unknown or an unused byte is not 0."
     judge action acting vs ms senseless = away 24
 
@@ -254,10 +261,11 @@ unfoldable pub valueBytes : ℤ → List ℕ
 valueBytes z = out4 (unsigned z)
 
 -- "The record of an event: answer byte, set of acting nodes (..), values (4 bytes each), modes (1 byte each)."
+unfoldable pub recordBytes : Edition → ℕ → ℕ → List ℤ → List ℕ → List ℕ
+recordBytes ed answer acting vs ms = answer ∷ bigEndian (ed .set-bytes) acting ++ (flatMap valueBytes vs ++ ms)
+
 unfoldable pub recordOf : {S : Type 0} → Edition → Control S → Answered S → List ℕ
-recordOf ed c o =
-    let s = o .left in
-    o .answer ∷ bigEndian (ed .set-bytes) (actingSet c (s .place)) ++ (flatMap valueBytes (s .values) ++ s .modes)
+recordOf ed c o = let s = o .left in recordBytes ed (o .answer) (actingSet c (s .place)) (s .values) (s .modes)
 
 -- "taken (200..202), turned away (23..31) and faulted (203)"
 unfoldable pub isTaken : ℕ → Bool

@@ -1,22 +1,17 @@
 -- A table that is read is lent: what a run asks of the arrays, from the promises of the table's index.
-use mathlib.Core.Path.{_≡_, refl, ap, _∙_}
+use mathlib.Core.Path.{_≡_, ap, _∙_}
 use mathlib.Core.Bool.{true}
 use mathlib.Core.List.{List}
 use mathlib.Core.Option.{some}
 use Prim.Native.Nat.{ℕ, _-_, _<_, _≤_}
 use native.Mathlib.Omega.{arith}
-use lib.Dec.{ltb}
 use lib.ListN.{length, getD, take, drop}
-use Rattle.semantics.specs.Bytes.{isSome}
 use Rattle.semantics.specs.Editions.{edition1}
-use Rattle.semantics.specs.Expressions.{numberIn}
 use Rattle.semantics.specs.Refusals.{accepted}
-use Rattle.semantics.specs.Sections.{Selector}
 use Rattle.semantics.specs.Plant.{judgePlant}
-use Rattle.semantics.specs.Run.{Action, test, wait, assign, switch, stop}
+use Rattle.semantics.specs.Run.{Action}
 use Rattle.semantics.specs.TableFile.{TableSections, actionKind, actionOfKind}
-use Rattle.semantics.specs.Tables.{Table, operandFits, actionAt, entriesAt, judgeTable}
-use Rattle.semantics.proofs.Facts.{and-left}
+use Rattle.semantics.specs.Tables.{Table, actionAt, entriesAt, judgeTable}
 use Rattle.plant.specs.PlantRead.{plantOf}
 use Rattle.plant.specs.declared.sections.PlantRead.{PlantRead}
 use Rattle.table_read.specs.TableParts.{partsOf, sectionsAt}
@@ -29,7 +24,7 @@ use Rattle.table_read.proofs.OperandTurns.{operandOf}
 use Rattle.table_read.proofs.PartsStand.{Stands}
 use Rattle.table_read.proofs.Promises.{Opened, opened, parts-read, plant-read, actions-read, locations-read, action-promised, lengths-of, location-promised, LocationsPromised, locations-promised}
 use Rattle.execution.specs.Operands.{Cut, cutAt}
-use Rattle.execution.specs.Ready.{Lent, PlantLent, NodeLent, actionNamed}
+use Rattle.execution.specs.Ready.{Lent, PlantLent, NodeLent}
 use Rattle.execution.proofs.PlantReady.{plant-lent}
 use Rattle.table_step.specs.Situations.{LocationLent, TableLent}
 
@@ -48,15 +43,6 @@ pub record LentFrom (f : List ℕ) (ix : TableIndex) (l : Lent) : Type 0 where
   pub kinds : l .kinds ≡ ix .actions .kinds
   pub starts : l .starts ≡ ix .actions .starts
   pub ends : l .ends ≡ ix .actions .ends
-
--- condition 11, of the action
-fits-named : (v : ℕ) (cs : List Selector) (a : Action) → operandFits edition1 v cs a ≡ true → actionNamed v cs a ≡ true
-unfolding operandFits actionNamed
-fits-named v cs (test t) h = refl
-fits-named v cs (wait t) h = refl
-fits-named v cs (assign u e) h = and-left (ltb u v) (isSome (numberIn edition1 v e)) h
-fits-named v cs (switch c m) h = h
-fits-named v cs stop h = refl
 
 stands-as : {f x : List ℕ} {a b c d : ℕ} → c ≡ a → d ≡ b → Stands f a b x → Stands f c d x
 stands-as e g s = rw (e, g) s
@@ -140,7 +126,7 @@ module _ (f : List ℕ) {ix : TableIndex} (h : ix ≡ tableIndex f) {t : Table} 
           kind = omega (arith, ap length (q .kinds), kinds-full);
           cut = cut-at (p .ordered) (p .inside) (omega (arith, starts-full)) (omega (arith, ends-full));
           is = operand-is (p .is);
-          named = fits-named _ _ a (p .fits);
+          fits = p .fits;
         }
       where
         cut-at : getD (ix .actions .starts) n 0 ≤ getD (ix .actions .ends) n 0 → getD (ix .actions .ends) n 0 ≤ length (sections .actions) → n < length (ix .actions .starts) → n < length (ix .actions .ends) → Cut (l .operands) (l .starts) (l .ends) n

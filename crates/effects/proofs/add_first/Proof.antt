@@ -4,9 +4,10 @@ use Prim.Native.Nat.{_≤_, _<_, _-_}
 use lib.IntN.{ℤ, pos, _+ℤ_}
 use lib.ListN.{length, getD, set, length-set}
 use Rattle.semantics.specs.Expressions.{ranged}
+use Rattle.semantics.specs.Plant.{added}
 use Rattle.semantics.specs.Run.{valued}
 use Rattle.effects.specs.Verdicts.{stepVerdict, goesOn}
-use Rattle.effects.specs.Ranges.{sums, firstSums}
+use Rattle.effects.specs.Ranges.{rateIn, firstSums}
 use Rattle.effects.proofs.Adds.{fill-here, fill-more, length-sums, sums-at, Held, held, held-sum, held-ranged}
 use native.Mathlib.Omega.{arith}
 use Rattle.effects.proofs.add_first.Statement.{statement}
@@ -52,7 +53,7 @@ sum-requires c κs = let l = c .before .before .before .before .before in
     let r = b .rates .now in
     let i = l .loop .v in
     let h : i < length v = omega arith in
-    let t = sums r v in
+    let t = added (rateIn r) 0 v in
     let here : getD (l .loop .values) i (pos 0) ≡ getD v i (pos 0) = ap (λ (x : List ℤ). getD x i (pos 0)) (l .loop .inv .2) ∙ fill-here t v i (pos 0) (length-sums r v) h in
     let lo = getD (b .lows .now) i (pos 0) in
     let hi = getD (b .highs .now) i (pos 0) in
@@ -80,7 +81,7 @@ loop-again c = let l = c .before .before .before .before .before .before in
     let r = b .rates .now in
     let i = l .loop .v in
     let h : i < length v = omega arith in
-    let t = sums r v in
+    let t = added (rateIn r) 0 v in
     let here : getD (l .loop .values) i (pos 0) ≡ getD v i (pos 0) = ap (λ (x : List ℤ). getD x i (pos 0)) (l .loop .inv .2) ∙ fill-here t v i (pos 0) (length-sums r v) h in
     let new : Held (c .sum .result) ≡ getD t i (pos 0) =
     held (c .sum .result) (c .sum .ok) ∙ c .sum .ensures ∙ held-sum (getD (l .loop .values) i (pos 0)) (getD r i (pos 0)) (c .before .before .sum-arg3 .given) (c .before .sum-arg4 .given) ∙ ap (λ (z : ℤ). z +ℤ getD r i (pos 0)) here ∙ sym (sums-at r v i h) in

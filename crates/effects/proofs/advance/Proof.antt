@@ -1,7 +1,6 @@
-use mathlib.Core.Path.{_∙_}
 use Prim.Native.Nat.{_≤_, _<_}
 use lib.ListN.{length}
-use Rattle.effects.proofs.Adds.{leaves-told, leaves-values, all-told, all-values}
+use Rattle.effects.proofs.Adds.{one-leaves, all-stay}
 use borrow.Author.Needs.{needs}
 use native.Mathlib.Omega.{arith}
 use Rattle.effects.proofs.advance.Statement.{statement}
@@ -21,23 +20,18 @@ same-length c = search needs
 
 returns : tie.Need-returns
 returns c = let a = c .before .before .before .before .before .before in
-    let s = a .before .before in
-    let b = s .args in
     let t = a .staying in
-    let f = t .ensures .first in
-    let all : length (b .values .now) ≤ t .result = omega arith in
-    (all-told (b .lows .now) (b .highs .now) (b .rates .now) (b .values .now) (s .pre) (t .result) f all, c .before .add-first .ensures ∙ all-values (b .lows .now) (b .highs .now) (b .rates .now) (b .values .now) (s .pre) (t .result) f all)
+    let all : length (a .before .before .args .values .now) ≤ t .result = omega arith in
+    all-stay _ _ _ _ (a .before .before .pre) (t .result) (t .ensures .first) all (c .before .add-first .ensures)
 
 same-length-2 : tie.Need-same-length-2
 same-length-2 c = search needs
 
 returns-2 : tie.Need-returns-2
 returns-2 c = let s = c .before .before .before .before .before in
-    let b = s .args in
     let t = c .before .before .before .staying in
-    let u = t .ensures in
-    let leaves : t .result < length (b .values .now) = omega (arith, u .first .count) in
-    (leaves-told (b .lows .now) (b .highs .now) (b .rates .now) (b .values .now) (s .pre) (t .result) u leaves _ (c .before .side .ensures .here leaves), leaves-values (b .lows .now) (b .highs .now) (b .rates .now) (b .values .now) (s .pre) (t .result) u leaves)
+    let leaves : t .result < length (s .args .values .now) = omega (arith, t .ensures .first .count) in
+    one-leaves _ _ _ _ (s .pre) (t .result) (t .ensures) leaves (c .before .side .ensures .here leaves)
 
 pub advance-spec : {M : Type 1} → statement M
 advance-spec = tie.close (tie.spec staying-requires side-requires add-first-requires same-length returns same-length-2 returns-2)

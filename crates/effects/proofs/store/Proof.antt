@@ -16,16 +16,16 @@ use Rattle.effects.proofs.store.Statement.{statement}
 use Rattle.effects.proofs.store.Tie as tie
 
 mul-ranged : tie.Need-mul-ranged
-mul-ranged c = search needs
+mul-ranged c = omega (arith, c .pre .1 .lows)
 
 shared-slice-copy-out-ranged : tie.Need-shared-slice-copy-out-ranged
-shared-slice-copy-out-ranged c = search needs
+shared-slice-copy-out-ranged c = omega (arith, c .pre .1 .lows)
 
 mul-ranged-2 : tie.Need-mul-ranged-2
-mul-ranged-2 c = search needs
+mul-ranged-2 c = omega (arith, c .before .pre .1 .highs)
 
 shared-slice-copy-out-ranged-2 : tie.Need-shared-slice-copy-out-ranged-2
-shared-slice-copy-out-ranged-2 c = search needs
+shared-slice-copy-out-ranged-2 c = omega (arith, c .before .pre .1 .highs)
 
 cast-ranged : tie.Need-cast-ranged
 cast-ranged c = widens _ (c .before .before .fits .z)
@@ -45,27 +45,25 @@ slice-set-from-z c = search needs
 same-length : tie.Need-same-length
 same-length c = search needs
 
+-- the answer of the range, by the numbers themselves
+told : (c : tie.After-ranged) → c .ranged .result ≡ stepVerdict (valued (ranged (getD (c .before .before .before .args .lows .now) (c .before .before .before .args .v) (pos 0)) (getD (c .before .before .before .args .highs .now) (c .before .before .before .args .v) (pos 0)) (c .before .before .before .args .z)))
+told c = let s = c .before .before .before in
+    let lo = getD (s .args .lows .now) (s .args .v) (pos 0) in
+    let hi = getD (s .args .highs .now) (s .args .v) (pos 0) in
+    c .ranged .ensures ∙ ap (λ x. stepVerdict (valued x)) (held-bounds lo hi _ (record { sfits = c .before .before .ranged-arg .given }) (record { sfits = c .before .ranged-arg2 .given }) ∙ ap (ranged lo hi) (widened (s .args .z) (s .fits .z)))
+
 returns : tie.Need-returns
 returns c = let s = c .before .before .before .before .before in
     let a = s .args in
-    let z = a .z in
-    let lo = getD (a .lows .now) (a .v) (pos 0) in
-    let hi = getD (a .highs .now) (a .v) (pos 0) in
-    let e : c .before .before .ranged .result ≡ stepVerdict (valued (ranged lo hi z)) = c .before .before .ranged .ensures ∙ ap (λ x. stepVerdict (valued x)) (held-bounds lo hi _ (record { sfits = c .before .before .before .before .ranged-arg .given }) (record { sfits = c .before .before .before .ranged-arg2 .given }) ∙ ap (ranged lo hi) (widened z (s .fits .z))) in
-    let l : a .v < length (a .lows .now) = omega arith in
-    let g = stored-in (a .lows .now) (a .highs .now) (a .values .now) (a .v) (a .done) z (s .pre .1 ∙ sym (s .pre .2)) l _ e (sym (c .before .goes-on .ensures) ∙ c .if1 .taken) in
-    (g .answer, ap (set (a .values .now) (a .v)) (toZ-ofZ w32 z (s .fits .z)) ∙ g .left)
+    let l : a .v < length (a .lows .now) = omega (arith, s .pre .1 .lows) in
+    let g = stored-in (a .lows .now) (a .highs .now) (a .values .now) (a .v) (a .done) (a .z) (s .pre .1 .lows ∙ sym (s .pre .1 .highs)) l _ (told (c .before .before)) (sym (c .before .goes-on .ensures) ∙ c .if1 .taken) in
+    record { answer = g .answer; left = ap (set (a .values .now) (a .v)) (toZ-ofZ w32 (a .z) (s .fits .z)) ∙ g .left }
 
 returns-2 : tie.Need-returns-2
 returns-2 c = let s = c .before .before .before .before .before in
     let a = s .args in
-    let z = a .z in
-    let lo = getD (a .lows .now) (a .v) (pos 0) in
-    let hi = getD (a .highs .now) (a .v) (pos 0) in
-    let e : c .before .before .ranged .result ≡ stepVerdict (valued (ranged lo hi z)) = c .before .before .ranged .ensures ∙ ap (λ x. stepVerdict (valued x)) (held-bounds lo hi _ (record { sfits = c .before .before .before .before .ranged-arg .given }) (record { sfits = c .before .before .before .ranged-arg2 .given }) ∙ ap (ranged lo hi) (widened z (s .fits .z))) in
-    let l : a .v < length (a .lows .now) = omega arith in
-    let g = stored-out (a .lows .now) (a .highs .now) (a .values .now) (a .v) (a .done) z (s .pre .1 ∙ sym (s .pre .2)) l _ e (sym (c .before .goes-on .ensures) ∙ c .if1 .left) in
-    (g .answer, g .left)
+    let l : a .v < length (a .lows .now) = omega (arith, s .pre .1 .lows) in
+    stored-out (a .lows .now) (a .highs .now) (a .values .now) (a .v) (a .done) (a .z) (s .pre .1 .lows ∙ sym (s .pre .1 .highs)) l _ (told (c .before .before)) (sym (c .before .goes-on .ensures) ∙ c .if1 .left)
 
 pub store-spec : {M : Type 1} → statement M
 store-spec =

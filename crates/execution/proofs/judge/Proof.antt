@@ -1,16 +1,22 @@
+-- The bytes tell the event (`sensible`), and each event is its own function's.
 use native.Mathlib.Omega.{arith}
+use borrow.Author.Tests.{not-true, not-false}
 use Rattle.execution.proofs.Lending.{is-current}
-use Rattle.execution.proofs.Events.{left-eq, switch-is}
-use Rattle.execution.proofs.Which.{second-used, third-used, pick-used, kind-unknown, ticks, picks, takes}
+use Rattle.execution.proofs.Events.{switch-left}
+use Rattle.execution.proofs.Which.{senseless-left, event-left}
 use borrow.Author.Needs.{needs}
 use Rattle.execution.proofs.judge.Statement.{statement}
 use Rattle.execution.proofs.judge.Tie as tie
 
-returns : tie.Need-returns
-returns c = λ p f q. second-used _ _ _ _ _ _ _ _ (c .before .if1 .taken) (c .if2 .taken)
+-- where the function starts
+abbrev start : tie.Else1 → tie.Start
+start c = let k = c .before .before .before .before in k .before .before .before .before .before
 
-returns-2 : tie.Need-returns-2
-returns-2 c = λ p f q. third-used _ _ _ _ _ _ _ _ (c .before .before .if1 .taken) (c .before .if2 .left) (c .if3 .taken)
+sensible-requires : tie.Need-sensible-requires
+sensible-requires c = search needs
+
+returns : tie.Need-returns
+returns c = λ p f q. senseless-left _ _ p f _ (c .before .sensible .ensures .none (not-true _ (c .if1 .taken)))
 
 tick-requires : tie.Need-tick-requires
 tick-requires c κs = search needs
@@ -21,17 +27,11 @@ same-length c = search needs
 same-length-2 : tie.Need-same-length-2
 same-length-2 c = search needs
 
-returns-3 : tie.Need-returns-3
-returns-3 c = λ p f q. ticks _ _ _ _ _ _ _ _ (c .before .before .before .before .before .before .if1 .taken) (c .before .before .before .before .before .if2 .left) (c .before .before .before .before .if3 .left) (c .before .tick .ensures p f q)
-
-returns-4 : tie.Need-returns-4
-returns-4 c = λ p f q. pick-used _ _ _ _ _ _ _ _ (c .before .if4 .taken) (c .if5 .taken)
-
-wide-requires : tie.Need-wide-requires
-wide-requires c κs = search needs
+returns-2 : tie.Need-returns-2
+returns-2 c = let k = c .before .before .before .before in λ p f q. event-left _ _ p f _ (k .before .before .sensible .ensures .ticks (not-false _ (k .before .if1 .left)) (k .if2 .taken)) (c .before .tick .ensures p f q)
 
 pick-requires : tie.Need-pick-requires
-pick-requires c κs = (c .before .before .before .before .before .before .before .before .before .before .before .before .before .pre, omega (arith, c .before .before .wide .ensures, c .before .before .before .before .before .before .before .before .before .before .before .before .before .fits .b))
+pick-requires c κs = let s = start (c .before .before .before .before) in (s .pre, omega (arith, s .fits .b))
 
 same-length-3 : tie.Need-same-length-3
 same-length-3 c = search needs
@@ -39,17 +39,11 @@ same-length-3 c = search needs
 same-length-4 : tie.Need-same-length-4
 same-length-4 c = search needs
 
-returns-5 : tie.Need-returns-5
-returns-5 c = λ p f q. picks _ _ _ _ _ _ _ _ (c .before .before .before .before .before .before .before .before .if4 .taken) (c .before .before .before .before .before .before .before .if5 .left) (c .before .before .before .before .before .before .wide .ensures) (c .before .before .before .pick .ensures p f q)
-
-wide-requires-2 : tie.Need-wide-requires-2
-wide-requires-2 c κs = search needs
-
-wide-requires-3 : tie.Need-wide-requires-3
-wide-requires-3 c κs = search needs
+returns-3 : tie.Need-returns-3
+returns-3 c = let k = c .before .before .before .before .before .before in λ p f q. event-left _ _ p f _ (k .before .before .before .sensible .ensures .picks (not-false _ (k .before .before .if1 .left)) (k .if3 .taken)) (c .before .before .before .pick .ensures p f q)
 
 take-switch-requires : tie.Need-take-switch-requires
-take-switch-requires c κs = let r = c .before .before .before .before .before .before .before .before .before .before .before .before .before .before .pre .ready in is-current _ _ (r .plant) _ _ (r .fits)
+take-switch-requires c κs = let r = start (c .before .before .before .before) .pre .ready in is-current _ _ (r .plant) _ _ (r .fits)
 
 same-length-5 : tie.Need-same-length-5
 same-length-5 c = search needs
@@ -57,33 +51,24 @@ same-length-5 c = search needs
 same-length-6 : tie.Need-same-length-6
 same-length-6 c = search needs
 
-returns-6 : tie.Need-returns-6
-returns-6 c = λ p f q.
-    takes _ _ _ _ _ _ _ _ (c .before .before .before .before .before .before .before .if6 .taken) (c .before .before .before .before .before .before .wide2 .ensures) (c .before .before .before .before .before .wide3 .ensures) (left-eq _ _ (switch-is _ _ _ _ _ _ q _ _) (c .before .before .take-switch .ensures))
-
-returns-7 : tie.Need-returns-7
-returns-7 c = λ p f q. kind-unknown _ _ _ _ _ _ _ _ (c .before .before .if1 .left) (c .before .if4 .left) (c .if6 .left)
+returns-4 : tie.Need-returns-4
+returns-4 c = let k = c .before .before .before .before .before in λ p f q. event-left _ _ p f _ (k .before .before .before .sensible .ensures .switches (not-false _ (k .before .before .if1 .left)) (k .before .if2 .left) (k .if3 .left)) (switch-left _ _ _ _ _ _ q _ _ (c .before .before .take-switch .ensures))
 
 pub judge-spec : {M : Type 1} → statement M
 judge-spec =
     tie.close
     (tie.spec
+    sensible-requires
     returns
-    returns-2
     tick-requires
     same-length
     same-length-2
-    returns-3
-    returns-4
-    wide-requires
+    returns-2
     pick-requires
     same-length-3
     same-length-4
-    returns-5
-    wide-requires-2
-    wide-requires-3
+    returns-3
     take-switch-requires
     same-length-5
     same-length-6
-    returns-6
-    returns-7)
+    returns-4)

@@ -1,6 +1,3 @@
-use mathlib.Core.Path.{ap}
-use Prim.Native.Nat.{ℕ, _+_, _*_}
-use lib.ListN.{getD}
 use borrow.Author.Needs.{needs}
 use Rattle.modes.proofs.place.Statement.{statement}
 use Rattle.modes.proofs.place.Tie as tie
@@ -8,11 +5,11 @@ use Rattle.modes.proofs.place.Tie as tie
 mul-row : tie.Need-mul-row
 mul-row c = search needs
 
-shared-slice-read-wide : tie.Need-shared-slice-read-wide
-shared-slice-read-wide c = search needs
+shared-slice-read-row : tie.Need-shared-slice-read-row
+shared-slice-read-row c = search needs
 
-wide-requires : tie.Need-wide-requires
-wide-requires c κs = search needs
+cast-row : tie.Need-cast-row
+cast-row c = search needs
 
 add-row : tie.Need-add-row
 add-row c = search needs
@@ -24,15 +21,15 @@ shared-slice-read-result : tie.Need-shared-slice-read-result
 shared-slice-read-result c = search needs
 
 returns : tie.Need-returns
-returns c = ap (λ (i : ℕ). getD (c .before .before .before .before .before .args .places .now) (8 * c .before .before .before .before .before .args .j + i) 0) (c .before .wide .ensures)
+returns c = search needs
 
 pub place-spec : {M : Type 1} → statement M
 place-spec =
     tie.close
     (tie.spec
     mul-row
-    shared-slice-read-wide
-    wide-requires
+    shared-slice-read-row
+    cast-row
     add-row
     mul-result
     shared-slice-read-result

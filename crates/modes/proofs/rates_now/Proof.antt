@@ -1,4 +1,5 @@
 use Rattle.modes.proofs.Walks.{driving-as}
+use Rattle.modes.proofs.Rates.{laid-in-force}
 use borrow.Author.Needs.{needs}
 use Rattle.modes.proofs.rates_now.Statement.{statement}
 use Rattle.modes.proofs.rates_now.Tie as tie
@@ -10,7 +11,7 @@ lay-all-requires : tie.Need-lay-all-requires
 lay-all-requires c κs = (c .before .before .before .before .pre .0, driving-as (slice-aggregate-lay-all c) (c .before .before .before .before .pre .1))
 
 returns : tie.Need-returns
-returns c = search needs
+returns c = laid-in-force (c .before .lay-all .ensures)
 
 pub rates-now-spec : {M : Type 1} → statement M
 rates-now-spec = tie.close (tie.spec slice-aggregate-lay-all lay-all-requires returns)

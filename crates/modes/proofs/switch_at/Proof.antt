@@ -2,7 +2,6 @@ use native.Mathlib.Omega.{arith}
 use Rattle.modes.specs.Modes.{modeAt}
 use Rattle.modes.proofs.Standing.{parts}
 use Rattle.modes.proofs.Walks.{Seeking, seek-start, seek-here, seek-next, seek-end}
-use borrow.Author.Needs.{needs}
 use Rattle.modes.proofs.switch_at.Statement.{statement}
 use Rattle.modes.proofs.switch_at.Tie as tie
 
@@ -13,22 +12,22 @@ abbrev μ-loop : tie.MeasureT-loop
 μ-loop es at count k p₀ left₀ p left = left
 
 add-p : tie.Need-add-p Inv-loop μ-loop
-add-p c = omega (arith, parts (c .before .pre .0) .room, c .before .pre .1)
+add-p c = omega (arith, parts (c .pre .0) .room, c .pre .1)
 
 loop-holds : tie.Need-loop-holds Inv-loop μ-loop
-loop-holds c = let p = c .before .pre in seek-start (p .0) _ _ (p .1) (p .2)
+loop-holds c = seek-start (c .pre .0) _ _ (c .pre .1) (c .pre .2)
 
 add-p-2 : tie.Need-add-p-2 Inv-loop μ-loop
 add-p-2 c = let x = seek-here (c .before .loop .inv) .stands in omega (arith, x .long, x .inside)
 
-shared-slice-read-wide : tie.Need-shared-slice-read-wide Inv-loop μ-loop
-shared-slice-read-wide c = let x = seek-here (c .before .before .loop .inv) .stands in omega (arith, x .long, x .inside)
+shared-slice-read-p : tie.Need-shared-slice-read-p Inv-loop μ-loop
+shared-slice-read-p c = let x = seek-here (c .before .before .loop .inv) .stands in omega (arith, x .long, x .inside)
 
-wide-requires : tie.Need-wide-requires Inv-loop μ-loop
-wide-requires c κs = search needs
+cast-p : tie.Need-cast-p Inv-loop μ-loop
+cast-p c = omega (arith, c .shared-slice-known .given (c .before .before .loop .p))
 
 add-p-3 : tie.Need-add-p-3 Inv-loop μ-loop
-add-p-3 c = let x = seek-here (c .before .before .before .loop .inv) .stands in omega (arith, x .long, x .inside, c .wide .ensures)
+add-p-3 c = let x = seek-here (c .before .before .loop .inv) .stands in omega (arith, x .long, x .inside)
 
 sub-left : tie.Need-sub-left Inv-loop μ-loop
 sub-left c = omega arith
@@ -37,7 +36,7 @@ loop-less : tie.Need-loop-less Inv-loop μ-loop
 loop-less c = omega arith
 
 loop-again : tie.Need-loop-again Inv-loop μ-loop
-loop-again c = seek-next (c .before .before .before .loop .inv) (c .before .before .loop-test .taken) _ (c .wide .ensures)
+loop-again c = seek-next (c .before .before .loop .inv) (c .before .loop-test .taken)
 
 returns : tie.Need-returns Inv-loop μ-loop
 returns c = seek-end (c .before .loop .inv) (omega arith)
@@ -51,8 +50,8 @@ switch-at-spec =
     add-p
     loop-holds
     add-p-2
-    shared-slice-read-wide
-    wide-requires
+    shared-slice-read-p
+    cast-p
     add-p-3
     sub-left
     loop-less

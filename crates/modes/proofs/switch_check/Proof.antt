@@ -1,21 +1,17 @@
+-- The current modes from selector j on are left to be checked (`checkFrom`).
 use mathlib.Core.Path.{_≡_, refl, sym, ap, _∙_}
-use mathlib.Core.List.{flatMap}
 use Prim.Native.Nat.{ℕ, _-_, _≤_}
 use native.Mathlib.Omega.{arith}
 use lib.ListN.{length}
 use borrow.Author.Tests.{not-true, not-false}
-use Rattle.semantics.specs.Editions.{edition1}
-use Rattle.semantics.specs.Plant.{switchTruths}
-use Rattle.semantics.specs.Run.{walk}
 use Rattle.effects.specs.Verdicts.{stepVerdict}
-use Rattle.modes.specs.Modes.{modeAt, placeAt, modesNow}
 use Rattle.modes.proofs.Walks.{stands-at, checkFrom, check-stops, check-next, check-end}
 use borrow.Author.Needs.{needs}
 use Rattle.modes.proofs.switch_check.Statement.{statement}
 use Rattle.modes.proofs.switch_check.Tie as tie
 
 abbrev Inv-loop : tie.InvT-loop
-Inv-loop es places values modes j₀ j = (j ≤ length modes) × (walk edition1 28 values (flatMap switchTruths (modesNow es places modes)) ≡ checkFrom values es places modes j)
+Inv-loop es places values modes j₀ j = (j ≤ length modes) × (checkFrom values es places modes 0 ≡ checkFrom values es places modes j)
 
 abbrev μ-loop : tie.MeasureT-loop
 μ-loop es places values modes j₀ j = length modes - j
@@ -27,17 +23,13 @@ place-requires : tie.Need-place-requires Inv-loop μ-loop
 place-requires c κs = (c .loop-test .taken, c .before .before .before .before .before .pre .row (c .before .loop .j) (c .loop-test .taken))
 
 mode-check-requires : tie.Need-mode-check-requires Inv-loop μ-loop
-mode-check-requires c κs = stands-at (c .place .ensures) (c .before .before .before .before .before .before .pre .stands (c .before .before .loop .j) (c .before .loop-test .taken))
+mode-check-requires c κs = let l = c .before .before in stands-at (c .place .ensures) (l .before .before .before .before .pre .stands (l .loop .j) (c .before .loop-test .taken))
 
 goes-on-requires : tie.Need-goes-on-requires Inv-loop μ-loop
 goes-on-requires c κs = search needs
 
 returns : tie.Need-returns Inv-loop μ-loop
-returns c = let a = c .before .before .before .before .before .before .before .before .before .args in
-    let l = c .before .before .before .before .before .loop in
-    let e : c .before .before .mode-check .result ≡ stepVerdict (walk edition1 28 (a .values .now) (switchTruths (modeAt (a .es .now) (placeAt (a .places .now) (a .modes .now) (l .j))))) =
-    c .before .before .mode-check .ensures ∙ ap (λ (i : ℕ). stepVerdict (walk edition1 28 (a .values .now) (switchTruths (modeAt (a .es .now) i)))) (c .before .before .before .place .ensures) in
-    check-stops (a .values .now) (a .es .now) (a .places .now) (a .modes .now) (l .j) (c .before .before .before .before .loop-test .taken) _ e (sym (c .before .goes-on .ensures) ∙ not-true _ (c .if1 .taken)) ∙ sym (ap stepVerdict (l .inv .1))
+returns c = let m = c .before .before in let l = m .before .before .before in check-stops _ _ _ _ (l .loop .j) (m .before .before .loop-test .taken) (m .before .place .ensures) (m .mode-check .ensures) (sym (c .before .goes-on .ensures) ∙ not-true _ (c .if1 .taken)) ∙ sym (ap stepVerdict (l .loop .inv .1))
 
 add-j : tie.Need-add-j Inv-loop μ-loop
 add-j c = omega arith
@@ -46,14 +38,10 @@ loop-less : tie.Need-loop-less Inv-loop μ-loop
 loop-less c = omega arith
 
 loop-again : tie.Need-loop-again Inv-loop μ-loop
-loop-again c = let a = c .before .before .before .before .before .before .before .before .before .args in
-    let l = c .before .before .before .before .before .loop in
-    let e : c .before .before .mode-check .result ≡ stepVerdict (walk edition1 28 (a .values .now) (switchTruths (modeAt (a .es .now) (placeAt (a .places .now) (a .modes .now) (l .j))))) =
-    c .before .before .mode-check .ensures ∙ ap (λ (i : ℕ). stepVerdict (walk edition1 28 (a .values .now) (switchTruths (modeAt (a .es .now) i)))) (c .before .before .before .place .ensures) in
-    (omega arith, l .inv .1 ∙ check-next (a .values .now) (a .es .now) (a .places .now) (a .modes .now) (l .j) (c .before .before .before .before .loop-test .taken) _ e (sym (c .before .goes-on .ensures) ∙ not-false _ (c .if1 .left)))
+loop-again c = let m = c .before .before in let l = m .before .before .before in (omega arith, l .loop .inv .1 ∙ check-next _ _ _ _ (l .loop .j) (m .before .before .loop-test .taken) (m .before .place .ensures) (m .mode-check .ensures) (sym (c .before .goes-on .ensures) ∙ not-false _ (c .if1 .left)))
 
 returns-2 : tie.Need-returns-2 Inv-loop μ-loop
-returns-2 c = let a = c .before .before .before .before .before .args in check-end (a .values .now) (a .es .now) (a .places .now) (a .modes .now) (c .before .loop .j) (c .loop-test .left) ∙ sym (ap stepVerdict (c .before .loop .inv .1))
+returns-2 c = check-end _ _ _ _ (c .before .loop .j) (c .loop-test .left) ∙ sym (ap stepVerdict (c .before .loop .inv .1))
 
 pub switch-check-spec : {M : Type 1} → statement M
 switch-check-spec =

@@ -1,9 +1,10 @@
+-- The four parts of the record are written one after the other.
 use mathlib.Core.List.{_∷_, append-assoc, flatMap}
 use Prim.Native.Nat.{_≤_}
 use native.Mathlib.Omega.{arith}
 use lib.ListN.{length, length-append}
 use Rattle.semantics.specs.Bytes.{bigEndian}
-use Rattle.semantics.specs.Run.{setNumber, valueBytes}
+use Rattle.semantics.specs.Run.{setNumber, valueBytes, recordBytes}
 use Rattle.nodeset.specs.Sets.{members}
 use Rattle.codec.proofs.Writing.{put-more, wrote-as}
 use Rattle.records.proofs.Records.{set-length, values-length}
@@ -27,12 +28,17 @@ same-length : tie.Need-same-length
 same-length c = search needs
 
 returns : tie.Need-returns
-returns c = let s = c .before .before .before .before .before .before .before .before .before .before .before .before .before .before .before .before .before .before in
+unfolding recordBytes
+returns c = let t' = c .before .before in
+    let r' = t' .before .before .before .before in
+    let q' = r' .before .before .before .before in
+    let p' = q' .before .before .before .before in
+    let s = p' .before .before .before .before in
     let a = s .args in
-    let p = c .before .before .before .before .before .before .before .before .before .before .before .before .before .before .put1 in
-    let q = c .before .before .before .before .before .before .before .before .before .before .put-set in
-    let r = c .before .before .before .before .before .before .put-values in
-    let t = c .before .before .put-slice in
+    let p = p' .put1 in
+    let q = q' .put-set in
+    let r = r' .put-values in
+    let t = t' .put-slice in
     let S = bigEndian 8 (setNumber (members (a .acting .words))) in
     let Q = flatMap valueBytes (a .values .now) in
     let h : a .i ≤ length (a .d .now) = omega (arith, s .pre .0) in
