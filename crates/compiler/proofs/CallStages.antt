@@ -16,9 +16,9 @@ use Rattle.compiler.specs.Answers.{returned}
 
 module _ (ed : Edition) (f room : List ℕ) where
   -- 1 to 13
-  pub refused-first : {n : ℕ} → judgeMeasure ed f ≡ refused n → judgeCompile ed f room ≡ refused n
+  pub refused-too : {n : ℕ} → judgeMeasure ed f ≡ refused n → judgeCompile ed f room ≡ refused n
   unfolding judgeCompile _>>=_
-  refused-first e = rw e refl
+  refused-too e = rw e refl
 
   -- 14
   pub too-short : {t : List ℕ} → judgeMeasure ed f ≡ accepted t → length room < length t → judgeCompile ed f room ≡ refused 14

@@ -88,7 +88,7 @@ table-at-front ed file room z =
 pub sound-rules : (ed : Edition) (file : List ℕ) (s : Schedule) → judgeFile ed file ≡ accepted s → Sound (s .plant) (ruleControl s)
 sound-rules ed file s h = schedule-sound ed file s (passed ed file s h)
 
-rule-numbers : (ed : Edition) (file start events buffer : List ℕ) → All (λ (c : Condition). c .refusal ≡ 0 → ⊥) (ruleRunConditions ed file start events buffer)
+pub rule-numbers : (ed : Edition) (file start events buffer : List ℕ) → All (λ (c : Condition). c .refusal ≡ 0 → ⊥) (ruleRunConditions ed file start events buffer)
 unfolding ruleRunConditions fileConditions runConditions
 rule-numbers ed file start events buffer =
     all-cons (no 0) (all-cons (no 1) (all-cons (no 2) (all-cons (no 3) (all-cons (no 4) (all-cons (no 5) (all-cons (no 6) (all-cons (no 7)

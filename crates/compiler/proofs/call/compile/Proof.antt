@@ -2,7 +2,7 @@
 use mathlib.Core.Path.{_∙_, sym}
 use native.Mathlib.Omega.{arith}
 use Rattle.semantics.specs.Editions.{edition1}
-use Rattle.compiler.proofs.CallStages.{refused-first, too-short, long-enough, compile-refused, compile-done}
+use Rattle.compiler.proofs.CallStages.{refused-too, too-short, long-enough, compile-refused, compile-done}
 use borrow.Author.Needs.{needs}
 use Rattle.compiler.proofs.call.compile.Statement.{statement}
 use Rattle.compiler.proofs.call.compile.Tie as tie
@@ -16,7 +16,7 @@ refused-requires c κs = search needs
 returns : tie.Need-returns
 returns c =
     let a = c .before .before .before .before .before .args in
-    compile-refused (a .file .now) (a .table .now) (refused-first edition1 (a .file .now) (a .table .now) (c .before .before .planned .ensures .0 .refuses (c .before .if1 .taken))) (c .refused .ensures)
+    compile-refused (a .file .now) (a .table .now) (refused-too edition1 (a .file .now) (a .table .now) (c .before .before .planned .ensures .0 .refuses (c .before .if1 .taken))) (c .refused .ensures)
 
 refused-requires-2 : tie.Need-refused-requires-2
 refused-requires-2 c κs = search needs
