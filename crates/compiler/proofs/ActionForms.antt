@@ -1,7 +1,7 @@
--- The rows of the actions by kind and operand are those of the nodes' actions.
+-- The actions that kinds and operands of the index make are those of the nodes.
 use mathlib.Core.Path.{_≡_, refl, sym, ap, ap₂, subst, fun-ext, _∙_}
 use mathlib.Core.Bool.{Bool, true, false, cond}
-use mathlib.Core.List.{List, [], _∷_, _++_, map, flatMap, append-nil}
+use mathlib.Core.List.{List, [], _∷_, _++_, map}
 use mathlib.Core.Option.{Option, none, some, bind}
 use Prim.Native.Nat.{ℕ, zero, suc, _+_, _-_, _≤_, _<_}
 use native.Mathlib.Decide.{decLt}
@@ -10,10 +10,10 @@ use native.Mathlib.Omega.{arith}
 use lib.Dec.{leb, eqb}
 use lib.ListN.{length, getD, getElem?, take, replicate, length-append, length-map}
 use lib.Seq.{take-all, length-take-le}
-use Rattle.semantics.specs.Bytes.{out, widthOf, noBytes, twoBytes, byteAndRest}
+use Rattle.semantics.specs.Bytes.{noBytes, twoBytes, byteAndRest}
 use Rattle.semantics.specs.Editions.{edition1}
-use Rattle.semantics.specs.Run.{Action, stop, isTest}
-use Rattle.semantics.specs.TableFile.{NodeAction, actionBytes, writeAction}
+use Rattle.semantics.specs.Run.{Action, stop, isTest, test}
+use Rattle.semantics.specs.TableFile.{NodeAction, actionBytes, writeAction, actionKind, actionOfKind}
 use Rattle.semantics.specs.Tables.{actionAt, actionOrStop}
 use Rattle.semantics.proofs.Facts.{none-not-some, some-is, at-exists, at-mem, all-mem}
 use Rattle.schedules.specs.Nodes.{Node, sequence, parallel, Kind, a-sequence, a-parallel, a-while, an-if, a-continue, a-reset, a-reinitial, a-switch, a-stop, no-kind, kindOf, childCount, nodeOf, nodesIn, actionOf, listed, actionsFrom, actionsOf}
@@ -23,15 +23,14 @@ use Rattle.schedules.proofs.Places.{flat-append, take-next}
 use Rattle.codec.specs.Padding.{pad}
 use Rattle.schedule_read.specs.Indexed.{NodesAt}
 use Rattle.schedule_read.specs.Actions.{actionNumber, actionNumbers}
-use Rattle.schedule_read.proofs.NodeActions.{kind-number, numbers-long, action-of-node, action-beyond}
+use Rattle.schedule_read.proofs.NodeActions.{action-made, kind-number, numbers-long, action-of-node, action-beyond}
 use Rattle.numbering.specs.Meeting.{testsIn}
-use Rattle.table_write.proofs.ActionLoop.{operand-long}
-use Rattle.table_write.specs.ActionTable.{actionRow, actionOnce, operandAt, actionRows, actionCount, Operands}
+use Rattle.table_write.specs.ActionTable.{operandAt, actionHere, actionsTo, Coded, Operands}
 
 -- ---- a node's action, by the number of its kind and its operand bytes
 data Formed (c : ℕ) (b : List ℕ) : Option Action → Type 0 where
   no-action : c ≡ 0 → Formed c b none
-  an-action : {y : Action} (k : ℕ) → c ≡ suc k → actionBytes y ≡ c ∷ b → eqb c 1 ≡ isTest y → Formed c b (some y)
+  an-action : {y : Action} → actionBytes y ≡ c ∷ b → eqb c 1 ≡ isTest y → Formed c b (some y)
 
 counts-formed : (f : ℕ → Node) → ((k : ℕ) → actionOf (f k) ≡ none) → (b : List ℕ) {x : Node} → childCount f b ≡ some x → Formed 0 b (actionOf x)
 unfolding childCount
@@ -47,40 +46,30 @@ formed : (j : Kind) (b : List ℕ) {x : Node} → nodeOf j b ≡ some x → Form
 unfolding nodeOf actionOf actionNumber actionBytes isTest byteAndRest twoBytes noBytes
 formed a-sequence b e = counts-formed sequence (λ k. refl) b e
 formed a-parallel b e = counts-formed parallel (λ k. refl) b e
-formed a-while b e = rw (← some-is e) (an-action 0 refl refl refl)
-formed an-if b e = rw (← some-is e) (an-action 0 refl refl refl)
-formed a-continue b e = rw (← some-is e) (an-action 1 refl refl refl)
+formed a-while b e = rw (← some-is e) (an-action refl refl)
+formed an-if b e = rw (← some-is e) (an-action refl refl)
+formed a-continue b e = rw (← some-is e) (an-action refl refl)
 formed a-reset [] e = none-not-some e
-formed a-reset (v ∷ b) e = rw (← some-is e) (an-action 2 refl refl refl)
+formed a-reset (v ∷ b) e = rw (← some-is e) (an-action refl refl)
 formed a-reinitial [] e = none-not-some e
-formed a-reinitial (v ∷ b) e = rw (← some-is e) (an-action 2 refl refl refl)
+formed a-reinitial (v ∷ b) e = rw (← some-is e) (an-action refl refl)
 formed a-switch [] e = none-not-some e
 formed a-switch (c ∷ []) e = none-not-some e
-formed a-switch (c ∷ m ∷ []) e = rw (← some-is e) (an-action 3 refl refl refl)
+formed a-switch (c ∷ m ∷ []) e = rw (← some-is e) (an-action refl refl)
 formed a-switch (c ∷ m ∷ a ∷ b) e = none-not-some e
-formed a-stop [] e = rw (← some-is e) (an-action 4 refl refl refl)
+formed a-stop [] e = rw (← some-is e) (an-action refl refl)
 formed a-stop (a ∷ b) e = none-not-some e
 formed no-kind b e = none-not-some e
 
-formed-row : (n : ℕ) {c : ℕ} {b : List ℕ} {o : Option Action} → Formed c b o → actionRow n c b ≡ flatMap (writeAction edition1) (listed n o [])
-unfolding actionRow writeAction listed flatMap out widthOf
-formed-row n (no-action e) = rw e refl
-formed-row n {c} {b} (an-action {y = y} k e f g) = rw (f, e) (sym (append-nil ((1 + length (suc k ∷ b)) ∷ n ∷ suc k ∷ b)))
-
-formed-once : (n : ℕ) {c : ℕ} {b : List ℕ} {o : Option Action} → Formed c b o → actionOnce c ≡ length (listed n o [])
-unfolding actionOnce listed
-formed-once n (no-action e) = rw e refl
-formed-once n (an-action k e f g) = rw e refl
-
-formed-short : {c : ℕ} {b : List ℕ} {o : Option Action} → Formed c b o → ((y : Action) → o ≡ some y → length (actionBytes y) ≤ 200) → (c ≡ 0 → ⊥) → length b ≤ 199
-formed-short (no-action e) h z = absurd (z e)
-formed-short (an-action {y = y} k e f g) h z = let a = h y refl in let b = ap length f in omega arith
+formed-coded : {c : ℕ} {b : List ℕ} {o : Option Action} → Formed c b o → actionOfKind (actionKind c) b ≡ o → ((y : Action) → o ≡ some y → length (actionBytes y) ≤ 200) → (c ≡ 0 → ⊥) → Coded c b
+formed-coded (no-action e) r h z = absurd (z e)
+formed-coded (an-action {y = y} f g) r h z = record { action = y; read = r; bytes = f; short = omega (arith, h y refl, ap length f) }
 
 -- nodes without an action are no tests
 formed-test : {c : ℕ} {b : List ℕ} {o : Option Action} → Formed c b o → eqb c 1 ≡ isTest (elim o [ none ↦ stop | some a ↦ a ])
 unfolding isTest
 formed-test (no-action e) = rw e refl
-formed-test (an-action k e f g) = g
+formed-test (an-action f g) = g
 
 -- ---- 0 beyond the nodes
 zeros : (k n : ℕ) → _≡_ {A = ℕ} (getD (replicate k 0) n 0) 0
@@ -120,61 +109,39 @@ module _ {s kinds starts ends : List ℕ} {count : ℕ} {ns : List Node} (d : No
     node : Node
     is : getElem? ns n ≡ some node
     form : Formed (getD acts n 0) (operandAt s starts ends n) (actionOf node)
+    read : actionOfKind (actionKind (getD acts n 0)) (operandAt s starts ends n) ≡ actionOf node
 
   stood : (n : ℕ) → n < count → Stood n
   unfolding operandAt
   stood n h =
       let x = at-exists ns n (omega (arith, d .counted)) in
-      record { node = x .0; is = x .1; form = rw (kind-number kinds count (d .few) (omega (arith, d .few, d .kinds-full)) n h) (formed _ _ (d .entries n h .node ∙ x .1)) }
+      let e = d .entries n h .node ∙ x .1 in
+      let k = kind-number kinds count (d .few) (omega (arith, d .few, d .kinds-full)) n h in
+      record { node = x .0; is = x .1; form = rw k (formed _ _ e); read = rw k (action-made _ _ e) }
 
-  rows-are : (n : ℕ) → n ≤ count → actionRows s acts starts ends n ≡ flatMap (writeAction edition1) (actionsOf (take n ns))
-  unfolding actionRows actionsOf actionsFrom flatMap
-  rows-are zero h = refl
-  rows-are (suc n) h =
+  actions-are : (n : ℕ) → n ≤ count → actionsTo s acts starts ends n ≡ actionsOf (take n ns)
+  unfolding actionsTo actionHere actionsOf actionsFrom
+  actions-are zero h = refl
+  actions-are (suc n) h =
       let x = stood n (omega arith) in
-      ap₂ (λ (a b : List ℕ). a ++ b) (rows-are n (omega arith)) (formed-row n (x .form))
-      ∙ sym (flat-append (writeAction edition1) (actionsOf (take n ns)) (listed n (actionOf (x .node)) []))
-      ∙ ap (flatMap (writeAction edition1)) (sym (actions-next ns n (x .is) (omega (arith, d .counted))))
-
-  counts-are : (n : ℕ) → n ≤ count → actionCount acts n ≡ length (actionsOf (take n ns))
-  unfolding actionCount actionsOf actionsFrom
-  counts-are zero h = refl
-  counts-are (suc n) h =
-      let x = stood n (omega arith) in
-      ap₂ (λ (a b : ℕ). a + b) (counts-are n (omega arith)) (formed-once n (x .form))
-      ∙ sym (length-append (actionsOf (take n ns)) (listed n (actionOf (x .node)) []))
-      ∙ ap length (sym (actions-next ns n (x .is) (omega (arith, d .counted))))
-
-  all-nodes : take count ns ≡ ns
-  all-nodes = take-all count ns (omega (arith, d .counted))
+      ap₂ (λ (l : List NodeAction) (o : Option Action). l ++ listed n o []) (actions-are n (omega arith)) (x .read) ∙ sym (actions-next ns n (x .is) (omega (arith, d .counted)))
 
   -- "per node of kinds 3..9, reached or not, in rising order"
-  pub actions-written : actionRows s acts starts ends count ≡ flatMap (writeAction edition1) (actionsOf ns)
-  actions-written = rows-are count (omega arith) ∙ ap (λ (l : List Node). flatMap (writeAction edition1) (actionsOf l)) all-nodes
-
-  pub actions-counted : actionCount acts count ≡ length (actionsOf ns)
-  actions-counted = counts-are count (omega arith) ∙ ap (λ (l : List Node). length (actionsOf l)) all-nodes
+  pub actions-listed : actionsTo s acts starts ends count ≡ actionsOf ns
+  actions-listed = actions-are count (omega arith) ∙ ap actionsOf (take-all count ns (omega (arith, d .counted)))
 
   pub operands : nodesIn edition1 s ≡ some ns → Operands s acts starts ends count
   operands h = record {
     few = d .few;
-    each = λ i q. record {
+    each = λ i q. let x = stood i q in record {
       in-acts = omega (arith, numbers-long kinds count (d .few) (omega (arith, d .few, d .kinds-full)), d .few);
       in-starts = omega (arith, d .few, d .starts-full);
       in-ends = omega (arith, d .few, d .ends-full);
       ordered = d .entries i q .ordered;
       inside = d .entries i q .inside;
-      short = λ z. go i q z;
+      coded = formed-coded (x .form) (x .read) (all-mem (nodes-counted edition1 s h .short-nodes) (at-mem ns i (x .is)));
     };
   }
-    where
-      go : (i : ℕ) → i < count → (getD acts i 0 ≡ 0 → ⊥) → getD ends i 0 - getD starts i 0 ≤ 199
-      go i q z =
-          let x = stood i q in
-          let n = all-mem (nodes-counted edition1 s h .short-nodes) (at-mem ns i (x .is)) in
-          let l = formed-short (x .form) n z in
-          let m = operand-long s starts ends i (d .entries i q .ordered) (d .entries i q .inside) in
-          omega arith
 
   -- by the kinds of the actions a node is a test just where it is one
   pub tests-are : testsIn acts ≡ testsOf ns

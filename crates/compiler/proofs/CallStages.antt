@@ -2,31 +2,37 @@
 use mathlib.Core.Path.{_≡_, refl, sym, ap, _∙_}
 use mathlib.Core.List.{List}
 use Prim.Native.Nat.{ℕ, _≤_, _<_}
+use native.Mathlib.Nat.{zero-add}
 use lib.ListN.{length}
-use Rattle.semantics.specs.Editions.{edition1}
-use Rattle.semantics.specs.Refusals.{Judged, refused, accepted, refusalOf}
-use Rattle.schedules.specs.Compiling.{tableOf, judgeCompile}
+use borrow.Author.Tests.{le-leb, lt-leb}
+use Rattle.semantics.specs.Editions.{Edition, edition1}
+use Rattle.semantics.specs.Refusals.{refused, accepted, _>>=_, _>>_, ensure}
+use Rattle.semantics.proofs.Judging.{go-then, go-ensure}
+use Rattle.schedules.specs.Compiling.{judgeMeasure, judgeCompile}
 use Rattle.schedules.specs.Calls.{compiledInto, compile}
-use Rattle.codec.specs.Writing.{Wrote}
 use Rattle.codec.proofs.Writing.{wrote-front}
-use Rattle.compiler.specs.Measured.{returned}
-use Rattle.compiler.proofs.Measuring.{Sized, measure-refused, measure-sized, too-short, long-enough}
-use Rattle.compiler.proofs.Planning.{Tells}
+use Rattle.table_write.specs.Pieces.{Put}
+use Rattle.compiler.specs.Answers.{returned}
 
-into-refused : (room : List ℕ) (j : Judged (List ℕ)) {a : ℕ} → refusalOf j ≡ a → (a ≡ 0 → ⊥) → returned a 0 room ≡ compiledInto room j
-unfolding compiledInto refusalOf
-into-refused room (refused n) e z = rw (← e) refl
-into-refused room (accepted t) e z = absurd (z (sym e))
+module _ (ed : Edition) (f room : List ℕ) where
+  -- 1 to 13
+  pub refused-too : {n : ℕ} → judgeMeasure ed f ≡ refused n → judgeCompile ed f room ≡ refused n
+  unfolding judgeCompile _>>=_
+  refused-too e = rw e refl
 
-module _ (f room : List ℕ) {a b : ℕ} (h : Tells f a b) where
-  pub compile-refused : {m l : ℕ} → (a ≡ 0 → ⊥) → m ≡ a → l ≡ 0 → returned m l room ≡ compile edition1 f room
-  unfolding compile
-  compile-refused z e g = rw (e, g) (into-refused room (judgeCompile edition1 f room) (measure-refused edition1 f h room z) z)
+  -- 14
+  pub too-short : {t : List ℕ} → judgeMeasure ed f ≡ accepted t → length room < length t → judgeCompile ed f room ≡ refused 14
+  unfolding judgeCompile _>>_ ensure
+  too-short {t} e l = go-then _ e ∙ rw (lt-leb (length t) (length room) l) refl
 
-  pub compile-14 : {m l : ℕ} → a ≡ 0 → length room < b → m ≡ 14 → l ≡ 0 → returned m l room ≡ compile edition1 f room
-  unfolding compile compiledInto
-  compile-14 z k e g = rw (e, g, too-short edition1 f room (measure-sized edition1 f h z) k) refl
+  pub long-enough : {t : List ℕ} → judgeMeasure ed f ≡ accepted t → length t ≤ length room → judgeCompile ed f room ≡ accepted t
+  unfolding judgeCompile
+  long-enough {t} e l = go-then _ e ∙ go-ensure 14 _ (le-leb (length t) (length room) l)
 
-  pub compile-done : (z : a ≡ 0) {r : ℕ} {e : List ℕ} → b ≤ length room → (let s = measure-sized edition1 f h z in (r ≡ length (tableOf edition1 (s .schedule))) × Wrote room 0 (tableOf edition1 (s .schedule)) e) → returned 0 r e ≡ compile edition1 f room
-  unfolding compile compiledInto
-  compile-done z k w = rw (long-enough edition1 f room (measure-sized edition1 f h z) k, w .0, wrote-front (w .1)) refl
+pub compile-refused : (f room : List ℕ) {n m l : ℕ} → judgeCompile edition1 f room ≡ refused n → (m ≡ n) × (l ≡ 0) → returned m l room ≡ compile edition1 f room
+unfolding compile compiledInto
+compile-refused f room e p = rw (p .0, p .1, e) refl
+
+pub compile-done : (f room : List ℕ) {t e : List ℕ} {r : ℕ} → judgeCompile edition1 f room ≡ accepted t → Put room 0 t e r → returned 0 r e ≡ compile edition1 f room
+unfolding compile compiledInto
+compile-done f room {t} h w = rw (h, w .ends ∙ zero-add (length t), wrote-front (w .writes)) refl

@@ -2,8 +2,6 @@
 pub mod ActionForms
 -- the call
 pub mod Indexes
-pub mod ScheduleTable
-pub mod Measuring
 pub mod Planning
 pub mod Written
 pub mod CallStages

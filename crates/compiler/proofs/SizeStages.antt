@@ -15,7 +15,7 @@ use Rattle.schedule_read.specs.declared.call.ScheduleIndex.{ScheduleIndex}
 use Rattle.schedule_read.proofs.Promises.{index-refused}
 use Rattle.sizes.specs.Rows.{Measures}
 use Rattle.sizes.specs.declared.Measured.{Measured}
-use Rattle.compiler.specs.SizeAnswer.{sized}
+use Rattle.compiler.specs.Answers.{sized}
 use Rattle.compiler.proofs.Indexes.{Indexed}
 
 module _ (f : List ℕ) {ix : ScheduleIndex} (h : ix ≡ scheduleIndex f) where

@@ -1,38 +1,35 @@
 -- The table that was planned, written section by section.
-use mathlib.Core.Path.{_≡_, refl, sym, ap, subst, _∙_}
-use mathlib.Core.List.{List, _∷_, _++_}
+use mathlib.Core.Path.{_≡_, refl, sym, ap, _∙_}
+use mathlib.Core.List.{List, _∷_, _++_, append-assoc}
 use Prim.Native.Nat.{ℕ, _+_, _-_, _≤_, _<_}
 use native.Mathlib.Omega.{arith}
 use lib.ListN.{length, take, drop, length-append}
-use Rattle.semantics.specs.Bytes.{out2, out4}
+use Rattle.semantics.specs.Bytes.{out4}
 use Rattle.semantics.specs.Editions.{edition1}
 use Rattle.semantics.specs.Refusals.{accepted}
-use Rattle.semantics.specs.TableFile.{inSection2, inSection4}
+use Rattle.semantics.specs.TableFile.{inSection2, tableBytes, tableBody}
 use Rattle.semantics.proofs.Judging.{accepted-is}
-use Rattle.semantics.proofs.WrittenTables.{section2-length}
-use Rattle.schedules.specs.Files.{Schedule, judgeFile}
-use Rattle.schedules.specs.Compiling.{tableOf}
+use Rattle.semantics.proofs.WrittenTables.{section2-length, table-length}
+use Rattle.schedules.specs.Compiling.{scheduleLocations, tableOf, judgeMeasure}
 use Rattle.schedule_read.specs.Promised.{Slice}
-use Rattle.codec.specs.Writing.{Wrote}
-use Rattle.codec.proofs.Writing.{put-more, wrote-as}
 use Rattle.numbering.specs.Meeting.{testsIn}
 use Rattle.table_write.specs.ActionTable.{actionSection, Operands}
 use Rattle.table_write.specs.LocationTable.{locationSection, Counted, LocationsPut}
-use Rattle.table_write.proofs.TableBytes.{long-length}
+use Rattle.table_write.specs.Pieces.{Put, front}
+use Rattle.table_write.proofs.TableBytes.{put-then, put-as, actions-long}
 use Rattle.compiler.specs.Plans.{Planned}
 use Rattle.compiler.specs.declared.call.Plan.{Plan}
 use Rattle.compiler.proofs.Planning.{slice-length}
-use Rattle.compiler.proofs.ScheduleTable.{table-is}
 
 -- what stands between two places of the file
-abbrev pub between : List ℕ → ℕ → ℕ → List ℕ
+abbrev between : List ℕ → ℕ → ℕ → List ℕ
 between f i j = take (j - i) (drop i f)
 
-between-length : {f x : List ℕ} {i j : ℕ} → Slice f i j x → length (between f i j) ≡ length x
-between-length g = ap length (g .is)
+between-length : {f x : List ℕ} {i j : ℕ} → Slice f i j x → length (between f i j) ≡ j - i
+between-length g = ap length (g .is) ∙ slice-length g
 
-between-short : {f x : List ℕ} {i j : ℕ} → Slice f i j x → length f < 65536 → length x < 65536
-between-short g h = omega (arith, slice-length g, g .inside .ordered, g .inside .inside)
+regroup : (h a b c d : List ℕ) → (((h ++ a) ++ b) ++ c) ++ d ≡ h ++ (a ++ (b ++ (c ++ d)))
+regroup h a b c d = simp append-assoc
 
 module _ {f : List ℕ} {p : Plan} (g : Planned f p) where
   abbrev vs : List ℕ
@@ -44,52 +41,38 @@ module _ {f : List ℕ} {p : Plan} (g : Planned f p) where
   abbrev sch : List ℕ
   sch = between f (p .index .parts .«schedule_from») (p .index .parts .«schedule_to»)
 
-  pub variables-short : length vs < 65536
-  variables-short = omega (arith, between-length (g .promise .variables), between-short (g .promise .variables) (g .short))
+  -- what its parts are asked for
+  pub front-fits : (length vs < 65536) × (length es < 65536) × (p .length < 4294967296)
+  front-fits =
+      let v = g .promise .variables in
+      let e = g .promise .equations in
+      (omega (arith, between-length v, v .inside .inside, g .short), omega (arith, between-length e, e .inside .inside, g .short), g .fits)
 
-  pub equations-short : length es < 65536
-  equations-short = omega (arith, between-length (g .promise .equations), between-short (g .promise .equations) (g .short))
+  pub operands : Operands sch (p .acts) (p .index .nodes .starts) (p .index .nodes .ends) (p .index .nodes .count)
+  operands = rw (g .promise .schedule .is) (g .operands)
 
+  pub counted : Counted (p .index .nodes .kinds) (p .index .subtrees .ends) (p .acts) (p .rows .count) (p .rows .at)
+  counted = record { tree = g .schedule .root; has = g .rows }
+
+  -- where they stand
   pub planned-long : p .length ≡ length vs + length es + p .list .at + p .rows .at + 18
   planned-long = omega (arith, g .long, between-length (g .promise .variables), between-length (g .promise .equations))
 
-  pub planned-fits : p .length < 4294967296
-  planned-fits = omega (arith, planned-long, variables-short, equations-short, g .list-short, g .rows-short)
+  pub front-long : length (front (p .length) vs es) ≡ length vs + length es + 9
+  unfolding out4
+  front-long = omega (arith, length-append ((1 ∷ out4 (p .length)) ++ inSection2 vs) (inSection2 es), length-append (1 ∷ out4 (p .length)) (inSection2 vs), section2-length vs, section2-length es)
 
-  pub planned-operands : Operands sch (p .acts) (p .index .nodes .starts) (p .index .nodes .ends) (p .index .nodes .count)
-  planned-operands = rw (g .promise .schedule .is) (g .actions .operands)
+  pub list-long : length (actionSection sch (p .acts) (p .index .nodes .starts) (p .index .nodes .ends) (p .index .nodes .count)) ≡ p .list .at + 3
+  list-long = actions-long operands (g .list)
 
-  pub planned-rows : Counted (p .index .nodes .kinds) (p .index .subtrees .ends) (p .acts) (p .rows .count) (p .rows .at)
-  planned-rows = record { tree = g .schedule .root; has = g .rows; small = omega (arith, g .promise .nodes .kinds-full); few = g .rows-few; short = g .rows-short }
+  -- all of them
+  table-is : (front (p .length) vs es ++ actionSection sch (p .acts) (p .index .nodes .starts) (p .index .nodes .ends) (p .index .nodes .count)) ++ locationSection (testsIn (p .acts)) (g .schedule .root) ≡
+      tableOf edition1 (g .schedule)
+  unfolding tableOf tableBytes tableBody scheduleLocations
+  table-is = rw (g .promise .variables .is, g .promise .equations .is, g .promise .schedule .is, g .actions, g .tests, g .whole ∙ table-length edition1 _ _ _ _) (regroup (1 ∷ out4 _) _ _ _ _)
 
-  module _ {d d₁ d₂ d′ : List ℕ} {i j r : ℕ} (ei : i ≡ length vs + length es + 9) (w : Wrote d 0 (((1 ∷ out4 (p .length)) ++ inSection2 vs) ++ inSection2 es) d₁)
-      (ej : j ≡ i + p .list .at + 3) (v : Wrote d₁ i (inSection2 (actionSection sch (p .acts) (p .index .nodes .starts) (p .index .nodes .ends) (p .index .nodes .count))) d₂)
-      (x : LocationsPut (p .index .nodes .kinds) (p .index .subtrees .ends) (p .acts) (p .rows .count) (p .rows .at) d₂ j d′ r) where
-    actions-long : length (actionSection sch (p .acts) (p .index .nodes .starts) (p .index .nodes .ends) (p .index .nodes .count)) ≡ p .list .at + 1
-    actions-long = omega (arith, g .list .sizes sch (planned-operands .each))
-
-    rows-long : length (locationSection (testsIn (p .acts)) (g .schedule .root)) ≡ p .rows .at + 2
-    unfolding out2
-    rows-long = omega (arith, g .rows .sizes)
-
-    place : (a b : List ℕ) → length (((1 ∷ out4 (p .length)) ++ inSection2 a) ++ inSection2 b) ≡ length a + length b + 9
-    unfolding out4
-    place a b =
-        omega (arith, length-append ((1 ∷ out4 (p .length)) ++ inSection2 a) (inSection2 b), length-append (1 ∷ out4 (p .length)) (inSection2 a), section2-length a, section2-length b)
-
-    all : Wrote d 0 (tableOf edition1 (g .schedule)) d′
-    all =
-        let s = actionSection sch (p .acts) (p .index .nodes .starts) (p .index .nodes .ends) (p .index .nodes .count) in
-        let h : List ℕ = ((1 ∷ out4 (p .length)) ++ inSection2 vs) ++ inSection2 es in
-        let l = place vs es in
-        let two : Wrote d 0 (h ++ inSection2 s) d₂ = put-more w v (omega arith) (omega (arith, ei)) in
-        let m : j ≡ 0 + length (h ++ inSection2 s) = omega (arith, ei, ej, length-append h (inSection2 s), section2-length s, actions-long) in
-        wrote-as (ap (λ (q : List ℕ). (h ++ inSection2 (actionSection q (p .acts) (p .index .nodes .starts) (p .index .nodes .ends) (p .index .nodes .count))) ++ inSection4 (locationSection (testsIn (p .acts)) (g .schedule .root))) (g .promise .schedule .is)
-        ∙ table-is (g .actions) (g .promise .variables .is) (g .promise .equations .is) (g .whole))
-        (put-more two (x .writes (g .schedule .root) (g .rows)) (omega arith) m)
-
-    pub table-written : (s : Schedule) → judgeFile edition1 f ≡ accepted s → (r ≡ length (tableOf edition1 s)) × Wrote d 0 (tableOf edition1 s) d′
-    table-written s h =
-        let e : g .schedule ≡ s = accepted-is (sym (g .promise .judged) ∙ h) in
-        let n : r ≡ length (tableOf edition1 (g .schedule)) = omega (arith, x .ends (g .schedule .root) (g .rows), long-length (locationSection (testsIn (p .acts)) (g .schedule .root)), rows-long, ei, ej, g .whole, planned-long) in
-        subst (λ (t : Schedule). (r ≡ length (tableOf edition1 t)) × Wrote d 0 (tableOf edition1 t) d′) e (n, all)
+  pub table-written : {d d₁ d₂ d′ : List ℕ} {i j r : ℕ} → Put d 0 (front (p .length) vs es) d₁ i →
+      Put d₁ i (actionSection sch (p .acts) (p .index .nodes .starts) (p .index .nodes .ends) (p .index .nodes .count)) d₂ j →
+      LocationsPut (p .index .nodes .kinds) (p .index .subtrees .ends) (p .acts) (p .rows .count) (p .rows .at) d₂ j d′ r →
+      (t : List ℕ) → judgeMeasure edition1 f ≡ accepted t → Put d 0 t d′ r
+  table-written a b x t h = put-as (table-is ∙ accepted-is (sym (g .judged) ∙ h)) (put-then (put-then a b (omega arith)) (x .of (g .schedule .root) (g .rows)) (omega arith))

@@ -1,4 +1,3 @@
 -- What the contracts of the compiler cite.
-pub mod Measured
+pub mod Answers
 pub mod Plans
-pub mod SizeAnswer

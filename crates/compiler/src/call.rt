@@ -1,19 +1,21 @@
 // The call "compiling": conditions 1 to 14, in order, and the table.
 use numbering::spot::Spot;
 use schedule_read::call::ScheduleIndex;
+use schedule_read::parts::Parts;
+use sizes::Measured;
 use table_write::actions;
 use table_write::table;
 ghost use mathlib.Core.Path.{_≡_};
-ghost use Prim.Native.Nat.{_≤_};
+ghost use mathlib.Core.List.{List};
+ghost use Prim.Native.Nat.{ℕ, _+_, _*_, _≤_, _<_};
 ghost use lib.ListN.{length};
 ghost use Rattle.semantics.specs.Editions.{edition1};
-ghost use Rattle.semantics.specs.Refusals.{refusalOf, accepted};
-ghost use Rattle.schedules.specs.Files.{Schedule, judgeFile};
-ghost use Rattle.schedules.specs.Compiling.{tableOf};
+ghost use Rattle.semantics.specs.Refusals.{accepted};
+ghost use Rattle.schedules.specs.Compiling.{judgeMeasure};
 ghost use Rattle.schedules.specs.Calls as calls;
-ghost use Rattle.codec.specs.Writing.{Wrote};
-ghost use Rattle.compiler.specs.Measured.{judgeMeasure, lengthOf, returned};
-ghost use Rattle.compiler.specs.Plans.{Planned};
+ghost use Rattle.table_write.specs.Pieces.{Put};
+ghost use Rattle.compiler.specs.Answers.{Told, returned};
+ghost use Rattle.compiler.specs.Plans.{copied, Found, Ready, Planned};
 
 // 0 and the length of the table; or the number of the first condition that is broken, and 0
 pub struct Compiled {
@@ -55,9 +57,53 @@ fn no_plan(n: u8, x: ScheduleIndex) -> Plan
     }
 }
 
+// the bytes of the locations' rows
+fn row_bytes(locations: usize, entries: usize) -> usize
+    requires { ⌜ (locations ≤ 1024) × (entries ≤ 65536) ⌝ }
+    ensures { λ r. ⌜ (r ≡ locations + entries * 5) × (r ≤ 328704) ⌝ }
+{
+    locations + entries * 5
+}
+
+// the bytes of the table: the sections that are copied, the rows, and all that stands around them
+fn table_length(q: Parts, list: usize, rows: usize) -> usize
+    requires ordered { ⌜ (q .«variables_from» ≤ q .«variables_to») × (q .«equations_from» ≤ q .«equations_to») ⌝ }
+    requires short { ⌜ (q .«variables_to» < 65536) × (q .«equations_to» < 65536) × (list ≤ 12928) × (rows ≤ 328704) ⌝ }
+    ensures { λ r. ⌜ (r ≡ copied q + list + rows + 18) × (r < 4294967296) ⌝ }
+{
+    q.variables_to - q.variables_from + (q.equations_to - q.equations_from) + list + rows + 18
+}
+
+// what the table is made of
+fn made(x: ScheduleIndex, m: Measured) -> Plan
+    requires { ⌜ Ready x m ⌝ }
+    ensures { λ r. ⌜ (r .refusal ≡ 0) × (((f : List ℕ) → Found f x m → Planned f r)) ⌝ }
+{
+    let nodes = x.nodes;
+    let kinds = nodes.kinds;
+    let starts = nodes.starts;
+    let ends = nodes.ends;
+    let count = nodes.count;
+    let acts = schedule_read::actions::kinds(&kinds, count);
+    let list = actions::measured(&acts, &starts, &ends, count);
+    let size = row_bytes(m.locations, m.entries);
+    Plan {
+        refusal: 0,
+        length: table_length(x.parts, list.at, size),
+        index: x,
+        acts: acts,
+        list: list,
+        rows: Spot {
+            count: m.locations,
+            at: size,
+        },
+    }
+}
+
 // 1 to 13, and what the table is made of
 fn planned(file: &[u8]) -> Plan
-    ensures { λ r. ⌜ (r .refusal ≡ refusalOf (judgeMeasure edition1 (now (file .entry)))) × (r .length ≡ lengthOf (judgeMeasure edition1 (now (file .entry)))) × ((r .refusal ≡ 0 → Planned (now (file .entry)) r)) ⌝ }
+    ensures told { λ r. ⌜ Told (judgeMeasure edition1 (now (file .entry))) (r .refusal) (r .length) ⌝ }
+    ensures planned { λ r. ⌜ (r .refusal ≡ 0 → Planned (now (file .entry)) r) ⌝ }
 {
     let x = schedule_read::call::index(file);
     let refusal = x.refusal;
@@ -72,32 +118,13 @@ fn planned(file: &[u8]) -> Plan
     if m.over {
         return no_plan(13, x);
     }
-    let starts = nodes.starts;
-    let ends = nodes.ends;
-    let count = nodes.count;
-    let acts = schedule_read::actions::kinds(&kinds, count);
-    let list = actions::measured(&acts, &starts, &ends, count);
-    let size = m.locations + m.entries * 5;
-    let parts = x.parts;
-    let copied = parts.variables_to - parts.variables_from
-        + (parts.equations_to - parts.equations_from);
-    Plan {
-        refusal: 0,
-        length: copied + list.at + size + 18,
-        index: x,
-        acts: acts,
-        list: list,
-        rows: Spot {
-            count: m.locations,
-            at: size,
-        },
-    }
+    made(x, m)
 }
 
 // The table that was planned, at the front of a buffer that has room for it; its length.
 fn write(file: &[u8], table: &mut [u8], p: Plan) -> usize
     requires { ⌜ Planned (now file) p × (p .length ≤ length (now table)) ⌝ }
-    ensures { λ r. ⌜ ((s : Schedule) → judgeFile edition1 (now (file .entry)) ≡ accepted s → (r ≡ length (tableOf edition1 s)) × Wrote (now (table .entry)) 0 (tableOf edition1 s) (now (table .exit))) ⌝ }
+    ensures { λ r. ⌜ ((t : List ℕ) → judgeMeasure edition1 (now (file .entry)) ≡ accepted t → Put (now (table .entry)) 0 t (now (table .exit)) r) ⌝ }
 {
     let x = p.index;
     let parts = x.parts;
@@ -150,7 +177,7 @@ pub fn compile(file: &[u8], table: &mut [u8]) -> Compiled
 
 // 1 to 13, and the length of the table that compiling would write
 pub fn measure(file: &[u8]) -> Compiled
-    ensures { λ r. ⌜ (r .refusal ≡ refusalOf (judgeMeasure edition1 (now (file .entry)))) × (r .length ≡ lengthOf (judgeMeasure edition1 (now (file .entry)))) ⌝ }
+    ensures { λ r. ⌜ Told (judgeMeasure edition1 (now (file .entry))) (r .refusal) (r .length) ⌝ }
 {
     let p = planned(file);
     Compiled {

@@ -3,7 +3,7 @@ use sizes::OVER;
 ghost use mathlib.Core.Path.{_≡_};
 ghost use Rattle.semantics.specs.Editions.{edition1};
 ghost use Rattle.schedules.specs.Calls.{size};
-ghost use Rattle.compiler.specs.SizeAnswer.{sized};
+ghost use Rattle.compiler.specs.Answers.{sized};
 
 // refused with 1 to 12, both numbers 0 then; or the exact numbers; or 1,025 and 0 where there are over 1,024 locations
 pub struct TableSize {

@@ -12,18 +12,16 @@ use Rattle.semantics.specs.Refusals.{Judged, refused, accepted, _>>=_, _>>_, en
 use Rattle.semantics.specs.Plant.{Plant}
 use Rattle.semantics.specs.Starts.{startIn}
 use Rattle.semantics.specs.Calls.{Program, Outcome, Ran, judgeRun, tableRun, eventCount, recordSize, roomForRecords}
-use Rattle.semantics.specs.Conditions.{Condition}
-use Rattle.semantics.proofs.Facts.{All, all-append}
 use Rattle.semantics.proofs.Judging as Judging
 use Rattle.semantics.proofs.CallsHold.{accepted-of}
 use Rattle.schedules.specs.Residuals.{Residual}
 use Rattle.schedules.specs.Files.{Schedule, judgeFile, ruleControl}
-use Rattle.schedules.specs.Compiling.{judgeCompile}
+use Rattle.schedules.specs.Compiling.{judgeMeasure, judgeCompile}
 use Rattle.schedules.specs.Calls as S
 use Rattle.schedules.specs.Calls.{ruleProgram, ruleRun, compile, compiledInto}
-use Rattle.schedules.specs.Conditions.{filePlant, ruleRunConditions}
 use Rattle.schedules.proofs.FirstNumber.{rule-run-first}
-use Rattle.schedules.proofs.Agreement.{compile-taken}
+use Rattle.schedules.proofs.Agreement.{Taken, compile-taken}
+use Rattle.schedules.proofs.CallsHold.{rule-numbers}
 use Rattle.schedules.specs.Exam as Exam
 use Rattle.schedules.specs.Exam.{judgeExam, agreed, reported, refusedExam, examTable, examined, examOf}
 use Rattle.exam.specs.Examining.{numbers, noExam, Returned, Room}
@@ -32,9 +30,9 @@ use Rattle.rule_run.specs.Called as ruled
 use Rattle.rule_run.specs.declared.call.Ran as R
 use Rattle.table_run.specs.Called as tabled
 use Rattle.table_run.specs.declared.call.Ran as T
-use Rattle.compiler.specs.Measured.{judgeMeasure, lengthOf, returned}
-use Rattle.compiler.proofs.Measuring.{file-numbers, Sized, measure-refused, measure-sized, too-short, long-enough}
-use Rattle.schedules.proofs.ExamHolds.{rule-program, run-numbers, exam-judged, exam-numbers, exam-length, exam-refusal, exam-agrees}
+use Rattle.compiler.specs.Answers.{Told, returned}
+use Rattle.compiler.proofs.CallStages.{refused-too, too-short, long-enough}
+use Rattle.schedules.proofs.ExamHolds.{rule-program, exam-judged, exam-numbers, exam-length, exam-refusal, exam-agrees}
 
 -- a refusal is the whole call's
 refused-first : {A B : Type 0} (j : Judged A) (f : A → Judged B) → (refusalOf j ≡ 0 → ⊥) → refusalOf (j >>= f) ≡ refusalOf j
@@ -64,32 +62,30 @@ other-buffer ed g start events buffer other a h =
 
 module _ (ed : Edition) (file start events table records others : List ℕ) where
   -- 1 to 13
-  pub by-measure : {a b : ℕ} → (a ≡ refusalOf (judgeMeasure ed file)) × (b ≡ lengthOf (judgeMeasure ed file)) → (a ≡ 0 → ⊥) → a ≡ refusalOf (judgeExam ed file start events table records others)
+  pub by-measure : {a b : ℕ} → Told (judgeMeasure ed file) a b → (a ≡ 0 → ⊥) → a ≡ refusalOf (judgeExam ed file start events table records others)
   unfolding judgeExam
-  by-measure h z =
-      let k = measure-refused ed file h table z in
-      sym (refused-first (judgeCompile ed file table) _ (λ e. z (sym k ∙ e)) ∙ k)
+  by-measure h z = sym (refused-at _ (refused-too ed file table (h .refuses z)))
 
-  module _ {a b : ℕ} (h : (a ≡ refusalOf (judgeMeasure ed file)) × (b ≡ lengthOf (judgeMeasure ed file))) (z : a ≡ 0) where
-    abbrev size : Sized ed file b
-    size = measure-sized ed file h z
-
-    abbrev program : Program Residual
-    program = record { plant = size .schedule .plant; control = ruleControl (size .schedule) }
-
+  module _ {a b : ℕ} (h : Told (judgeMeasure ed file) a b) (z : a ≡ 0) where
     -- 14
     pub by-table : length table < b → 14 ≡ refusalOf (judgeExam ed file start events table records others)
     unfolding judgeExam
-    by-table l = sym (refused-at _ (too-short ed file table size l))
+    by-table l = let k = h .accepts z in sym (refused-at _ (too-short ed file table (k .1) (omega (arith, k .2))))
 
     module _ (l : b ≤ length table) where
+      taken : Taken ed file table (h .accepts z .0)
+      taken = let k = h .accepts z in compile-taken ed file table (long-enough ed file table (k .1) (omega (arith, k .2)))
+
+      abbrev program : Program Residual
+      program = record { plant = taken .of .plant; control = ruleControl (taken .of) }
+
       compiled : judgeExam ed file start events table records others ≡
           (judgeRun ed (accepted program) start events records >>= λ o. ensure 22 (roomForRecords ed (program .plant) events others) >> accepted (eventCount ed events * recordSize ed (program .plant)))
       unfolding judgeExam
-      compiled = Judging.go-then _ (long-enough ed file table size l) ∙ Judging.go-then _ (rule-program ed file (size .schedule-read))
+      compiled = let k = h .accepts z in Judging.go-then _ (long-enough ed file table (k .1) (omega (arith, k .2))) ∙ Judging.go-then _ (rule-program ed file (taken .of-file))
 
       run-of : (buffer : List ℕ) → judgeRun ed (ruleProgram ed file) start events buffer ≡ judgeRun ed (accepted program) start events buffer
-      run-of buffer = ap (λ j. judgeRun ed j start events buffer) (rule-program ed file (size .schedule-read))
+      run-of buffer = ap (λ j. judgeRun ed j start events buffer) (rule-program ed file (taken .of-file))
 
       -- 20 to 22
       pub by-records : {n : ℕ} → n ≡ refusalOf (judgeRun ed (ruleProgram ed file) start events records) → (n ≡ 0 → ⊥) → n ≡ refusalOf (judgeExam ed file start events table records others)
@@ -97,15 +93,11 @@ module _ (ed : Edition) (file start events table records others : List ℕ) wher
           let f = e ∙ ap refusalOf (run-of records) in
           sym (ap refusalOf compiled ∙ refused-first (judgeRun ed (accepted program) start events records) _ (λ i. y (f ∙ i)) ∙ sym f)
 
-      rule-numbers : All (λ (c : Condition). c .refusal ≡ 0 → ⊥) (ruleRunConditions ed file start events records)
-      unfolding ruleRunConditions
-      rule-numbers = all-append (file-numbers ed file) (run-numbers ed (filePlant ed file) start events records)
-
       -- 22 of the second buffer
       pub by-others : {n k : ℕ} → n ≡ refusalOf (judgeRun ed (ruleProgram ed file) start events records) → n ≡ 0 → k ≡ refusalOf (judgeRun ed (ruleProgram ed file) start events others) →
           k ≡ refusalOf (judgeExam ed file start events table records others)
       by-others e y f =
-          let a = accepted-of (rule-run-first ed file start events records) rule-numbers (sym e ∙ y) in
+          let a = accepted-of (rule-run-first ed file start events records) (rule-numbers ed file start events records) (sym e ∙ y) in
           let b = sym (run-of records) ∙ a .1 in
           f ∙ ap refusalOf (run-of others) ∙ other-buffer ed program start events records others (eventCount ed events * recordSize ed (program .plant)) b ∙ sym (ap refusalOf (compiled ∙ Judging.go-then _ b))
 

@@ -35,7 +35,7 @@ use Rattle.schedules.specs.Files.{Schedule, judgeFile, ruleControl}
 use Rattle.schedules.specs.Compiling.{testsOf, scheduleLocations, tableOf, judgeCompile}
 use Rattle.schedules.specs.Calls.{ruleProgram, ruleRun, compiledInto, compile}
 use Rattle.schedules.specs.Conditions.{fileConditions, compileConditions}
-use Rattle.schedules.proofs.FirstNumber.{passed, file-schedule, compile-first}
+use Rattle.schedules.proofs.FirstNumber.{passed, file-schedule, compile-steps, compile-first}
 use Rattle.schedules.proofs.OneTree.{one-tree}
 use Rattle.schedules.proofs.Numbered.{number-found, number-exists}
 use Rattle.schedules.proofs.Reached.{reached, closed-under}
@@ -175,9 +175,8 @@ pub record Taken (ed : Edition) (file buffer table : List ℕ) : Type 0 where
   pub is-table : tableOf ed of ≡ table
 
 pub compile-taken : (ed : Edition) (file buffer : List ℕ) {t : List ℕ} → judgeCompile ed file buffer ≡ accepted t → Taken ed file buffer t
-unfolding judgeCompile
 compile-taken ed file buffer h =
-    let a = Judging.passed-then (judgeFile ed file) _ h in
+    let a = Judging.passed-then (judgeFile ed file) _ (sym (compile-steps ed file buffer) ∙ h) in
     let b = Judging.passed-ensure 13 _ _ (a .2) in
     let c = Judging.passed-ensure 14 _ _ (b .1) in
     record { of = a .0; of-file = a .1; few = leb-true (length (scheduleLocations (a .0))) locationLimit (b .0); is-table = Judging.accepted-is (c .1) }

@@ -26,6 +26,7 @@ use Rattle.schedules.specs.Sizes.{Size, sizeOf}
 use Rattle.schedules.specs.TableSizes.{tableLength}
 use Rattle.schedules.specs.Reordered.{Reordered, SameButOrder}
 use Rattle.schedules.proofs.Counting.{total}
+use Rattle.schedules.proofs.FirstNumber.{compile-steps}
 use Rattle.schedules.proofs.LocationCount.{few-locations}
 use Rattle.schedules.proofs.TableLength.{table-of-length}
 use Rattle.schedules.proofs.ReorderedTrees.{reordered-tree, reordered-none, reordered-total, reordered-length, reordered-every}
@@ -151,11 +152,10 @@ module _ (ed : Edition) (file other : List ℕ) (s : SameButOrder ed file other)
       both-accepted (reordered-large ed _ _ refl (s .same-variables) (s .same-equations) h k (s .order) z))))))))))
 
   compiled-alike : (room : List ℕ) → Alike (λ (t u : List ℕ). length t ≡ length u) (judgeCompile ed file room) (judgeCompile ed other room)
-  unfolding judgeCompile
-  compiled-alike room = alike-then _ _ judged-alike (λ a b l.
+  compiled-alike room = rw (compile-steps ed file room, compile-steps ed other room) (alike-then _ _ judged-alike (λ a b l.
       alike-ensure 13 (leb (length (scheduleLocations a)) locationLimit) (l .few) (λ h13.
       alike-ensure 14 (leb (length (tableOf ed a)) (length room)) (ap (λ n. leb n (length room)) (l .long h13)) (λ h14.
-      both-accepted (l .long h13))))
+      both-accepted (l .long h13)))))
 
 alike-compiled : (room : List ℕ) {j k : Judged (List ℕ)} → Alike (λ (t u : List ℕ). length t ≡ length u) j k →
     ((compiledInto room j) .refusal ≡ (compiledInto room k) .refusal) × ((compiledInto room j) .written ≡ (compiledInto room k) .written)

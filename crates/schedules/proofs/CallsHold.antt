@@ -28,7 +28,7 @@ use Rattle.schedules.specs.Files.{Schedule, judgeFile, ruleControl}
 use Rattle.schedules.specs.Compiling.{tableOf, judgeCompile}
 use Rattle.schedules.specs.Calls.{readSchedule, scheduleCounts, ruleProgram, ruleRun, Compiled, compile, compiledInto}
 use Rattle.schedules.specs.Conditions.{fileSchedule, fileConditions, ruleRunConditions}
-use Rattle.schedules.proofs.FirstNumber.{passed, file-schedule, rule-run-first, compile-first, compiled-refusal}
+use Rattle.schedules.proofs.FirstNumber.{passed, file-schedule, rule-run-first, compile-steps, compile-first, compiled-refusal}
 use Rattle.schedules.proofs.ResidualsKept.{of-fresh, kept-to}
 use Rattle.schedules.proofs.ScheduleSound.{schedule-sound}
 use Rattle.schedules.proofs.Agreement.{never-0}
@@ -69,10 +69,10 @@ read-schedule-result ed file h = rw h refl
 pub written-table : (ed : Edition) (file room : List ℕ) → (compile ed file room) .refusal ≡ 0 →
     (s : Schedule) × (fileSchedule ed file ≡ some s) × (length (tableOf ed s) ≤ length room) ×
     (compile ed file room ≡ record { refusal = 0; written = length (tableOf ed s); table = overwrite (tableOf ed s) room })
-unfolding compile compiledInto judgeCompile
+unfolding compile compiledInto
 written-table ed file room z =
     let a = accepted-of (compile-first ed file room) (never-0 ed file room) (sym (compiled-refusal room (judgeCompile ed file room)) ∙ z) in
-    let b = Judging.passed-then (judgeFile ed file) _ (a .1) in
+    let b = Judging.passed-then (judgeFile ed file) _ (sym (compile-steps ed file room) ∙ a .1) in
     let c = Judging.passed-ensure 13 _ _ (b .2) in
     let d = Judging.passed-ensure 14 _ _ (c .1) in
     (b .0, file-schedule ed file (b .1), leb-true (length (tableOf ed (b .0))) (length room) (d .0), ap (compiledInto room) (a .1 ∙ ap accepted (sym (Judging.accepted-is (d .1)))))
@@ -88,7 +88,7 @@ table-at-front ed file room z =
 pub sound-rules : (ed : Edition) (file : List ℕ) (s : Schedule) → judgeFile ed file ≡ accepted s → Sound (s .plant) (ruleControl s)
 sound-rules ed file s h = schedule-sound ed file s (passed ed file s h)
 
-rule-numbers : (ed : Edition) (file start events buffer : List ℕ) → All (λ (c : Condition). c .refusal ≡ 0 → ⊥) (ruleRunConditions ed file start events buffer)
+pub rule-numbers : (ed : Edition) (file start events buffer : List ℕ) → All (λ (c : Condition). c .refusal ≡ 0 → ⊥) (ruleRunConditions ed file start events buffer)
 unfolding ruleRunConditions fileConditions runConditions
 rule-numbers ed file start events buffer =
     all-cons (no 0) (all-cons (no 1) (all-cons (no 2) (all-cons (no 3) (all-cons (no 4) (all-cons (no 5) (all-cons (no 6) (all-cons (no 7)

@@ -39,7 +39,7 @@ unfolding Files.fileHeader Files.fileLength Files.judgeNodes Files.judgeSections
 files = tt
 
 unfoldable pub compiling : Unit {0}
-unfolding Compiling.testsOf Compiling.scheduleLocations Compiling.targetCode Compiling.entryOf Compiling.entriesOf Compiling.tableOf Compiling.judgeCompile
+unfolding Compiling.testsOf Compiling.scheduleLocations Compiling.targetCode Compiling.entryOf Compiling.entriesOf Compiling.tableOf Compiling.judgeMeasure Compiling.judgeCompile
 compiling = tt
 
 unfoldable pub writing : Unit {0}

@@ -1,6 +1,6 @@
 -- Reading a schedule, running it by the rules and compiling it refuse with the first number that applies.
 use mathlib.Core.Path.{_≡_, refl, sym, ap, subst, _∙_}
-use mathlib.Core.Bool.{Bool, true, _&&_}
+use mathlib.Core.Bool.{Bool, true, _&&_, false}
 use mathlib.Core.List.{List, _∷_, _++_}
 use mathlib.Core.Option.{some}
 use Prim.Native.Nat.{ℕ}
@@ -20,7 +20,7 @@ use Rattle.schedules.specs.Nodes.{Node, nodesIn, nodeNamed, nodeReads}
 use Rattle.schedules.specs.Trees.{treeOf}
 use Rattle.schedules.specs.Residuals.{Residual}
 use Rattle.schedules.specs.Files.{Schedule, judgeNodes, judgeSections, judgeFile, fileHeader, fileLength}
-use Rattle.schedules.specs.Compiling.{scheduleLocations, tableOf, judgeCompile}
+use Rattle.schedules.specs.Compiling.{scheduleLocations, tableOf, judgeCompile, judgeMeasure}
 use Rattle.schedules.specs.Calls.{ruleProgram, scheduleCounts, compiledInto}
 use Rattle.schedules.specs.Conditions.{fileParts, filePlant, fileNodes, fileTree, fileSchedule, is1, is2, is3, ofPlant, is9, is10, is11, is12, is13, is14, fileConditions, compileConditions, ruleRunConditions}
 
@@ -105,11 +105,29 @@ module _ (ed : Edition) (file : List ℕ) where
   unfolding filePlant fileParts
   file-plant {s} h = let p = passed ed file s h in bind-some _ (p .parts) ∙ plant-in ed _ _ (p .plant)
 
+  -- 13 and 14 in one list
+  pub compile-steps : (buffer : List ℕ) → judgeCompile ed file buffer ≡
+      (judgeFile ed file >>= λ s. ensure 13 (leb (length (scheduleLocations s)) locationLimit) >> (ensure 14 (leb (length (tableOf ed s)) (length buffer)) >> accepted (tableOf ed s)))
+  unfolding judgeCompile judgeMeasure _>>=_ _>>_ ensure
+  compile-steps buffer = go (judgeFile ed file)
+    where
+      fits : List ℕ → Judged (List ℕ)
+      fits t = ensure 14 (leb (length t) (length buffer)) >> accepted t
+
+      at13 : (b : Bool) (t : List ℕ) → ((ensure 13 b >> accepted t) >>= fits) ≡ (ensure 13 b >> fits t)
+      at13 true t = refl
+      at13 false t = refl
+
+      go : (j : Judged Schedule) → ((j >>= λ s. ensure 13 (leb (length (scheduleLocations s)) locationLimit) >> accepted (tableOf ed s)) >>= fits) ≡
+          (j >>= λ s. ensure 13 (leb (length (scheduleLocations s)) locationLimit) >> fits (tableOf ed s))
+      go (refused n) = refl
+      go (accepted s) = at13 (leb (length (scheduleLocations s)) locationLimit) (tableOf ed s)
+
   pub compile-first : (buffer : List ℕ) → Firsts (judgeCompile ed file buffer) (compileConditions ed file buffer)
-  unfolding judgeCompile compileConditions is13 is14
-  compile-first buffer = by-then (file-first ed file) (λ s e.
+  unfolding compileConditions is13 is14
+  compile-first buffer = rw (compile-steps buffer) (by-then (file-first ed file) (λ s e.
       by-ensure 13 (leb (length (scheduleLocations s)) locationLimit) (given-some _ (file-schedule e)) (λ h13.
-      by-ensure 14 (leb (length (tableOf ed s)) (length buffer)) (given-some _ (file-schedule e)) (λ h14. by-end _)))
+      by-ensure 14 (leb (length (tableOf ed s)) (length buffer)) (given-some _ (file-schedule e)) (λ h14. by-end _))))
 
   pub rule-run-first : (start events buffer : List ℕ) → Firsts (judgeRun ed (ruleProgram ed file) start events buffer) (ruleRunConditions ed file start events buffer)
   unfolding ruleProgram ruleRunConditions

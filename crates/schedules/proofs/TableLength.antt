@@ -24,7 +24,7 @@ use Rattle.schedules.specs.Calls.{compile, compiledInto}
 use Rattle.schedules.specs.Sizes.{sizeOf}
 use Rattle.schedules.specs.TableSizes.{tableLength, TableSized}
 use Rattle.schedules.proofs.Counting.{total}
-use Rattle.schedules.proofs.FirstNumber.{passed}
+use Rattle.schedules.proofs.FirstNumber.{passed, compile-steps}
 use Rattle.schedules.proofs.LocationCount.{entriesAt, locations-counted, few-locations}
 use Rattle.schedules.proofs.TableAgrees.{tableFor}
 use Rattle.schedules.proofs.Agreement.{of-written, table-judged}
@@ -108,10 +108,10 @@ locations-by-size ed file room = of-written ed file room (TableSized ed file) (t
 -- a schedule of few enough locations is compiled where there is room for its table
 pub taken-by-size : (ed : Edition) (file room : List ℕ) (s : Schedule) → judgeFile ed file ≡ accepted s → (sizeOf (s .root)) .locations ≤ locationLimit → tableLength ed s ≤ length room →
     ((compile ed file room) .refusal ≡ 0) × ((compile ed file room) .written ≡ tableLength ed s)
-unfolding compile compiledInto judgeCompile scheduleLocations
+unfolding compile compiledInto scheduleLocations
 taken-by-size ed file room s h few fits =
     let few13 = few-locations (s .nodes) (passed ed file s h .tree) ∙ le-leb ((sizeOf (s .root)) .locations) locationLimit few in
     let long = table-of-length ed s (passed ed file s h .tree) (leb-true (length (scheduleLocations s)) locationLimit few13) in
     let fits14 = ap (λ n. leb n (length room)) long ∙ le-leb (tableLength ed s) (length room) fits in
-    let j : judgeCompile ed file room ≡ accepted (tableOf ed s) = Judging.go-then _ h ∙ Judging.go-ensure 13 _ few13 ∙ Judging.go-ensure 14 _ fits14 in
+    let j : judgeCompile ed file room ≡ accepted (tableOf ed s) = compile-steps ed file room ∙ Judging.go-then _ h ∙ Judging.go-ensure 13 _ few13 ∙ Judging.go-ensure 14 _ fits14 in
     (ap (λ j. (compiledInto room j) .refusal) j, ap (λ j. (compiledInto room j) .written) j ∙ long)

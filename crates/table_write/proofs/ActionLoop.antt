@@ -1,125 +1,97 @@
 -- The rows of the actions, node by node.
-use mathlib.Core.Path.{_≡_, refl, sym, ap, ap₂, _∙_}
-use mathlib.Core.List.{List, [], _∷_, _++_}
+use mathlib.Core.Path.{_≡_, refl, sym, ap, _∙_}
+use mathlib.Core.List.{List, [], _∷_, _++_, flatMap, append-nil}
 use Prim.Native.Nat.{ℕ, zero, suc, _+_, _-_, _≤_, _<_}
 use native.Mathlib.Omega.{arith}
 use native.Mathlib.Decide.{decLe}
 use native.Mathlib.Numerals.{add-one}
 use lib.ListN.{length, getD, length-append, drop, length-drop}
 use lib.Seq.{length-take-le}
-use Rattle.codec.specs.Writing.{Wrote}
-use Rattle.codec.proofs.Writing.{wrote-none, put-more, wrote-as}
-use Rattle.table_write.specs.ActionTable.{actionRow, actionOnce, operandAt, actionRows, actionCount, OperandOf, Listed, Measured}
+use Rattle.semantics.specs.Bytes.{out, widthOf}
+use Rattle.semantics.specs.Editions.{edition1}
+use Rattle.semantics.specs.TableFile.{actionKind, actionOfKind, writeAction}
+use Rattle.schedules.specs.Nodes.{listed}
+use Rattle.schedules.proofs.Places.{flat-append}
+use Rattle.table_write.specs.ActionTable.{operandAt, actionHere, actionsTo, rowHere, rowsTo, Coded, OperandOf, Listed, Measured}
+use Rattle.table_write.specs.Pieces.{Put}
+use Rattle.table_write.proofs.TableBytes.{put-none}
 
-pub operand-long : (s starts ends : List ℕ) (n : ℕ) → getD starts n 0 ≤ getD ends n 0 → getD ends n 0 ≤ length s → length (operandAt s starts ends n) ≡ getD ends n 0 - getD starts n 0
+pub operand-long : {s acts starts ends : List ℕ} {n : ℕ} → OperandOf s acts starts ends n → length (operandAt s starts ends n) ≡ getD ends n 0 - getD starts n 0
 unfolding operandAt
-operand-long s starts ends n a b = length-take-le (getD ends n 0 - getD starts n 0) (drop (getD starts n 0) s) (let e = length-drop (getD starts n 0) s in omega arith)
+operand-long {s} {acts} {starts} {ends} {n} h =
+    length-take-le (getD ends n 0 - getD starts n 0) (drop (getD starts n 0) s) (omega (arith, length-drop (getD starts n 0) s, h .ordered, h .inside))
 
 -- ---- one node
-pub row-none : (n k : ℕ) (b : List ℕ) → k ≡ 0 → actionRow n k b ≡ []
-unfolding actionRow
-row-none n k b e = rw e refl
+pub here-none : (n : ℕ) {k : ℕ} (b : List ℕ) → k ≡ 0 → actionHere n k b ≡ []
+unfolding actionHere actionOfKind actionKind listed
+here-none n b e = rw e refl
 
-pub once-none : (k : ℕ) → k ≡ 0 → actionOnce k ≡ 0
-unfolding actionOnce
-once-none k e = rw e refl
+module _ (n : ℕ) {k : ℕ} {b : List ℕ} (c : Coded k b) where
+  pub here-some : actionHere n k b ≡ record { node = n; action = c .action } ∷ []
+  unfolding actionHere listed
+  here-some = rw (c .read) refl
 
-pub row-some : (n k : ℕ) (b : List ℕ) {i j : ℕ} → (k ≡ 0 → ⊥) → i ≡ length b + 2 → j ≡ n → (i ∷ j ∷ k ∷ []) ++ b ≡ actionRow n k b
-unfolding actionRow
-row-some n zero b f e g = absurd (f refl)
-row-some n (suc k) b {i} f e g = let z : i ≡ 1 + suc (length b) = omega arith in rw (z, g) refl
-
-pub once-some : (k : ℕ) → (k ≡ 0 → ⊥) → actionOnce k ≡ 1
-unfolding actionOnce
-once-some zero f = absurd (f refl)
-once-some (suc k) f = refl
-
-pub once-few : (k : ℕ) → actionOnce k ≤ 1
-unfolding actionOnce
-once-few zero = omega arith
-once-few (suc k) = omega arith
-
-pub row-length : (n k : ℕ) (b : List ℕ) → (k ≡ 0 → ⊥) → length (actionRow n k b) ≡ length b + 3
-unfolding actionRow
-row-length n zero b f = absurd (f refl)
-row-length n (suc k) b f = omega arith
-
-module _ {s acts starts ends : List ℕ} {n : ℕ} (h : OperandOf s acts starts ends n) where
-  pub row-few : length (actionRow n (getD acts n 0) (operandAt s starts ends n)) ≤ 202
-  unfolding actionRow
-  row-few = go (getD acts n 0) (λ f. h .short f)
-    where
-      go : (k : ℕ) → ((k ≡ 0 → ⊥) → getD ends n 0 - getD starts n 0 ≤ 199) → length (actionRow n k (operandAt s starts ends n)) ≤ 202
-      go zero f = omega arith
-      go (suc k) f = let a = f (λ e. omega arith) in let b = operand-long s starts ends n (h .ordered) (h .inside) in omega arith
+  pub row-some : (length b + 2) ∷ n ∷ k ∷ b ≡ flatMap (writeAction edition1) (actionHere n k b)
+  unfolding writeAction flatMap out widthOf
+  row-some = let e : 1 + suc (length b) ≡ length b + 2 = omega arith in rw (here-some, c .bytes, append-nil b, e) refl
 
 -- ---- all
 module _ (s acts starts ends : List ℕ) where
-  pub rows-next : (n : ℕ) → actionRows s acts starts ends n ++ actionRow n (getD acts n 0) (operandAt s starts ends n) ≡ actionRows s acts starts ends (n + 1)
-  unfolding actionRows
-  rows-next n = rw (add-one n) refl
+  pub rows-next : (n : ℕ) → rowsTo s acts starts ends n ++ rowHere s acts starts ends n ≡ rowsTo s acts starts ends (n + 1)
+  unfolding actionsTo
+  rows-next n = rw (add-one n) (sym (flat-append (writeAction edition1) (actionsTo s acts starts ends n) _))
+
+  pub rows-none : (d : List ℕ) (i : ℕ) → Put d i (rowsTo s acts starts ends 0) d i
+  unfolding actionsTo flatMap
+  rows-none d i = put-none d i
+
+  rows-length : (n : ℕ) → length (rowsTo s acts starts ends (n + 1)) ≡ length (rowsTo s acts starts ends n) + length (rowHere s acts starts ends n)
+  rows-length n = ap length (sym (rows-next n)) ∙ length-append (rowsTo s acts starts ends n) (rowHere s acts starts ends n)
+
+  actions-length : (n : ℕ) → length (actionsTo s acts starts ends (n + 1)) ≡ length (actionsTo s acts starts ends n) + length (actionHere n (getD acts n 0) (operandAt s starts ends n))
+  unfolding actionsTo
+  actions-length n = rw (add-one n) (length-append (actionsTo s acts starts ends n) _)
 
   -- those of some nodes are no longer than those of more
-  pub rows-within : (n count : ℕ) → n ≤ count → length (actionRows s acts starts ends n) ≤ length (actionRows s acts starts ends count)
-  unfolding actionRows
-  rows-within n zero h = let e : n ≡ 0 = omega arith in rw e (omega arith)
-  rows-within n (suc count) h =
-      let l = length-append (actionRows s acts starts ends count) (actionRow count (getD acts count 0) (operandAt s starts ends count)) in
-      elim (decLe n count) [
-        | yes k ↦ (let i = rows-within n count k in omega arith)
-        | no k ↦ (let e : n ≡ suc count = omega arith in rw (e, actionRows) (omega arith))
-      ]
-
-  -- the rows so far, written from a place on
-  pub record Written (from n : ℕ) (b b′ : List ℕ) (at : ℕ) : Type 0 where
-    pub ends-at : at ≡ from + length (actionRows s acts starts ends n)
-    pub writes : Wrote b from (actionRows s acts starts ends n) b′
-
-  pub written-none : (from : ℕ) (b : List ℕ) → Written from 0 b b from
-  unfolding actionRows
-  written-none from b = record { ends-at = omega arith; writes = wrote-none b from }
-
-  pub written-more : {from n : ℕ} {b b₁ b′ : List ℕ} {at at′ : ℕ} → Written from n b b₁ at → from ≤ length b → at′ ≡ at + length (actionRow n (getD acts n 0) (operandAt s starts ends n)) →
-      Wrote b₁ at (actionRow n (getD acts n 0) (operandAt s starts ends n)) b′ → Written from (n + 1) b b′ at′
-  written-more {n = n} x h e w = record {
-    ends-at = let a = length-append (actionRows s acts starts ends n) (actionRow n (getD acts n 0) (operandAt s starts ends n)) in let f = ap length (rows-next n) in omega (arith, x .ends-at);
-    writes = wrote-as (rows-next n) (put-more (x .writes) w h (x .ends-at));
-  }
+  rows-within : (n k : ℕ) → length (rowsTo s acts starts ends n) ≤ length (rowsTo s acts starts ends (n + k))
+  rows-within n zero = let e : n + 0 ≡ n = omega arith in rw e (omega arith)
+  rows-within n (suc k) = let e : n + suc k ≡ n + k + 1 = omega arith in rw e (omega (arith, rows-within n k, rows-length (n + k)))
 
   -- there is room for one more where there is room for all
-  pub written-room : {from n count : ℕ} {b b₁ : List ℕ} {at : ℕ} → Written from n b b₁ at → n < count → at + length (actionRow n (getD acts n 0) (operandAt s starts ends n)) ≤ from + length (actionRows s acts starts ends count)
-  written-room {n = n} {count = count} x h =
-      let a = length-append (actionRows s acts starts ends n) (actionRow n (getD acts n 0) (operandAt s starts ends n)) in
-      let f = ap length (rows-next n) in
-      let w = rows-within (n + 1) count (omega arith) in
-      omega (arith, x .ends-at)
+  pub rows-room : {n count : ℕ} → n < count → length (rowsTo s acts starts ends n) + length (rowHere s acts starts ends n) ≤ length (rowsTo s acts starts ends count)
+  rows-room {n} {count} h = let e : n + 1 + (count - (n + 1)) ≡ count = omega arith in omega (arith, rows-length n, rw e at (rows-within (n + 1) (count - (n + 1))))
 
-  pub written-end : {from n count : ℕ} {b b′ : List ℕ} {at : ℕ} → n ≡ count → Written from n b b′ at → (at ≡ from + length (actionRows s acts starts ends count)) × Wrote b from (actionRows s acts starts ends count) b′
-  written-end e x = rw (← e) (x .ends-at, x .writes)
+  pub rows-end : {n count : ℕ} {d e : List ℕ} {i r : ℕ} → n ≡ count → Put d i (rowsTo s acts starts ends n) e r → Put d i (rowsTo s acts starts ends count) e r
+  rows-end h p = rw h at p
 
 -- ---- counted
 module _ {acts starts ends : List ℕ} where
   pub measured-none : Measured acts starts ends 0 0 0
-  unfolding actionRows actionCount
-  measured-none = record { counts = refl; sizes = λ s h. refl }
+  unfolding actionsTo flatMap
+  measured-none = record { few = omega arith; short = omega arith; counts = λ s h. refl; sizes = λ s h. refl }
 
-  pub measured-more : {n count size once len : ℕ} → Measured acts starts ends n count size → once ≡ actionOnce (getD acts n 0) →
-      ((s : List ℕ) → OperandOf s acts starts ends n → len ≡ length (actionRow n (getD acts n 0) (operandAt s starts ends n))) → Measured acts starts ends (n + 1) (count + once) (size + len)
-  unfolding actionCount
-  measured-more {n} {count} x e f = record {
-    counts = ap₂ (λ (i j : ℕ). i + j) (x .counts) e ∙ ap (actionCount acts) (sym (add-one n));
-    sizes = λ s h.
-        let a = length-append (actionRows s acts starts ends n) (actionRow n (getD acts n 0) (operandAt s starts ends n)) in
-        let g = ap length (rows-next s acts starts ends n) in
-        omega (arith, x .sizes s (λ i k. h i (omega arith)), f s (h n (omega arith)));
+  measured-more : {n c size c′ size′ : ℕ} (a b : ℕ) → Measured acts starts ends n c size → c′ ≡ c + a → size′ ≡ size + b → a ≤ 1 → b ≤ 202 →
+      ((s : List ℕ) → OperandOf s acts starts ends n → (length (actionHere n (getD acts n 0) (operandAt s starts ends n)) ≡ a) × (length (rowHere s acts starts ends n) ≡ b)) →
+      Measured acts starts ends (n + 1) c′ size′
+  measured-more {n} a b x d e u v f = record {
+    few = omega (arith, x .few);
+    short = omega (arith, x .short);
+    counts = λ s h. omega (arith, x .counts s (λ i k. h i (omega arith)), f s (h n (omega arith)) .0, actions-length s acts starts ends n);
+    sizes = λ s h. omega (arith, x .sizes s (λ i k. h i (omega arith)), f s (h n (omega arith)) .1, rows-length s acts starts ends n);
   }
 
-  pub measured-end : {n m count size : ℕ} → n ≡ m → Measured acts starts ends n count size → Measured acts starts ends m count size
-  measured-end e x = rw (← e) x
+  pub measured-skip : {n c size c′ size′ : ℕ} → Measured acts starts ends n c size → getD acts n 0 ≡ 0 → c′ ≡ c → size′ ≡ size → Measured acts starts ends (n + 1) c′ size′
+  unfolding flatMap
+  measured-skip {n} x z d e = measured-more 0 0 x (omega arith) (omega arith) (omega arith) (omega arith) (λ s o. rw (here-none n (operandAt s starts ends n) z) (refl, refl))
 
--- among fewer nodes
-pub listed-front : {acts starts ends : List ℕ} {n count : ℕ} → Listed acts starts ends count → n ≤ count → Listed acts starts ends n
-listed-front x h = record { section = x .section; operands = record { few = omega (arith, x .operands .few); each = λ i k. x .operands .each i (omega arith) } }
+  pub measured-row : {n c size c′ size′ : ℕ} → Measured acts starts ends n c size → (getD acts n 0 ≡ 0 → ⊥) → getD ends n 0 - getD starts n 0 ≤ 199 →
+      c′ ≡ c + 1 → size′ ≡ size + (getD ends n 0 - getD starts n 0 + 3) → Measured acts starts ends (n + 1) c′ size′
+  measured-row {n} x z l d e = measured-more 1 (getD ends n 0 - getD starts n 0 + 3) x d e (omega arith) (omega arith) (λ s o.
+      (ap length (here-some n (o .coded z)), ap length (sym (row-some n (o .coded z))) ∙ omega (arith, operand-long o)))
 
-pub listed-last : {acts starts ends : List ℕ} {n : ℕ} (x : Listed acts starts ends (n + 1)) → OperandOf (x .section) acts starts ends n
-listed-last {n = n} x = x .operands .each n (omega arith)
+  pub measured-end : {n m c size : ℕ} → n ≡ m → Measured acts starts ends n c size → Measured acts starts ends m c size
+  measured-end e x = rw e at x
+
+-- a node's operand, in the section that the list names
+pub listed-short : {acts starts ends : List ℕ} {n count : ℕ} (x : Listed acts starts ends count) → n < count → (getD acts n 0 ≡ 0 → ⊥) → getD ends n 0 - getD starts n 0 ≤ 199
+listed-short {n = n} x h z = let o = x .operands .each n h in omega (arith, operand-long o, o .coded z .short)

@@ -1,37 +1,45 @@
--- The action section of a table, from the index of the nodes.
+-- The actions of nodes by their index: acts has the kinds of the nodes' actions, starts and ends where the operands stand in the schedule section s.
+-- Rows and section are those of the table file; only where their parts stand is said here.
 use mathlib.Core.Path.{_≡_}
-use mathlib.Core.List.{List, [], _∷_, _++_}
-use Prim.Native.Nat.{ℕ, zero, suc, _+_, _-_, _≤_, _<_}
+use mathlib.Core.List.{List, [], _∷_, _++_, flatMap}
+use mathlib.Core.Option.{some}
+use Prim.Native.Nat.{ℕ, zero, suc, _+_, _-_, _*_, _≤_, _<_}
 use lib.ListN.{length, getD, take, drop}
-use Rattle.codec.specs.Writing.{Wrote}
-
--- "a length byte, node, kind, operand bytes"; nothing where the kind is 0, of a node without an action
-unfoldable pub actionRow : ℕ → ℕ → List ℕ → List ℕ
-actionRow n zero b = []
-actionRow n (suc k) b = (1 + length (suc k ∷ b)) ∷ n ∷ suc k ∷ b
-
--- an action of this kind, counted
-unfoldable pub actionOnce : ℕ → ℕ
-actionOnce zero = 0
-actionOnce (suc k) = 1
+use Rattle.semantics.specs.Editions.{edition1}
+use Rattle.semantics.specs.Run.{Action}
+use Rattle.semantics.specs.TableFile.{NodeAction, actionKind, actionOfKind, actionBytes, inSection2, writeAction, writeActions}
+use Rattle.schedules.specs.Nodes.{listed}
 
 -- the operand bytes of node n, between two places of the schedule section
 unfoldable pub operandAt : List ℕ → List ℕ → List ℕ → ℕ → List ℕ
 operandAt s starts ends n = take (getD ends n 0 - getD starts n 0) (drop (getD starts n 0) s)
 
--- of the first n nodes
-unfoldable pub actionRows : List ℕ → List ℕ → List ℕ → List ℕ → ℕ → List ℕ
-actionRows s acts starts ends zero = []
-actionRows s acts starts ends (suc n) = actionRows s acts starts ends n ++ actionRow n (getD acts n 0) (operandAt s starts ends n)
+-- the action of node n, of this kind and operand; none of kind 0
+unfoldable pub actionHere : ℕ → ℕ → List ℕ → List NodeAction
+actionHere n k b = listed n (actionOfKind (actionKind k) b) []
 
--- how many of them have an action
-unfoldable pub actionCount : List ℕ → ℕ → ℕ
-actionCount acts zero = 0
-actionCount acts (suc n) = actionCount acts n + actionOnce (getD acts n 0)
+module _ (s acts starts ends : List ℕ) where
+  -- those of the first n nodes
+  unfoldable pub actionsTo : ℕ → List NodeAction
+  actionsTo zero = []
+  actionsTo (suc n) = actionsTo n ++ actionHere n (getD acts n 0) (operandAt s starts ends n)
 
--- "count, then per node .."
-abbrev pub actionSection : List ℕ → List ℕ → List ℕ → List ℕ → ℕ → List ℕ
-actionSection s acts starts ends n = actionCount acts n ∷ actionRows s acts starts ends n
+  abbrev pub rowHere : ℕ → List ℕ
+  rowHere n = flatMap (writeAction edition1) (actionHere n (getD acts n 0) (operandAt s starts ends n))
+
+  abbrev pub rowsTo : ℕ → List ℕ
+  rowsTo n = flatMap (writeAction edition1) (actionsTo n)
+
+  -- the section, with its length
+  abbrev pub actionSection : ℕ → List ℕ
+  actionSection n = inSection2 (writeActions edition1 (actionsTo n))
+
+-- kind and operand are the bytes of an action, and no more than a row may hold
+pub record Coded (k : ℕ) (b : List ℕ) : Type 0 where
+  pub action : Action
+  pub read : actionOfKind (actionKind k) b ≡ some action
+  pub bytes : actionBytes action ≡ k ∷ b
+  pub short : length b ≤ 199
 
 -- node n stands in the index, and its operand in the section
 pub record OperandOf (s acts starts ends : List ℕ) (n : ℕ) : Type 0 where
@@ -40,7 +48,7 @@ pub record OperandOf (s acts starts ends : List ℕ) (n : ℕ) : Type 0 where
   pub in-ends : n < length ends
   pub ordered : getD starts n 0 ≤ getD ends n 0
   pub inside : getD ends n 0 ≤ length s
-  pub short : (getD acts n 0 ≡ 0 → ⊥) → getD ends n 0 - getD starts n 0 ≤ 199
+  pub coded : (getD acts n 0 ≡ 0 → ⊥) → Coded (getD acts n 0) (operandAt s starts ends n)
 
 -- so many nodes do
 pub record Operands (s acts starts ends : List ℕ) (count : ℕ) : Type 0 where
@@ -54,5 +62,7 @@ pub record Listed (acts starts ends : List ℕ) (count : ℕ) : Type 0 where
 
 -- how many of the first n nodes have an action, and how many bytes their rows take, whatever the operands are
 pub record Measured (acts starts ends : List ℕ) (n count size : ℕ) : Type 0 where
-  pub counts : count ≡ actionCount acts n
-  pub sizes : (s : List ℕ) → ((i : ℕ) → i < n → OperandOf s acts starts ends i) → size ≡ length (actionRows s acts starts ends n)
+  pub few : count ≤ n
+  pub short : size ≤ n * 202
+  pub counts : (s : List ℕ) → ((i : ℕ) → i < n → OperandOf s acts starts ends i) → count ≡ length (actionsTo s acts starts ends n)
+  pub sizes : (s : List ℕ) → ((i : ℕ) → i < n → OperandOf s acts starts ends i) → size ≡ length (rowsTo s acts starts ends n)

@@ -1,3 +1,4 @@
 -- What the contracts of the writer cite.
 pub mod ActionTable
 pub mod LocationTable
+pub mod Pieces

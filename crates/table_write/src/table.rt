@@ -3,29 +3,17 @@ use super::actions;
 use numbering::locations;
 use numbering::spot;
 use numbering::spot::Spot;
-ghost use mathlib.Core.Path.{_≡_};
-ghost use mathlib.Core.List.{_∷_, _++_};
-ghost use Prim.Native.Nat.{ℕ, _+_, _≤_, _<_};
+ghost use Prim.Native.Nat.{_+_, _≤_, _<_};
 ghost use lib.ListN.{length};
-ghost use Rattle.semantics.specs.Bytes.{out4};
 ghost use Rattle.semantics.specs.TableFile.{inSection2};
-ghost use Rattle.codec.specs.Writing.{Wrote};
 ghost use Rattle.table_write.specs.ActionTable.{actionSection, Operands, Measured};
 ghost use Rattle.table_write.specs.LocationTable.{Counted, LocationsPut};
-
-// version and whole length at the front; the next place
-fn put_header(d: &mut [u8], whole: usize) -> usize
-    requires { ⌜ (5 ≤ length (now d)) × (whole < 4294967296) ⌝ }
-    ensures { λ r. ⌜ (r ≡ 5) × Wrote (now (d .entry)) 0 (1 ∷ out4 whole) (now (d .exit)) ⌝ }
-{
-    let i = codec::put1(d, 0, 1);
-    codec::put4(d, i, whole)
-}
+ghost use Rattle.table_write.specs.Pieces.{Put, front};
 
 // a section with its length, at a place; the next place
 fn put_section(d: &mut [u8], i: usize, s: &[u8]) -> usize
     requires { ⌜ (i + length (now s) + 2 ≤ length (now d)) × (length (now s) < 65536) ⌝ }
-    ensures { λ r. ⌜ (r ≡ i + length (inSection2 (now (s .entry)))) × Wrote (now (d .entry)) i (inSection2 (now (s .entry))) (now (d .exit)) ⌝ }
+    ensures { λ r. ⌜ Put (now (d .entry)) i (inSection2 (now (s .entry))) (now (d .exit)) r ⌝ }
 {
     let j = codec::put2(d, i, s.len());
     codec::put_slice(d, j, s)
@@ -33,12 +21,14 @@ fn put_section(d: &mut [u8], i: usize, s: &[u8]) -> usize
 
 // the front of a table of this length: up to the sections that are copied; the next place
 pub fn put_front<'a>(vs: &'a [u8], es: &'a [u8], table: &mut [u8], whole: usize) -> usize
-    requires { ⌜ (length (now vs) + length (now es) + 9 ≤ length (now table)) × (length (now vs) < 65536) × (length (now es) < 65536) × (whole < 4294967296) ⌝ }
-    ensures { λ r. ⌜ (r ≡ length (now (vs .entry)) + length (now (es .entry)) + 9) × Wrote (now (table .entry)) 0 (((1 ∷ out4 whole) ++ inSection2 (now (vs .entry))) ++ inSection2 (now (es .entry))) (now (table .exit)) ⌝ }
+    requires short { ⌜ (length (now vs) < 65536) × (length (now es) < 65536) × (whole < 4294967296) ⌝ }
+    requires room { ⌜ length (now vs) + length (now es) + 9 ≤ length (now table) ⌝ }
+    ensures { λ r. ⌜ Put (now (table .entry)) 0 (front whole (now (vs .entry)) (now (es .entry))) (now (table .exit)) r ⌝ }
 {
-    let a = put_header(table, whole);
-    let b = put_section(table, a, vs);
-    put_section(table, b, es)
+    let i = codec::put1(table, 0, 1);
+    let j = codec::put4(table, i, whole);
+    let l = put_section(table, j, vs);
+    put_section(table, l, es)
 }
 
 // the action section, of so many actions and bytes of rows, at a place; the next place
@@ -52,8 +42,9 @@ pub fn put_actions<'a>(
     table: &mut [u8],
     i: usize,
 ) -> usize
-    requires { ⌜ Operands (now s) (now acts) (now starts) (now ends) count × Measured (now acts) (now starts) (now ends) count (list .count) (list .at) × (list .count ≤ 64) × (list .at ≤ 12928) × (i + list .at + 3 ≤ length (now table)) ⌝ }
-    ensures { λ r. ⌜ (r ≡ i + list .at + 3) × Wrote (now (table .entry)) i (inSection2 (actionSection (now (s .entry)) (now (acts .entry)) (now (starts .entry)) (now (ends .entry)) count)) (now (table .exit)) ⌝ }
+    requires in_index { ⌜ Operands (now s) (now acts) (now starts) (now ends) count × Measured (now acts) (now starts) (now ends) count (list .count) (list .at) ⌝ }
+    requires room { ⌜ i + list .at + 3 ≤ length (now table) ⌝ }
+    ensures { λ r. ⌜ Put (now (table .entry)) i (actionSection (now (s .entry)) (now (acts .entry)) (now (starts .entry)) (now (ends .entry)) count) (now (table .exit)) r ⌝ }
 {
     let j = codec::put2(table, i, list.at + 1);
     let l = codec::put1(table, j, spot::byte(list.count));

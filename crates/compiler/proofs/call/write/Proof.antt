@@ -1,6 +1,7 @@
+-- Three pieces, whose lengths are those that were planned.
 use mathlib.Core.Path.{sym}
 use native.Mathlib.Omega.{arith}
-use Rattle.compiler.proofs.Written.{variables-short, equations-short, planned-long, planned-fits, planned-operands, planned-rows, table-written}
+use Rattle.compiler.proofs.Written.{operands, counted, planned-long, front-long, list-long, table-written}
 use borrow.Author.Needs.{needs}
 use Rattle.compiler.proofs.call.write.Statement.{statement}
 use Rattle.compiler.proofs.call.write.Tie as tie
@@ -24,10 +25,7 @@ part-put-front-end-2 : tie.Need-part-put-front-end-2
 part-put-front-end-2 c = search needs
 
 put-front-requires : tie.Need-put-front-requires
-put-front-requires c κs =
-    let s = c .before .before .before .before .before .before .before .before .before .before .before .before .before .before .before .before in
-    let g = s .pre .0 in
-    (omega (arith, planned-long g, s .pre .1), variables-short g, equations-short g, planned-fits g)
+put-front-requires c κs = search needs
 
 sub-put-actions : tie.Need-sub-put-actions
 sub-put-actions c = search needs
@@ -51,7 +49,8 @@ put-actions-requires : tie.Need-put-actions-requires
 put-actions-requires c κs =
     let s = c .before .before .before .before .before .before .before .before .before .before .before .before .before .before .before .before .before .before .before .before .before .before .before .before in
     let g = s .pre .0 in
-    (planned-operands g, g .list, g .list-few, g .list-short, omega (arith, planned-long g, s .pre .1, c .before .before .before .before .before .before .before .put-front .ensures .0, c .before .before .before .before .before .before .before .put-front .kept .1 .1 .0))
+    let p = c .before .before .before .before .before .before .before .put-front in
+    ((operands g, g .list), omega (arith, planned-long g, front-long g, s .pre .1, p .ensures .ends, p .kept .1 .1 .0))
 
 slice-aggregate-put-locations : tie.Need-slice-aggregate-put-locations
 slice-aggregate-put-locations c = sym (c .before .before .before .before .before .before .before .before .before .before .before .before .before .before .before .before .before .before .before .before .before .before .before .before .before .before .before .before .pre .0 .promise .nodes .kinds-full)
@@ -66,13 +65,15 @@ put-locations-requires : tie.Need-put-locations-requires
 put-locations-requires c κs =
     let s = c .before .before .before .before .before .before .before .before .before .before .before .before .before .before .before .before .before .before .before .before .before .before .before .before .before .before .before .before .before .before .before in
     let g = s .pre .0 in
-    (planned-rows g, omega (arith, g .actions .full), omega (arith, planned-long g, s .pre .1, c .before .before .before .before .before .before .before .before .before .before .before .before .before .before .put-front .ensures .0, c .before .before .before .before .before .before .before .before .before .before .before .before .before .before .put-front .kept .1 .1 .0, c .before .before .before .before .before .before .put-actions .ensures .0, c .before .before .before .before .before .before .put-actions .kept .1 .1 .1 .1 .1 .1 .0))
+    let p = c .before .before .before .before .before .before .before .before .before .before .before .before .before .before .put-front in
+    let q = c .before .before .before .before .before .before .put-actions in
+    (counted g, omega (arith, g .full), omega (arith, planned-long g, front-long g, list-long g, s .pre .1, p .ensures .ends, p .kept .1 .1 .0, q .ensures .ends, q .kept .1 .1 .1 .1 .1 .1 .0))
 
 same-length : tie.Need-same-length
 same-length c = search needs
 
 returns : tie.Need-returns
-returns c = let p = c .before .before .before .before .before .before .before .before .before .before .before .before .before .before .before .before .before .put-front .ensures in let q = c .before .before .before .before .before .before .before .before .before .put-actions .ensures in table-written (c .before .before .before .before .before .before .before .before .before .before .before .before .before .before .before .before .before .before .before .before .before .before .before .before .before .before .before .before .before .before .before .before .before .before .pre .0) (p .0) (p .1) (q .0) (q .1) (c .before .before .put-locations .ensures)
+returns c = table-written (c .before .before .before .before .before .before .before .before .before .before .before .before .before .before .before .before .before .before .before .before .before .before .before .before .before .before .before .before .before .before .before .before .before .before .pre .0) (c .before .before .before .before .before .before .before .before .before .before .before .before .before .before .before .before .before .put-front .ensures) (c .before .before .before .before .before .before .before .before .before .put-actions .ensures) (c .before .before .put-locations .ensures)
 
 pub write-spec : {M : Type 1} → statement M
 write-spec =

@@ -1,53 +1,64 @@
-use Prim.Native.Nat.{_-_, _*_, _≤_, _<_}
+-- The first n nodes are counted.
+use mathlib.Core.Logic.{⊎-elim}
+use Prim.Native.Nat.{_-_, _≤_, _<_}
 use native.Mathlib.Omega.{arith}
 use Rattle.table_write.specs.ActionTable.{Measured}
-use Rattle.table_write.proofs.ActionLoop.{listed-front, listed-last, measured-none, measured-more, measured-end}
+use Rattle.table_write.proofs.ActionLoop.{measured-none, measured-skip, measured-row, measured-end, listed-short}
 use borrow.Author.Needs.{needs}
 use Rattle.table_write.proofs.actions.measured.Statement.{statement}
 use Rattle.table_write.proofs.actions.measured.Tie as tie
 
 abbrev Inv-loop : tie.InvT-loop
-Inv-loop acts starts ends count c₀ size₀ n₀ c size n = (n ≤ count) × (c ≤ n) × (size ≤ n * 202) × Measured acts starts ends n c size
+Inv-loop acts starts ends count c₀ size₀ n₀ c size n = (n ≤ count) × Measured acts starts ends n c size
 
 abbrev μ-loop : tie.MeasureT-loop
 μ-loop acts starts ends count c₀ size₀ n₀ c size n = count - n
 
 loop-holds : tie.Need-loop-holds Inv-loop μ-loop
-loop-holds c = (omega arith, omega arith, omega arith, measured-none)
+loop-holds c = (omega arith, measured-none)
 
-shared-slice-read-once : tie.Need-shared-slice-read-once Inv-loop μ-loop
-shared-slice-read-once c = let s = c .before .before .before .before .before .before in let l = c .before .before .loop in let t : l .n < s .args .count = c .before .loop-test .taken in listed-last {n = l .n} (listed-front (s .pre) (omega arith)) .in-acts
-
-once-requires : tie.Need-once-requires Inv-loop μ-loop
-once-requires c κs = search needs
+shared-slice-read-if1 : tie.Need-shared-slice-read-if1 Inv-loop μ-loop
+shared-slice-read-if1 c = c .before .before .before .pre .operands .each (c .before .before .loop .n) (c .before .loop-test .taken) .in-acts
 
 add-c : tie.Need-add-c Inv-loop μ-loop
-add-c c = let l = c .before .before .before .loop in omega (arith, l .inv .1, c .once .ensures .1)
+add-c c = search needs
 
-row-length-requires : tie.Need-row-length-requires Inv-loop μ-loop
-row-length-requires c κs = let s = c .before .before .before .before .before .before .before in let l = c .before .before .before .loop in let t : l .n < s .args .count = c .before .before .loop-test .taken in listed-front (s .pre) (omega arith)
+mul-size : tie.Need-mul-size Inv-loop μ-loop
+mul-size c = search needs
+
+shared-slice-read-size : tie.Need-shared-slice-read-size Inv-loop μ-loop
+shared-slice-read-size c = c .before .before .before .before .before .pre .operands .each (c .before .before .before .before .loop .n) (c .before .before .before .loop-test .taken) .in-ends
+
+mul-size-2 : tie.Need-mul-size-2 Inv-loop μ-loop
+mul-size-2 c = search needs
+
+shared-slice-read-size-2 : tie.Need-shared-slice-read-size-2 Inv-loop μ-loop
+shared-slice-read-size-2 c = c .before .before .before .before .before .before .pre .operands .each (c .before .before .before .before .before .loop .n) (c .before .before .before .before .loop-test .taken) .in-starts
+
+sub-size : tie.Need-sub-size Inv-loop μ-loop
+sub-size c = c .before .before .before .before .before .before .pre .operands .each (c .before .before .before .before .before .loop .n) (c .before .before .before .before .loop-test .taken) .ordered
 
 add-size : tie.Need-add-size Inv-loop μ-loop
-add-size c = let l = c .before .before .before .before .loop in omega (arith, l .inv .2, c .row-length .ensures .0)
+add-size c = omega (arith, listed-short (c .before .before .before .before .before .before .pre) (c .before .before .before .before .loop-test .taken) (c .before .before .if1 .taken))
+
+add-size-2 : tie.Need-add-size-2 Inv-loop μ-loop
+add-size-2 c = omega (arith, listed-short (c .before .before .before .before .before .before .pre) (c .before .before .before .before .loop-test .taken) (c .before .before .if1 .taken), c .before .before .before .before .before .before .pre .operands .few, c .before .before .before .before .before .loop .inv .1 .short)
 
 add-n : tie.Need-add-n Inv-loop μ-loop
-add-n c = omega arith
+add-n c = search needs
 
 loop-less : tie.Need-loop-less Inv-loop μ-loop
-loop-less c = omega (arith, c .before .before .before .loop-test .taken)
+loop-less c = omega (arith, c .before .before .loop-test .taken)
 
 loop-again : tie.Need-loop-again Inv-loop μ-loop
 loop-again c =
-    let l = c .before .before .before .before .loop in
-    let o = c .before .once .ensures in
-    let r = c .row-length .ensures in
-    (omega (arith, c .before .before .before .loop-test .taken), omega (arith, l .inv .1, o .1), omega (arith, l .inv .2, r .0), measured-more (l .inv .3) (o .0) (r .1))
+    let t = c .before .before .loop-test .taken in
+    let m = c .before .before .before .loop .inv .1 in
+    let p = c .before .before .before .before .pre in
+    (omega (arith, t), ⊎-elim (λ w. measured-row m (w .0 .taken) (listed-short p t (w .0 .taken)) (w .3) (w .4)) (λ w. measured-skip m (w .0 .left) (w .1) (w .2)) (c .if1 .came))
 
 returns : tie.Need-returns Inv-loop μ-loop
-returns c =
-    let s = c .before .before .before .before .before in
-    let l = c .before .loop in
-    (measured-end (omega (arith, l .inv .0, c .loop-test .left)) (l .inv .3), omega (arith, s .pre .operands .few, l .inv .0, l .inv .1), omega (arith, s .pre .operands .few, l .inv .0, l .inv .2))
+returns c = let v = c .before .loop .inv in measured-end (omega (arith, v .0, c .loop-test .left)) (v .1)
 
 pub measured-spec : {M : Type 1} → statement M
 measured-spec =
@@ -56,11 +67,15 @@ measured-spec =
     Inv-loop
     μ-loop
     loop-holds
-    shared-slice-read-once
-    once-requires
+    shared-slice-read-if1
     add-c
-    row-length-requires
+    mul-size
+    shared-slice-read-size
+    mul-size-2
+    shared-slice-read-size-2
+    sub-size
     add-size
+    add-size-2
     add-n
     loop-less
     loop-again

@@ -1,8 +1,10 @@
-use Prim.Native.Nat.{_≤_}
-use native.Mathlib.Omega.{arith}
+-- Length, node, kind and operand: four pieces.
+use mathlib.Core.Path.{ap₂}
+use mathlib.Core.List.{_∷_}
+use Prim.Native.Nat.{ℕ, _≤_}
 use lib.ListN.{length}
-use Rattle.codec.proofs.Writing.{put-more, wrote-as}
-use Rattle.table_write.proofs.ActionLoop.{row-some, row-length}
+use native.Mathlib.Omega.{arith}
+use Rattle.table_write.proofs.TableBytes.{put-then, put-as}
 use borrow.Author.Needs.{needs}
 use Rattle.table_write.proofs.actions.put_row.Statement.{statement}
 use Rattle.table_write.proofs.actions.put_row.Tie as tie
@@ -39,11 +41,9 @@ returns c =
     let q = c .before .before .before .before .before .before .before .before .before .before .put12 .ensures in
     let r = c .before .before .before .before .before .before .put13 .ensures in
     let t = c .before .before .put-slice .ensures in
-    let h : a .at ≤ length (a .body .now) = omega (arith, s .pre .3) in
-    let two = put-more (p .1) (q .1) h (p .0) in
-    let three = put-more two (r .1) h (omega (arith, p .0, q .0)) in
-    let four = put-more three (t .1) h (omega (arith, p .0, q .0, r .0)) in
-    (omega (arith, p .0, q .0, r .0, t .0, row-length (a .n) (a .k) (a .operand .now) (s .pre .0)), wrote-as (row-some (a .n) (a .k) (a .operand .now) (s .pre .0) (c .before .before .before .before .before .before .before .before .before .before .before .before .before .before .before .before .byte .ensures) (c .before .before .before .before .before .before .before .before .before .before .before .byte2 .ensures)) four)
+    let h : a .at ≤ length (a .body .now) = omega (arith, s .pre .2) in
+    let head = put-then (put-then (record { ends = p .0; writes = p .1 }) (record { ends = q .0; writes = q .1 }) h) (record { ends = r .0; writes = r .1 }) h in
+    put-as (ap₂ (λ (i j : ℕ). i ∷ j ∷ a .k ∷ a .operand .now) (c .before .before .before .before .before .before .before .before .before .before .before .before .before .before .before .before .byte .ensures) (c .before .before .before .before .before .before .before .before .before .before .before .byte2 .ensures)) (put-then head (record { ends = t .0; writes = t .1 }) h)
 
 pub put-row-spec : {M : Type 1} → statement M
 put-row-spec =

@@ -1,10 +1,13 @@
+-- No row of kind 0; else kind and operand are the bytes of an action.
 use mathlib.Core.Path.{sym, ap}
-use mathlib.Core.List.{List}
-use lib.ListN.{length, getD}
+use mathlib.Core.List.{flatMap}
 use native.Mathlib.Omega.{arith}
-use Rattle.codec.proofs.Writing.{wrote-none, wrote-as}
-use Rattle.table_write.specs.ActionTable.{operandAt, actionRow}
-use Rattle.table_write.proofs.ActionLoop.{operand-long, row-none, row-length}
+use lib.ListN.{length}
+use Rattle.semantics.specs.Editions.{edition1}
+use Rattle.semantics.specs.TableFile.{writeAction}
+use Rattle.table_write.specs.ActionTable.{operandAt}
+use Rattle.table_write.proofs.ActionLoop.{operand-long, here-none, row-some}
+use Rattle.table_write.proofs.TableBytes.{put-none, put-as}
 use borrow.Author.Needs.{needs}
 use Rattle.table_write.proofs.actions.row.Statement.{statement}
 use Rattle.table_write.proofs.actions.row.Tie as tie
@@ -13,11 +16,8 @@ shared-slice-read-k : tie.Need-shared-slice-read-k
 shared-slice-read-k c = search needs
 
 returns : tie.Need-returns
-returns c =
-    let s = c .before .before .before .before .before .before .before in
-    let a = s .args in
-    let e = row-none (a .n) (getD (a .acts .now) (a .n) 0) (operandAt (a .s .now) (a .starts .now) (a .ends .now) (a .n)) (c .if1 .taken) in
-    (omega (arith, ap length e), wrote-as (sym e) (wrote-none (a .body .now) (a .at)))
+unfolding flatMap
+returns c = put-as (ap (flatMap (writeAction edition1)) (sym (here-none (c .before .before .before .before .before .before .before .args .n) _ (c .if1 .taken)))) (put-none _ _)
 
 mul-a : tie.Need-mul-a
 mul-a c = search needs
@@ -43,18 +43,16 @@ part-put-row-end c = search needs
 put-row-requires : tie.Need-put-row-requires
 put-row-requires c κs =
     let s = c .before .before .before .before .before .before .before .before .before .before .before in
-    let a = s .args in
-    let h = s .pre .0 in
-    let k = c .before .before .before .before .if1 .left in
-    let l = operand-long (a .s .now) (a .starts .now) (a .ends .now) (a .n) (h .ordered) (h .inside) in
-    (k, s .pre .1, omega (arith, h .short k, l), omega (arith, row-length (a .n) (getD (a .acts .now) (a .n) 0) (operandAt (a .s .now) (a .starts .now) (a .ends .now) (a .n)) k, s .pre .2))
+    let h = s .pre .0 .0 in
+    let d = h .coded (c .before .before .before .before .if1 .left) in
+    (s .pre .0 .1, omega (arith, d .short, operand-long h), omega (arith, ap length (row-some (s .args .n) d), operand-long h, s .pre .1))
 
 same-length : tie.Need-same-length
 same-length c = search needs
 
 returns-2 : tie.Need-returns-2
 unfolding operandAt
-returns-2 c = c .before .before .put-row .ensures
+returns-2 c = let s = c .before .before .before .before .before .before .before .before .before .before .before .before .before .before in put-as (row-some (s .args .n) (s .pre .0 .0 .coded (c .before .before .before .before .before .before .before .if1 .left))) (c .before .before .put-row .ensures)
 
 pub row-spec : {M : Type 1} → statement M
 row-spec =

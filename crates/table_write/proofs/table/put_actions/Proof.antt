@@ -1,3 +1,4 @@
+-- The section: its length, the number of actions and their rows.
 use native.Mathlib.Omega.{arith}
 use Rattle.table_write.proofs.TableBytes.{actions-put}
 use borrow.Author.Needs.{needs}
@@ -17,7 +18,12 @@ put1-requires : tie.Need-put1-requires
 put1-requires c κs = search needs
 
 write-requires : tie.Need-write-requires
-write-requires c κs = let s = c .before .before .before .before .before .before .before .before .before .before .before .before .before .before .before .before in (s .pre .0, omega (arith, s .pre .4, s .pre .1 .sizes (s .args .s .now) (s .pre .0 .each), c .before .before .before .before .before .before .before .before .put2 .ensures .0, c .before .before .before .put1 .ensures .0, c .before .before .before .before .before .before .before .before .put2 .kept .0, c .before .before .before .put1 .kept .0))
+write-requires c κs =
+    let s = c .before .before .before .before .before .before .before .before .before .before .before .before .before .before .before .before in
+    let p = c .before .before .before .before .before .before .before .before .put2 in
+    let q = c .before .before .before .put1 in
+    let l = s .pre .0 .1 .sizes (s .args .s .now) (s .pre .0 .0 .each) in
+    (s .pre .0 .0, omega (arith, s .pre .1, l, p .ensures .0, q .ensures .0, p .kept .0, q .kept .0))
 
 same-length : tie.Need-same-length
 same-length c = search needs
@@ -26,9 +32,7 @@ returns : tie.Need-returns
 returns c =
     let s = c .before .before .before .before .before .before .before .before .before .before .before .before .before .before .before .before .before .before .before in
     let p = c .before .before .before .before .before .before .before .before .before .before .before .put2 .ensures in
-    let q = c .before .before .before .before .before .before .put1 .ensures in
-    let r = c .before .before .write .ensures in
-    actions-put (s .pre .0) (s .pre .1) (omega (arith, s .pre .4)) (p .0) (p .1) (c .before .before .before .before .before .before .before .byte .ensures) (q .0) (q .1) (r .0) (r .1)
+    actions-put (s .pre .0 .0) (s .pre .0 .1) (omega (arith, s .pre .1)) p (c .before .before .before .before .before .before .before .byte .ensures) (c .before .before .before .before .before .before .put1 .ensures) (c .before .before .write .ensures)
 
 pub put-actions-spec : {M : Type 1} → statement M
 put-actions-spec =

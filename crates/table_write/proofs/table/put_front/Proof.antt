@@ -1,25 +1,26 @@
-use mathlib.Core.List.{_∷_}
+-- Version, length and the two sections that are copied: four pieces.
 use native.Mathlib.Omega.{arith}
 use Rattle.semantics.specs.Bytes.{out4}
-use Rattle.semantics.specs.TableFile.{inSection2}
-use lib.ListN.{length, length-append}
-use Rattle.codec.proofs.Writing.{put-more}
-use Rattle.table_write.proofs.TableBytes.{section-length}
+use Rattle.semantics.proofs.WrittenTables.{section2-length}
+use Rattle.table_write.proofs.TableBytes.{put-then}
 use borrow.Author.Needs.{needs}
 use Rattle.table_write.proofs.table.put_front.Statement.{statement}
 use Rattle.table_write.proofs.table.put_front.Tie as tie
 
-put-header-requires : tie.Need-put-header-requires
-put-header-requires c κs = search needs
+put1-requires : tie.Need-put1-requires
+put1-requires c κs = search needs
+
+put4-requires : tie.Need-put4-requires
+put4-requires c κs = search needs
 
 put-section-requires : tie.Need-put-section-requires
 put-section-requires c κs = search needs
 
 put-section-requires-2 : tie.Need-put-section-requires-2
 put-section-requires-2 c κs =
-    let s = c .before .before .before .before .before .before .before .before .before .before .before .before in
-    let a = s .args in
-    (omega (arith, s .pre .0, c .before .before .before .before .before .before .before .put-header .ensures .0, c .before .before .before .put-section .ensures .0, section-length (a .vs .now)), s .pre .2)
+    let s = c .before .before .before .before .before .before .before .before .before .before .before .before .before .before .before .before in
+    let q = c .before .before .before .before .before .before .before .put4 .ensures .0 in
+    (omega (arith, s .pre .1, q, c .before .before .before .before .before .before .before .before .before .before .before .put1 .ensures .0, c .before .before .before .put-section .ensures .ends, section2-length (s .args .vs .now)), s .pre .0 .1)
 
 same-length : tie.Need-same-length
 same-length c = search needs
@@ -27,16 +28,18 @@ same-length c = search needs
 returns : tie.Need-returns
 unfolding out4
 returns c =
-    let a = c .before .before .before .before .before .before .before .before .before .before .before .before .before .before .before .args in
-    let p = c .before .before .before .before .before .before .before .before .before .before .put-header .ensures in
-    let q = c .before .before .before .before .before .before .put-section .ensures in
-    let r = c .before .before .put-section2 .ensures in
-    let v = section-length (a .vs .now) in
-    let two = put-more (p .1) (q .1) (omega arith) (omega (arith, p .0)) in
-    let l = length-append (1 ∷ out4 (a .whole)) (inSection2 (a .vs .now)) in
-    (omega (arith, p .0, q .0, r .0, v, section-length (a .es .now)), put-more two (r .1) (omega arith) (omega (arith, p .0, q .0)))
+    let p = c .before .before .before .before .before .before .before .before .before .before .before .before .before .before .put1 .ensures in
+    let q = c .before .before .before .before .before .before .before .before .before .before .put4 .ensures in
+    let h = put-then (record { ends = p .0; writes = p .1 }) (record { ends = q .0; writes = q .1 }) (omega arith) in
+    put-then (put-then h (c .before .before .before .before .before .before .put-section .ensures) (omega arith)) (c .before .before .put-section2 .ensures) (omega arith)
 
 pub put-front-spec : {M : Type 1} → statement M
 put-front-spec =
     tie.close
-    (tie.spec put-header-requires put-section-requires put-section-requires-2 same-length returns)
+    (tie.spec
+    put1-requires
+    put4-requires
+    put-section-requires
+    put-section-requires-2
+    same-length
+    returns)
