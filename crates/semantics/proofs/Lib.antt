@@ -5,6 +5,7 @@ pub mod Judging
 pub mod Readers
 pub mod SignedBytes
 pub mod TablePassed
+pub mod Admission
 -- papers
 pub mod Papers
 pub mod DepthPapers

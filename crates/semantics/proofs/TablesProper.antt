@@ -17,7 +17,7 @@ use Rattle.semantics.specs.Sections.{variablesIn, equationsIn}
 use Rattle.semantics.specs.Plant.{Plant, judgePlant, selectors, ordered, equationNamed, drivenOnce}
 use Rattle.semantics.specs.Run.{Action, test, wait, assign, switch, stop}
 use Rattle.semantics.specs.TableFile.{NodeAction, Entry, FINISHED, HALTED, NONE, actionBytes}
-use Rattle.semantics.specs.Tables.{Table, risingFrom, operandFits, actionFits, actionNodes, actionsFit, actionAt, goesOn, targetsFit, entryFits, entryNodes, locationFits, locationsFit, judgeTable}
+use Rattle.semantics.specs.Tables.{Table, risingFrom, operandFits, actionFits, actionNodes, actionsFit, actionAt, goesOn, targetsFit, entryFits, entryNodes, locationFits, locationsFit, judgeSections, judgeTable}
 use Rattle.semantics.specs.Starts.{Start, startIn, startFits}
 use Rattle.semantics.specs.Conditions.{is20}
 use Rattle.semantics.specs.Writing.{AllBytes, ActionLimits, startBytes, StartLimits}
@@ -260,7 +260,7 @@ module _ (ed : Edition) where
       }
 
   accepted-here : (table : List ℕ) (t : Table) → TableWritten ed table t → AllBytes table × (judgeTable ed table ≡ accepted t)
-  unfolding judgeTable
+  unfolding judgeTable judgeSections
   accepted-here table t k =
       let l = k .limits in
       let h = k .proper in

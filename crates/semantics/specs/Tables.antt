@@ -12,7 +12,7 @@ use Rattle.semantics.specs.Refusals.{Judged, accepted, _>>=_, _>>_, ensu
 use Rattle.semantics.specs.Sections.{Selector}
 use Rattle.semantics.specs.Plant.{Plant, judgePlant, switchesRead, selectors, modeExists}
 use Rattle.semantics.specs.Run.{Action, test, wait, assign, switch, stop, Next, to, finished, halted, idle, Control}
-use Rattle.semantics.specs.TableFile.{NodeAction, Entry, FINISHED, HALTED, NONE, tableSectionsIn, actionsIn, locationsIn}
+use Rattle.semantics.specs.TableFile.{NodeAction, Entry, FINISHED, HALTED, NONE, TableSections, tableSectionsIn, actionsIn, locationsIn}
 
 pub record Table : Type 0 where
   pub plant : Plant
@@ -77,10 +77,9 @@ locationFits locations l es = risingFrom 0 (entryNodes es) && every (entryFits l
 unfoldable pub locationsFit : List NodeAction → List (List Entry) → Bool
 locationsFit l locations = every (locationFits (length locations) l) locations
 
-unfoldable pub judgeTable : Edition → List ℕ → Judged Table
-judgeTable ed t = do
-  ensure 15 (tableHeader ed t)
-  parts ← need 16 (tableSectionsIn (drop 5 t))
+-- 17 to 19 of the four sections
+unfoldable pub judgeSections : Edition → TableSections → Judged Table
+judgeSections ed parts = do
   -- 17: "Its first two sections break 4..8 or 12."
   p ← oneNumber 17 (judgePlant ed (parts .variables) (parts .equations))
   ensure 17 (switchesRead ed p)
@@ -89,6 +88,12 @@ judgeTable ed t = do
   locs ← need 19 (locationsIn ed (parts .locations))
   ensure 19 (locationsFit acts locs)
   accepted (record { plant = p; actions = acts; locations = locs })
+
+unfoldable pub judgeTable : Edition → List ℕ → Judged Table
+judgeTable ed t = do
+  ensure 15 (tableHeader ed t)
+  parts ← need 16 (tableSectionsIn (drop 5 t))
+  judgeSections ed parts
 
 -- ---- "A run of a table starts at location 0 .. The acting nodes are the location's entries, their actions hold the truths and assignments,
 -- a wait stands for CONTINUE .. A taken pick goes to its entry's target, a false test to the second one."

@@ -12,7 +12,7 @@ use Rattle.semantics.specs.Refusals.{Judged, refused, accepted, oneNumber, need
 use Rattle.semantics.specs.Sections.{Selector, Equation, equationsIn}
 use Rattle.semantics.specs.Plant.{Plant, judgePlant, switchesRead, equationReads, selectorsOf, selectors}
 use Rattle.semantics.specs.TableFile.{NodeAction, Entry, TableSections, tableSectionsIn, actionsIn, locationsIn}
-use Rattle.semantics.specs.Tables.{Table, tableHeader, operandFits, actionsFit, locationsFit, judgeTable}
+use Rattle.semantics.specs.Tables.{Table, tableHeader, operandFits, actionsFit, locationsFit, judgeSections, judgeTable}
 use Rattle.semantics.proofs.Judging.{go-then, go-need, go-ensure, go-only}
 use Rattle.plant.specs.Equations.{modeCount}
 use Rattle.plant.specs.Sound.{There}
@@ -29,7 +29,7 @@ use Rattle.table_read.specs.TableParts.{noParts, partsIn, partsRead, par
 use Rattle.table_read.specs.ActionIndex.{noActions, actionsLaid, operandsFit, actionsOf}
 use Rattle.table_read.specs.OperandForms.{ModesAt}
 use Rattle.table_read.specs.LocationIndex.{noLocations, actionsLike, locationsOf}
-use Rattle.table_read.specs.TableIndex.{noTable, indexOf, tableIndex, judgeSections, sectionsFrom, sectionsIndex}
+use Rattle.table_read.specs.TableIndex.{noTable, indexOf, tableIndex, sectionsFrom, sectionsIndex}
 use Rattle.table_read.proofs.PartsStand.{AllStand, refused-15, refused-16, accepted-parts, parts-are}
 use Rattle.table_read.proofs.ActionsFound.{accepted-actions, refused-actions, kinds-say}
 use Rattle.table_read.proofs.ActionsFit.{fit-parts}
@@ -66,13 +66,13 @@ module _ (t : List ℕ) {p : Parts} (h : p ≡ partsOf t) where
     pub parts-stand : (s : TableSections) × AllStand t p s
     parts-stand = let a = accepted-parts t not-refused in (a .0, subst (λ p. AllStand t p (a .0)) (sym h) (a .3))
 
-    after-16 : judgeTable edition1 t ≡ judgeSections (sectionsAt t (partsOf t))
-    unfolding judgeTable judgeSections
+    after-16 : judgeTable edition1 t ≡ judgeSections edition1 (sectionsAt t (partsOf t))
+    unfolding judgeTable
     after-16 = go-ensure 15 _ (accepted-parts t not-refused .1) ∙ go-need 16 _ (parts-are t not-refused)
 
     pub by-sections : sectionsIndex p (take (p .«variables_end» - p .variables) (drop (p .variables) t)) (take (p .«equations_end» - p .equations) (drop (p .equations) t)) (take (p .«actions_end» - p .actions) (drop (p .actions) t)) (take (p .«locations_end» - p .locations) (drop (p .locations) t)) ≡ tableIndex t
     unfolding sectionsIndex tableIndex sectionsAt
-    by-sections = ap (λ (p : Parts). indexOf p (sectionsAt t p) (judgeSections (sectionsAt t p))) h ∙ ap (indexOf (partsOf t) (sectionsAt t (partsOf t))) (sym after-16)
+    by-sections = ap (λ (p : Parts). indexOf p (sectionsAt t p) (judgeSections edition1 (sectionsAt t p))) h ∙ ap (indexOf (partsOf t) (sectionsAt t (partsOf t))) (sym after-16)
 
 -- ---- 17
 moded : {counts full : List ℕ} {c n : ℕ} {cs : List Selector} → counts ≡ full → c ≡ n → ModesAt full n cs → ModesAt counts c cs
@@ -82,7 +82,7 @@ pub found : {p : Parts} {q q' : PlantRead} {a a' : Actions} {l l' : Locations} �
 found e f g = cc
 
 module _ (p : Parts) (vs es ops locs : List ℕ) {q : PlantRead} (h : q ≡ plantOf vs es) where
-  refuses : {n : ℕ} → judgeSections (sectionsFrom vs es ops locs) ≡ refused n → noTable n ≡ sectionsIndex p vs es ops locs
+  refuses : {n : ℕ} → judgeSections edition1 (sectionsFrom vs es ops locs) ≡ refused n → noTable n ≡ sectionsIndex p vs es ops locs
   unfolding sectionsIndex
   refuses e = index-refused p (sectionsFrom vs es ops locs) e
 
