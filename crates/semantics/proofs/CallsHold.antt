@@ -18,7 +18,7 @@ use Rattle.semantics.specs.Starts.{Start, startIn, readStart}
 use Rattle.semantics.specs.Run.{Action, test, wait, assign, switch, stop, possible, isTest, to, halted, Control, at, answers, recordOf}
 use Rattle.semantics.specs.Rules.{at-start, stands-at, Sound}
 use Rattle.semantics.specs.TableFile.{NodeAction, Entry, FINISHED, HALTED, NONE, locationLimit, readLocation, readLocations, locationsIn}
-use Rattle.semantics.specs.Tables.{Table, judgeTable, operandFits, actionFits, actionsFit, actionAt, actionOrStop, goesOn, targetsFit, entryFits, entryNodes, locationFits, locationsFit, risingFrom, actionNodes, goingTo, entryNext, entriesAt, tableControl}
+use Rattle.semantics.specs.Tables.{Table, judgeTable, operandFits, operandsFit, actionsNumbered, actionsFit, actionAt, actionOrStop, goesOn, targetsFit, entryFits, entryNodes, locationFits, locationsFit, risingFrom, actionNodes, goingTo, entryNext, entriesAt, tableControl}
 use Rattle.semantics.specs.Calls.{Program, Outcome, outcomeOf, runFrom, judgeAdmission, judgeRun, report, eventCount, recordSize, roomForRecords, tableProgram, tableRun, tableCounts, readTable}
 use Rattle.semantics.specs.Conditions.{Condition, First, here, further, Firsts, refuses, accepts, tableConditions, runConditions, tableRunConditions}
 use Rattle.semantics.specs.Statements.{RunHolds}
@@ -162,12 +162,12 @@ module _ (ed : Edition) (table : List ℕ) (t : Table) (h : judgeTable ed table 
       subst₂ (λ a x. Fitting a x) a (sym (q .next b)) f
 
   named : (n v : ℕ) (e : List ℕ) → actionOrStop acts n ≡ assign v e → v < length (t .plant .variables)
-  unfolding actionsFit actionFits operandFits
+  unfolding actionsFit operandsFit operandFits
   named n v e i =
       let f = found acts n (in-list acts n v e i) in
-      let g = all-mem (every-all (actionFits ed (t .plant)) acts (and-right (risingFrom 0 (actionNodes acts)) _ ((table-passed ed table h) .acts-fit))) (f .listed) in
-      let o = and-right (ltb (f .entry .node) (ed .nodes)) (operandFits ed (length (t .plant .variables)) (selectors (t .plant)) (f .entry .action)) g in
-      let d : operandFits ed (length (t .plant .variables)) (selectors (t .plant)) (assign v e) ≡ true = ap (operandFits ed (length (t .plant .variables)) (selectors (t .plant))) (sym (f .action-is)) ∙ o in
+      let fits = operandFits ed (length (t .plant .variables)) (selectors (t .plant)) in
+      let o = all-mem (every-all (λ (a : NodeAction). fits (a .action)) acts (and-right (actionsNumbered ed acts) _ ((table-passed ed table h) .acts-fit))) (f .listed) in
+      let d : fits (assign v e) ≡ true = ap fits (sym (f .action-is)) ∙ o in
       ltb-true v (length (t .plant .variables)) (and-left (ltb v (length (t .plant .variables))) _ d)
 
   pub sound-table : Sound (t .plant) (tableControl t)

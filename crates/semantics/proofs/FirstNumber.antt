@@ -163,13 +163,16 @@ by-map f (refuses g) = refuses g
 by-map f (accepts c) = accepts c
 
 -- ---- 20 to 22, of the plant that a call speaks of
-pub admission-first : (ed : Edition) (start events buffer : List ℕ) {plant : Option Plant} {p : Plant} → plant ≡ some p →
-    Firsts (judgeAdmission ed p start events buffer) (runConditions ed plant start events buffer)
-unfolding judgeAdmission judgeStart runConditions is20 is21 is22
-admission-first ed start events buffer {p = p} h =
-    by-then (by-read 20 (startIn p start) (startFits p) (given-some _ h) (λ st i h20. by-end st)) (λ st i.
-    by-ensure 21 (wholeEvents (ed .event-bytes) events) refl (λ h21.
-    by-ensure 22 (roomForRecords ed p events buffer) (given-some _ h) (λ h22. by-end st)))
+module _ (ed : Edition) (start events buffer : List ℕ) {plant : Option Plant} {p : Plant} (h : plant ≡ some p) where
+  pub start-first : Firsts (judgeStart p start) ((20 if is20 ed plant start events buffer) ∷ [])
+  unfolding judgeStart is20
+  start-first = by-read 20 (startIn p start) (startFits p) (given-some _ h) (λ st i h20. by-end st)
+
+  pub admission-first : Firsts (judgeAdmission ed p start events buffer) (runConditions ed plant start events buffer)
+  unfolding judgeAdmission runConditions is21 is22
+  admission-first = by-then start-first (λ st i.
+      by-ensure 21 (wholeEvents (ed .event-bytes) events) refl (λ h21.
+      by-ensure 22 (roomForRecords ed p events buffer) (given-some _ h) (λ h22. by-end st)))
 
 module _ {S : Type 0} (ed : Edition) (start events buffer : List ℕ) where
   pub run-first : {j : Judged (Program S)} {plant : Option Plant} {k : List Condition} → Firsts j k → ((g : Program S) → j ≡ accepted g → plant ≡ some (g .plant)) →

@@ -36,16 +36,23 @@ operandFits ed variables cs (assign v e) = ltb v variables && isSome (numberIn e
 operandFits ed variables cs (switch s m) = modeExists cs s m
 operandFits ed variables cs stop = true
 
+unfoldable pub operandsFit : Edition → Plant → List NodeAction → Bool
+operandsFit ed p l = every (λ (a : NodeAction). operandFits ed (length (p .variables)) (selectors p) (a .action)) l
+
 -- 18: "a node number above 63"
-unfoldable pub actionFits : Edition → Plant → NodeAction → Bool
-actionFits ed p a = ltb (a .node) (ed .nodes) && operandFits ed (length (p .variables)) (selectors p) (a .action)
+unfoldable pub nodeExists : Edition → NodeAction → Bool
+nodeExists ed a = ltb (a .node) (ed .nodes)
 
 unfoldable pub actionNodes : List NodeAction → List ℕ
 actionNodes l = map (λ (a : NodeAction). a .node) l
 
--- 18: "or not rising"; the kinds, lengths and missing bytes are the layout's
+-- 18: "a node number above 63 or not rising"
+unfoldable pub actionsNumbered : Edition → List NodeAction → Bool
+actionsNumbered ed l = risingFrom 0 (actionNodes l) && every (nodeExists ed) l
+
+-- 18, but for the kinds, lengths and missing bytes, which are the layout's
 unfoldable pub actionsFit : Edition → Plant → List NodeAction → Bool
-actionsFit ed p l = risingFrom 0 (actionNodes l) && every (actionFits ed p) l
+actionsFit ed p l = actionsNumbered ed l && operandsFit ed p l
 
 -- the action of a node
 unfoldable pub actionAt : List NodeAction → ℕ → Option Action

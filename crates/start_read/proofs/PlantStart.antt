@@ -17,7 +17,7 @@ use Rattle.plant.proofs.PlantLaws.{passed-all, variables-of, variables-high, lo
 use Rattle.start_read.specs.StartRead.{Arrays, Room}
 
 module _ (vs es : List ℕ) {p : Plant} (h : judgePlant edition1 vs es ≡ accepted p) where
-  pub arrays-held : Arrays p (plantOf vs es .variables) (plantOf vs es .lows) (plantOf vs es .highs) (plantOf vs es .selectors) (plantOf vs es .modes)
+  pub arrays-held : Arrays p (plantOf vs es)
   unfolding selectors
   arrays-held = record {
     ranges = record { count = variables-of vs es h; low = low-at vs es h; high = high-at vs es h };
@@ -27,7 +27,7 @@ module _ (vs es : List ℕ) {p : Plant} (h : judgePlant edition1 vs es ≡ accep
     };
   }
 
-  pub room-held : Room (plantOf vs es .variables) (plantOf vs es .lows) (plantOf vs es .highs) (plantOf vs es .selectors) (plantOf vs es .modes)
+  pub room-held : Room (plantOf vs es)
   unfolding selectors
   room-held = record {
     variables-most = omega (arith, variables-of vs es h, variables-high vs es h);

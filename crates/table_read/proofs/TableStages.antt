@@ -12,7 +12,7 @@ use Rattle.semantics.specs.Refusals.{Judged, refused, accepted, oneNumber, need
 use Rattle.semantics.specs.Sections.{Selector, Equation, equationsIn}
 use Rattle.semantics.specs.Plant.{Plant, judgePlant, switchesRead, equationReads, selectorsOf, selectors}
 use Rattle.semantics.specs.TableFile.{NodeAction, Entry, TableSections, tableSectionsIn, actionsIn, locationsIn}
-use Rattle.semantics.specs.Tables.{Table, tableHeader, operandFits, actionsFit, locationsFit, judgeSections, judgeTable}
+use Rattle.semantics.specs.Tables.{Table, tableHeader, operandFits, actionsFit, locationsFit, judgeSections, judgeTable, operandsFit, actionsNumbered}
 use Rattle.semantics.proofs.Judging.{go-then, go-need, go-ensure, go-only}
 use Rattle.plant.specs.Equations.{modeCount}
 use Rattle.plant.specs.Sound.{There}
@@ -26,13 +26,12 @@ use Rattle.table_read.specs.declared.actions.Actions.{Actions}
 use Rattle.table_read.specs.declared.locations.Locations.{Locations}
 use Rattle.table_read.specs.declared.call.TableIndex.{TableIndex}
 use Rattle.table_read.specs.TableParts.{noParts, partsIn, partsRead, partsOf, sectionsAt}
-use Rattle.table_read.specs.ActionIndex.{noActions, actionsLaid, operandsFit, actionsOf}
+use Rattle.table_read.specs.ActionIndex.{noActions, actionsOf}
 use Rattle.table_read.specs.OperandForms.{ModesAt}
 use Rattle.table_read.specs.LocationIndex.{noLocations, actionsLike, locationsOf}
 use Rattle.table_read.specs.TableIndex.{noTable, indexOf, tableIndex, sectionsFrom, sectionsIndex}
 use Rattle.table_read.proofs.PartsStand.{AllStand, refused-15, refused-16, accepted-parts, parts-are}
 use Rattle.table_read.proofs.ActionsFound.{accepted-actions, refused-actions, kinds-say}
-use Rattle.table_read.proofs.ActionsFit.{fit-parts}
 use Rattle.table_read.proofs.LikeKinds.{locations-like}
 use Rattle.table_read.proofs.LocationsFound.{accepted-locations, refused-locations}
 use Rattle.table_read.proofs.OperandTurns.{AllFit}
@@ -148,11 +147,11 @@ module _ (p : Parts) (vs es ops locs : List ℕ) {q : PlantRead} (h : q ≡ plan
 
         module _ {a : Actions} (i : a ≡ actionsOf ops) where
           pub by-actions : (a .refusal ≡ 0 → ⊥) → noTable 18 ≡ sectionsIndex p vs es ops locs
-          unfolding judgeSections need ensure _>>=_ _>>_
+          unfolding judgeSections actionsFit need ensure _>>=_ _>>_
           by-actions y = go (actionsIn edition1 ops) refl
             where
               unfit : (l : List NodeAction) → actionsIn edition1 ops ≡ some l → actionsFit edition1 plant l ≡ false
-              unfit l f = fit-parts plant l ∙ ap (λ b. b && operandsFit plant l) (refused-actions ops (λ w. y (ap (λ (a : Actions). a .refusal) i ∙ w)) .1 l f)
+              unfit l f = ap (λ b. b && operandsFit edition1 plant l) (refused-actions ops (λ w. y (ap (λ (a : Actions). a .refusal) i ∙ w)) .1 l f)
 
               go : (o : Option (List NodeAction)) → actionsIn edition1 ops ≡ o → noTable 18 ≡ sectionsIndex p vs es ops locs
               go none f = refuses (go-then _ (go-only 17 plant-is) ∙ go-ensure 17 _ passed-17 ∙ rw f refl)
@@ -169,17 +168,18 @@ module _ (p : Parts) (vs es ops locs : List ℕ) {q : PlantRead} (h : q ≡ plan
             unfolding acts
             acts-are = accepted-actions ops index-passed .1
 
-            acts-laid : actionsLaid acts ≡ true
+            acts-laid : actionsNumbered edition1 acts ≡ true
             unfolding acts
             acts-laid = accepted-actions ops index-passed .2
 
             module _ {r : Bool} (j : AllFit ops (q .variables) (q .selectors) (q .modes) r) where
-              operands-are : r ≡ operandsFit plant acts
+              operands-are : r ≡ operandsFit edition1 plant acts
               unfolding operandsFit
               operands-are = j (selectors plant) modes-at acts acts-are ∙ ap (λ n. every (λ (a : NodeAction). operandFits edition1 n (selectors plant) (a .action)) acts) variables-are
 
               fit-is : actionsFit edition1 plant acts ≡ r
-              fit-is = fit-parts plant acts ∙ ap (λ b. b && operandsFit plant acts) acts-laid ∙ sym operands-are
+              unfolding actionsFit
+              fit-is = ap (λ b. b && operandsFit edition1 plant acts) acts-laid ∙ sym operands-are
 
               pub by-operands : r ≡ false → noTable 18 ≡ sectionsIndex p vs es ops locs
               unfolding judgeSections ensure _>>_
