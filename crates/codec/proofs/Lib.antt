@@ -5,3 +5,4 @@ pub mod Places
 pub mod Writing
 pub mod Whole
 pub mod Sections
+pub mod Padding

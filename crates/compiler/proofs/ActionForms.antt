@@ -8,11 +8,11 @@ use native.Mathlib.Decide.{decLt}
 use native.Mathlib.Nat.{zero-add}
 use native.Mathlib.Omega.{arith}
 use lib.Dec.{leb, eqb}
-use lib.ListN.{length, getD, getElem?, take, replicate, length-append}
+use lib.ListN.{length, getD, getElem?, take, replicate, length-append, length-map}
 use lib.Seq.{take-all, length-take-le}
 use Rattle.semantics.specs.Bytes.{out, widthOf, noBytes, twoBytes, byteAndRest}
 use Rattle.semantics.specs.Editions.{edition1}
-use Rattle.semantics.specs.Run.{Action, test, stop, isTest}
+use Rattle.semantics.specs.Run.{Action, stop, isTest}
 use Rattle.semantics.specs.TableFile.{NodeAction, actionBytes, writeAction}
 use Rattle.semantics.specs.Tables.{actionAt, actionOrStop}
 use Rattle.semantics.proofs.Facts.{none-not-some, some-is, at-exists, at-mem, all-mem}
@@ -20,9 +20,8 @@ use Rattle.schedules.specs.Nodes.{Node, sequence, parallel, Kind, a-sequence, a
 use Rattle.schedules.specs.Compiling.{testsOf}
 use Rattle.schedules.proofs.NodesRead.{nodes-counted}
 use Rattle.schedules.proofs.Places.{flat-append, take-next}
-use Rattle.tree_read.specs.Index.{pad}
+use Rattle.codec.specs.Padding.{pad}
 use Rattle.schedule_read.specs.Indexed.{NodesAt}
-use Rattle.tree_read.proofs.Pads.{map-length}
 use Rattle.schedule_read.specs.Actions.{actionNumber, actionNumbers}
 use Rattle.schedule_read.proofs.NodeActions.{kind-number, numbers-long, action-of-node, action-beyond}
 use Rattle.numbering.specs.Meeting.{testsIn}
@@ -96,7 +95,7 @@ zero-beyond (x ∷ l) k (suc n) h = zero-beyond l k n (omega arith)
 
 numbers-beyond : (kinds : List ℕ) (count n : ℕ) → count ≤ length kinds → count ≤ n → getD (actionNumbers kinds count) n 0 ≡ 0
 unfolding actionNumbers pad
-numbers-beyond kinds count n f h = zero-beyond (map (λ k. actionNumber (kindOf k)) (take count kinds)) (64 - length (map (λ k. actionNumber (kindOf k)) (take count kinds))) n (omega (arith, map-length (λ k. actionNumber (kindOf k)) (take count kinds), length-take-le count kinds f))
+numbers-beyond kinds count n f h = zero-beyond (map (λ k. actionNumber (kindOf k)) (take count kinds)) (64 - length (map (λ k. actionNumber (kindOf k)) (take count kinds))) n (omega (arith, length-map (take count kinds) (λ k. actionNumber (kindOf k)), length-take-le count kinds f))
 
 -- ---- the actions of more nodes
 actions-append : (m : ℕ) (l k : List Node) → actionsFrom m (l ++ k) ≡ actionsFrom m l ++ actionsFrom (m + length l) k

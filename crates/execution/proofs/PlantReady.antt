@@ -14,9 +14,10 @@ use Rattle.semantics.specs.Sections.{Variable, Mode, Selector}
 use Rattle.semantics.specs.Plant.{Plant, selectors, noMode, allDeclared, judgePlant}
 use Rattle.semantics.specs.Starts.{Start, isOk, modesFit, startFits}
 use Rattle.semantics.proofs.Facts.{none-not-some, some-is, at-below, at-exists, and-right}
-use Rattle.plant.specs.Equations.{pad, modePlaces, steadyRates}
+use Rattle.codec.specs.Padding.{pad}
+use Rattle.plant.specs.Equations.{modePlaces, steadyRates}
 use Rattle.plant.specs.PlantRead.{plantOf}
-use Rattle.plant.proofs.Padding.{pad-long}
+use Rattle.codec.proofs.Padding.{pad-long}
 use Rattle.plant.proofs.VariableLaws.{column-front}
 use Rattle.plant.proofs.EquationLookups.{mode-is}
 use Rattle.plant.proofs.EquationLaws.{ModePlaced, mode-placed, few-selectors, few-modes-each, put-length, rate-among-at}

@@ -4,19 +4,20 @@ use mathlib.Core.List.{List, [], _∷_, _++_, map, append-assoc, append-nil}
 use mathlib.Core.Option.{some}
 use Prim.Native.Nat.{ℕ, suc, _+_, _-_, _*_, _≤_, _<_}
 use native.Mathlib.Omega.{arith}
-use lib.ListN.{length, getD, drop, set, replicate, length-append, length-map}
+use lib.ListN.{length, getD, drop, set, replicate, length-append}
 use lib.Seq.{sets, append-snoc}
 use Rattle.semantics.specs.Bytes.{read, times}
 use Rattle.semantics.specs.Sections.{Selector, Equation, choice, readMode, readEquationBody, readEquation, readEquations, equationsIn}
 use Rattle.semantics.specs.Plant.{selectorsOf}
 use Rattle.semantics.proofs.Facts.{within-high}
 use Rattle.semantics.proofs.Readers.{guarded, whole-read}
+use Rattle.codec.specs.Padding.{pad}
 use Rattle.codec.proofs.Reading.{nat2At, either}
 use Rattle.codec.proofs.Known.{after-byte, not-past, times-length}
-use Rattle.plant.specs.Equations.{modeSize, equationSize, startsFrom, pad, modePlaces, modeCount, Stands, SectionStands, CasesOf}
+use Rattle.plant.specs.Equations.{modeSize, equationSize, startsFrom, modePlaces, modeCount, Stands, SectionStands, CasesOf}
 use Rattle.plant.proofs.EquationPlaces.{steady-at, ChoiceAt, choice-at}
 use Rattle.plant.proofs.EquationIndex.{equation-fits, equation-kind, next-is, next-fits, equations-left, first-and-left, none-left}
-use Rattle.plant.proofs.Padding.{length-pad, set-pad, sets-pad, pad-part}
+use Rattle.codec.proofs.Padding.{length-pad, sets-pad, pad-part, pad-map-snoc}
 
 -- ---- the count, and the equations from place 1 on
 pub record SectionAt (s : List ℕ) (es : List Equation) : Type 0 where
@@ -38,11 +39,6 @@ pub starts-length : {A : Type 0} (size : A → ℕ) (p : ℕ) (l : List A) → l
 unfolding startsFrom
 starts-length size p [] = refl
 starts-length size p (x ∷ l) = ap suc (starts-length size (p + size x) l)
-
-map-snoc : {A B : Type 0} (f : A → B) (l : List A) (x : A) → map f (l ++ (x ∷ [])) ≡ map f l ++ (f x ∷ [])
-unfolding map
-map-snoc f [] x = refl
-map-snoc f (y ∷ l) x = ap (λ z. f y ∷ z) (map-snoc f l x)
 
 -- ---- after some of the equations, so many of them left from place p on
 pub record Noted (s : List ℕ) (es : List Equation) (count : ℕ) (modes places : List ℕ) (p left : ℕ) : Type 0 where
@@ -148,13 +144,9 @@ module _ {s : List ℕ} {es : List Equation} {count : ℕ} {modes places : List 
     modes-more : set modes count (getD s (p + 2 + 2) 0) ≡ pad 16 0 (map modeCount (a .done ++ (chosen ∷ [])))
     unfolding modeCount chosen
     modes-more =
-        let l : List ℕ = map modeCount (a .done) in
-        let n : length l ≡ count = length-map (a .done) modeCount ∙ a .counted in
         ap (λ z. set z count (getD s (p + 2 + 2) 0)) (a .modes-are)
-        ∙ ap (λ z. set (pad 16 0 l) z (getD s (p + 2 + 2) 0)) (sym n)
-        ∙ ap (λ z. set (pad 16 0 l) (length l) z) (sym counted-modes)
-        ∙ set-pad 16 0 l (modeCount chosen) (omega (arith, count-fits))
-        ∙ ap (pad 16 0) (sym (map-snoc modeCount (a .done) chosen))
+        ∙ ap (set (pad 16 0 (map modeCount (a .done))) count) (sym counted-modes)
+        ∙ pad-map-snoc 16 0 modeCount (a .done) count chosen (a .counted) (omega (arith, count-fits))
 
     places-more : {next : List ℕ} → ((t : Stands (times (getD s (p + 2 + 2) 0) readMode) s (p + 2 + 3)) → next ≡ sets places (8 * count) (startsFrom modeSize (p + 2 + 3) (t .value))) → next ≡ pad 128 0 (a .noted ++ pad 8 0 row)
     unfolding modes-stand row

@@ -15,30 +15,14 @@ use Rattle.semantics.specs.Bytes.{every, Reader, read, times}
 use Rattle.semantics.specs.Sections.{Rate, Mode, Selector, Equation, steady, choice, readMode, readEquation, equationsIn}
 use Rattle.semantics.specs.Plant.{equationNamed, selectorsOf, rateAmong, among}
 use Rattle.semantics.proofs.Facts.{some-is, none-not-some, at-below, All, all-cons, every-all}
+use Rattle.codec.specs.Padding.{pad}
 use Rattle.codec.proofs.Known.{times-length}
-use Rattle.plant.specs.Equations.{modeSize, equationSize, startsFrom, pad, modePlaces, modeCount, putRates, Stands, modeAt}
+use Rattle.codec.proofs.Padding.{repeated, length-pad, pad-at, pad-map-some}
+use Rattle.plant.specs.Equations.{modeSize, equationSize, startsFrom, modePlaces, modeCount, putRates, Stands, modeAt}
 use Rattle.plant.proofs.EquationSizes.{Cuts, cuts-mode, cuts-equation}
 use Rattle.plant.proofs.EquationPlaces.{Headed, headed, mode-before, equation-at, steady-at, ChoiceAt, choice-at}
 use Rattle.plant.proofs.EquationCases.{section-at, starts-length}
 use Rattle.plant.proofs.EquationLookups.{mode-is}
-use Rattle.plant.proofs.Padding.{length-pad}
-
--- ---- arrays
-module _ {A : Type 0} (d : A) where
-  repeated : (n i : ℕ) → getD (replicate n d) i d ≡ d
-  repeated zero i = refl
-  repeated (suc n) zero = refl
-  repeated (suc n) (suc i) = repeated n i
-
-  followed : (l : List A) (n i : ℕ) → getD (l ++ replicate n d) i d ≡ getD l i d
-  followed [] n i = repeated n i
-  followed (x ∷ l) n zero = refl
-  followed (x ∷ l) n (suc i) = followed l n i
-
-  -- what a filled up list holds
-  pub pad-at : (n : ℕ) (l : List A) (i : ℕ) → getD (pad n d l) i d ≡ getD l i d
-  unfolding pad
-  pad-at n l i = followed l (n - length l) i
 
 -- ---- a mode stands at the place that is noted for it
 pub record ModePlaced (s : List ℕ) (q : ℕ) (m : Mode) : Type 0 where
@@ -116,7 +100,7 @@ module _ (s : List ℕ) (p : ℕ) {c : Selector} {e : List ℕ} (h : readEquatio
   first-row : (l : List ℕ) (k : ℕ) {m : Mode} → getElem? (c .modes) k ≡ some m → ModePlaced s (getD (pad 8 0 row ++ l) (0 + k) 0) m
   first-row l k {m} g =
       let i = few-there k g in
-      let at : getD (pad 8 0 row ++ l) (0 + k) 0 ≡ getD row k 0 = ap (λ z. getD (pad 8 0 row ++ l) z 0) (zero-add k) ∙ List·getD-append (pad 8 0 row) l 0 k (omega (arith, row-eight)) ∙ pad-at 0 8 row k in
+      let at : getD (pad 8 0 row ++ l) (0 + k) 0 ≡ getD row k 0 = ap (λ z. getD (pad 8 0 row ++ l) z 0) (zero-add k) ∙ List·getD-append (pad 8 0 row) l 0 k (omega (arith, row-eight)) ∙ pad-at 8 0 row k in
       subst (λ q. ModePlaced s q m) (sym at) (in-row k g)
 
   later-rows : (l : List ℕ) (j k : ℕ) → getD l (8 * j + k) 0 ≡ getD (pad 8 0 row ++ l) (8 * suc j + k) 0
@@ -134,7 +118,7 @@ placed-in s n p (choice x ∷ es) h (suc j) k {m = m} g f =
     subst (λ q. ModePlaced s q m) (later-rows s p (t .first) (modePlaces (p + equationSize (choice x)) es) j k) (placed-in s (n - 1) (p + equationSize (choice x)) es (t .others) j k g f)
 
 pub mode-placed : (s : List ℕ) {es : List Equation} → equationsIn s ≡ some es → (j k : ℕ) {c : Selector} {m : Mode} → getElem? (selectorsOf es) j ≡ some c → getElem? (c .modes) k ≡ some m → ModePlaced s (getD (pad 128 0 (modePlaces 1 es)) (8 * j + k) 0) m
-mode-placed s {es} h j k {c} {m} g f = subst (λ q. ModePlaced s q m) (sym (pad-at 0 128 (modePlaces 1 es) (8 * j + k))) (placed-in s (getD s 0 0) 1 es (section-at s h .got) j k g f)
+mode-placed s {es} h j k {c} {m} g f = subst (λ q. ModePlaced s q m) (sym (pad-at 128 0 (modePlaces 1 es) (8 * j + k))) (placed-in s (getD s 0 0) 1 es (section-at s h .got) j k g f)
 
 -- ---- how many there are
 selectors-few : (es : List Equation) → length (selectorsOf es) ≤ length es
@@ -158,15 +142,9 @@ few-in s n p (choice x ∷ es) h (suc j) g = few-in s (n - 1) (p + equationSize 
 pub few-modes-each : (s : List ℕ) {es : List Equation} → equationsIn s ≡ some es → (j : ℕ) {c : Selector} → getElem? (selectorsOf es) j ≡ some c → length (c .modes) ≤ 8
 few-modes-each s {es} h j g = few-in s (getD s 0 0) 1 es (section-at s h .got) j g
 
-mapped : {A : Type 0} (f : A → ℕ) (l : List A) (j : ℕ) {x : A} → getElem? l j ≡ some x → getD (map f l) j 0 ≡ f x
-unfolding map
-mapped f [] j g = none-not-some g
-mapped f (y ∷ l) zero g = ap f (some-is g)
-mapped f (y ∷ l) (suc j) g = mapped f l j g
-
 pub mode-count-at : (es : List Equation) (j : ℕ) {c : Selector} → getElem? (selectorsOf es) j ≡ some c → getD (pad 16 0 (map modeCount (selectorsOf es))) j 0 ≡ length (c .modes)
 unfolding modeCount
-mode-count-at es j g = pad-at 0 16 (map modeCount (selectorsOf es)) j ∙ mapped modeCount (selectorsOf es) j g
+mode-count-at es j g = pad-map-some 16 0 modeCount (selectorsOf es) j g
 
 -- ---- names
 named-in : (variables : ℕ) (es : List Equation) → All (λ e. equationNamed variables e ≡ true) es → (j : ℕ) {c : Selector} → getElem? (selectorsOf es) j ≡ some c → equationNamed variables (choice c) ≡ true

@@ -2,7 +2,6 @@ pub mod EquationParts
 pub mod EquationSizes
 pub mod EquationPlaces
 pub mod EquationIndex
-pub mod Padding
 pub mod EquationCases
 pub mod EquationAnswer
 pub mod EquationLookups
@@ -18,4 +17,5 @@ pub mod EquationsOnce
 pub mod TruthTurns
 pub mod PlantJudged
 pub mod PlantLaws
+pub mod ModeCounts
 pub mod PaperNumbers

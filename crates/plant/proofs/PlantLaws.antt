@@ -5,7 +5,7 @@ use mathlib.Core.List.{List, [], map}
 use mathlib.Core.Option.{Option, none, some}
 use Prim.Native.Nat.{ℕ, _≤_}
 use native.Mathlib.Omega.{arith}
-use lib.IntN.{ℤ, pos}
+use lib.IntN.{pos}
 use lib.ListN.{length, getD, getElem?, replicate}
 use Rattle.semantics.specs.Bytes.{every}
 use Rattle.semantics.specs.Editions.{edition1}
@@ -13,8 +13,9 @@ use Rattle.semantics.specs.Refusals.{Judged, refused, accepted, refusalOf, need
 use Rattle.semantics.specs.Sections.{Variable, Equation, variablesIn, equationsIn}
 use Rattle.semantics.specs.Plant.{Plant, ordered, selectors, equationNamed, drivenOnce, judgePlant}
 use Rattle.semantics.proofs.Judging.{passed-need, passed-ensure, accepted-is}
+use Rattle.codec.specs.Padding.{pad}
 use Rattle.plant.specs.Variables.{column}
-use Rattle.plant.specs.Equations.{pad, modeCount, modePlaces, steadyRates, putRates, acceptedEquations, SectionStands}
+use Rattle.plant.specs.Equations.{modeCount, modePlaces, steadyRates, putRates, acceptedEquations, SectionStands}
 use Rattle.plant.specs.PlantRead.{refusedPlant, acceptedPlant, plantAnswer, plantOf}
 use Rattle.plant.specs.declared.sections.PlantRead.{PlantRead}
 use Rattle.plant.proofs.VariableLaws.{Accepted, column-at, count-of, count-low, count-high}

@@ -1,22 +1,22 @@
 -- What the answer of the variable section says of the plant's variables.
 use mathlib.Core.Path.{_≡_, refl, sym, ap, _∙_}
 use mathlib.Core.Bool.{Bool, true, false}
-use mathlib.Core.List.{List, [], _∷_, map}
+use mathlib.Core.List.{List, map}
 use mathlib.Core.Option.{Option, none, some}
-use Prim.Native.Nat.{ℕ, zero, suc, _-_, _≤_}
+use Prim.Native.Nat.{ℕ, _≤_}
 use native.Mathlib.Omega.{arith}
 use lib.IntN.{ℤ, pos}
-use lib.ListN.{length, getD, getElem?, take, drop, replicate, length-append, length-replicate}
-use lib.Seq.{take-at}
+use lib.ListN.{length, getD, getElem?, take, drop, length-map}
 use Rattle.semantics.specs.Bytes.{every}
 use Rattle.semantics.specs.Editions.{edition1}
 use Rattle.semantics.specs.Refusals.{refused, _>>=_, _>>_, ensure, need}
 use Rattle.semantics.specs.Sections.{Variable, readVariable, variablesIn}
 use Rattle.semantics.specs.Plant.{ordered, judgePlant}
-use Rattle.semantics.proofs.Facts.{none-not-some, some-is}
+use Rattle.semantics.proofs.Facts.{some-is}
+use Rattle.codec.proofs.Padding.{pad-long, take-pad, pad-map-some}
 use Rattle.codec.proofs.Known.{times-length}
-use Rattle.plant.specs.Variables.{pad, column, answer, refusedBy, variablesOf}
-use Rattle.plant.proofs.VariableSection.{sized-of, section-of, pad-at, refused-4, refused-5, accepted-as}
+use Rattle.plant.specs.Variables.{column, answer, refusedBy, variablesOf}
+use Rattle.plant.proofs.VariableSection.{sized-of, section-of, refused-4, refused-5, accepted-as}
 
 -- the variables of a section that 4 and 5 let pass
 pub record Accepted (s : List ℕ) (vs : List Variable) : Type 0 where
@@ -72,25 +72,16 @@ length-is s h =
 
 pub column-at : (f : Variable → ℤ) (vs : List Variable) (k : ℕ) {x : Variable} → getElem? vs k ≡ some x → getD (column f vs) k (pos 0) ≡ f x
 unfolding column
-column-at f vs k h = pad-at 32 (pos 0) (map f vs) k (mapped vs k h)
-  where
-    mapped : (vs : List Variable) (k : ℕ) {x : Variable} → getElem? vs k ≡ some x → getElem? (map f vs) k ≡ some (f x)
-    mapped [] k h = none-not-some h
-    mapped (v ∷ vs) zero h = ap some (ap f (some-is h))
-    mapped (v ∷ vs) (suc k) h = mapped vs k h
+column-at f vs k h = pad-map-some 32 (pos 0) f vs k h
 
 pub column-long : (f : Variable → ℤ) (vs : List Variable) → 32 ≤ length (column f vs)
-unfolding column pad
-column-long f vs = omega (arith, length-append (map f vs) (replicate (32 - length (map f vs)) (pos 0)), length-replicate (32 - length (map f vs)) (pos 0))
+unfolding column
+column-long f vs = pad-long 32 (pos 0) (map f vs)
 
 -- the numbers themselves, cut from the array
 pub column-front : (f : Variable → ℤ) (vs : List Variable) → take (length vs) (column f vs) ≡ map f vs
-unfolding column pad
-column-front f vs = take-at (map f vs) _ (length vs) (mapped-length vs)
-  where
-    mapped-length : (vs : List Variable) → length (map f vs) ≡ length vs
-    mapped-length [] = refl
-    mapped-length (v ∷ vs) = ap suc (mapped-length vs)
+unfolding column
+column-front f vs = take-pad 32 (pos 0) (map f vs) (length vs) (length-map vs f)
 
 module _ (s : List ℕ) {vs : List Variable} (a : Accepted s vs) where
   answered : variablesOf s ≡ answer 0 vs

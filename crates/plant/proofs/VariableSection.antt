@@ -1,7 +1,7 @@
 -- The variable section: its size, the values at a place, and what the answer says of each variable.
 use mathlib.Core.Path.{_≡_, refl, sym, ap, _∙_}
 use mathlib.Core.Bool.{Bool, true, false, and-false}
-use mathlib.Core.List.{List, [], _∷_, _++_, map, append-assoc, append-nil}
+use mathlib.Core.List.{List, [], _∷_, _++_, append-assoc, append-nil}
 use mathlib.Core.Option.{Option, none, some}
 use Prim.Native.Nat.{ℕ, zero, suc, _+_, _-_, _*_, _≤_, _<_}
 use native.Mathlib.Nat.{add-zero, sub-zero}
@@ -12,18 +12,18 @@ use lib.Signed.{leZ, ltZ, mag}
 use mir.Syntax.{w32}
 use mir.Val.{toZ, ofZ}
 use mir.ValLaws.{toZ-ofZ}
-use lib.ListN.{length, getD, set, drop, replicate, getElem?, length-append, length-map, List·getD-append}
-use lib.Seq.{set-at}
+use lib.ListN.{length, getD, set, drop, length-append}
 use Rattle.semantics.specs.Bytes.{every, within, signed, read, andThen, _>>=_, give, guard, byte, times, just, whole}
 use Rattle.semantics.specs.Editions.{edition1}
 use Rattle.semantics.specs.Sections.{Variable, readVariable, readVariables, variablesIn}
 use Rattle.semantics.specs.Plant.{ordered}
-use Rattle.semantics.proofs.Facts.{true-not-false, none-not-some, some-is, at-below, within-low, within-high, within-both}
+use Rattle.semantics.proofs.Facts.{true-not-false, within-low, within-high, within-both}
 use Rattle.semantics.proofs.Readers.{read-rest, read-value, split, given, guarded, byte-read, whole-read}
+use Rattle.codec.proofs.Padding.{pad-map-snoc}
 use Rattle.codec.proofs.Reading.{nat4At, int4-at, drop-past, drop-some}
 use Rattle.codec.proofs.Known.{cons}
 use Rattle.plant.specs.declared.variables.Variables.{Variables}
-use Rattle.plant.specs.Variables.{pad, column, answer, refusedBy, orderedOr, variablesOf, Sized, Counted}
+use Rattle.plant.specs.Variables.{column, answer, refusedBy, orderedOr, variablesOf, Sized, Counted}
 use Rattle.plant.proofs.Turns.{every-next, every-not}
 use Rattle.plant.proofs.Costs.{Costs, costs-give, costs-then, costs-int4, costs-times}
 
@@ -95,30 +95,9 @@ section-of s n z =
     (m .0, record { got = g; is = ap (variablesIn edition1) e ∙ section-is n (drop 1 s) (within-both 1 32 n (z .low) (z .high)) g })
 
 -- ---- arrays
-pub set-pad : {A : Type 0} (n : ℕ) (d : A) (l : List A) (i : ℕ) (x : A) → length l ≡ i → i < n → set (pad n d l) i x ≡ pad n d (l ++ (x ∷ []))
-unfolding pad
-set-pad n d l i x e h =
-    let k : n - length l ≡ suc (n - suc (length l)) = omega arith in
-    let j : n - length (l ++ (x ∷ [])) ≡ n - suc (length l) = omega (arith, length-append l (x ∷ [])) in
-    rw (k, j) (set-at l d (replicate (n - suc (length l)) d) x i e ∙ sym (append-assoc l (x ∷ []) (replicate (n - suc (length l)) d)))
-
-pub pad-at : {A : Type 0} (n : ℕ) (d : A) (l : List A) (i : ℕ) {x : A} → getElem? l i ≡ some x → getD (pad n d l) i d ≡ x
-unfolding pad
-pad-at n d l i h = List·getD-append l (replicate (n - length l) d) d i (at-below l i h) ∙ getD-is d l i h
-  where
-    getD-is : {A : Type 0} (d : A) (l : List A) (i : ℕ) {x : A} → getElem? l i ≡ some x → getD l i d ≡ x
-    getD-is d [] i h = none-not-some h
-    getD-is d (y ∷ l) zero h = some-is h
-    getD-is d (y ∷ l) (suc i) h = getD-is d l i h
-
-map-snoc : {A B : Type 0} (f : A → B) (l : List A) (x : A) → map f (l ++ (x ∷ [])) ≡ map f l ++ (f x ∷ [])
-map-snoc f [] x = refl
-map-snoc f (y ∷ l) x = ap (λ t. f y ∷ t) (map-snoc f l x)
-
 column-more : (f : Variable → ℤ) (vs : List Variable) (v : Variable) (i : ℕ) (z : ℤ) → z ≡ f v → length vs ≡ i → i < 32 → set (column f vs) i z ≡ column f (vs ++ (v ∷ []))
 unfolding column
-column-more f vs v i z e k h =
-    rw e (set-pad 32 (pos 0) (map f vs) i (f v) (length-map vs f ∙ k) h ∙ ap (pad 32 (pos 0)) (sym (map-snoc f vs v)))
+column-more f vs v i z e k h = rw e (pad-map-snoc 32 (pos 0) f vs i v k h)
 
 -- ---- order
 not-less : (a b : ℤ) → ltZ a b ≡ true → leZ b a ≡ false

@@ -1,16 +1,17 @@
 -- The equation section: conditions 6 and 7, and what a run looks up in it.
 use mathlib.Core.Path.{_≡_}
-use mathlib.Core.Bool.{Bool, true, false}
+use mathlib.Core.Bool.{Bool}
 use mathlib.Core.List.{List, [], _∷_, _++_, map}
 use mathlib.Core.Option.{Option, none, some}
-use Prim.Native.Nat.{ℕ, _+_, _-_, _*_}
+use Prim.Native.Nat.{ℕ, _+_, _*_}
 use lib.IntN.{ℤ, pos}
-use lib.ListN.{length, take, drop, getElem?, set, replicate}
+use lib.ListN.{length, drop, set, replicate}
 use Rattle.semantics.specs.Bytes.{every, Reader, broken, read}
 use Rattle.semantics.specs.Refusals.{Judged, refused, accepted, refusalOf, need, ensure, _>>=_, _>>_}
 use Rattle.semantics.specs.Sections.{Rate, Switch, Mode, Selector, Equation, steady, choice, readMode, equationsIn}
 use Rattle.semantics.specs.Plant.{equationNamed, selectorsOf, noMode}
 use Rattle.codec.specs.Reading.{Reads}
+use Rattle.codec.specs.Padding.{pad}
 use Rattle.plant.specs.PaperNumbers.{paperStep, paperSeen, partNumber, wholeNumber}
 use Rattle.plant.specs.declared.equations.Equations.{Equations}
 use Rattle.plant.specs.declared.equations.Cases.{Cases}
@@ -49,10 +50,6 @@ equationSize (choice c) = 5 + sizes modeSize (c .modes)
 unfoldable pub startsFrom : {A : Type 0} → (A → ℕ) → ℕ → List A → List ℕ
 startsFrom size p [] = []
 startsFrom size p (x ∷ l) = p ∷ startsFrom size (p + size x) l
-
--- filled up to n entries
-unfoldable pub pad : {A : Type 0} → ℕ → A → List A → List A
-pad n d l = l ++ replicate (n - length l) d
 
 -- of the modes of each CASE, eight entries for a CASE; the first equation stands at p
 unfoldable pub modePlaces : ℕ → List Equation → List ℕ

@@ -1,20 +1,17 @@
 -- Conditions 4 and 5: the variable section as the code answers it.
 use mathlib.Core.Path.{_≡_}
 use mathlib.Core.Bool.{cond}
-use mathlib.Core.List.{List, [], _++_, map}
+use mathlib.Core.List.{List, [], map}
 use mathlib.Core.Option.{none, some}
-use Prim.Native.Nat.{ℕ, _+_, _-_, _*_, _≤_}
-use lib.ListN.{length, getD, replicate}
+use Prim.Native.Nat.{ℕ, _+_, _*_, _≤_}
+use lib.ListN.{length, getD}
 use lib.IntN.{ℤ, pos}
 use Rattle.semantics.specs.Bytes.{every}
 use Rattle.semantics.specs.Editions.{edition1}
 use Rattle.semantics.specs.Sections.{Variable, variablesIn}
 use Rattle.semantics.specs.Plant.{ordered}
+use Rattle.codec.specs.Padding.{pad}
 use Rattle.plant.specs.declared.variables.Variables.{Variables}
-
--- an array of n entries that begins with the list
-unfoldable pub pad : {A : Type 0} → ℕ → A → List A → List A
-pad n d l = l ++ replicate (n - length l) d
 
 -- one number of each variable, in an array of 32
 unfoldable pub column : (Variable → ℤ) → List Variable → List ℤ

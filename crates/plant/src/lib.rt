@@ -3,5 +3,6 @@ pub mod driven; // driven.rt: 8
 pub mod equations; // equations.rt: 6 and 7
 mod places; // places.rt: where the parts of a sound equation section end
 pub mod sections; // sections.rt: 4 to 8 in order
+pub mod selectors; // selectors.rt: 11, of a selector and a mode
 pub mod truths; // truths.rt: 12, of the switches
 pub mod variables; // variables.rt: 4 and 5

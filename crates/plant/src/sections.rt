@@ -16,7 +16,8 @@ pub struct PlantRead {
     pub steady: [i32; 32],
 }
 
-fn refused(n: u8) -> PlantRead
+// a plant that is refused, and all else empty
+pub fn refused(n: u8) -> PlantRead
     ensures { λ r. ⌜ r ≡ refusedPlant n ⌝ }
 {
     PlantRead {

@@ -15,10 +15,11 @@ use Rattle.semantics.specs.Calls.{Program, Outcome, judgeAdmission, judgeRun, r
 use Rattle.schedules.specs.Residuals.{Residual}
 use Rattle.schedules.specs.Files.{Schedule, judgeFile, ruleControl}
 use Rattle.schedules.specs.Calls.{ruleProgram, ruleRun}
+use Rattle.codec.specs.Padding.{pad}
 use Rattle.plant.specs.PlantRead.{plantOf}
 use Rattle.plant.specs.declared.sections.PlantRead.{PlantRead}
-use Rattle.plant.specs.Equations.{modeSize, equationSize, startsFrom, pad, modePlaces}
-use Rattle.plant.proofs.Padding.{length-pad}
+use Rattle.plant.specs.Equations.{modeSize, equationSize, startsFrom, modePlaces}
+use Rattle.codec.proofs.Padding.{length-pad}
 use Rattle.plant.proofs.EquationCases.{starts-length}
 use Rattle.plant.proofs.EquationLaws.{few-selectors, few-modes-each}
 use Rattle.plant.proofs.PlantLaws.{passed-all, variables-of, selectors-of, places-of}

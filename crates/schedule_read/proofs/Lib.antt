@@ -2,7 +2,6 @@ pub mod PartsStand
 mod SectionPlaces
 pub mod Payloads
 pub mod Passing
-pub mod ModeCounts
 pub mod FoundNodes
 -- the whole file
 pub mod Stages

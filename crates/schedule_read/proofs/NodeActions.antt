@@ -9,7 +9,7 @@ use native.Mathlib.Numerals.{add-one}
 use native.Mathlib.Omega.{arith}
 use borrow.Author.Tests.{eq-eqb, ne-eqb}
 use lib.Dec.{leb}
-use lib.ListN.{length, getD, getElem?, take, drop, set, replicate}
+use lib.ListN.{length, getD, getElem?, take, drop, set, replicate, length-map}
 use lib.Seq.{getD-take, length-take-le}
 use Rattle.semantics.specs.Bytes.{noBytes, twoBytes, byteAndRest}
 use Rattle.semantics.specs.Run.{Action}
@@ -23,10 +23,10 @@ use Rattle.schedules.specs.Residuals.{Residual, acting}
 use Rattle.schedules.proofs.ActingDetermines.{Of}
 use Rattle.schedules.proofs.MovesFit.{move-fits}
 use Rattle.schedules.proofs.ReadShapes.{root-shapes}
-use Rattle.tree_read.specs.Index.{pad}
+use Rattle.codec.specs.Padding.{pad}
 use Rattle.schedule_read.specs.Indexed.{NodesAt}
 use Rattle.schedule_read.specs.Actions.{actionNumber, actionNumbers}
-use Rattle.tree_read.proofs.Pads.{pad-none, length-pad, pad-map, pad-map-snoc, map-length}
+use Rattle.codec.proofs.Padding.{pad-none, length-pad, pad-map, pad-map-snoc}
 use Rattle.schedule_read.proofs.Payloads.{by-kind}
 
 -- ---- the list of actions, by number
@@ -103,7 +103,7 @@ module _ (kinds : List ℕ) (count : ℕ) (few : count ≤ 64) (full : count ≤
 
   pub numbers-long : length (actionNumbers kinds count) ≡ 64
   unfolding actionNumbers
-  numbers-long = length-pad 64 0 _ (omega (arith, map-length numbered (take count kinds), first-length))
+  numbers-long = length-pad 64 0 _ (omega (arith, length-map (take count kinds) numbered, first-length))
 
 -- what stands at a node that is there, and at any other number
 module _ {s kinds starts ends : List ℕ} {count : ℕ} {ns : List Node} (d : NodesAt s kinds starts ends count ns) where

@@ -1,7 +1,7 @@
 -- A schedule file judged in order: what the answers about its parts make of the whole.
 use mathlib.Core.Path.{_≡_, refl, sym, ap, subst, _∙_}
 use mathlib.Core.Bool.{Bool, true, false, _&&_}
-use mathlib.Core.List.{List, map}
+use mathlib.Core.List.{List}
 use mathlib.Core.Option.{Option, none, some}
 use Prim.Native.Nat.{ℕ, _-_, _≤_}
 use native.Mathlib.Omega.{arith}
@@ -19,14 +19,14 @@ use Rattle.schedules.specs.Trees.{Tree, treeOf}
 use Rattle.schedules.specs.Files.{Schedule, fileHeader, fileLength, judgeFile}
 use Rattle.schedules.specs.Calls.{scheduleCounts, readSchedule}
 use Rattle.schedules.proofs.FirstNumber as FirstNumber
-use Rattle.plant.specs.Equations.{pad, modeCount}
+use Rattle.plant.specs.ModeCounts.{ModesAt}
 use Rattle.plant.specs.Sound.{There}
 use Rattle.plant.specs.PlantRead.{refusedPlant, acceptedPlant, plantAnswer, plantOf}
 use Rattle.plant.specs.declared.sections.PlantRead.{PlantRead}
-use Rattle.plant.proofs.EquationLaws.{few-selectors}
-use Rattle.plant.proofs.PlantLaws.{passed-all, passes, variables-of, variables-high, selectors-of, modes-of}
+use Rattle.plant.proofs.ModeCounts.{modes-held, modes-full, modes-room}
+use Rattle.plant.proofs.PlantLaws.{passed-all, passes, variables-of, variables-high, selectors-of}
 use Rattle.schedule_read.specs.FileParts.{noParts, partsIn, partsRead, partsOf, sectionsAt}
-use Rattle.schedule_read.specs.Indexed.{NodesAt, Indexed, ModesAt, Selected, Passes}
+use Rattle.schedule_read.specs.Indexed.{NodesAt, Indexed, Passes}
 use Rattle.tree_read.specs.Index.{notNodes, nodesOf}
 use Rattle.tree_read.specs.Ends.{noTree, subtreesOf, treeIn}
 use Rattle.schedule_read.specs.ScheduleFile.{numbers, noSchedule, indexAt, scheduleIndex, judgeSections, sectionsIndex, judgeNodes, PlantAt, Planted}
@@ -36,7 +36,6 @@ use Rattle.schedule_read.specs.declared.parts.Parts.{Parts}
 use Rattle.tree_read.specs.declared.nodes.Nodes.{Nodes}
 use Rattle.tree_read.specs.declared.tree.Subtrees.{Subtrees}
 use Rattle.schedule_read.proofs.PartsStand.{Opened, Accepted, refused-1, refused-2, refused-3, accepted-parts}
-use Rattle.schedule_read.proofs.ModeCounts.{padded}
 use Rattle.tree_read.proofs.NodeIndex.{nodes-accepted, nodes-refused, indexed}
 use Rattle.schedule_read.proofs.FoundNodes.{found-nodes}
 use Rattle.tree_read.proofs.WholeTree.{of-nodes}
@@ -112,9 +111,6 @@ some-number p ns h = go (every (nodeNamed (length (p .variables)) (selectors p))
 
 -- by the answers about the nodes' names, their truths and numbers, and the switches' truths
 module _ {es modes : List ℕ} {v c : ℕ} where
-  pub selected : Planted es v c modes → Selected modes c
-  selected d = record { all = selectors (d .plant); at = d .at .modes-at }
-
   pub equations-there : Planted es v c modes → There (equationsIn es)
   equations-there d = record { value = d .plant .equations; is = d .at .equations }
 
@@ -149,9 +145,6 @@ module _ {es s kinds starts ends modes : List ℕ} {count v c : ℕ} where
         nodes-passed z ns d p e = rw (sym (names-are ns d p e) ∙ x, sym (nodes-read ns d p e) ∙ y, sym (switches-read p e) ∙ z) refl
 
 -- ---- 4 to 8
-counts-at : {modes ms : List ℕ} {c d : ℕ} {cs : List Selector} → modes ≡ ms → c ≡ d → ModesAt ms d cs → ModesAt modes c cs
-counts-at e f a = rw (e, f) a
-
 joined : (q : Parts) {p p′ : PlantRead} {n n′ : Nodes} {t t′ : Subtrees} → p ≡ p′ → n ≡ n′ → t ≡ t′ → _≡_ {A = ScheduleIndex} (record { refusal = 0; parts = q; plant = p; nodes = n; subtrees = t }) (record { refusal = 0; parts = q; plant = p′; nodes = n′; subtrees = t′ })
 joined q e f g = cc
 
@@ -178,23 +171,19 @@ module _ (at-parts : Parts) (vs es s : List ℕ) {p : PlantRead} (h : p ≡ plan
     variables-are : p .variables ≡ length (plant .variables)
     variables-are = ap (λ (p : PlantRead). p .variables) h ∙ variables-of vs es plant-is
 
-    selectors-are : p .selectors ≡ length (selectors plant)
-    selectors-are = ap (λ (p : PlantRead). p .selectors) h ∙ selectors-of vs es plant-is
-
-    modes-are : p .modes ≡ pad 16 0 (map modeCount (selectors plant))
-    modes-are = ap (λ (p : PlantRead). p .modes) h ∙ modes-of vs es plant-is
-
     plant-at : PlantAt es (p .variables) (p .selectors) (p .modes) plant
-    unfolding pad modeCount selectors
     plant-at = record {
       equations = passed-all vs es plant-is .equations;
       counted = sym variables-are;
       few = omega (arith, variables-are, variables-high vs es plant-is);
-      modes-at = counts-at modes-are selectors-are (padded modeCount (λ c. refl) (selectors plant) (few-selectors es (passed-all vs es plant-is .equations)));
+      modes-at = subst (λ (p : PlantRead). ModesAt (p .modes) (p .selectors) (selectors plant)) (sym h) (modes-held vs es plant-is);
     }
 
+    pub counts-full : length (p .modes) ≡ 16
+    counts-full = ap (λ (p : PlantRead). length (p .modes)) h ∙ modes-full vs es plant-is
+
     pub planted : Planted es (p .variables) (p .selectors) (p .modes)
-    planted = record { plant = plant; at = plant-at }
+    planted = record { plant = plant; at = plant-at; room = subst (λ (p : PlantRead). p .selectors ≤ length (p .modes)) (sym h) (modes-room vs es plant-is) }
 
     -- ---- 9
     module _ {n : Nodes} (k : n ≡ nodesOf s) where

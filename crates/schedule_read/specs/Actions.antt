@@ -3,7 +3,7 @@ use mathlib.Core.List.{List, map}
 use Prim.Native.Nat.{ℕ}
 use lib.ListN.{take}
 use Rattle.schedules.specs.Nodes.{Kind, a-sequence, a-parallel, a-while, an-if, a-continue, a-reset, a-reinitial, a-switch, a-stop, no-kind, kindOf}
-use Rattle.tree_read.specs.Index.{pad}
+use Rattle.codec.specs.Padding.{pad}
 
 -- the number of an action's kind in a table, "kind (1 test, 2 wait, 3 assign, 4 switch, 5 stop)"; 0 of a node without an action
 unfoldable pub actionNumber : Kind → ℕ

@@ -1,4 +1,4 @@
--- Nodes by their index, selectors by their mode counts, and what a test of each node answers.
+-- Nodes by their index, and what a test of each node answers.
 use mathlib.Core.Path.{_≡_}
 use mathlib.Core.Bool.{Bool}
 use mathlib.Core.List.{List}
@@ -6,7 +6,6 @@ use mathlib.Core.Option.{some}
 use Prim.Native.Nat.{ℕ, _-_, _≤_, _<_}
 use lib.ListN.{length, getD, take, drop, getElem?}
 use Rattle.semantics.specs.Bytes.{every}
-use Rattle.semantics.specs.Sections.{Selector}
 use Rattle.schedules.specs.Nodes.{Node, kindOf, nodeOf}
 
 -- ---- nodes
@@ -34,19 +33,6 @@ pub record Indexed (s kinds starts ends : List ℕ) (count : ℕ) : Type 0 where
 pub record Made (k : ℕ) (b : List ℕ) : Type 0 where
   pub node : Node
   pub is : nodeOf (kindOf k) b ≡ some node
-
--- ---- selectors
--- cs are the selectors of which modes has the mode counts
-pub record ModesAt (modes : List ℕ) (selectors : ℕ) (cs : List Selector) : Type 0 where
-  pub counted : length cs ≡ selectors
-  pub few : selectors ≤ 16
-  pub full : length modes ≡ 16
-  pub entries : (j : ℕ) (c : Selector) → getElem? cs j ≡ some c → getD modes j 0 ≡ length (c .modes)
-
--- they are the mode counts of some selectors
-pub record Selected (modes : List ℕ) (selectors : ℕ) : Type 0 where
-  pub all : List Selector
-  pub at : ModesAt modes selectors all
 
 -- ---- tests
 -- r answers whether the node of this kind and payload passes P

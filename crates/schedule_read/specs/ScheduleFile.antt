@@ -15,11 +15,11 @@ use Rattle.schedules.specs.Nodes.{Node, nodesIn, nodeNamed, nodeReads}
 use Rattle.schedules.specs.Trees.{treeOf}
 use Rattle.schedules.specs.Files.{Schedule, judgeFile}
 use Rattle.schedules.specs.Calls.{ScheduleRead}
+use Rattle.plant.specs.ModeCounts.{ModesAt}
 use Rattle.plant.specs.PlantRead.{refusedPlant, plantOf}
 use Rattle.schedule_read.specs.FileParts.{noParts, partsOf}
 use Rattle.tree_read.specs.Index.{notNodes, nodesOf}
 use Rattle.tree_read.specs.Ends.{noTree, treeIn}
-use Rattle.schedule_read.specs.Indexed.{ModesAt}
 use Rattle.schedule_read.specs.declared.call.FileRead.{FileRead}
 use Rattle.schedule_read.specs.declared.call.ScheduleIndex.{ScheduleIndex}
 use Rattle.schedule_read.specs.declared.parts.Parts.{Parts}
@@ -78,3 +78,4 @@ pub record PlantAt (es : List ℕ) (v c : ℕ) (modes : List ℕ) (p : Plant) : 
 pub record Planted (es : List ℕ) (v c : ℕ) (modes : List ℕ) : Type 0 where
   pub plant : Plant
   pub at : PlantAt es v c modes plant
+  pub room : c ≤ length modes

@@ -4,7 +4,6 @@ ghost use mathlib.Core.List.{List};
 ghost use Rattle.semantics.specs.Editions.{edition1};
 ghost use Rattle.semantics.specs.Refusals.{refusalOf};
 ghost use Rattle.semantics.specs.Plant.{Plant};
-ghost use Rattle.plant.specs.PlantRead.{refusedPlant};
 ghost use Rattle.schedules.specs.Nodes.{Node};
 ghost use Rattle.schedules.specs.Calls.{readSchedule};
 ghost use Rattle.schedule_read.specs.Indexed.{NodesAt, Indexed};
@@ -37,26 +36,11 @@ pub struct ScheduleIndex {
     pub subtrees: Subtrees,
 }
 
-fn no_plant() -> PlantRead
-    ensures { λ r. ⌜ r ≡ refusedPlant 0 ⌝ }
-{
-    PlantRead {
-        refusal: 0,
-        variables: 0,
-        lows: [0; 32],
-        highs: [0; 32],
-        selectors: 0,
-        modes: [0; 16],
-        mode_offsets: [0; 128],
-        steady: [0; 32],
-    }
-}
-
 fn refused(n: u8) -> ScheduleIndex
     ensures { λ r. ⌜ r ≡ noSchedule n ⌝ }
 {
     let parts = parts::refused(n);
-    let plant = no_plant();
+    let plant = plant::sections::refused(0);
     let nodes = nodes::refused();
     let subtrees = tree::no_tree();
     ScheduleIndex {

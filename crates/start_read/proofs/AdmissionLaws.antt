@@ -10,7 +10,6 @@ use borrow.Author.Tests.{eqb-true, ne-eqb, eq-eqb, leb-true, le-leb, lt-leb}
 use lib.Dec.{eqb, leb}
 use lib.IntN.{pos}
 use lib.ListN.{length, take}
-use lib.Seq.{take-append-seam}
 use Rattle.semantics.specs.Editions.{edition1}
 use Rattle.semantics.specs.Refusals.{Judged, refused, accepted, refusalOf, ensure, _>>=_, _>>_}
 use Rattle.semantics.specs.Plant.{Plant, selectors}
@@ -22,7 +21,7 @@ use Rattle.semantics.proofs.Judging.{go-then}
 use Rattle.semantics.proofs.FirstNumber.{start-first, admission-first}
 use Rattle.semantics.proofs.Admission.{admission-passed}
 use Rattle.semantics.proofs.CallsHold.{accepted-of, start-values}
-use Rattle.plant.specs.Variables.{pad}
+use Rattle.codec.proofs.Padding.{take-pad}
 use Rattle.start_read.specs.declared.admission.Admitted.{Admitted}
 use Rattle.start_read.specs.Admission.{notAdmitted, admitted}
 
@@ -83,10 +82,6 @@ pub run-unread : (S : Type 0) (n : ℕ) (start events buffer : List ℕ) → jud
 unfolding judgeRun _>>=_
 run-unread S n start events buffer = refl
 
-take-pad : {A : Type 0} (n w : ℕ) (d : A) (l : List A) → length l ≡ n → take n (pad w d l) ≡ l
-unfolding pad
-take-pad n w d l e = rw (← e) (take-append-seam l _)
-
 module _ {S : Type 0} (g : Program S) (start events buffer : List ℕ) where
   abbrev judged : Judged Start
   judged = judgeAdmission edition1 (g .plant) start events buffer
@@ -124,8 +119,8 @@ module _ {S : Type 0} (g : Program S) (start events buffer : List ℕ) where
       let j = accepted-of (admission-first edition1 start events buffer refl) numbers (sym (refusal-is judged) ∙ h) in
       let a = admission-passed edition1 (g .plant) start events buffer (j .1) in
       let c = start-values (g .plant) start (a .starts .is-read) in
-      let v = ap (λ (x : Judged Start). take (length (g .plant .variables)) (admitted x .values)) (j .1) ∙ take-pad (length (g .plant .variables)) 32 (pos 0) (j .0 .values) (c .0) in
-      let m = ap (λ (x : Judged Start). take (length (selectors (g .plant))) (admitted x .modes)) (j .1) ∙ take-pad (length (selectors (g .plant))) 16 0 (j .0 .modes) (c .1) in
+      let v = ap (λ (x : Judged Start). take (length (g .plant .variables)) (admitted x .values)) (j .1) ∙ take-pad 32 (pos 0) (j .0 .values) (length (g .plant .variables)) (c .0) in
+      let m = ap (λ (x : Judged Start). take (length (selectors (g .plant))) (admitted x .modes)) (j .1) ∙ take-pad 16 0 (j .0 .modes) (length (selectors (g .plant))) (c .1) in
       let same : startAsked ≡ j .0 = λ i. record { values = v i; modes = m i } in
       record {
         judged = go-then _ refl ∙ go-then _ (j .1) ∙ ap (λ st. accepted (outcomeOf edition1 (g .control) (runFrom edition1 g st events))) (sym same);

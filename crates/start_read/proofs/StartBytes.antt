@@ -30,7 +30,8 @@ use Rattle.plant.specs.declared.sections.PlantRead.{PlantRead}
 use Rattle.start_read.specs.declared.Values.{Values}
 use Rattle.start_read.specs.declared.Modes.{Modes}
 use Rattle.start_read.specs.declared.admission.Admitted.{Admitted}
-use Rattle.start_read.specs.StartRead.{Ranges, Counts, Arrays, entries, valueAt, modeAt, ValuesOf, ModesOf}
+use Rattle.plant.specs.ModeCounts.{ModesAt}
+use Rattle.start_read.specs.StartRead.{Ranges, Arrays, entries, valueAt, modeAt, ValuesOf, ModesOf}
 use Rattle.start_read.specs.Admission.{notAdmitted, admitted}
 use Rattle.plant.proofs.Costs.{costs-give, costs-byte, costs-then, costs-int4, costs-times}
 
@@ -90,8 +91,8 @@ pub value-at : {n : ℕ} {lows highs : List ℤ} (k : ℕ) (z : ℤ) {b : Bool} 
 unfolding declared
 value-at k z h xs x r e = rw (r .low k e, r .high k e) at h
 
-pub mode-at : {n : ℕ} {counts : List ℕ} (k m : ℕ) {b : Bool} → ltb m (getD counts k 0) ≡ b → (cs : List Selector) (c : Selector) → Counts cs n counts → getElem? cs k ≡ some c → modeFits c m ≡ b
-mode-at k m h cs c r e = rw (r .modes k e) at h
+pub mode-at : {n : ℕ} {counts : List ℕ} (k m : ℕ) {b : Bool} → ltb m (getD counts k 0) ≡ b → (cs : List Selector) (c : Selector) → ModesAt counts n cs → getElem? cs k ≡ some c → modeFits c m ≡ b
+mode-at k m h cs c r e = rw (r .entries k e) at h
 
 -- ---- the bytes
 values-read : (s : List ℕ) (n k : ℕ) → 4 * (k + n) ≤ length s → times n int4 (drop (4 * k) s) ≡ read (entries (valueAt s) k n) (drop (4 * (k + n)) s)
@@ -140,7 +141,7 @@ module _ (p : Plant) (s : List ℕ) {x : PlantRead} (a : Arrays p x) where
       go (some st) e =
           let z = start-size p s e in
           let i = a .ranges .count in
-          let j = a .counts .count in
+          let j = a .counts .counted in
           absurd (f (omega arith))
 
   module _ (h : length s ≡ 4 * x .variables + x .selectors) where
@@ -159,7 +160,7 @@ module _ (p : Plant) (s : List ℕ) {x : PlantRead} (a : Arrays p x) where
         let v : times n int4 s ≡ read (started .values) rest = values-read s n 0 (omega arith) ∙ ap (λ q. read (started .values) (drop q s)) z in
         let l = length-drop (4 * n) s in
         let k : times (x .selectors) byte rest ≡ read (started .modes) [] = modes-read rest (x .selectors) 0 (omega arith) ∙ ap (read (started .modes)) (drop-past (0 + x .selectors) rest (omega arith)) in
-        start-from p s (ap (λ q. times q int4 s) (sym (a .ranges .count)) ∙ v) (ap (λ q. times q byte rest) (sym (a .counts .count)) ∙ k)
+        start-from p s (ap (λ q. times q int4 s) (sym (a .ranges .count)) ∙ v) (ap (λ q. times q byte rest) (a .counts .counted) ∙ k)
 
     pub values-unfit : {r : Values} → ValuesOf s n (x .lows) (x .highs) r → r .ok ≡ false → notAdmitted 20 ≡ admitted (judgeStart p s)
     unfolding startFits

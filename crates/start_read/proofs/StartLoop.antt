@@ -1,16 +1,16 @@
 -- A loop that fills an array and tests entry i against element i of a list.
 use mathlib.Core.Path.{_≡_, refl, sym, ap, _∙_}
 use mathlib.Core.Bool.{Bool, true, false, _&&_}
-use mathlib.Core.List.{List, [], _∷_, _++_, append-assoc}
+use mathlib.Core.List.{List, [], _∷_, _++_}
 use mathlib.Core.Option.{some}
 use Prim.Native.Nat.{ℕ, zero, suc, _+_, _-_, _≤_, _<_}
 use native.Mathlib.Nat.{add-zero, zero-add, sub-zero}
 use native.Mathlib.Numerals.{add-one}
 use native.Mathlib.Omega.{arith}
-use lib.ListN.{length, set, drop, getElem?, replicate, length-append, drop-of-length-le}
-use lib.Seq.{set-at}
+use lib.ListN.{length, set, drop, getElem?, drop-of-length-le}
 use Rattle.semantics.proofs.Facts.{none-not-some, some-is, at-exists}
-use Rattle.plant.specs.Variables.{pad}
+use Rattle.codec.specs.Padding.{pad}
+use Rattle.codec.proofs.Padding.{set-pad}
 use Rattle.start_read.specs.StartRead.{entries}
 
 -- ---- entries
@@ -35,13 +35,6 @@ unfolding entries
 entries-none f i n h = let e : n - i ≡ 0 = omega arith in rw e refl
 
 -- ---- arrays
-set-pad : {A : Type 0} (n : ℕ) (d : A) (l : List A) (i : ℕ) (x : A) → length l ≡ i → i < n → set (pad n d l) i x ≡ pad n d (l ++ (x ∷ []))
-unfolding pad
-set-pad n d l i x e h =
-    let k : n - length l ≡ suc (n - suc (length l)) = omega arith in
-    let j : n - length (l ++ (x ∷ [])) ≡ n - suc (length l) = omega (arith, length-append l (x ∷ [])) in
-    rw (k, j) (set-at l d (replicate (n - suc (length l)) d) x i e ∙ sym (append-assoc l (x ∷ []) (replicate (n - suc (length l)) d)))
-
 filled-next : {A : Type 0} (w : ℕ) (d : A) (f : ℕ → A) (i : ℕ) → i < w → set (pad w d (entries f 0 i)) i (f i) ≡ pad w d (entries f 0 (suc i))
 filled-next w d f i h =
     set-pad w d (entries f 0 i) i (f i) (entries-length f 0 i) h ∙ ap (pad w d) (sym (entries-snoc f 0 i ∙ ap (λ k. entries f 0 i ++ (f k ∷ [])) (zero-add i)))

@@ -10,7 +10,8 @@ use Rattle.semantics.specs.Bytes.{be4, signed}
 use Rattle.semantics.specs.Sections.{Variable, Selector}
 use Rattle.semantics.specs.Plant.{Plant, selectors, allDeclared}
 use Rattle.semantics.specs.Starts.{isOk, modesFit}
-use Rattle.plant.specs.Variables.{pad}
+use Rattle.codec.specs.Padding.{pad}
+use Rattle.plant.specs.ModeCounts.{ModesAt}
 use Rattle.plant.specs.declared.sections.PlantRead.{PlantRead}
 use Rattle.start_read.specs.declared.Values.{Values}
 use Rattle.start_read.specs.declared.Modes.{Modes}
@@ -22,15 +23,10 @@ pub record Ranges (xs : List Variable) (n : ℕ) (lows highs : List ℤ) : Type 
   pub low : (k : ℕ) {x : Variable} → getElem? xs k ≡ some x → getD lows k (pos 0) ≡ x .minimum
   pub high : (k : ℕ) {x : Variable} → getElem? xs k ≡ some x → getD highs k (pos 0) ≡ x .maximum
 
--- how many modes each selector has
-pub record Counts (cs : List Selector) (n : ℕ) (counts : List ℕ) : Type 0 where
-  pub count : n ≡ length cs
-  pub modes : (j : ℕ) {c : Selector} → getElem? cs j ≡ some c → getD counts j 0 ≡ length (c .modes)
-
 -- a plant's numbers in its reader's answer
 pub record Arrays (p : Plant) (x : PlantRead) : Type 0 where
   pub ranges : Ranges (p .variables) (x .variables) (x .lows) (x .highs)
-  pub counts : Counts (selectors p) (x .selectors) (x .modes)
+  pub counts : ModesAt (x .modes) (x .selectors) (selectors p)
 
 -- an entry for each of them
 pub record Room (x : PlantRead) : Type 0 where
@@ -69,5 +65,5 @@ pub record RoomForModes (s : List ℕ) (n : ℕ) (counts : List ℕ) : Type 0 wh
   pub counts-there : n ≤ length counts
 
 pub record ModesOf (s : List ℕ) (n : ℕ) (counts : List ℕ) (r : Modes) : Type 0 where
-  pub fit : (cs : List Selector) → Counts cs n counts → modesFit cs (entries (modeAt s) 0 n) ≡ r .ok
+  pub fit : (cs : List Selector) → ModesAt counts n cs → modesFit cs (entries (modeAt s) 0 n) ≡ r .ok
   pub are : r .ok ≡ true → r .modes ≡ pad 16 0 (entries (modeAt s) 0 n)

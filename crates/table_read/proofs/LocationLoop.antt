@@ -1,13 +1,12 @@
 -- The loop over the locations: what is read so far, and what the code answers.
 use mathlib.Core.Path.{_≡_, refl, sym, ap, subst, _∙_}
 use mathlib.Core.Bool.{Bool, true, false, cond, and-false}
-use mathlib.Core.List.{List, [], _∷_, _++_, append-assoc}
+use mathlib.Core.List.{List, [], _∷_, _++_}
 use mathlib.Core.Option.{Option, none, some}
-use Prim.Native.Nat.{ℕ, suc, _+_, _-_, _≤_, _<_}
+use Prim.Native.Nat.{ℕ, _+_, _≤_, _<_}
 use native.Mathlib.Numerals.{add-one}
 use native.Mathlib.Omega.{arith}
-use lib.ListN.{length, set, drop, replicate, length-append, length-drop}
-use lib.Seq.{set-at}
+use lib.ListN.{length, set, drop, replicate, length-drop}
 use Rattle.semantics.specs.Bytes.{every, read, andThen, _>>=_, give, guard, times, just, whole}
 use Rattle.semantics.specs.Editions.{edition1}
 use Rattle.semantics.specs.TableFile.{NodeAction, Entry, readLocation, readLocations, locationsIn}
@@ -16,26 +15,17 @@ use Rattle.semantics.proofs.Facts.{and-both, within-both, none-not-some}
 use Rattle.semantics.proofs.Readers.{read-rest, guarded, whole-read}
 use Rattle.codec.specs.Reading.{Took}
 use Rattle.codec.specs.Places.{placesFrom}
+use Rattle.codec.specs.Padding.{pad}
 use Rattle.codec.proofs.Reading.{none-kept, then-nat2, no-nat2, no-guard, within-below, within-above, nat2At, nat2-at, drop-past, either}
 use Rattle.codec.proofs.Known.{after-nat2, snoc, times-length}
-use Rattle.codec.proofs.Loops.{every-snoc, counted}
+use Rattle.codec.proofs.Loops.{every-snoc}
+use Rattle.codec.proofs.Padding.{pad-none, set-pad}
 use Rattle.codec.proofs.Places.{places-start, places-more, places-count}
 use Rattle.table_read.specs.declared.locations.Locations.{Locations}
 use Rattle.table_read.specs.Ends.{anything}
-use Rattle.table_read.specs.LocationIndex.{pad, noLocations, locationIndex, locationsRead, locationsOf, LocationsCounted, locations-counted, locations-miscounted}
+use Rattle.table_read.specs.LocationIndex.{noLocations, locationIndex, locationsRead, locationsOf, LocationsCounted, locations-counted, locations-miscounted}
 use Rattle.table_read.proofs.Early.{early}
 use Rattle.table_read.proofs.Rising.{every-append}
-
--- ---- one more in a list that is filled up with d
-pub pad-none : (n d : ℕ) → replicate n d ≡ pad n d []
-unfolding pad
-pad-none n d = let z : n - 0 ≡ n = omega arith in rw z refl
-
-pub pad-more : (n d : ℕ) (l : List ℕ) (i p : ℕ) → length l ≡ i → i < n → set (pad n d l) i p ≡ pad n d (l ++ (p ∷ []))
-unfolding pad
-pad-more n d l i p e h =
-    let k : n - length l ≡ suc (n - length (l ++ (p ∷ []))) = omega (arith, length-append l (p ∷ [])) in
-    rw k (set-at l d (replicate (n - length (l ++ (p ∷ []))) d) p i e ∙ sym (append-assoc l (p ∷ []) (replicate (n - length (l ++ (p ∷ []))) d)))
 
 -- ---- refusals
 pub refuse : (acts : List NodeAction) (s : List ℕ) → ((ls : List (List Entry)) → locationsIn edition1 s ≡ some ls → locationsFit acts ls ≡ true → ⊥) → noLocations ≡ locationsOf acts s
@@ -115,7 +105,7 @@ module _ (acts : List NodeAction) {n : ℕ} {s : List ℕ} where
       took = record { value = x .took .value ++ (u .value ∷ []); got = rw (add-one i) (snoc (readLocation edition1) i (drop 2 s) (x .took .got) (u .got)); inside = u .inside; means = tt };
       all-fit = every-snoc (locationFits n acts) (x .took .value) (u .value) ∙ and-both (x .all-fit) (u .means);
       noted =
-          ap (λ z. set z i p) (x .noted) ∙ pad-more 1024 0 (placesFrom (length s) (readLocation edition1) i (drop 2 s)) i p (places-count (readLocation edition1) i (x .took)) h
+          ap (λ z. set z i p) (x .noted) ∙ set-pad 1024 0 (placesFrom (length s) (readLocation edition1) i (drop 2 s)) i p (places-count (readLocation edition1) i (x .took)) h
           ∙ ap (pad 1024 0) (sym (places-more (readLocation edition1) i (x .took) u));
     }
 

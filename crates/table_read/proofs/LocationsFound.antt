@@ -14,10 +14,11 @@ use Rattle.semantics.specs.Tables.{locationsFit}
 use Rattle.semantics.proofs.Facts.{none-not-some, some-is, within-low, within-high}
 use Rattle.semantics.proofs.Readers.{read-value, read-rest, guarded, whole-read}
 use Rattle.codec.specs.Places.{placesFrom}
+use Rattle.codec.specs.Padding.{pad}
 use Rattle.codec.proofs.Reading.{either, nat2At}
 use Rattle.codec.proofs.Known.{cons, times-length, after-byte, not-past, after-nat2, not-nat2}
 use Rattle.codec.proofs.Places.{Takes, takes-then, takes-guard, takes-byte, takes-number, takes-nat2, takes-give, takes-times, places-length, placed, placed-before}
-use Rattle.table_read.specs.LocationIndex.{entryAt, pad, noLocations, locationIndex, locationsRead, locationsOf}
+use Rattle.table_read.specs.LocationIndex.{entryAt, noLocations, locationIndex, locationsRead, locationsOf}
 use Rattle.table_read.specs.Promised.{EntriesAt}
 use Rattle.table_read.proofs.EntryLoop.{entry-is, entry-took}
 use Rattle.table_read.proofs.LocationLoop.{accept}

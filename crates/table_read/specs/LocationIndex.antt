@@ -1,9 +1,9 @@
 -- The locations of a table: whether they fit the kinds of the actions, and where each stands.
 use mathlib.Core.Path.{_≡_}
 use mathlib.Core.Bool.{Bool, false, cond}
-use mathlib.Core.List.{List, [], _∷_, _++_}
+use mathlib.Core.List.{List, [], _∷_}
 use mathlib.Core.Option.{Option, none, some}
-use Prim.Native.Nat.{ℕ, suc, _+_, _-_, _≤_}
+use Prim.Native.Nat.{ℕ, suc, _+_, _≤_}
 use lib.ListN.{length, getD, drop, replicate}
 use Rattle.semantics.specs.Bytes.{be2}
 use Rattle.semantics.specs.Editions.{edition1}
@@ -11,6 +11,7 @@ use Rattle.semantics.specs.Run.{Action, test, wait, assign, switch, stop}
 use Rattle.semantics.specs.TableFile.{NodeAction, Entry, ActionKind, a-test, a-wait, an-assignment, a-switch, a-stop, no-kind, actionKind, locationLimit, readLocation, locationsIn}
 use Rattle.semantics.specs.Tables.{targetsFit, locationsFit}
 use Rattle.codec.specs.Places.{placesFrom}
+use Rattle.codec.specs.Padding.{pad}
 use Rattle.table_read.specs.declared.locations.Locations.{Locations}
 
 abbrev pub entryNode : Entry → ℕ
@@ -40,10 +41,6 @@ actionsLike ks = actionsFrom 0 ks
 -- whether targets fit an action of this kind
 unfoldable pub kindFits : ℕ → ℕ → ℕ → ℕ → Bool
 kindFits n k t u = elim (likeKind (actionKind k)) [ none ↦ false | some a ↦ targetsFit n a t u ]
-
--- n of them, the rest being d
-unfoldable pub pad : ℕ → ℕ → List ℕ → List ℕ
-pad n d l = l ++ replicate (n - length l) d
 
 abbrev pub noLocations : Locations
 noLocations = record { refusal = 19; count = 0; places = replicate 1024 0 }

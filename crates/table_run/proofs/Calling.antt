@@ -2,7 +2,7 @@
 use mathlib.Core.Path.{_≡_, refl, sym, ap, _∙_}
 use mathlib.Core.List.{List, [], _∷_}
 use mathlib.Core.Option.{some}
-use Prim.Native.Nat.{ℕ, zero, suc, _+_, _-_, _*_, _≤_}
+use Prim.Native.Nat.{ℕ, zero, suc, _+_, _*_, _≤_}
 use native.Mathlib.Omega.{arith}
 use lib.ListN.{length, getElem?, take, length-append}
 use Rattle.semantics.specs.Editions.{edition1}
@@ -13,10 +13,11 @@ use Rattle.semantics.specs.Starts.{Start}
 use Rattle.semantics.specs.Tables.{Table, judgeTable, tableControl}
 use Rattle.semantics.specs.Calls as Calls
 use Rattle.semantics.specs.Calls.{Program, Outcome, judgeAdmission, judgeRun, report, runFrom, tableProgram, tableRun}
+use Rattle.codec.specs.Padding.{pad}
 use Rattle.plant.specs.PlantRead.{plantOf}
 use Rattle.plant.specs.declared.sections.PlantRead.{PlantRead}
-use Rattle.plant.specs.Equations.{modeSize, equationSize, startsFrom, pad, modePlaces}
-use Rattle.plant.proofs.Padding.{length-pad}
+use Rattle.plant.specs.Equations.{modeSize, equationSize, startsFrom, modePlaces}
+use Rattle.codec.proofs.Padding.{length-pad}
 use Rattle.plant.proofs.EquationCases.{starts-length}
 use Rattle.plant.proofs.EquationLaws.{few-selectors, few-modes-each}
 use Rattle.plant.proofs.PlantLaws.{passed-all, variables-of, selectors-of, places-of}

@@ -13,11 +13,12 @@ use Rattle.semantics.specs.Editions.{edition1}
 use Rattle.semantics.proofs.Facts.{none-not-some, some-is, at-exists}
 use Rattle.schedules.specs.Nodes.{Node, nodesIn}
 use Rattle.schedules.specs.Trees.{children}
+use Rattle.codec.specs.Padding.{pad}
 use Rattle.codec.proofs.Reading.{either}
-use Rattle.tree_read.specs.Index.{pad, nodesOf, payloadOf}
+use Rattle.tree_read.specs.Index.{nodesOf, payloadOf}
 use Rattle.tree_read.specs.Walks.{childrenOf}
 use Rattle.tree_read.specs.declared.nodes.Nodes.{Nodes}
-use Rattle.tree_read.proofs.Pads.{pad-none, pad-snoc, map-snoc, map-length}
+use Rattle.codec.proofs.Padding.{pad-none, pad-map-snoc}
 use Rattle.tree_read.proofs.NodeIndex.{indexed, nodes-none}
 use Rattle.tree_read.proofs.NodeKinds.{Says, says}
 
@@ -89,8 +90,8 @@ counts-more s cs i v {ns} h l e k =
     let b = indexed s h .few-nodes in
     let j : i < length ns = omega arith in
     let x = known s h i j in
-    let m : length (map children (take i ns)) ≡ i = map-length children (take i ns) ∙ length-take-le i ns (omega arith) in
-    rw (e, k, count-is s h i j, add-one i, take-next ns i (x .is)) (pad-snoc 64 0 i (children (x .node)) (map children (take i ns)) m (omega arith) ∙ ap (pad 64 0) (sym (map-snoc children (take i ns) (x .node))))
+    let m : length (take i ns) ≡ i = length-take-le i ns (omega arith) in
+    rw (e, k, count-is s h i j, add-one i, take-next ns i (x .is)) (pad-map-snoc 64 0 children (take i ns) i (x .node) m (omega arith))
 
 counts-all : (s cs : List ℕ) (i : ℕ) {ns : List Node} → nodesIn edition1 s ≡ some ns → nodesOf s .count ≤ i → cs ≡ pad 64 0 (map children (take i ns)) → cs ≡ pad 64 0 (map children ns)
 counts-all s cs i {ns} h l e = let n = indexed s h .counted in e ∙ ap (λ z. pad 64 0 (map children z)) (take-all i ns (omega arith))

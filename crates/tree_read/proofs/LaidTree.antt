@@ -1,12 +1,12 @@
 -- A tree that was read lies in the arrays: the kinds of the index, and the ends of the subtrees.
 use mathlib.Core.Path.{_≡_, refl, sym, ap, _∙_, subst}
 use mathlib.Core.Bool.{true, false}
-use mathlib.Core.List.{List, [], _∷_, _++_, map}
+use mathlib.Core.List.{List, [], _∷_, _++_, map, map-append}
 use mathlib.Core.Option.{Option, none, some}
 use Prim.Native.Nat.{ℕ, suc, _+_, _≤_, _<_}
 use native.Mathlib.Nat.{zero-add}
 use native.Mathlib.Omega.{arith}
-use lib.ListN.{length, getD, getElem?, length-append}
+use lib.ListN.{length, getD, getElem?, length-append, length-map}
 use Rattle.semantics.specs.Bytes.{isSome}
 use Rattle.semantics.specs.Editions.{edition1}
 use Rattle.semantics.proofs.Facts.{true-not-false, some-is, some-of, at-below}
@@ -15,10 +15,11 @@ use Rattle.schedules.specs.Trees.{Tree, Forest, treeOf}
 use Rattle.schedules.specs.Preorder.{Written, WrittenAll, a-continue, a-reset, a-reinitial, a-switch, a-stop, a-while, an-if, a-sequence, a-parallel, no-tree, one-tree as next-tree}
 use Rattle.schedules.specs.Laid.{NodeRow, Plain, Laid, LaidF, laid-leaf, laid-halt, laid-loop, laid-branch, laid-seq, laid-par, laid-nil, laid-cons, Lies}
 use Rattle.schedules.proofs.OneTree.{one-tree}
-use Rattle.tree_read.specs.Index.{pad, nodesOf}
+use Rattle.codec.specs.Padding.{pad}
+use Rattle.tree_read.specs.Index.{nodesOf}
 use Rattle.tree_read.specs.Ends.{treeSize, forestSize, treeEnds, forestEnds, subtreesOf, treeIn}
 use Rattle.tree_read.specs.declared.tree.Subtrees.{Subtrees}
-use Rattle.tree_read.proofs.Pads.{getD-pad, length-pad, map-length}
+use Rattle.codec.proofs.Padding.{getD-pad, length-pad}
 use Rattle.tree_read.proofs.NodeIndex.{indexed}
 use Rattle.tree_read.proofs.NodeKinds.{kindNumber}
 use Rattle.tree_read.proofs.ChildCounts.{known}
@@ -46,10 +47,6 @@ held-map f [] l n b g = held-nil
 held-map f (x ∷ ns) l n b g =
     let e : n ≡ n + 0 = omega arith in
     held-cons {n = n} (omega arith) (ap (λ k. getD l k 0) e ∙ g 0 x refl) (held-map f ns l (suc n) (omega arith) (λ i y h. let k : suc n + i ≡ n + suc i = omega arith in ap (λ k. getD l k 0) k ∙ g (suc i) y h))
-
-map-append : (f : Node → ℕ) (ms ns : List Node) → map f (ms ++ ns) ≡ map f ms ++ map f ns
-map-append f [] ns = refl
-map-append f (x ∷ ms) ns = ap (λ z. f x ∷ z) (map-append f ms ns)
 
 -- ---- a tree has as many nodes as are written
 mutual
@@ -81,7 +78,7 @@ plain : {k : ℕ} → 5 ≤ k → k ≤ 8 → Plain k
 plain a b = record { low = a; high = b }
 
 kinds-parts : {ks : List ℕ} {n : ℕ} (ms ns : List Node) {l : List Node} → l ≡ ms ++ ns → Held ks n (map kindNumber l) → Held ks n (map kindNumber ms) × Held ks (n + length ms) (map kindNumber ns)
-kinds-parts {ks} {n} ms ns d h = held-parts (map kindNumber ms) (map kindNumber ns) (subst (Held ks n) (ap (map kindNumber) d ∙ map-append kindNumber ms ns) h) (ap (λ k. n + k) (map-length kindNumber ms))
+kinds-parts {ks} {n} ms ns d h = held-parts (map kindNumber ms) (map kindNumber ns) (subst (Held ks n) (ap (map kindNumber) d ∙ map-append kindNumber ms ns) h) (ap (λ k. n + k) (length-map ms kindNumber))
 
 ends-parts : {es : List ℕ} {n m : ℕ} (t : Tree) (vs : ℕ → List ℕ) → treeSize t ≡ m → Held es n (treeEnds t n ++ vs (n + treeSize t)) → Held es n (treeEnds t n) × Held es (n + m) (vs (n + m))
 ends-parts {es} {n} t vs z h =
@@ -153,7 +150,7 @@ module _ (s : List ℕ) {ns : List Node} {t : Tree} (h : nodesIn edition1 s ≡ 
   ends-held =
       let l : length (treeEnds t 0) ≤ 64 = omega (arith, length-tree-ends t 0, written-size ((one-tree ns t) .0 g), indexed s h .counted, indexed s h .few-nodes) in
       let k = length-pad 64 0 (treeEnds t 0) l in
-      let a = held-at (pad 64 0 (treeEnds t 0)) 0 (treeEnds t 0) (omega arith) (λ i b. ap (λ j. getD (pad 64 0 (treeEnds t 0)) j 0) (zero-add i) ∙ getD-pad 64 0 i 0 (treeEnds t 0) b) in
+      let a = held-at (pad 64 0 (treeEnds t 0)) 0 (treeEnds t 0) (omega arith) (λ i b. ap (λ j. getD (pad 64 0 (treeEnds t 0)) j 0) (zero-add i) ∙ getD-pad 64 0 (treeEnds t 0) i 0 b) in
       subst (λ (r : Subtrees). Held (r .ends) 0 (treeEnds t 0)) (sym tree-is) a
 
   pub laid : Laid (nodesOf s .kinds) (treeIn s .ends) t 0 (length ns)

@@ -1,4 +1,3 @@
-pub mod Pads
 -- nodes
 mod NodeForms
 pub mod NodeIndex

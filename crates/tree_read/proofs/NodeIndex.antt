@@ -5,20 +5,21 @@ use mathlib.Core.List.{List, [], _∷_, map}
 use mathlib.Core.Option.{Option, none, some}
 use Prim.Native.Nat.{ℕ, _+_, _-_, _≤_, _<_}
 use native.Mathlib.Omega.{arith}
-use lib.ListN.{length, getD, drop, set, replicate}
+use lib.ListN.{length, getD, drop, set, replicate, length-map}
 use Rattle.semantics.specs.Bytes.{Read, broken, read, andThen, _>>=_, guard, fail, byte, number, times, just, whole, within}
 use Rattle.semantics.specs.Editions.{edition1}
 use Rattle.semantics.proofs.Facts.{true-not-false, within-both, within-low, within-high}
 use Rattle.semantics.proofs.Readers.{split, guarded, byte-read, whole-read}
 use Rattle.schedules.specs.Nodes.{Node, readNode, readNodes, nodesIn}
 use Rattle.codec.specs.Reading.{Took}
+use Rattle.codec.specs.Padding.{pad}
 use Rattle.codec.proofs.Reading.{drop-past, drop-some, within-below, within-above}
 use Rattle.codec.proofs.Known.{snoc-none, times-length}
 use Rattle.codec.proofs.Loops.{loop-start, loop-next, counted}
 use Rattle.codec.proofs.Places.{places-start, places-length, places-more, places-count, placed}
-use Rattle.tree_read.specs.Index.{pad, kindAt, startAt, endAt, nodePlaces, notNodes, index, nodesOf, isRead, Entry, IndexOf}
+use Rattle.tree_read.specs.Index.{kindAt, startAt, endAt, nodePlaces, notNodes, index, nodesOf, isRead, Entry, IndexOf}
 use Rattle.tree_read.specs.declared.nodes.Nodes.{Nodes}
-use Rattle.tree_read.proofs.Pads.{pad-none, pad-map-snoc, pad-map, length-pad, map-length}
+use Rattle.codec.proofs.Padding.{pad-none, pad-map-snoc, pad-map, length-pad}
 use Rattle.tree_read.proofs.NodeForms.{was, takes-node}
 
 abbrev Any : {A : Type 0} → A → Unit {0} → Type 0
@@ -194,7 +195,7 @@ indexed s {ns} h = subst (λ r. IndexOf s r ns) (sym (nodes-some s h)) (go (sect
     filled f k =
         let n = places-length (length s) (readNode edition1) (length ns) (drop 1 s) (k .got) in
         let high = k .high in
-        length-pad 64 0 _ (omega (arith, map-length f (nodePlaces s (length ns))))
+        length-pad 64 0 _ (omega (arith, length-map (nodePlaces s (length ns)) f))
 
     go : Section s ns → IndexOf s (index s (length ns)) ns
     go k = record {

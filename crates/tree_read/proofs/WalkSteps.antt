@@ -6,7 +6,7 @@ use Prim.Native.Nat.{ℕ, zero, suc, _+_, _-_, _≤_, _<_}
 use native.Mathlib.Nat.{add-zero}
 use native.Mathlib.Numerals.{add-one, sub-one}
 use native.Mathlib.Omega.{arith}
-use lib.ListN.{length, getD, take, drop, set, getElem?, drop-of-length-le}
+use lib.ListN.{length, getD, take, drop, set, getElem?, drop-of-length-le, length-map}
 use lib.Seq.{length-take-le, set-append-left, take-set-lt, take-suc-set, append-snoc}
 use Rattle.semantics.proofs.Facts.{none-not-some, some-is, at-exists}
 use Rattle.schedules.specs.Nodes.{Node}
@@ -19,7 +19,6 @@ use Rattle.tree_read.specs.PaperNumbers.{paperWalk, nextNode}
 use Rattle.tree_read.specs.Walks.{Parent, Counts, Bound, Passed, TreeWalked, ForestWalked}
 use Rattle.tree_read.specs.declared.tree.Walk.{Walk}
 use Rattle.tree_read.specs.declared.tree.Walk.the-variants.{Next, Lost}
-use Rattle.tree_read.proofs.Pads.{map-length}
 use Rattle.tree_read.proofs.TreeEnds.{length-tree-ends, rooted}
 
 -- ---- the paper's number and the next node, by the answer's case
@@ -72,7 +71,7 @@ map-at f (y ∷ l) zero e = ap f (some-is e)
 map-at f (y ∷ l) (suc i) e = map-at f l i e
 
 counts-length : {ks : List ℕ} {ns : List Node} → Counts ks ns → length ks ≡ length ns
-counts-length {ns = ns} c = ap length (c .is) ∙ map-length children ns
+counts-length {ns = ns} c = ap length (c .is) ∙ length-map ns children
 
 head : {ks : List ℕ} {ns : List Node} (n : ℕ) → Counts ks ns → n < length ks → Head ks ns n
 head {ks} {ns} n c h =

@@ -6,7 +6,7 @@ use mathlib.Core.Option.{Option, none, some}
 use Prim.Native.Nat.{ℕ, zero, suc, _+_, _-_, _≤_, _<_}
 use native.Mathlib.Nat.{sub-zero}
 use native.Mathlib.Omega.{arith}
-use lib.ListN.{length, take, drop, replicate, length-drop}
+use lib.ListN.{length, take, drop, replicate, length-drop, length-map}
 use lib.Seq.{take-at}
 use Rattle.semantics.specs.Bytes.{overwrite}
 use Rattle.semantics.specs.Editions.{edition1}
@@ -14,15 +14,15 @@ use Rattle.semantics.proofs.Facts.{none-not-some, some-is, at-below}
 use Rattle.schedules.specs.Nodes.{Node, nodesIn}
 use Rattle.schedules.specs.Trees.{Tree, children, Walked, lost, walked, readTree, noneLeft, treeOf}
 use Rattle.codec.specs.Writing.{Wrote}
+use Rattle.codec.specs.Padding.{pad}
 use Rattle.codec.proofs.Writing.{wrote-front}
-use Rattle.tree_read.specs.Index.{pad, nodesOf}
+use Rattle.tree_read.specs.Index.{nodesOf}
 use Rattle.tree_read.specs.Ends.{noTree, subtreesOf, treeIn}
 use Rattle.tree_read.specs.PaperNumbers.{paperWalk}
 use Rattle.tree_read.specs.Walks.{Parent, Counts, TreeWalked}
 use Rattle.tree_read.specs.declared.nodes.Nodes.{Nodes}
 use Rattle.tree_read.specs.declared.tree.Walk.{Walk}
 use Rattle.tree_read.specs.declared.tree.Walk.the-variants.{Next, Lost}
-use Rattle.tree_read.proofs.Pads.{map-length}
 use Rattle.tree_read.proofs.NodeIndex.{nodes-none, indexed}
 use Rattle.tree_read.proofs.ChildCounts.{known}
 use Rattle.tree_read.proofs.WalkSteps.{no-next, not-10, next-same}
@@ -50,7 +50,7 @@ over-zeros {l} w = wrote-front w ∙ ap (λ z. l ++ z) (drop-replicate 64 (lengt
 counts-of : (s cs : List ℕ) {ns : List Node} → nodesIn edition1 s ≡ some ns → cs ≡ pad 64 0 (map children ns) → Counts (take (nodesOf s .count) cs) ns
 unfolding pad
 counts-of s cs {ns} h e = record {
-  is = ap (take (nodesOf s .count)) e ∙ take-at (map children ns) _ (nodesOf s .count) (map-length children ns ∙ indexed s h .counted);
+  is = ap (take (nodesOf s .count)) e ∙ take-at (map children ns) _ (nodesOf s .count) (length-map ns children ∙ indexed s h .counted);
   parents = λ i g. subst Parent (some-is (sym (known s h i (at-below ns i g) .is) ∙ g)) (known s h i (at-below ns i g) .says-so .parent);
 }
 
@@ -63,7 +63,7 @@ module _ (s cs e : List ℕ) (w : Walk) (c : (ns : List Node) → nodesIn editio
   root : {ns : List Node} → nodesIn edition1 s ≡ some ns → TreeWalked ns 0 (replicate 64 0) e (readTree (length ns) 0 ns) w
   root {ns} h =
       let k = counts-of s cs h (c ns h) in
-      p ns k (length ns) (omega (arith, ap length (k .is) ∙ map-length children ns))
+      p ns k (length ns) (omega (arith, ap length (k .is) ∙ length-map ns children))
 
   -- without nodes nothing is read
   empty : nodesIn edition1 s ≡ none → paperWalk w ≡ 10

@@ -7,7 +7,7 @@ use lib.ListN.{replicate}
 use Rattle.semantics.specs.Editions.{edition1}
 use Rattle.schedules.specs.Nodes.{nodesIn}
 use Rattle.schedules.specs.Trees.{Tree, Forest, leaf, halt, loop, branch, seq, par, nil, cons, treeOf}
-use Rattle.tree_read.specs.Index.{pad}
+use Rattle.codec.specs.Padding.{pad}
 use Rattle.tree_read.specs.declared.tree.Subtrees.{Subtrees}
 
 -- how many nodes

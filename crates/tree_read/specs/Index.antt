@@ -1,7 +1,7 @@
 -- Condition 9, and the nodes by number: the kind of each, and where its payload starts and ends in the schedule section.
 use mathlib.Core.Path.{_≡_}
 use mathlib.Core.Bool.{Bool, true, false}
-use mathlib.Core.List.{List, [], _∷_, _++_, map}
+use mathlib.Core.List.{List, [], _∷_, map}
 use mathlib.Core.Option.{none, some}
 use Prim.Native.Nat.{ℕ, _+_, _-_, _≤_, _<_}
 use lib.Dec.{leb}
@@ -10,11 +10,8 @@ use Rattle.semantics.specs.Bytes.{Read, broken, read}
 use Rattle.semantics.specs.Editions.{edition1}
 use Rattle.schedules.specs.Nodes.{Node, kindOf, nodeOf, readNode, nodesIn}
 use Rattle.codec.specs.Places.{placesFrom}
+use Rattle.codec.specs.Padding.{pad}
 use Rattle.tree_read.specs.declared.nodes.Nodes.{Nodes}
-
--- an array that holds a list and, behind it, the same number everywhere
-unfoldable pub pad : ℕ → ℕ → List ℕ → List ℕ
-pad n d l = l ++ replicate (n - length l) d
 
 -- ---- what stands at a place where a node stands: its length, its kind and its payload
 unfoldable pub kindAt : List ℕ → ℕ → ℕ

@@ -8,7 +8,8 @@ ghost use lib.ListN.{length, getD, drop};
 ghost use Rattle.semantics.specs.Editions.{edition1};
 ghost use Rattle.schedules.specs.Nodes.{Node, nodesIn};
 ghost use Rattle.schedules.specs.Trees.{children, readTree, readForest};
-ghost use Rattle.tree_read.specs.Index.{pad, nodesOf};
+ghost use Rattle.codec.specs.Padding.{pad};
+ghost use Rattle.tree_read.specs.Index.{nodesOf};
 ghost use Rattle.tree_read.specs.Ends.{noTree, treeIn};
 ghost use Rattle.tree_read.specs.Walks.{childrenOf, Counts, Bound, TreeWalked, ForestWalked};
 

@@ -2,7 +2,7 @@ use mathlib.Core.Path.{refl}
 use native.Mathlib.Omega.{arith}
 use borrow.Author.Needs.{needs}
 use Prim.Native.Nat.{_-_, _≤_}
-use Rattle.plant.specs.Variables.{pad}
+use Rattle.codec.specs.Padding.{pad}
 use Rattle.start_read.proofs.StartTurns.{Moded, modes-start, modes-next, modes-stop, modes-end}
 use Rattle.start_read.proofs.read_modes.Statement.{statement}
 use Rattle.start_read.proofs.read_modes.Tie as tie

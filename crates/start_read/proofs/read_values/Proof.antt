@@ -8,7 +8,7 @@ use native.Mathlib.Omega.{arith}
 use borrow.Author.Needs.{needs}
 use borrow.Author.Tests.{not-true, not-false}
 use Prim.Native.Nat.{_-_, _≤_}
-use Rattle.plant.specs.Variables.{pad}
+use Rattle.codec.specs.Padding.{pad}
 use Rattle.start_read.proofs.StartTurns.{Valued, values-start, values-next, values-stop, values-end, inside-held}
 use Rattle.start_read.proofs.read_values.Statement.{statement}
 use Rattle.start_read.proofs.read_values.Tie as tie

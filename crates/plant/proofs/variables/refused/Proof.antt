@@ -1,5 +1,6 @@
 use mathlib.Core.Path.{refl}
-use Rattle.plant.specs.Variables.{refusedBy, answer, column, pad}
+use Rattle.codec.specs.Padding.{pad}
+use Rattle.plant.specs.Variables.{refusedBy, answer, column}
 use Rattle.plant.proofs.variables.refused.Statement.{statement}
 use Rattle.plant.proofs.variables.refused.Tie as tie
 

@@ -2,8 +2,9 @@ use borrow.Author.Needs.{needs}
 use native.Mathlib.Omega.{arith}
 use mathlib.Core.Path.{_≡_, sym, _∙_}
 use Prim.Native.Nat.{_-_, _+_, _*_, _≤_}
+use Rattle.codec.specs.Padding.{pad}
 use Rattle.plant.proofs.VariableSection.{Going, going-start, going-next, stopped, ended, variableAt, below-minimum, above-maximum, in-order, lt-as, value}
-use Rattle.plant.specs.Variables.{column, pad}
+use Rattle.plant.specs.Variables.{column}
 use Rattle.plant.proofs.variables.values.Statement.{statement}
 use Rattle.plant.proofs.variables.values.Tie as tie
 

@@ -4,7 +4,7 @@ use Prim.Native.Nat.{_≤_, _-_}
 use native.Mathlib.Omega.{arith}
 use lib.ListN.{take}
 use Rattle.schedules.specs.Nodes.{kindOf}
-use Rattle.tree_read.specs.Index.{pad}
+use Rattle.codec.specs.Padding.{pad}
 use Rattle.schedule_read.specs.Actions.{actionNumber}
 use Rattle.schedule_read.proofs.NodeActions.{numbers-start, numbers-next, numbers-end}
 use borrow.Author.Needs.{needs}

@@ -1,12 +1,12 @@
 use mathlib.Core.Path.{sym, _∙_}
 use borrow.Author.Needs.{needs}
 use borrow.Author.Tests.{not-true, not-false}
-use Rattle.schedule_read.proofs.Stages.{selected, equations-there, by-11, by-12, by-switches, nodes-passed}
+use Rattle.schedule_read.proofs.Stages.{equations-there, by-11, by-12, by-switches, nodes-passed}
 use Rattle.schedule_read.proofs.call.checked.Statement.{statement}
 use Rattle.schedule_read.proofs.call.checked.Tie as tie
 
 named-requires : tie.Need-named-requires
-named-requires c κs = (c .before .before .before .before .before .before .pre .0, selected (c .before .before .before .before .before .before .pre .1))
+named-requires c κs = (c .before .before .before .before .before .before .pre .0, c .before .before .before .before .before .before .pre .1 .room)
 
 returns : tie.Need-returns
 returns c = by-11 (c .before .named .ensures) (not-true _ (c .if1 .taken))

@@ -1,7 +1,7 @@
 use mathlib.Core.Path.{sym, _∙_}
 use borrow.Author.Needs.{needs}
 use borrow.Author.Tests.{not-true, not-false}
-use Rattle.schedule_read.proofs.Stages.{by-plant, planted, by-nodes, index-of, by-tree, by-last, all-passed}
+use Rattle.schedule_read.proofs.Stages.{by-plant, planted, counts-full, by-nodes, index-of, by-tree, by-last, all-passed}
 use Rattle.schedule_read.proofs.call.sections.Statement.{statement}
 use Rattle.schedule_read.proofs.call.sections.Tie as tie
 
@@ -42,7 +42,7 @@ slice-aggregate-checked-3 : tie.Need-slice-aggregate-checked-3
 slice-aggregate-checked-3 c = sym (index-of (c .before .before .before .before .before .before .before .before .before .before .before .before .before .before .before .before .before .before .args .parts) (c .before .before .before .before .before .before .before .before .before .before .before .before .before .before .before .before .before .before .args .vs .now) (c .before .before .before .before .before .before .before .before .before .before .before .before .before .before .before .before .before .before .args .es .now) (c .before .before .before .before .before .before .before .before .before .before .before .before .before .before .before .before .before .before .args .s .now) (c .before .before .before .before .before .before .before .before .before .before .before .before .before .before .read .ensures) (c .before .before .before .before .before .before .before .before .before .before .before .before .before .if1 .left) (c .before .before .before .before .before .before .before .before .before .before .before .before .read2 .ensures) (c .before .before .before .before .before .before .before .before .before .before .if2 .left) .at .ends-full)
 
 slice-aggregate-checked-4 : tie.Need-slice-aggregate-checked-4
-slice-aggregate-checked-4 c = sym (planted (c .before .before .before .before .before .before .before .before .before .before .before .before .before .before .before .before .before .before .before .args .parts) (c .before .before .before .before .before .before .before .before .before .before .before .before .before .before .before .before .before .before .before .args .vs .now) (c .before .before .before .before .before .before .before .before .before .before .before .before .before .before .before .before .before .before .before .args .es .now) (c .before .before .before .before .before .before .before .before .before .before .before .before .before .before .before .before .before .before .before .args .s .now) (c .before .before .before .before .before .before .before .before .before .before .before .before .before .before .before .read .ensures) (c .before .before .before .before .before .before .before .before .before .before .before .before .before .before .if1 .left) .at .modes-at .full)
+slice-aggregate-checked-4 c = sym (counts-full (c .before .before .before .before .before .before .before .before .before .before .before .before .before .before .before .before .before .before .before .args .parts) (c .before .before .before .before .before .before .before .before .before .before .before .before .before .before .before .before .before .before .before .args .vs .now) (c .before .before .before .before .before .before .before .before .before .before .before .before .before .before .before .before .before .before .before .args .es .now) (c .before .before .before .before .before .before .before .before .before .before .before .before .before .before .before .before .before .before .before .args .s .now) (c .before .before .before .before .before .before .before .before .before .before .before .before .before .before .before .read .ensures) (c .before .before .before .before .before .before .before .before .before .before .before .before .before .before .if1 .left))
 
 checked-requires : tie.Need-checked-requires
 checked-requires c κs = (index-of (c .before .before .before .before .before .before .before .before .before .before .before .before .before .before .before .before .before .before .before .args .parts) (c .before .before .before .before .before .before .before .before .before .before .before .before .before .before .before .before .before .before .before .args .vs .now) (c .before .before .before .before .before .before .before .before .before .before .before .before .before .before .before .before .before .before .before .args .es .now) (c .before .before .before .before .before .before .before .before .before .before .before .before .before .before .before .before .before .before .before .args .s .now) (c .before .before .before .before .before .before .before .before .before .before .before .before .before .before .before .read .ensures) (c .before .before .before .before .before .before .before .before .before .before .before .before .before .before .if1 .left) (c .before .before .before .before .before .before .before .before .before .before .before .before .before .read2 .ensures) (c .before .before .before .before .before .before .before .before .before .before .before .if2 .left), planted (c .before .before .before .before .before .before .before .before .before .before .before .before .before .before .before .before .before .before .before .args .parts) (c .before .before .before .before .before .before .before .before .before .before .before .before .before .before .before .before .before .before .before .args .vs .now) (c .before .before .before .before .before .before .before .before .before .before .before .before .before .before .before .before .before .before .before .args .es .now) (c .before .before .before .before .before .before .before .before .before .before .before .before .before .before .before .before .before .before .before .args .s .now) (c .before .before .before .before .before .before .before .before .before .before .before .before .before .before .before .read .ensures) (c .before .before .before .before .before .before .before .before .before .before .before .before .before .before .if1 .left))

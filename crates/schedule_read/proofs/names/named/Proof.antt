@@ -4,7 +4,7 @@ use native.Mathlib.Omega.{arith}
 use borrow.Author.Tests.{not-true, not-false}
 use Rattle.semantics.specs.Sections.{Selector}
 use Rattle.schedules.specs.Nodes.{nodeNamed}
-use Rattle.schedule_read.specs.Indexed.{ModesAt}
+use Rattle.plant.specs.ModeCounts.{ModesAt}
 use Rattle.schedule_read.proofs.Passing.{Passing, made, pass-start, pass-next, pass-stop, pass-end}
 use Rattle.schedule_read.proofs.names.named.Statement.{statement}
 use Rattle.schedule_read.proofs.names.named.Tie as tie

@@ -1,5 +1,5 @@
 -- One law of AdmissionLaws for each return.
-use mathlib.Core.Path.{_∙_}
+use mathlib.Core.Path.{sym, _∙_}
 use borrow.Author.Needs.{needs}
 use Rattle.start_read.proofs.AdmissionLaws.{size-is, by-20, by-21, by-22, by-all}
 use Rattle.start_read.proofs.admission.admit.Statement.{statement}
@@ -35,12 +35,12 @@ refused-requires-2 c κs = search needs
 returns-3 : tie.Need-returns-3
 returns-3 c p a es d i j =
     let s = c .before .before .before .before in
-    c .refused2 .ensures ∙ by-22 p _ es d (s .before .before .before .read .ensures p a) (s .before .if1 .left) i j (s .if2 .left) (size-is p (a .ranges .count) (a .counts .count)) (c .before .if3 .taken)
+    c .refused2 .ensures ∙ by-22 p _ es d (s .before .before .before .read .ensures p a) (s .before .if1 .left) i j (s .if2 .left) (size-is p (a .ranges .count) (sym (a .counts .counted))) (c .before .if3 .taken)
 
 returns-4 : tie.Need-returns-4
 returns-4 c p a es d i j =
     let s = c .before .before .before in
-    by-all p _ es d (s .before .before .before .read .ensures p a) (s .before .if1 .left) i j (s .if2 .left) (size-is p (a .ranges .count) (a .counts .count)) (c .if3 .left)
+    by-all p _ es d (s .before .before .before .read .ensures p a) (s .before .if1 .left) i j (s .if2 .left) (size-is p (a .ranges .count) (sym (a .counts .counted))) (c .if3 .left)
 
 pub admit-spec : {M : Type 1} → statement M
 admit-spec = tie.close (tie.spec read-requires returns refused-requires returns-2 mul-size add-size add-size-2 div-if3 refused-requires-2 returns-3 returns-4)

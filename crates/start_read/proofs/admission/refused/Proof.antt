@@ -1,5 +1,5 @@
 use mathlib.Core.Path.{refl}
-use Rattle.plant.specs.Variables.{pad}
+use Rattle.codec.specs.Padding.{pad}
 use Rattle.start_read.specs.Admission.{notAdmitted}
 use Rattle.start_read.proofs.admission.refused.Statement.{statement}
 use Rattle.start_read.proofs.admission.refused.Tie as tie

@@ -7,7 +7,7 @@ use lib.ListN.{take}
 use Rattle.semantics.specs.Editions.{edition1}
 use Rattle.schedules.specs.Nodes.{Node, nodesIn}
 use Rattle.schedules.specs.Trees.{children}
-use Rattle.tree_read.specs.Index.{pad}
+use Rattle.codec.specs.Padding.{pad}
 use Rattle.tree_read.proofs.ChildCounts.{few, starts-inside, counts-start, counts-next, counts-end}
 use Rattle.tree_read.proofs.tree.child_counts.Statement.{statement}
 use Rattle.tree_read.proofs.tree.child_counts.Tie as tie

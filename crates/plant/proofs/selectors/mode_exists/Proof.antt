@@ -1,7 +1,7 @@
-use Rattle.table_read.proofs.OperandTurns.{no-selector, selector}
+use Rattle.plant.proofs.ModeCounts.{no-selector, selector}
 use borrow.Author.Needs.{needs}
-use Rattle.table_read.proofs.operands.mode_exists.Statement.{statement}
-use Rattle.table_read.proofs.operands.mode_exists.Tie as tie
+use Rattle.plant.proofs.selectors.mode_exists.Statement.{statement}
+use Rattle.plant.proofs.selectors.mode_exists.Tie as tie
 
 returns : tie.Need-returns
 returns c = λ cs d. no-selector d _ _ (c .if1 .taken)
