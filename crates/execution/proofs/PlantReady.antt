@@ -15,7 +15,7 @@ use Rattle.semantics.specs.Plant.{Plant, selectors, noMode, allDeclared, judgeP
 use Rattle.semantics.specs.Starts.{Start, isOk, modesFit, startFits}
 use Rattle.semantics.proofs.Facts.{none-not-some, some-is, at-below, at-exists, and-right}
 use Rattle.codec.specs.Padding.{pad}
-use Rattle.plant.specs.Equations.{modePlaces, steadyRates}
+use Rattle.plant.specs.Equations.{modePlaces}
 use Rattle.plant.specs.PlantRead.{plantOf}
 use Rattle.codec.proofs.Padding.{pad-long}
 use Rattle.plant.proofs.VariableLaws.{column-front}
@@ -54,7 +54,7 @@ module _ (vs es : List ℕ) {p : Plant} (h : judgePlant edition1 vs es ≡ accep
   places-long = omega (arith, ap length (places-of vs es h), pad-long 128 0 (modePlaces 1 (p .equations)))
 
   steady-length : length (plantOf vs es .steady) ≡ 32
-  steady-length = ap length (steady-of vs es h) ∙ put-length (steadyRates (p .equations)) (replicate 32 (pos 0)) ∙ length-replicate 32 (pos 0)
+  steady-length = ap length (steady-of vs es h) ∙ put-length (ratesOf (p .equations) []) (replicate 32 (pos 0)) ∙ length-replicate 32 (pos 0)
 
   module _ (l : Lent) (equations : l .equations ≡ es) (places : l .places ≡ plantOf vs es .«mode_offsets») where
     mode-lent : (j : ℕ) (c : Selector) → getElem? (selectors p) j ≡ some c → (m : ℕ) → m < length (c .modes) → ModeLent l j c m
@@ -77,7 +77,7 @@ module _ (vs es : List ℕ) {p : Plant} (h : judgePlant edition1 vs es ≡ accep
       highs = b ∙ highs-lent;
       few = variables-high vs es h;
       long = ap length s ∙ steady-length;
-      steady = λ v i. ap (λ z. getD z v (pos 0)) (s ∙ steady-of vs es h) ∙ rate-among-at (steadyRates (p .equations)) 32 v (omega (arith, variables-high vs es h));
+      steady = λ v i. ap (λ z. getD z v (pos 0)) (s ∙ steady-of vs es h) ∙ rate-among-at (ratesOf (p .equations) []) 32 v (omega (arith, variables-high vs es h));
       modes = mode-lent;
       named = passed-all vs es h .named;
       once = passed-all vs es h .once;

@@ -14,7 +14,6 @@ use Rattle.semantics.specs.Starts.{modesFit}
 use Rattle.semantics.specs.Run.{Action, test, wait, assign, switch, stop}
 use Rattle.semantics.specs.TableFile.{actionKind, actionOfKind}
 use Rattle.nodeset.specs.Sets.{mem}
-use Rattle.plant.specs.Equations.{steadyRates}
 use Rattle.execution.specs.Operands.{cutAt, Cut}
 use Rattle.modes.specs.Modes.{Stands}
 
@@ -56,7 +55,7 @@ pub record PlantLent (p : Plant) (l : Lent) : Type 0 where
   pub highs : l .highs ≡ map (λ (x : Variable). x .maximum) (p .variables)
   pub few : length (p .variables) ≤ 32
   pub long : length (l .steady) ≡ 32
-  pub steady : (v : ℕ) → v < length (p .variables) → getD (l .steady) v (pos 0) ≡ rateAmong (steadyRates (p .equations)) v
+  pub steady : (v : ℕ) → v < length (p .variables) → getD (l .steady) v (pos 0) ≡ rateAmong (ratesOf (p .equations) []) v
   pub modes : (j : ℕ) (c : Selector) → getElem? (selectors p) j ≡ some c → (m : ℕ) → m < length (c .modes) → ModeLent l j c m
   -- conditions 7 and 8
   pub named : every (equationNamed (length (p .variables))) (p .equations) ≡ true

@@ -11,10 +11,9 @@ use lib.ListN.{length, getD, set, length-set}
 use lib.Seq.{getD-set-same, getD-set-other}
 use Rattle.semantics.specs.Bytes.{every}
 use Rattle.semantics.specs.Sections.{Rate, Mode, Selector, Equation, steady, choice}
-use Rattle.semantics.specs.Plant.{noMode, among, apart, onceAfter, modeDrives, drives, modesOnce, drivenOnce, selectorsOf, currentOf, ratesOf, rateAmong}
+use Rattle.semantics.specs.Plant.{noMode, among, apart, onceAfter, modeDrives, drives, modesOnce, drivenOnce, selectorsOf, currentOf, ratesOf, rateAmong, ratesDrive, modeOnce}
 use Rattle.semantics.proofs.Facts.{true-not-false, and-left, and-right, by-cases, All, all-nil, all-cons}
 use Rattle.modes.specs.Modes.{laid}
-use Rattle.plant.specs.Equations.{steadyRates}
 use Rattle.modes.proofs.Walks.{length-laid, laid-append}
 
 abbrev drivenBy : List Rate → List ℕ
@@ -172,13 +171,13 @@ module _ (v : ℕ) where
 
   -- the rates of one mode of those
   free-mode : (modes : List Mode) (m : ℕ) → among v (flatMap modeDrives modes) ≡ false → among v (drivenBy ((getD modes m noMode) .rates)) ≡ false
-  unfolding flatMap modeDrives among
+  unfolding flatMap ratesDrive modeDrives among
   free-mode [] m h = refl
   free-mode (x ∷ modes) zero h = none-first (modeDrives x) (flatMap modeDrives modes) h
   free-mode (x ∷ modes) (suc m) h = free-mode modes m (none-second (modeDrives x) (flatMap modeDrives modes) h)
 
   one-mode : (modes : List Mode) (m : ℕ) → every (λ x. onceAfter [] (modeDrives x)) modes ≡ true → onceAfter [] (drivenBy ((getD modes m noMode) .rates)) ≡ true
-  unfolding every modeDrives onceAfter
+  unfolding every ratesDrive modeDrives onceAfter
   one-mode [] m h = refl
   one-mode (x ∷ modes) m h = go (onceAfter [] (modeDrives x)) refl m h (one-mode modes)
     where
@@ -192,10 +191,10 @@ module _ (v : ℕ) where
   abbrev current : List Equation → List ℕ → List Rate
   current es ms = flatMap (λ (m : Mode). m .rates) (currentOf (selectorsOf es) ms)
 
-  free-steady : {es : List Equation} → All Leaves es → among v (drivenBy (steadyRates es)) ≡ false
-  unfolding steadyRates drives among
+  free-steady : {es : List Equation} → All Leaves es → among v (drivenBy (ratesOf es [])) ≡ false
+  unfolding ratesOf drives among
   free-steady all-nil = refl
-  free-steady (all-cons {x = steady r} {l = es} h a) = among-append v (r .driven ∷ []) (drivenBy (steadyRates es)) h ∙ free-steady a
+  free-steady (all-cons {x = steady r} {l = es} h a) = among-append v (r .driven ∷ []) (drivenBy (ratesOf es [])) h ∙ free-steady a
   free-steady (all-cons {x = choice c} h a) = free-steady a
 
   free-force : {es : List Equation} (ms : List ℕ) → All Leaves es → among v (drivenBy (ratesOf es ms)) ≡ false
@@ -225,24 +224,24 @@ module _ (v : ℕ) where
   laid-at e = ap (λ (l : List ℤ). getD l v (pos 0)) e
 
   -- this CASE drives it, so nothing else does
-  driven-here : (c : Selector) (m : ℕ) (es : List Equation) (ms : List ℕ) (zs : List ℤ) → v < length zs → getD zs v (pos 0) ≡ rateAmong (steadyRates es) v → onceAfter [] (drivenBy ((getD (c .modes) m noMode) .rates)) ≡ true → All Leaves es
+  driven-here : (c : Selector) (m : ℕ) (es : List Equation) (ms : List ℕ) (zs : List ℤ) → v < length zs → getD zs v (pos 0) ≡ rateAmong (ratesOf es []) v → onceAfter [] (drivenBy ((getD (c .modes) m noMode) .rates)) ≡ true → All Leaves es
       → getD (laid (laid zs ((getD (c .modes) m noMode) .rates)) (current es ms)) v (pos 0) ≡ rateAmong ((getD (c .modes) m noMode) .rates ++ ratesOf es ms) v
   driven-here c m es ms zs i k o a =
       let M = (getD (c .modes) m noMode) .rates in
       free-laid (laid zs M) (current es ms) (free-current ms a)
       ∙ by-cases (among v (drivenBy M))
       (λ e. laid-once zs M [] o i e ∙ sym (first-rate M (ratesOf es ms) e))
-      (λ e. free-laid zs M e ∙ k ∙ free-rate (steadyRates es) (free-steady a) ∙ sym (skip-rate M (ratesOf es ms) e ∙ free-rate (ratesOf es ms) (free-force ms a)))
+      (λ e. free-laid zs M e ∙ k ∙ free-rate (ratesOf es []) (free-steady a) ∙ sym (skip-rate M (ratesOf es ms) e ∙ free-rate (ratesOf es ms) (free-force ms a)))
 
-  pub rates-laid : (seen : List ℕ) (es : List Equation) (ms : List ℕ) (zs : List ℤ) → drivenOnce seen es ≡ true → length ms ≡ length (selectorsOf es) → v < length zs → getD zs v (pos 0) ≡ rateAmong (steadyRates es) v
+  pub rates-laid : (seen : List ℕ) (es : List Equation) (ms : List ℕ) (zs : List ℤ) → drivenOnce seen es ≡ true → length ms ≡ length (selectorsOf es) → v < length zs → getD zs v (pos 0) ≡ rateAmong (ratesOf es []) v
       → getD (laid zs (current es ms)) v (pos 0) ≡ rateAmong (ratesOf es ms) v
-  unfolding steadyRates ratesOf selectorsOf currentOf flatMap laid drives modesOnce rateAmong
+  unfolding ratesOf selectorsOf currentOf flatMap laid drives modeOnce modesOnce rateAmong
   rates-laid seen [] ms zs h l i k = k
   rates-laid seen (steady r ∷ es) ms zs h l i k =
       let o = once-parts seen (steady r) es h in
       by-cases (eqb (r .driven) v)
-      (λ e. free-laid zs (current es ms) (free-current ms (seen-left (r .driven ∷ seen) es (here-seen (r .driven) seen e) (o .rest))) ∙ k ∙ one-rate r (steadyRates es) e ∙ sym (one-rate r (ratesOf es ms) e))
-      (λ e. rates-laid (r .driven ∷ seen) es ms zs (o .rest) l i (k ∙ other-rate r (steadyRates es) e) ∙ sym (other-rate r (ratesOf es ms) e))
+      (λ e. free-laid zs (current es ms) (free-current ms (seen-left (r .driven ∷ seen) es (here-seen (r .driven) seen e) (o .rest))) ∙ k ∙ one-rate r (ratesOf es []) e ∙ sym (one-rate r (ratesOf es ms) e))
+      (λ e. rates-laid (r .driven ∷ seen) es ms zs (o .rest) l i (k ∙ other-rate r (ratesOf es []) e) ∙ sym (other-rate r (ratesOf es ms) e))
   rates-laid seen (choice c ∷ es) [] zs h l i k = absurd (omega arith)
   rates-laid seen (choice c ∷ es) (m ∷ ms) zs h l i k =
       let o = once-parts seen (choice c) es h in

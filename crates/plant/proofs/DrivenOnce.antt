@@ -7,12 +7,12 @@ use native.Mathlib.Omega.{arith}
 use lib.ListN.{length, getD, set, drop, replicate, length-set, getD-replicate}
 use Rattle.semantics.specs.Bytes.{every, read, times}
 use Rattle.semantics.specs.Sections.{Rate, Switch, Mode, readRate, readSwitch, readMode}
-use Rattle.semantics.specs.Plant.{among, onceAfter, modeDrives}
+use Rattle.semantics.specs.Plant.{among, onceAfter, modeDrives, ratesDrive, modeOnce}
 use Rattle.semantics.proofs.Facts.{true-not-false}
 use Rattle.semantics.proofs.Readers.{read-value}
 use Rattle.codec.proofs.Known.{Cons}
 use Rattle.plant.specs.Sound.{Sound}
-use Rattle.plant.specs.Driven.{drivers, allDrivers, eachOnce, Small, Held, unmarked, Marked, Tried}
+use Rattle.plant.specs.Driven.{Small, Held, unmarked, Marked, Tried, ratesTest, modesTest}
 use Rattle.plant.proofs.Marks.{small-first, small-rest, small-left, small-right, marked-set, Owed, owed-start, owed-set, owed-next, owed-end}
 use Rattle.plant.proofs.Walks.{next-of, all-left, none-left, NextRate, next-rate, ModeAt, mode-at}
 
@@ -48,9 +48,6 @@ pub tried-as : {A : Type 0} (test : A → Bool) (l : A → List ℕ) {x y : A} {
 tried-as test l {a = a} {r = r} {b = b} e t = subst (λ z. Tried (test z) a (l z) r b) e t
 
 -- ---- the rates of a mode
-abbrev pub ratesTest : List Bool → List Rate → Bool
-ratesTest before rs = onceAfter [] (drivers rs) && unmarked before (drivers rs)
-
 pub record RatesGoing (s : List ℕ) (at n : ℕ) (before a seen mine : List Bool) (p i : ℕ) : Type 0 where
   pub all : List Rate
   pub end : List ℕ
@@ -58,14 +55,14 @@ pub record RatesGoing (s : List ℕ) (at n : ℕ) (before a seen mine : List Boo
   pub rest : List Rate
   pub got : times (n - i) readRate (drop p s) ≡ read rest end
   pub inside : p ≤ length s
-  pub small : Small (drivers rest)
+  pub small : Small (ratesDrive rest)
   pub noted : List ℕ
   pub stands : Marked [] noted mine
-  pub same : ratesTest before all ≡ (onceAfter noted (drivers rest) && unmarked before (drivers rest))
-  pub owed : Owed a (drivers all) seen (drivers rest)
+  pub same : ratesTest before all ≡ (onceAfter noted (ratesDrive rest) && unmarked before (ratesDrive rest))
+  pub owed : Owed a (ratesDrive all) seen (ratesDrive rest)
   pub seen-length : length seen ≡ 32
 
-pub rates-start : (s : List ℕ) (at n : ℕ) (before a : List Bool) → length a ≡ 32 → Held (times n readRate) drivers s at → RatesGoing s at n before a a (replicate 32 false) at 0
+pub rates-start : (s : List ℕ) (at n : ℕ) (before a : List Bool) → length a ≡ 32 → Held (times n readRate) ratesDrive s at → RatesGoing s at n before a a (replicate 32 false) at 0
 rates-start s at n before a h t = record {
   all = t .sound .value;
   end = t .sound .end;
@@ -77,45 +74,45 @@ rates-start s at n before a h t = record {
   noted = [];
   stands = marked-none;
   same = refl;
-  owed = owed-start a (drivers (t .sound .value));
+  owed = owed-start a (ratesDrive (t .sound .value));
   seen-length = h;
 }
 
 module _ {s : List ℕ} {at n : ℕ} {before a seen mine : List Bool} {p i : ℕ} (g : RatesGoing s at n before a seen mine p i) where
   -- the answer, whatever name the rates have
-  pub rates-false : ratesTest before (g .all) ≡ false → (b : List Bool) (rs : List Rate) (e : List ℕ) → times n readRate (drop at s) ≡ read rs e → Tried (ratesTest before rs) a (drivers rs) false b
+  pub rates-false : ratesTest before (g .all) ≡ false → (b : List Bool) (rs : List Rate) (e : List ℕ) → times n readRate (drop at s) ≡ read rs e → Tried (ratesTest before rs) a (ratesDrive rs) false b
   rates-false t b rs e h = tried-false (ap (ratesTest before) (read-value (sym h ∙ g .is)) ∙ t)
 
-  pub rates-end : i ≡ n → (rs : List Rate) (e : List ℕ) → times n readRate (drop at s) ≡ read rs e → Tried (ratesTest before rs) a (drivers rs) true seen
-  unfolding drivers onceAfter unmarked every
+  pub rates-end : i ≡ n → (rs : List Rate) (e : List ℕ) → times n readRate (drop at s) ≡ read rs e → Tried (ratesTest before rs) a (ratesDrive rs) true seen
+  unfolding ratesDrive onceAfter unmarked every
   rates-end k rs e h =
       let z = none-left readRate n i (drop p s) k (g .got) .0 in
-      let t : ratesTest before (g .all) ≡ true = g .same ∙ ap (λ x. onceAfter (g .noted) (drivers x) && unmarked before (drivers x)) z in
-      let m : Owed a (drivers (g .all)) seen [] = subst (λ x. Owed a (drivers (g .all)) seen (drivers x)) z (g .owed) in
-      tried-as (ratesTest before) drivers (read-value (sym (g .is) ∙ h)) (tried-true t (owed-end seen (g .seen-length) m))
+      let t : ratesTest before (g .all) ≡ true = g .same ∙ ap (λ x. onceAfter (g .noted) (ratesDrive x) && unmarked before (ratesDrive x)) z in
+      let m : Owed a (ratesDrive (g .all)) seen [] = subst (λ x. Owed a (ratesDrive (g .all)) seen (ratesDrive x)) z (g .owed) in
+      tried-as (ratesTest before) ratesDrive (read-value (sym (g .is) ∙ h)) (tried-true t (owed-end seen (g .seen-length) m))
 
 module _ {s : List ℕ} {at n : ℕ} {before a seen mine : List Bool} {p i : ℕ} (g : RatesGoing s at n before a seen mine p i) (h : i < n) where
   rate : NextRate s (n - (i + 1)) p (g .rest) (g .end)
   rate = next-rate s n i p h (g .inside) (g .got)
 
-  next-drivers : drivers (g .rest) ≡ getD s p 0 ∷ drivers (rate .tail)
-  unfolding drivers
-  next-drivers = ap drivers (sym (rate .is)) ∙ ap (λ v. v ∷ drivers (rate .tail)) (rate .driven-is)
+  next-ratesDrive : ratesDrive (g .rest) ≡ getD s p 0 ∷ ratesDrive (rate .tail)
+  unfolding ratesDrive
+  next-ratesDrive = ap ratesDrive (sym (rate .is)) ∙ ap (λ v. v ∷ ratesDrive (rate .tail)) (rate .driven-is)
 
-  next-small : Small (getD s p 0 ∷ drivers (rate .tail))
-  next-small = rw next-drivers at (g .small)
+  next-small : Small (getD s p 0 ∷ ratesDrive (rate .tail))
+  next-small = rw next-ratesDrive at (g .small)
 
   pub rate-inside : p + 1 + 4 ≤ length s
   rate-inside = rate .inside
 
   pub rate-variable : getD s p 0 < 32
-  rate-variable = small-first (getD s p 0) (drivers (rate .tail)) next-small
+  rate-variable = small-first (getD s p 0) (ratesDrive (rate .tail)) next-small
 
   pub rates-before : getD before (getD s p 0) false ≡ true → ratesTest before (g .all) ≡ false
-  rates-before e = g .same ∙ ap (λ l. onceAfter (g .noted) l && unmarked before l) next-drivers ∙ ap (λ t. onceAfter (g .noted) (getD s p 0 ∷ drivers (rate .tail)) && t) (unmarked-not before (getD s p 0) (drivers (rate .tail)) e) ∙ and-false (onceAfter (g .noted) (getD s p 0 ∷ drivers (rate .tail)))
+  rates-before e = g .same ∙ ap (λ l. onceAfter (g .noted) l && unmarked before l) next-ratesDrive ∙ ap (λ t. onceAfter (g .noted) (getD s p 0 ∷ ratesDrive (rate .tail)) && t) (unmarked-not before (getD s p 0) (ratesDrive (rate .tail)) e) ∙ and-false (onceAfter (g .noted) (getD s p 0 ∷ ratesDrive (rate .tail)))
 
   pub rates-twice : getD mine (getD s p 0) false ≡ true → ratesTest before (g .all) ≡ false
-  rates-twice e = g .same ∙ ap (λ l. onceAfter (g .noted) l && unmarked before l) next-drivers ∙ ap (λ t. t && unmarked before (getD s p 0 ∷ drivers (rate .tail))) (once-not (g .noted) (getD s p 0) (drivers (rate .tail)) (sym (g .stands .at (getD s p 0) rate-variable) ∙ e))
+  rates-twice e = g .same ∙ ap (λ l. onceAfter (g .noted) l && unmarked before l) next-ratesDrive ∙ ap (λ t. t && unmarked before (getD s p 0 ∷ ratesDrive (rate .tail))) (once-not (g .noted) (getD s p 0) (ratesDrive (rate .tail)) (sym (g .stands .at (getD s p 0) rate-variable) ∙ e))
 
   pub rates-next : getD before (getD s p 0) false ≡ false → getD mine (getD s p 0) false ≡ false → RatesGoing s at n before a (set seen (getD s p 0) true) (set mine (getD s p 0) true) (p + 1 + 4) (i + 1)
   rates-next e f =
@@ -129,24 +126,21 @@ module _ {s : List ℕ} {at n : ℕ} {before a seen mine : List Bool} {p i : ℕ
         rest = rate .tail;
         got = rate .got;
         inside = rate .inside;
-        small = small-rest (getD s p 0) (drivers (rate .tail)) next-small;
+        small = small-rest (getD s p 0) (ratesDrive (rate .tail)) next-small;
         noted = getD s p 0 ∷ g .noted;
         stands = marked-set [] (g .noted) mine (getD s p 0) (omega arith) (g .stands);
-        same = g .same ∙ ap (λ l. onceAfter (g .noted) l && unmarked before l) next-drivers ∙ ap₂ _&&_ (once-next (g .noted) (getD s p 0) (drivers (rate .tail)) (sym (g .stands .at (getD s p 0) v) ∙ f)) (unmarked-next before (getD s p 0) (drivers (rate .tail)) e);
-        owed = owed-set seen (getD s p 0) (drivers (rate .tail)) (omega arith) (rw next-drivers at (g .owed));
+        same = g .same ∙ ap (λ l. onceAfter (g .noted) l && unmarked before l) next-ratesDrive ∙ ap₂ _&&_ (once-next (g .noted) (getD s p 0) (ratesDrive (rate .tail)) (sym (g .stands .at (getD s p 0) v) ∙ f)) (unmarked-next before (getD s p 0) (ratesDrive (rate .tail)) e);
+        owed = owed-set seen (getD s p 0) (ratesDrive (rate .tail)) (omega arith) (rw next-ratesDrive at (g .owed));
         seen-length = length-set seen (getD s p 0) true ∙ sl;
       }
 
 -- ---- the modes of a CASE
-abbrev pub modesTest : List Bool → List Mode → Bool
-modesTest before ms = eachOnce ms && unmarked before (allDrivers ms)
+ratesDrive-of : (m : Mode) → modeDrives m ≡ ratesDrive (m .rates)
+unfolding modeDrives ratesDrive
+ratesDrive-of m = refl
 
-drivers-of : (m : Mode) → modeDrives m ≡ drivers (m .rates)
-unfolding modeDrives drivers
-drivers-of m = refl
-
-all-next : (m : Mode) (ms : List Mode) → allDrivers (m ∷ ms) ≡ drivers (m .rates) ++ allDrivers ms
-unfolding allDrivers flatMap modeDrives drivers
+all-next : (m : Mode) (ms : List Mode) → (flatMap modeDrives) (m ∷ ms) ≡ ratesDrive (m .rates) ++ (flatMap modeDrives) ms
+unfolding flatMap modeDrives ratesDrive
 all-next m ms = refl
 
 unmarked-append : (a : List Bool) (l k : List ℕ) → unmarked a (l ++ k) ≡ (unmarked a l && unmarked a k)
@@ -158,11 +152,11 @@ unmarked-append a (v ∷ l) k = go (not (getD a v false)) (unmarked-append a l k
     go true h = h
     go false h = refl
 
-each-next : (m : Mode) (ms : List Mode) → eachOnce (m ∷ ms) ≡ (onceAfter [] (drivers (m .rates)) && eachOnce ms)
-unfolding eachOnce every modeDrives drivers
-each-next m ms = go (onceAfter [] (drivers (m .rates)))
+each-next : (m : Mode) (ms : List Mode) → every modeOnce (m ∷ ms) ≡ (onceAfter [] (ratesDrive (m .rates)) && every modeOnce ms)
+unfolding modeOnce every modeDrives ratesDrive
+each-next m ms = go (onceAfter [] (ratesDrive (m .rates)))
   where
-    go : (t : Bool) → elim t [ true ↦ eachOnce ms | false ↦ false ] ≡ (t && eachOnce ms)
+    go : (t : Bool) → elim t [ true ↦ every modeOnce ms | false ↦ false ] ≡ (t && every modeOnce ms)
     go true = refl
     go false = refl
 
@@ -174,7 +168,7 @@ swap false b c d = refl
 
 modes-split : (before : List Bool) (m : Mode) (ms : List Mode) → modesTest before (m ∷ ms) ≡ (ratesTest before (m .rates) && modesTest before ms)
 modes-split before m ms =
-    ap₂ _&&_ (each-next m ms) (ap (unmarked before) (all-next m ms) ∙ unmarked-append before (drivers (m .rates)) (allDrivers ms)) ∙ swap (onceAfter [] (drivers (m .rates))) (eachOnce ms) (unmarked before (drivers (m .rates))) (unmarked before (allDrivers ms))
+    ap₂ _&&_ (each-next m ms) (ap (unmarked before) (all-next m ms) ∙ unmarked-append before (ratesDrive (m .rates)) (flatMap modeDrives ms)) ∙ swap (onceAfter [] (ratesDrive (m .rates))) (every modeOnce ms) (unmarked before (ratesDrive (m .rates))) (unmarked before (flatMap modeDrives ms))
 
 pub record ModesGoing (s : List ℕ) (at n : ℕ) (before a seen : List Bool) (p i : ℕ) : Type 0 where
   pub all : List Mode
@@ -183,12 +177,12 @@ pub record ModesGoing (s : List ℕ) (at n : ℕ) (before a seen : List Bool) (p
   pub rest : List Mode
   pub got : times (n - i) readMode (drop p s) ≡ read rest end
   pub inside : p ≤ length s
-  pub small : Small (allDrivers rest)
+  pub small : Small (flatMap modeDrives rest)
   pub same : modesTest before all ≡ modesTest before rest
-  pub owed : Owed a (allDrivers all) seen (allDrivers rest)
+  pub owed : Owed a (flatMap modeDrives all) seen (flatMap modeDrives rest)
   pub seen-length : length seen ≡ 32
 
-pub modes-start : (s : List ℕ) (at n : ℕ) (before a : List Bool) → length a ≡ 32 → Held (times n readMode) allDrivers s at → ModesGoing s at n before a a at 0
+pub modes-start : (s : List ℕ) (at n : ℕ) (before a : List Bool) → length a ≡ 32 → Held (times n readMode) (flatMap modeDrives) s at → ModesGoing s at n before a a at 0
 modes-start s at n before a h t = record {
   all = t .sound .value;
   end = t .sound .end;
@@ -198,18 +192,18 @@ modes-start s at n before a h t = record {
   inside = t .sound .inside;
   small = t .small;
   same = refl;
-  owed = owed-start a (allDrivers (t .sound .value));
+  owed = owed-start a (flatMap modeDrives (t .sound .value));
   seen-length = h;
 }
 
 module _ {s : List ℕ} {at n : ℕ} {before a seen : List Bool} {p i : ℕ} (g : ModesGoing s at n before a seen p i) where
-  pub modes-end : i ≡ n → (ms : List Mode) (e : List ℕ) → times n readMode (drop at s) ≡ read ms e → Tried (modesTest before ms) a (allDrivers ms) true seen
-  unfolding allDrivers eachOnce unmarked every flatMap
+  pub modes-end : i ≡ n → (ms : List Mode) (e : List ℕ) → times n readMode (drop at s) ≡ read ms e → Tried (modesTest before ms) a (flatMap modeDrives ms) true seen
+  unfolding flatMap modeOnce unmarked every
   modes-end k ms e h =
       let z = none-left readMode n i (drop p s) k (g .got) .0 in
       let t : modesTest before (g .all) ≡ true = g .same ∙ ap (modesTest before) z in
-      let m : Owed a (allDrivers (g .all)) seen [] = subst (λ x. Owed a (allDrivers (g .all)) seen (allDrivers x)) z (g .owed) in
-      tried-as (modesTest before) allDrivers (read-value (sym (g .is) ∙ h)) (tried-true t (owed-end seen (g .seen-length) m))
+      let m : Owed a (flatMap modeDrives (g .all)) seen [] = subst (λ x. Owed a (flatMap modeDrives (g .all)) seen (flatMap modeDrives x)) z (g .owed) in
+      tried-as (modesTest before) (flatMap modeDrives) (read-value (sym (g .is) ∙ h)) (tried-true t (owed-end seen (g .seen-length) m))
 
   module _ (h : i < n) where
     mode : Cons readMode (n - (i + 1)) (drop p s) (g .rest) (g .end)
@@ -224,33 +218,33 @@ module _ {s : List ℕ} {at n : ℕ} {before a seen : List Bool} {p i : ℕ} (g 
     pub mode-between : p + 1 + 5 * getD s p 0 < length s
     mode-between = mode-is .between
 
-    next-all : allDrivers (g .rest) ≡ drivers (mode .head .rates) ++ allDrivers (mode .tail)
-    next-all = ap allDrivers (sym (mode .is)) ∙ all-next (mode .head) (mode .tail)
+    next-all : flatMap modeDrives (g .rest) ≡ ratesDrive (mode .head .rates) ++ (flatMap modeDrives) (mode .tail)
+    next-all = ap (flatMap modeDrives) (sym (mode .is)) ∙ all-next (mode .head) (mode .tail)
 
-    next-few : Small (drivers (mode .head .rates) ++ allDrivers (mode .tail))
+    next-few : Small (ratesDrive (mode .head .rates) ++ (flatMap modeDrives) (mode .tail))
     next-few = rw next-all at (g .small)
 
     next-test : modesTest before (g .all) ≡ (ratesTest before (mode .head .rates) && modesTest before (mode .tail))
     next-test = g .same ∙ ap (modesTest before) (sym (mode .is)) ∙ modes-split before (mode .head) (mode .tail)
 
-    pub rates-there : Held (times (getD s p 0) readRate) drivers s (p + 1)
+    pub rates-there : Held (times (getD s p 0) readRate) ratesDrive s (p + 1)
     rates-there = let b = mode-is .before in record {
       sound = record { value = mode .head .rates; end = drop (p + 1 + 5 * getD s p 0) s; got = mode-is .rates-got; inside = omega arith };
-      small = small-left (drivers (mode .head .rates)) (allDrivers (mode .tail)) next-few;
+      small = small-left (ratesDrive (mode .head .rates)) (flatMap modeDrives (mode .tail)) next-few;
     }
 
     pub switches-there : Sound (times (getD s (p + 1 + 5 * getD s p 0) 0) readSwitch) s (p + 1 + 5 * getD s p 0 + 1)
     switches-there = let b = mode-is .between in record { value = mode .head .switches; end = mode .mid; got = mode-is .switches-got; inside = omega arith }
 
     -- the answer for the mode's rates
-    module _ {r : Bool} {b : List Bool} (t : (rs : List Rate) (e : List ℕ) → times (getD s p 0) readRate (drop (p + 1) s) ≡ read rs e → Tried (ratesTest before rs) seen (drivers rs) r b) where
-      tried : Tried (ratesTest before (mode .head .rates)) seen (drivers (mode .head .rates)) r b
+    module _ {r : Bool} {b : List Bool} (t : (rs : List Rate) (e : List ℕ) → times (getD s p 0) readRate (drop (p + 1) s) ≡ read rs e → Tried (ratesTest before rs) seen (ratesDrive rs) r b) where
+      tried : Tried (ratesTest before (mode .head .rates)) seen (ratesDrive (mode .head .rates)) r b
       tried = t (mode .head .rates) (drop (p + 1 + 5 * getD s p 0) s) (mode-is .rates-got)
 
-      pub modes-false : r ≡ false → (c : List Bool) (ms : List Mode) (e : List ℕ) → times n readMode (drop at s) ≡ read ms e → Tried (modesTest before ms) a (allDrivers ms) false c
+      pub modes-false : r ≡ false → (c : List Bool) (ms : List Mode) (e : List ℕ) → times n readMode (drop at s) ≡ read ms e → Tried (modesTest before ms) a (flatMap modeDrives ms) false c
       modes-false f c ms e k =
           let x : modesTest before (g .all) ≡ false = next-test ∙ ap (λ y. y && modesTest before (mode .tail)) (sym (tried .is) ∙ f) in
-          tried-as (modesTest before) allDrivers (read-value (sym (g .is) ∙ k)) (tried-false x)
+          tried-as (modesTest before) (flatMap modeDrives) (read-value (sym (g .is) ∙ k)) (tried-false x)
 
       pub modes-next : r ≡ true → (q : ℕ) → ((ss : List Switch) (e : List ℕ) → times (getD s (p + 1 + 5 * getD s p 0) 0) readSwitch (drop (p + 1 + 5 * getD s p 0 + 1) s) ≡ read ss e → (e ≡ drop q s) × (q ≤ length s)) → ModesGoing s at n before a b q (i + 1)
       modes-next f q u =
@@ -262,8 +256,8 @@ module _ {s : List ℕ} {at n : ℕ} {before a seen : List Bool} {p i : ℕ} (g 
             rest = mode .tail;
             got = ap (times (n - (i + 1)) readMode) (sym (w .0)) ∙ mode .rest;
             inside = w .1;
-            small = small-right (drivers (mode .head .rates)) (allDrivers (mode .tail)) next-few;
+            small = small-right (ratesDrive (mode .head .rates)) (flatMap modeDrives (mode .tail)) next-few;
             same = next-test ∙ ap (λ y. y && modesTest before (mode .tail)) (sym (tried .is) ∙ f);
-            owed = owed-next seen (drivers (mode .head .rates)) (allDrivers (mode .tail)) b (rw next-all at (g .owed)) (tried .marks f);
+            owed = owed-next seen (ratesDrive (mode .head .rates)) (flatMap modeDrives (mode .tail)) b (rw next-all at (g .owed)) (tried .marks f);
             seen-length = tried .marks f .sized;
           }

@@ -1,7 +1,7 @@
 -- The answer about an equation section, from the number of its refusal and what was noted of it.
 use mathlib.Core.Path.{_≡_, refl, sym, ap, _∙_}
 use mathlib.Core.Bool.{Bool, true, false}
-use mathlib.Core.List.{List}
+use mathlib.Core.List.{List, []}
 use mathlib.Core.Option.{Option, none, some}
 use Prim.Native.Nat.{ℕ, _<_}
 use native.Mathlib.Omega.{arith}
@@ -10,22 +10,22 @@ use lib.ListN.{length, getD, replicate}
 use Rattle.semantics.specs.Bytes.{every, times}
 use Rattle.semantics.specs.Refusals.{Judged, refused, accepted, refusalOf, need, ensure, _>>=_, _>>_}
 use Rattle.semantics.specs.Sections.{Equation, readEquation, equationsIn}
-use Rattle.semantics.specs.Plant.{equationNamed}
-use Rattle.plant.specs.Equations.{judgeEquations, refusalIn, equationsOf, answerTo, refusedEquations, acceptedEquations, steadyRates, putRates, Stands, SectionStands, CasesOf}
+use Rattle.semantics.specs.Plant.{equationNamed, judgeEquations, ratesOf}
+use Rattle.plant.specs.Equations.{equationsOf, answerTo, refusedEquations, acceptedEquations, putRates, Stands, SectionStands, CasesOf}
 use Rattle.plant.specs.declared.equations.Cases.{Cases}
 use Rattle.plant.proofs.EquationCases.{section-at, equations-stand}
 
-pub answer-refused : (s : List ℕ) (variables n : ℕ) → n ≡ refusalIn s variables → (n ≡ 0 → ⊥) → refusedEquations n ≡ equationsOf s variables
-unfolding refusalIn equationsOf answerTo refusalOf
-answer-refused s variables n e h = go (judgeEquations s variables) e
+pub answer-refused : (s : List ℕ) (variables n : ℕ) → n ≡ refusalOf (judgeEquations variables s) → (n ≡ 0 → ⊥) → refusedEquations n ≡ equationsOf s variables
+unfolding equationsOf answerTo refusalOf
+answer-refused s variables n e h = go (judgeEquations variables s) e
   where
     go : (j : Judged (List Equation)) → n ≡ refusalOf j → refusedEquations n ≡ answerTo j
     go (refused m) i = ap refusedEquations i
     go (accepted es) i = absurd (h i)
 
-pub refusal-is : (s : List ℕ) (variables : ℕ) → equationsOf s variables .refusal ≡ refusalIn s variables
-unfolding equationsOf answerTo refusedEquations acceptedEquations refusalIn refusalOf
-refusal-is s variables = go (judgeEquations s variables)
+pub refusal-is : (s : List ℕ) (variables : ℕ) → equationsOf s variables .refusal ≡ refusalOf (judgeEquations variables s)
+unfolding equationsOf answerTo refusedEquations acceptedEquations refusalOf
+refusal-is s variables = go (judgeEquations variables s)
   where
     go : (j : Judged (List Equation)) → answerTo j .refusal ≡ refusalOf j
     go (refused m) = refl
@@ -35,10 +35,10 @@ refusal-is s variables = go (judgeEquations s variables)
 pub record Taken (s : List ℕ) (variables : ℕ) : Type 0 where
   pub section : SectionStands s
   pub named : every (equationNamed variables) (section .equations) ≡ true
-  pub judged : judgeEquations s variables ≡ accepted (section .equations)
+  pub judged : judgeEquations variables s ≡ accepted (section .equations)
 
-pub taken-0 : (s : List ℕ) (variables : ℕ) → 0 ≡ refusalIn s variables → Taken s variables
-unfolding refusalIn refusalOf judgeEquations need ensure _>>=_ _>>_
+pub taken-0 : (s : List ℕ) (variables : ℕ) → 0 ≡ refusalOf (judgeEquations variables s) → Taken s variables
+unfolding refusalOf judgeEquations need ensure _>>=_ _>>_
 taken-0 s variables h = go (equationsIn s) refl h
   where
     both : (es : List Equation) (b : Bool) → equationsIn s ≡ some es → every (equationNamed variables) es ≡ b → 0 ≡ refusalOf (ensure 7 b >> accepted es) → Taken s variables
@@ -64,7 +64,7 @@ module _ (s : List ℕ) (variables : ℕ) (t : Taken s variables) where
   unfolding equationsOf answerTo
   answer-is = rw (t .judged) refl
 
-  pub answer-taken : {r : Cases} {rates : List ℤ} → ((t : SectionStands s) → CasesOf (t .equations) r) → ((t : Stands (times (getD s 0 0) readEquation) s 1) → rates ≡ putRates (steadyRates (t .value)) (replicate 32 (pos 0))) → record { refusal = 0; selectors = r .count; modes = r .modes; «mode_offsets» = r .«mode_offsets»; steady = rates } ≡ equationsOf s variables
+  pub answer-taken : {r : Cases} {rates : List ℤ} → ((t : SectionStands s) → CasesOf (t .equations) r) → ((t : Stands (times (getD s 0 0) readEquation) s 1) → rates ≡ putRates (ratesOf (t .value) []) (replicate 32 (pos 0))) → record { refusal = 0; selectors = r .count; modes = r .modes; «mode_offsets» = r .«mode_offsets»; steady = rates } ≡ equationsOf s variables
   unfolding equationsOf answerTo acceptedEquations
   answer-taken f g =
       let a = f (t .section) in

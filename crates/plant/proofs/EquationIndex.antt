@@ -10,8 +10,9 @@ use Rattle.codec.proofs.Reading.{nat2At, nat4At}
 use lib.IntN.{ℤ, pos}
 use Rattle.semantics.specs.Bytes.{signed, Reader, read, times}
 use Rattle.semantics.specs.Sections.{Equation, steady, choice, readSwitch, readMode, readEquationBody, readEquation}
+use Rattle.semantics.specs.Plant.{ratesOf}
 use Rattle.semantics.proofs.Readers.{given}
-use Rattle.plant.specs.Equations.{sizes, switchSize, modeSize, equationSize, startsFrom, putRates, steadyRates, Stands}
+use Rattle.plant.specs.Equations.{sizes, switchSize, modeSize, equationSize, startsFrom, putRates, Stands}
 use Rattle.plant.proofs.EquationSizes.{Cuts, cuts-switch, cuts-equation}
 use Rattle.plant.proofs.EquationPlaces.{same-value, Headed, headed, switch-at, mode-at, switchesFrom, kind-before, steady-at, choice-at, equation-at}
 
@@ -110,12 +111,12 @@ module _ (s : List ℕ) (p : ℕ) (t : Stands readEquationBody s p) where
   pub steady-fits : getD s p 0 ≡ 1 → p + 6 ≤ length s
   steady-fits k = omega (arith, steady-at s p (t .got) k .stands .fits)
 
-  pub with-none : (rates : List ℤ) → (getD s p 0 ≡ 1 → ⊥) → rates ≡ putRates (steadyRates (t .value ∷ [])) rates
-  unfolding putRates steadyRates
+  pub with-none : (rates : List ℤ) → (getD s p 0 ≡ 1 → ⊥) → rates ≡ putRates (ratesOf (t .value ∷ []) []) rates
+  unfolding putRates ratesOf
   with-none rates k = rw (choice-at s p (t .got) k .is) refl
 
-  pub with-one : (rates : List ℤ) {z : ℤ} → getD s p 0 ≡ 1 → z ≡ signed (nat4At s (p + 2)) → set rates (getD s (p + 1) 0) z ≡ putRates (steadyRates (t .value ∷ [])) rates
-  unfolding putRates steadyRates
+  pub with-one : (rates : List ℤ) {z : ℤ} → getD s p 0 ≡ 1 → z ≡ signed (nat4At s (p + 2)) → set rates (getD s (p + 1) 0) z ≡ putRates (ratesOf (t .value ∷ []) []) rates
+  unfolding putRates ratesOf
   with-one rates k e =
       let a = steady-at s p (t .got) k in
       let two : p + 1 + 1 ≡ p + 2 = omega arith in
@@ -157,17 +158,17 @@ none-left r {s} {p} n e t = sym (given [] (drop p s) (rw e at (t .got)))
 abbrev zeros : List ℤ
 zeros = replicate 32 (pos 0)
 
-put-both : (q : Equation) (l : List Equation) (z : List ℤ) → putRates (steadyRates (q ∷ [])) (putRates (steadyRates l) z) ≡ putRates (steadyRates (q ∷ l)) z
-unfolding putRates steadyRates
+put-both : (q : Equation) (l : List Equation) (z : List ℤ) → putRates (ratesOf (q ∷ []) []) (putRates (ratesOf l []) z) ≡ putRates (ratesOf (q ∷ l) []) z
+unfolding putRates ratesOf
 put-both (steady r) l z = refl
 put-both (choice c) l z = refl
 
-pub steady-none : {s : List ℕ} {p : ℕ} (n : ℕ) → n ≡ 0 → (t : Stands (times n readEquation) s p) → zeros ≡ putRates (steadyRates (t .value)) zeros
-unfolding putRates steadyRates
+pub steady-none : {s : List ℕ} {p : ℕ} (n : ℕ) → n ≡ 0 → (t : Stands (times n readEquation) s p) → zeros ≡ putRates (ratesOf (t .value) []) zeros
+unfolding putRates ratesOf
 steady-none n e t = rw (none-left readEquation n e t) refl
 
-pub steady-more : (s : List ℕ) (p n : ℕ) (i : 0 < n) (k : ℕ) (e : k ≡ nat2At s p) {rates out : List ℤ} → ((t : Stands (times (n - 1) readEquation) s (p + 2 + k)) → rates ≡ putRates (steadyRates (t .value)) zeros) → ((t : Stands readEquationBody s (p + 2)) → out ≡ putRates (steadyRates (t .value ∷ [])) rates) → (t : Stands (times n readEquation) s p) → out ≡ putRates (steadyRates (t .value)) zeros
+pub steady-more : (s : List ℕ) (p n : ℕ) (i : 0 < n) (k : ℕ) (e : k ≡ nat2At s p) {rates out : List ℤ} → ((t : Stands (times (n - 1) readEquation) s (p + 2 + k)) → rates ≡ putRates (ratesOf (t .value) []) zeros) → ((t : Stands readEquationBody s (p + 2)) → out ≡ putRates (ratesOf (t .value ∷ []) []) rates) → (t : Stands (times n readEquation) s p) → out ≡ putRates (ratesOf (t .value) []) zeros
 steady-more s p n i k e {rates} {out} f g t =
     let q = equation-kind s p n t i in
     let l = equations-left s p n t i k e in
-    g q ∙ ap (putRates (steadyRates (q .value ∷ []))) (f l) ∙ put-both (q .value) (l .value) zeros ∙ ap (λ es. putRates (steadyRates es) zeros) (sym (first-and-left s p n t i k e))
+    g q ∙ ap (putRates (ratesOf (q .value ∷ []) [])) (f l) ∙ put-both (q .value) (l .value) zeros ∙ ap (λ es. putRates (ratesOf es []) zeros) (sym (first-and-left s p n t i k e))

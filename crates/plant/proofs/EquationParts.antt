@@ -12,12 +12,12 @@ use Rattle.semantics.specs.Bytes.{every, Reader, give, times}
 use Rattle.semantics.specs.Bytes as Bytes
 use Rattle.semantics.specs.Refusals.{need, ensure, _>>=_, _>>_, refusalOf}
 use Rattle.semantics.specs.Sections.{Equation, readRate, readSwitch, readEquation, readEquations, equationIn, equationsIn}
-use Rattle.semantics.specs.Plant.{rateNamed, switchNamed, equationNamed}
+use Rattle.semantics.specs.Plant.{rateNamed, switchNamed, equationNamed, judgeEquations}
 use Rattle.semantics.proofs.Facts.{within-both}
 use Rattle.codec.specs.Reading.{Took, Reads, reads-at, reads-none}
 use Rattle.codec.proofs.Reading.{taken, lost, then-took, then-byte, no-byte, then-bytes, no-bytes, then-int4, no-int4, then-guard, no-guard, then-section2, cut-section2, gives, lifts, no-lift, either, nat2At, within-above, none-kept}
 use Rattle.codec.proofs.Loops.{loop-start, loop-next, loop-broken, loop-end, every-snoc}
-use Rattle.plant.specs.Equations.{judgeEquations, refusalIn, Says, view, seen}
+use Rattle.plant.specs.Equations.{Says, view, seen}
 use Rattle.plant.specs.declared.equations.Step.{Step}
 use Rattle.plant.specs.declared.equations.Step.the-variants.{At, Broken}
 use Rattle.plant.specs.declared.equations.Seen.{Seen}
@@ -106,17 +106,17 @@ module _ {A : Type 0} (r : Reader A) (P : A → Bool) (s : List ℕ) (from : ℕ
 
 -- ---- the whole section
 module _ (s : List ℕ) (variables : ℕ) where
-  pub broken-is-6 : equationsIn s ≡ none → 6 ≡ refusalIn s variables
-  unfolding refusalIn judgeEquations need _>>=_ refusalOf
+  pub broken-is-6 : equationsIn s ≡ none → 6 ≡ refusalOf (judgeEquations variables s)
+  unfolding judgeEquations need _>>=_ refusalOf
   broken-is-6 e = rw e refl
 
   module _ {es : List Equation} (e : equationsIn s ≡ some es) {x : Bool} (n : x ≡ every (equationNamed variables) es) where
-    pub named-is-0 : x ≡ true → 0 ≡ refusalIn s variables
-    unfolding refusalIn judgeEquations need ensure _>>=_ _>>_ refusalOf
+    pub named-is-0 : x ≡ true → 0 ≡ refusalOf (judgeEquations variables s)
+    unfolding judgeEquations need ensure _>>=_ _>>_ refusalOf
     named-is-0 h = rw (e, ← n, h) refl
 
-    pub unnamed-is-7 : x ≡ false → 7 ≡ refusalIn s variables
-    unfolding refusalIn judgeEquations need ensure _>>=_ _>>_ refusalOf
+    pub unnamed-is-7 : x ≡ false → 7 ≡ refusalOf (judgeEquations variables s)
+    unfolding judgeEquations need ensure _>>=_ _>>_ refusalOf
     unnamed-is-7 h = rw (e, ← n, h) refl
 
 -- the count, then that many equations

@@ -10,48 +10,44 @@ use lib.Dec.{eqb, ltb}
 use lib.ListN.{length, getD, take, drop, replicate}
 use Rattle.semantics.specs.Bytes.{every, read, times}
 use Rattle.semantics.specs.Sections.{Rate, Mode, Equation, steady, choice, readRate, readMode, readEquation, equationIn, equationsIn}
-use Rattle.semantics.specs.Plant.{rateNamed, switchNamed, modeNamed, equationNamed, among, onceAfter, modeDrives, drives, modesOnce, drivenOnce}
+use Rattle.semantics.specs.Plant.{rateNamed, switchNamed, modeNamed, equationNamed, among, onceAfter, modeDrives, drives, modesOnce, drivenOnce, ratesDrive, modeOnce}
 use Rattle.semantics.proofs.Facts.{true-not-false, some-is, and-left, and-right, by-cases, All, all-nil, all-cons, every-all}
 use Rattle.codec.proofs.Reading.{nat2At}
 use Rattle.codec.proofs.Known.{Cons}
-use Rattle.plant.specs.Driven.{Named, drivers, allDrivers, eachOnce, Small, Held, Few, unmarked, Marked, Tried}
+use Rattle.plant.specs.Driven.{Named, Small, Held, Few, Marked, Tried, equationTest, ratesTest, modesTest}
 use Rattle.plant.proofs.Marks.{among-append, among-there, small-left, small-right, marked-more, unmarked-apart}
 use Rattle.plant.proofs.Walks.{next-of, all-left, none-left, Shape, is-steady, is-choice, shape-of, not-both, equation-inside, EquationAt, equation-at, lent-is, lent-inside, lent-end, section-at}
-use Rattle.plant.proofs.DrivenOnce.{ratesTest, modesTest, marked-none, tried-as}
+use Rattle.plant.proofs.DrivenOnce.{marked-none, tried-as}
 
 -- ---- one equation
 module _ (s : List ℕ) (f : Few (equationIn s) drives) where
-  pub steady-there : getD s 0 0 ≡ 1 → Held (times 1 readRate) drivers s 1
-  unfolding drives drivers
+  pub steady-there : getD s 0 0 ≡ 1 → Held (times 1 readRate) ratesDrive s 1
+  unfolding drives ratesDrive
   steady-there k = go (shape-of s (f .there .is) .1)
     where
-      go : Shape s (f .there .value) → Held (times 1 readRate) drivers s 1
+      go : Shape s (f .there .value) → Held (times 1 readRate) ratesDrive s 1
       go (is-steady r e q t) = record { sound = record { value = r ∷ []; end = []; got = t; inside = equation-inside s (f .there) }; small = subst (λ x. Small (drives x)) q (f .small) }
       go (is-choice c e q i t) = not-both (getD s 0 0) k e
 
-  pub choice-there : (getD s 0 0 ≡ 1 → ⊥) → Held (times (getD s 2 0) readMode) allDrivers s (1 + 1 + 1)
-  unfolding drives allDrivers
+  pub choice-there : (getD s 0 0 ≡ 1 → ⊥) → Held (times (getD s 2 0) readMode) (flatMap modeDrives) s (1 + 1 + 1)
+  unfolding drives flatMap
   choice-there k = go (shape-of s (f .there .is) .1)
     where
-      go : Shape s (f .there .value) → Held (times (getD s 2 0) readMode) allDrivers s (1 + 1 + 1)
+      go : Shape s (f .there .value) → Held (times (getD s 2 0) readMode) (flatMap modeDrives) s (1 + 1 + 1)
       go (is-steady r e q t) = absurd (k e)
       go (is-choice c e q i t) = record { sound = record { value = c .modes; end = []; got = t; inside = i }; small = subst (λ x. Small (drives x)) q (f .small) }
 
--- 8 of one equation, against the variables that are marked
-abbrev pub equationTest : List Bool → Equation → Bool
-equationTest a q = modesOnce q && unmarked a (drives q)
-
 module _ (s : List ℕ) (a : List Bool) {r : Bool} {b : List Bool} where
-  pub steady-tried : getD s 0 0 ≡ 1 → ((rs : List Rate) (e : List ℕ) → times 1 readRate (drop 1 s) ≡ read rs e → Tried (ratesTest a rs) a (drivers rs) r b) → (q : Equation) → equationIn s ≡ some q → Tried (equationTest a q) a (drives q) r b
-  unfolding drives drivers modesOnce onceAfter among
+  pub steady-tried : getD s 0 0 ≡ 1 → ((rs : List Rate) (e : List ℕ) → times 1 readRate (drop 1 s) ≡ read rs e → Tried (ratesTest a rs) a (ratesDrive rs) r b) → (q : Equation) → equationIn s ≡ some q → Tried (equationTest a q) a (drives q) r b
+  unfolding drives ratesDrive modesOnce onceAfter among modeOnce
   steady-tried k t q h = go (shape-of s h .1)
     where
       go : Shape s q → Tried (equationTest a q) a (drives q) r b
       go (is-steady x e j g) = tried-as (equationTest a) drives (sym j) (t (x ∷ []) [] g)
       go (is-choice c e j i g) = not-both (getD s 0 0) k e
 
-  pub choice-tried : (getD s 0 0 ≡ 1 → ⊥) → ((ms : List Mode) (e : List ℕ) → times (getD s 2 0) readMode (drop (1 + 1 + 1) s) ≡ read ms e → Tried (modesTest a ms) a (allDrivers ms) r b) → (q : Equation) → equationIn s ≡ some q → Tried (equationTest a q) a (drives q) r b
-  unfolding drives allDrivers modesOnce eachOnce
+  pub choice-tried : (getD s 0 0 ≡ 1 → ⊥) → ((ms : List Mode) (e : List ℕ) → times (getD s 2 0) readMode (drop (1 + 1 + 1) s) ≡ read ms e → Tried (modesTest a ms) a (flatMap modeDrives ms) r b) → (q : Equation) → equationIn s ≡ some q → Tried (equationTest a q) a (drives q) r b
+  unfolding drives flatMap modesOnce modeOnce
   choice-tried k t q h = go (shape-of s h .1)
     where
       go : Shape s q → Tried (equationTest a q) a (drives q) r b
@@ -75,16 +71,16 @@ small-flat f h all-nil = small-nil
 small-flat f h (all-cons {x = x} {l = l} p a) = small-append (f x) (flatMap f l) (h x p) (small-flat f h a)
 
 module _ (n : ℕ) (few : n ≤ 32) where
-  small-rates : (rs : List Rate) → every (rateNamed n) rs ≡ true → Small (drivers rs)
-  unfolding drivers rateNamed
+  small-rates : (rs : List Rate) → every (rateNamed n) rs ≡ true → Small (ratesDrive rs)
+  unfolding ratesDrive rateNamed
   small-rates rs h = go (every-all (rateNamed n) rs h)
     where
-      go : {l : List Rate} → All (λ x. rateNamed n x ≡ true) l → Small (drivers l)
+      go : {l : List Rate} → All (λ x. rateNamed n x ≡ true) l → Small (ratesDrive l)
       go all-nil = small-nil
-      go (all-cons {x = x} {l = l} p a) = let b = ltb-true (x .driven) n p in small-cons (x .driven) (drivers l) (omega arith) (go a)
+      go (all-cons {x = x} {l = l} p a) = let b = ltb-true (x .driven) n p in small-cons (x .driven) (ratesDrive l) (omega arith) (go a)
 
   small-mode : (k : ℕ) (m : Mode) → modeNamed n k m ≡ true → Small (modeDrives m)
-  unfolding modeNamed modeDrives drivers
+  unfolding modeNamed modeDrives ratesDrive
   small-mode k m h = small-rates (m .rates) (and-left (every (rateNamed n) (m .rates)) (every (switchNamed k) (m .switches)) h)
 
   small-equation : (q : Equation) → equationNamed n q ≡ true → Small (drives q)

@@ -9,6 +9,7 @@ pub mod EquationLaws
 pub mod Costs
 pub mod Walks
 pub mod Turns
+pub mod VariableAnswer
 pub mod VariableSection
 pub mod VariableLaws
 pub mod Marks

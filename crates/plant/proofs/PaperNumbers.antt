@@ -13,7 +13,7 @@ use Rattle.plant.specs.PaperNumbers.{paperStep, paperSeen, namedNumber, 
 use Rattle.plant.specs.declared.equations.Step.{Step}
 use Rattle.plant.specs.declared.equations.Step.the-variants.{At, Broken}
 use Rattle.plant.specs.declared.equations.Seen.{Seen}
-use Rattle.plant.specs.declared.equations.Seen.the-variants.{Kept, Lost}
+use Rattle.plant.specs.declared.equations.Seen.the-variants.{Kept}
 
 pub step-says : {A : Type 0} {r : Reader A} {P : A → Bool} {s : List ℕ} {p : ℕ} {w : Step} → Reads r (Says P) s p (view w) → StepSays r P s p w
 unfolding paperStep namedNumber partNumber

@@ -2,58 +2,32 @@
 use mathlib.Core.Path.{_≡_, refl, sym, ap, _∙_}
 use mathlib.Core.Bool.{Bool, true, false}
 use mathlib.Core.List.{List, []}
-use mathlib.Core.Option.{Option, none, some}
+use mathlib.Core.Option.{some}
 use Prim.Native.Nat.{ℕ, _≤_}
 use native.Mathlib.Omega.{arith}
 use lib.ListN.{length}
-use Rattle.semantics.specs.Bytes.{every}
 use Rattle.semantics.specs.Editions.{edition1}
-use Rattle.semantics.specs.Refusals.{Judged, refused, accepted, refusalOf, need, ensure, _>>=_, _>>_}
+use Rattle.semantics.specs.Refusals.{Judged, refused, accepted, ensure, _>>=_, _>>_}
 use Rattle.semantics.specs.Sections.{Variable, Equation, equationsIn}
-use Rattle.semantics.specs.Plant.{Plant, selectors, equationNamed, drivenOnce, judgePlant}
-use Rattle.semantics.proofs.Judging.{go-need, go-ensure}
-use Rattle.plant.specs.Variables.{variablesOf, answer}
-use Rattle.plant.specs.Equations.{judgeEquations, refusalIn, equationsOf, answerTo, refusedEquations, acceptedEquations}
+use Rattle.semantics.specs.Plant.{selectors, drivenOnce, judgePlant, judgeEquations, judgeVariables}
+use Rattle.semantics.proofs.Judging.{go-then, go-ensure}
+use Rattle.semantics.proofs.PlantPassed.{variables-passed}
+use Rattle.plant.specs.Variables.{variablesAnswer, variablesOf, refusedBy, answer}
+use Rattle.plant.specs.Equations.{equationsOf, answerTo, refusedEquations, acceptedEquations}
 use Rattle.plant.specs.Driven.{Named}
 use Rattle.plant.specs.PlantRead.{refusedPlant, acceptedPlant, plantAnswer, plantOf}
 use Rattle.plant.specs.declared.sections.PlantRead.{PlantRead}
 use Rattle.plant.specs.declared.variables.Variables.{Variables}
 use Rattle.plant.specs.declared.equations.Equations.{Equations}
-use Rattle.plant.proofs.VariableSection.{accepted-as}
-use Rattle.plant.proofs.VariableLaws.{Accepted, accepted-of, refusal-is, count-of, count-high, lows-of, highs-of}
-use Rattle.plant.proofs.EquationAnswer.{Taken, taken-0}
-
--- ---- judgePlant, in two parts
--- 8, after 4 to 7
-unfoldable pub last : List Variable → List Equation → Judged Plant
-last xs qs = do
-  ensure 8 (drivenOnce [] qs)
-  accepted (record { variables = xs; equations = qs })
-
-apart-7 : (xs : List Variable) (qs : List Equation) (b : Bool) → (ensure 7 b >> last xs qs) ≡ ((ensure 7 b >> accepted qs) >>= last xs)
-unfolding ensure _>>_ _>>=_
-apart-7 xs qs true = refl
-apart-7 xs qs false = refl
-
-apart-6 : (xs : List Variable) (n : ℕ) (o : Option (List Equation)) →
-    (need 6 o >>= (λ qs. ensure 7 (every (equationNamed n) qs) >> last xs qs)) ≡ ((need 6 o >>= (λ qs. ensure 7 (every (equationNamed n) qs) >> accepted qs)) >>= last xs)
-unfolding need _>>=_
-apart-6 xs n none = refl
-apart-6 xs n (some qs) = apart-7 xs qs (every (equationNamed n) qs)
-
-pub after-5 : (vs es : List ℕ) {xs : List Variable} → Accepted vs xs → judgePlant edition1 vs es ≡ (judgeEquations es (length xs) >>= last xs)
-unfolding judgePlant judgeEquations last
-after-5 vs es {xs} a = go-need 4 _ (a .is) ∙ go-ensure 5 _ (a .in-order) ∙ apart-6 xs (length xs) (equationsIn es)
-
-equations-refusal : (s : List ℕ) (n : ℕ) → equationsOf s n .refusal ≡ refusalIn s n
-unfolding equationsOf refusalIn answerTo refusalOf refusedEquations acceptedEquations
-equations-refusal s n = go (judgeEquations s n)
-  where
-    go : (j : Judged (List Equation)) → answerTo j .refusal ≡ refusalOf j
-    go (refused m) = refl
-    go (accepted qs) = refl
+use Rattle.plant.proofs.VariableAnswer.{accepted-as}
+use Rattle.plant.proofs.VariableLaws.{Accepted, accepted-of, count-of, count-high}
+use Rattle.plant.proofs.EquationAnswer.{Taken, taken-by}
 
 -- ---- the code's returns
+stops : {A B : Type 0} {j : Judged A} {n : ℕ} (f : A → Judged B) → j ≡ refused n → (j >>= f) ≡ refused n
+unfolding _>>=_
+stops f e = rw e refl
+
 -- the fields of the two answers
 abbrev pub gathered : Variables → Equations → PlantRead
 gathered v e = record { refusal = 0; variables = v .count; lows = v .lows; highs = v .highs; selectors = e .selectors; modes = e .modes; «mode_offsets» = e .«mode_offsets»; steady = e .steady }
@@ -64,19 +38,26 @@ fields xs qs h k = rw (h, k) refl
 
 module _ (vs es : List ℕ) {v : Variables} (h : v ≡ variablesOf vs) where
   pub by-variables : 1 ≤ v .refusal → refusedPlant (v .refusal) ≡ plantOf vs es
-  unfolding plantOf plantAnswer
-  by-variables z =
-      let n : v .refusal ≡ variablesOf vs .refusal = ap (λ (v : Variables). v .refusal) h in
-      let some : 1 ≤ variablesOf vs .refusal = omega (arith, n, z) in
-      ap refusedPlant n ∙ ap plantAnswer (sym (refusal-is vs es some))
+  unfolding plantOf plantAnswer variablesOf variablesAnswer refusedBy answer judgePlant
+  by-variables z = go (judgeVariables edition1 vs) refl h
+    where
+      go : (j : Judged (List Variable)) → judgeVariables edition1 vs ≡ j → v ≡ variablesAnswer j → refusedPlant (v .refusal) ≡ plantAnswer (judgePlant edition1 vs es)
+      go (refused n) i w = ap refusedPlant (ap (λ (v : Variables). v .refusal) w) ∙ ap plantAnswer (sym (stops _ i))
+      go (accepted xs) i w = let n = ap (λ (v : Variables). v .refusal) w in absurd (omega arith)
 
   module _ (z : v .refusal ≡ 0) where
+    found : (xs : List Variable) × (judgeVariables edition1 vs ≡ accepted xs)
+    found = accepted-of vs (sym (ap (λ (v : Variables). v .refusal) h) ∙ z)
+
     xs : List Variable
-    xs = accepted-of vs (sym (ap (λ (v : Variables). v .refusal) h) ∙ z) .0
+    xs = found .0
+
+    judged-variables : judgeVariables edition1 vs ≡ accepted xs
+    unfolding xs
+    judged-variables = found .1
 
     a : Accepted vs xs
-    unfolding xs
-    a = accepted-of vs (sym (ap (λ (v : Variables). v .refusal) h) ∙ z) .1
+    a = variables-passed edition1 vs judged-variables
 
     counted : v .count ≡ length xs
     counted = ap (λ (v : Variables). v .count) h ∙ count-of vs a
@@ -86,16 +67,16 @@ module _ (vs es : List ℕ) {v : Variables} (h : v ≡ variablesOf vs) where
       answered = k ∙ ap (equationsOf es) counted
 
       pub by-equations : (e .refusal ≡ 0 → ⊥) → refusedPlant (e .refusal) ≡ plantOf vs es
-      unfolding plantOf plantAnswer equationsOf answerTo refusedEquations acceptedEquations _>>=_
-      by-equations y = go (judgeEquations es (length xs)) refl answered
+      unfolding plantOf plantAnswer equationsOf answerTo refusedEquations acceptedEquations judgePlant
+      by-equations y = go (judgeEquations (length xs) es) refl answered
         where
-          go : (j : Judged (List Equation)) → judgeEquations es (length xs) ≡ j → e ≡ answerTo j → refusedPlant (e .refusal) ≡ plantAnswer (judgePlant edition1 vs es)
-          go (refused n) i w = ap refusedPlant (ap (λ (e : Equations). e .refusal) w) ∙ ap plantAnswer (sym (after-5 vs es a ∙ ap (λ j. j >>= last xs) i))
+          go : (j : Judged (List Equation)) → judgeEquations (length xs) es ≡ j → e ≡ answerTo j → refusedPlant (e .refusal) ≡ plantAnswer (judgePlant edition1 vs es)
+          go (refused n) i w = ap refusedPlant (ap (λ (e : Equations). e .refusal) w) ∙ ap plantAnswer (sym (go-then _ judged-variables ∙ stops _ i))
           go (accepted qs) i w = absurd (y (ap (λ (e : Equations). e .refusal) w))
 
       module _ (y : e .refusal ≡ 0) where
         taken : Taken es (length xs)
-        taken = taken-0 es (length xs) (sym y ∙ ap (λ (e : Equations). e .refusal) answered ∙ equations-refusal es (length xs))
+        taken = taken-by es (length xs) (sym (ap (λ (e : Equations). e .refusal) answered) ∙ y)
 
         qs : List Equation
         qs = taken .section .equations
@@ -106,9 +87,9 @@ module _ (vs es : List ℕ) {v : Variables} (h : v ≡ variablesOf vs) where
         pub named : Named es
         named = record { equations = taken .section .equations; is = taken .section .read; variables = length xs; few = few; named = taken .named }
 
-        after-7 : judgePlant edition1 vs es ≡ last xs qs
-        unfolding qs _>>=_
-        after-7 = after-5 vs es a ∙ ap (λ j. j >>= last xs) (taken .judged)
+        after-7 : judgePlant edition1 vs es ≡ (ensure 8 (drivenOnce [] qs) >> accepted (record { variables = xs; equations = qs }))
+        unfolding judgePlant qs
+        after-7 = go-then _ judged-variables ∙ go-then _ (taken .judged)
 
         module _ {b : Bool} (f : (qs : List Equation) → equationsIn es ≡ some qs → b ≡ drivenOnce [] qs) where
           is-once : b ≡ drivenOnce [] qs
@@ -116,15 +97,14 @@ module _ (vs es : List ℕ) {v : Variables} (h : v ≡ variablesOf vs) where
           is-once = f (taken .section .equations) (taken .section .read)
 
           pub by-8 : b ≡ false → refusedPlant 8 ≡ plantOf vs es
-          unfolding plantOf plantAnswer last ensure _>>_
+          unfolding plantOf plantAnswer ensure _>>_
           by-8 w = rw (after-7, sym is-once, w) refl
 
           ends : b ≡ true → judgePlant edition1 vs es ≡ accepted (record { variables = xs; equations = qs })
-          unfolding last ensure _>>_
-          ends w = rw (after-7, sym is-once, w) refl
+          ends w = after-7 ∙ go-ensure 8 _ (sym is-once ∙ w)
 
           variables-are : v ≡ answer 0 xs
-          variables-are = h ∙ accepted-as vs (a .is) (a .in-order)
+          variables-are = h ∙ accepted-as vs a
 
           equations-are : e ≡ acceptedEquations qs
           unfolding equationsOf answerTo qs

@@ -1,21 +1,23 @@
 -- What the answer about both sections says of the plant.
 use mathlib.Core.Path.{_≡_, refl, sym, ap, _∙_}
-use mathlib.Core.Bool.{Bool, true, false}
 use mathlib.Core.List.{List, [], map}
-use mathlib.Core.Option.{Option, none, some}
-use Prim.Native.Nat.{ℕ, _≤_}
+use mathlib.Core.Option.{some}
+use Prim.Native.Nat.{ℕ, suc, _≤_}
 use native.Mathlib.Omega.{arith}
 use lib.IntN.{pos}
 use lib.ListN.{length, getD, getElem?, replicate}
-use Rattle.semantics.specs.Bytes.{every}
 use Rattle.semantics.specs.Editions.{edition1}
-use Rattle.semantics.specs.Refusals.{Judged, refused, accepted, refusalOf, need, ensure, _>>=_, _>>_}
-use Rattle.semantics.specs.Sections.{Variable, Equation, variablesIn, equationsIn}
-use Rattle.semantics.specs.Plant.{Plant, ordered, selectors, equationNamed, drivenOnce, judgePlant}
-use Rattle.semantics.proofs.Judging.{passed-need, passed-ensure, accepted-is}
+use Rattle.semantics.specs.Refusals.{Judged, refused, accepted, refusalOf}
+use Rattle.semantics.specs.Sections.{Variable}
+use Rattle.semantics.specs.Plant.{Plant, selectors, judgePlant, ratesOf}
+use Rattle.semantics.specs.Conditions.{plantConditions}
+use Rattle.semantics.proofs.Facts.{all-nil, all-cons}
+use Rattle.semantics.proofs.FirstNumber.{plant-first}
+use Rattle.semantics.proofs.CallsHold.{accepted-of}
+use Rattle.semantics.proofs.PlantPassed.{PlantPassed, plant-passed}
 use Rattle.codec.specs.Padding.{pad}
 use Rattle.plant.specs.Variables.{column}
-use Rattle.plant.specs.Equations.{modeCount, modePlaces, steadyRates, putRates, acceptedEquations, SectionStands}
+use Rattle.plant.specs.Equations.{modeCount, modePlaces, putRates, acceptedEquations, SectionStands}
 use Rattle.plant.specs.PlantRead.{refusedPlant, acceptedPlant, plantAnswer, plantOf}
 use Rattle.plant.specs.declared.sections.PlantRead.{PlantRead}
 use Rattle.plant.proofs.VariableLaws.{Accepted, column-at, count-of, count-low, count-high}
@@ -31,31 +33,8 @@ refusal-of vs es = go (judgePlant edition1 vs es)
 
 -- ---- a plant that is accepted
 module _ (vs es : List ℕ) {p : Plant} (h : judgePlant edition1 vs es ≡ accepted p) where
-  -- what it has passed
-  pub record Passed : Type 0 where
-    pub variables : variablesIn edition1 vs ≡ some (p .variables)
-    pub in-order : every ordered (p .variables) ≡ true
-    pub equations : equationsIn es ≡ some (p .equations)
-    pub named : every (equationNamed (length (p .variables))) (p .equations) ≡ true
-    pub once : drivenOnce [] (p .equations) ≡ true
-
-  pub passed-all : Passed
-  unfolding judgePlant
-  passed-all =
-      let a = passed-need 4 (variablesIn edition1 vs) _ h in
-      let b = passed-ensure 5 _ _ (a .2) in
-      let c = passed-need 6 (equationsIn es) _ (b .1) in
-      let d = passed-ensure 7 _ _ (c .2) in
-      let g = passed-ensure 8 _ _ (d .1) in
-      let x = ap (λ (p : Plant). p .variables) (accepted-is (g .1)) in
-      let q = ap (λ (p : Plant). p .equations) (accepted-is (g .1)) in
-      record {
-        variables = a .1 ∙ ap some x;
-        in-order = ap (every ordered) (sym x) ∙ b .0;
-        equations = c .1 ∙ ap some q;
-        named = ap (λ l. every (equationNamed (length l)) (p .equations)) (sym x) ∙ ap (every (equationNamed (length (a .0)))) (sym q) ∙ d .0;
-        once = ap (drivenOnce []) (sym q) ∙ g .0;
-      }
+  pub passed-all : PlantPassed edition1 vs es p
+  passed-all = plant-passed edition1 vs es h
 
   accepted-variables : Accepted vs (p .variables)
   accepted-variables = record { is = passed-all .variables; in-order = passed-all .in-order }
@@ -108,7 +87,7 @@ module _ (vs es : List ℕ) {p : Plant} (h : judgePlant edition1 vs es ≡ accep
   unfolding acceptedPlant acceptedEquations
   places-of = ap (λ (r : PlantRead). r .«mode_offsets») answered
 
-  pub steady-of : plantOf vs es .steady ≡ putRates (steadyRates (p .equations)) (replicate 32 (pos 0))
+  pub steady-of : plantOf vs es .steady ≡ putRates (ratesOf (p .equations) []) (replicate 32 (pos 0))
   unfolding acceptedPlant acceptedEquations
   steady-of = ap (λ (r : PlantRead). r .steady) answered
 
@@ -119,30 +98,10 @@ pub record Passes (vs es : List ℕ) : Type 0 where
 
 -- no call is refused with 0
 pub passes : (vs es : List ℕ) → plantOf vs es .refusal ≡ 0 → Passes vs es
-unfolding judgePlant need ensure _>>=_ _>>_ refusalOf
-passes vs es h = by-4 (variablesIn edition1 vs) refl
+unfolding plantConditions
+passes vs es h =
+    let k = accepted-of (plant-first edition1 vs es) (all-cons (no 3) (all-cons (no 4) (all-cons (no 5) (all-cons (no 6) (all-cons (no 7) all-nil))))) (sym (refusal-of vs es) ∙ h) in
+    record { plant = k .0; is = k .1 }
   where
-    no : {C : Type 0} (n : ℕ) → 1 ≤ n → judgePlant edition1 vs es ≡ refused n → C
-    no n i e =
-        let z : n ≡ 0 = sym (ap refusalOf e) ∙ sym (refusal-of vs es) ∙ h in
-        absurd (omega arith)
-
-    by-8 : (xs : List Variable) (qs : List Equation) → variablesIn edition1 vs ≡ some xs → every ordered xs ≡ true → equationsIn es ≡ some qs → every (equationNamed (length xs)) qs ≡ true → (b : Bool) → drivenOnce [] qs ≡ b → Passes vs es
-    by-8 xs qs d e f g true k = record { plant = record { variables = xs; equations = qs }; is = rw (d, e, f, g, k) refl }
-    by-8 xs qs d e f g false k = no 8 (omega arith) (rw (d, e, f, g, k) refl)
-
-    by-7 : (xs : List Variable) (qs : List Equation) → variablesIn edition1 vs ≡ some xs → every ordered xs ≡ true → equationsIn es ≡ some qs → (b : Bool) → every (equationNamed (length xs)) qs ≡ b → Passes vs es
-    by-7 xs qs d e f true g = by-8 xs qs d e f g (drivenOnce [] qs) refl
-    by-7 xs qs d e f false g = no 7 (omega arith) (rw (d, e, f, g) refl)
-
-    by-6 : (xs : List Variable) → variablesIn edition1 vs ≡ some xs → every ordered xs ≡ true → (o : Option (List Equation)) → equationsIn es ≡ o → Passes vs es
-    by-6 xs d e none f = no 6 (omega arith) (rw (d, e, f) refl)
-    by-6 xs d e (some qs) f = by-7 xs qs d e f (every (equationNamed (length xs)) qs) refl
-
-    by-5 : (xs : List Variable) → variablesIn edition1 vs ≡ some xs → (b : Bool) → every ordered xs ≡ b → Passes vs es
-    by-5 xs d true e = by-6 xs d e (equationsIn es) refl
-    by-5 xs d false e = no 5 (omega arith) (rw (d, e) refl)
-
-    by-4 : (o : Option (List Variable)) → variablesIn edition1 vs ≡ o → Passes vs es
-    by-4 none d = no 4 (omega arith) (rw d refl)
-    by-4 (some xs) d = by-5 xs d (every ordered xs) refl
+    no : (n : ℕ) → suc n ≡ 0 → ⊥
+    no n e = omega arith

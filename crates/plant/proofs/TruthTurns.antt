@@ -10,9 +10,9 @@ use Rattle.semantics.specs.Bytes.{every, isSome, read, times}
 use Rattle.semantics.specs.Editions.{edition1}
 use Rattle.semantics.specs.Expressions.{truthIn}
 use Rattle.semantics.specs.Sections.{Switch, Mode, Equation, readSwitch, readMode, readEquation, equationIn, equationsIn}
-use Rattle.semantics.specs.Plant.{switchReads, equationReads}
+use Rattle.semantics.specs.Plant.{switchReads, equationReads, modeReads}
 use Rattle.codec.proofs.Reading.{nat2At}
-use Rattle.plant.specs.Sound.{There, Sound, modeReads}
+use Rattle.plant.specs.Sound.{There, Sound}
 use Rattle.plant.proofs.Walks.{SwitchAt, switch-at, ModeAt, mode-at, Shape, is-steady, is-choice, shape-of, not-both, EquationAt, equation-at, lent-is, lent-inside, lent-end, section-at}
 use Rattle.plant.proofs.Turns.{Turns, turn, turns-false, turns-next}
 
@@ -53,7 +53,7 @@ module _ {f : Mode → Bool} {s : List ℕ} {from n p i : ℕ} (t : Turns readMo
   pub mode-switches : Sound (times (getD s (p + 1 + 5 * getD s p 0) 0) readSwitch) s (p + 1 + 5 * getD s p 0 + 1)
   mode-switches = let b = mode .between in record { value = turn t h .head .switches; end = turn t h .mid; got = mode .switches-got; inside = omega arith }
 
-  pub mode-reads : (variables : ℕ) {r : Bool} → ((ss : List Switch) (e : List ℕ) → times (getD s (p + 1 + 5 * getD s p 0) 0) readSwitch (drop (p + 1 + 5 * getD s p 0 + 1) s) ≡ read ss e → r ≡ every (switchReads edition1 variables) ss) → r ≡ modeReads variables (turn t h .head)
+  pub mode-reads : (variables : ℕ) {r : Bool} → ((ss : List Switch) (e : List ℕ) → times (getD s (p + 1 + 5 * getD s p 0) 0) readSwitch (drop (p + 1 + 5 * getD s p 0 + 1) s) ≡ read ss e → r ≡ every (switchReads edition1 variables) ss) → r ≡ modeReads edition1 variables (turn t h .head)
   unfolding modeReads
   mode-reads variables u = u (turn t h .head .switches) (turn t h .mid) (mode .switches-got)
 
@@ -70,7 +70,7 @@ module _ (variables : ℕ) (s : List ℕ) where
       go (is-steady x e j g) = sym (ap (equationReads edition1 variables) j)
       go (is-choice c e j i g) = not-both (getD s 0 0) k e
 
-  pub choice-reads : (getD s 0 0 ≡ 1 → ⊥) → {r : Bool} → ((ms : List Mode) (e : List ℕ) → times (getD s 2 0) readMode (drop (1 + 1 + 1) s) ≡ read ms e → r ≡ every (modeReads variables) ms) → (q : Equation) → equationIn s ≡ some q → r ≡ equationReads edition1 variables q
+  pub choice-reads : (getD s 0 0 ≡ 1 → ⊥) → {r : Bool} → ((ms : List Mode) (e : List ℕ) → times (getD s 2 0) readMode (drop (1 + 1 + 1) s) ≡ read ms e → r ≡ every (modeReads edition1 variables) ms) → (q : Equation) → equationIn s ≡ some q → r ≡ equationReads edition1 variables q
   unfolding equationReads modeReads
   choice-reads k {r} u q h = go (shape-of s h .1)
     where

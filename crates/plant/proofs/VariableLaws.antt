@@ -1,67 +1,40 @@
 -- What the answer of the variable section says of the plant's variables.
 use mathlib.Core.Path.{_≡_, refl, sym, ap, _∙_}
-use mathlib.Core.Bool.{Bool, true, false}
-use mathlib.Core.List.{List, map}
-use mathlib.Core.Option.{Option, none, some}
-use Prim.Native.Nat.{ℕ, _≤_}
+use mathlib.Core.List.{List, [], map}
+use mathlib.Core.Option.{some}
+use Prim.Native.Nat.{ℕ, suc, _≤_}
 use native.Mathlib.Omega.{arith}
 use lib.IntN.{ℤ, pos}
 use lib.ListN.{length, getD, getElem?, take, drop, length-map}
-use Rattle.semantics.specs.Bytes.{every}
 use Rattle.semantics.specs.Editions.{edition1}
-use Rattle.semantics.specs.Refusals.{refused, _>>=_, _>>_, ensure, need}
+use Rattle.semantics.specs.Refusals.{Judged, refused, accepted, refusalOf}
 use Rattle.semantics.specs.Sections.{Variable, readVariable, variablesIn}
-use Rattle.semantics.specs.Plant.{ordered, judgePlant}
-use Rattle.semantics.proofs.Facts.{some-is}
+use Rattle.semantics.specs.Plant.{judgeVariables}
+use Rattle.semantics.proofs.Facts.{some-is, all-nil, all-cons}
+use Rattle.semantics.proofs.FirstNumber.{variables-first}
+use Rattle.semantics.proofs.CallsHold as Judging
+use Rattle.semantics.proofs.PlantPassed.{VariablesPassed}
 use Rattle.codec.proofs.Padding.{pad-long, take-pad, pad-map-some}
 use Rattle.codec.proofs.Known.{times-length}
-use Rattle.plant.specs.Variables.{column, answer, refusedBy, variablesOf}
-use Rattle.plant.proofs.VariableSection.{sized-of, section-of, refused-4, refused-5, accepted-as}
+use Rattle.plant.specs.Variables.{column, answer, refusedBy, variablesAnswer, variablesOf}
+use Rattle.plant.proofs.VariableSection.{sized-of, section-of}
+use Rattle.plant.proofs.VariableAnswer.{accepted-as}
 
 -- the variables of a section that 4 and 5 let pass
-pub record Accepted (s : List ℕ) (vs : List Variable) : Type 0 where
-  pub is : variablesIn edition1 s ≡ some vs
-  pub in-order : every ordered vs ≡ true
+abbrev pub Accepted : List ℕ → List Variable → Type 0
+Accepted s vs = VariablesPassed edition1 s vs
 
--- ---- refusals
-zero-not : {C : Type 0} (n : ℕ) → 1 ≤ n → n ≡ 0 → C
-zero-not n h e = absurd (omega arith)
-
--- the three answers
-pub data Cases (s : List ℕ) : Type 0 where
-  broken-4 : variablesIn edition1 s ≡ none → variablesOf s ≡ refusedBy 4 → Cases s
-  broken-5 : {vs : List Variable} → variablesIn edition1 s ≡ some vs → every ordered vs ≡ false → variablesOf s ≡ refusedBy 5 → Cases s
-  passed : {vs : List Variable} → Accepted s vs → variablesOf s ≡ answer 0 vs → Cases s
-
-pub cases : (s : List ℕ) → Cases s
-cases s = go (variablesIn edition1 s) refl
+-- no section is refused with 0
+pub accepted-of : (s : List ℕ) → variablesOf s .refusal ≡ 0 → (vs : List Variable) × (judgeVariables edition1 s ≡ accepted vs)
+unfolding variablesOf variablesAnswer refusedBy answer refusalOf
+accepted-of s h = Judging.accepted-of (variables-first edition1 s []) (all-cons (no 3) (all-cons (no 4) all-nil)) (sym (number (judgeVariables edition1 s)) ∙ h)
   where
-    order : (vs : List Variable) → variablesIn edition1 s ≡ some vs → (b : Bool) → every ordered vs ≡ b → Cases s
-    order vs e true h = passed (record { is = e; in-order = h }) (accepted-as s e h)
-    order vs e false h = broken-5 e h (refused-5 s e h)
+    no : (n : ℕ) → suc n ≡ 0 → ⊥
+    no n e = omega arith
 
-    go : (o : Option (List Variable)) → variablesIn edition1 s ≡ o → Cases s
-    go none e = broken-4 e (refused-4 s e)
-    go (some vs) e = order vs e (every ordered vs) refl
-
--- a refusal of the code is the refusal of the two sections, whatever the equations are
-pub refusal-is : (s equations : List ℕ) → 1 ≤ variablesOf s .refusal → judgePlant edition1 s equations ≡ refused (variablesOf s .refusal)
-unfolding judgePlant need ensure _>>=_ _>>_ refusedBy answer
-refusal-is s equations h = go (cases s)
-  where
-    go : Cases s → judgePlant edition1 s equations ≡ refused (variablesOf s .refusal)
-    go (broken-4 e a) = rw (e, a) refl
-    go (broken-5 e o a) = rw (e, o, a) refl
-    go (passed p a) = zero-not (variablesOf s .refusal) h (ap (λ v. v .refusal) a)
-
-pub accepted-of : (s : List ℕ) → variablesOf s .refusal ≡ 0 → (vs : List Variable) × Accepted s vs
-unfolding refusedBy answer
-accepted-of s h = go (cases s)
-  where
-    go : Cases s → (vs : List Variable) × Accepted s vs
-    go (broken-4 e a) = zero-not 4 (omega arith) (sym (ap (λ v. v .refusal) a) ∙ h)
-    go (broken-5 e o a) = zero-not 5 (omega arith) (sym (ap (λ v. v .refusal) a) ∙ h)
-    go (passed {vs = vs} p a) = (vs, p)
+    number : (j : Judged (List Variable)) → variablesAnswer j .refusal ≡ refusalOf j
+    number (refused n) = refl
+    number (accepted vs) = refl
 
 -- ---- the numbers
 -- the first byte counts the variables
@@ -85,7 +58,7 @@ column-front f vs = take-pad 32 (pos 0) (map f vs) (length vs) (length-map vs f)
 
 module _ (s : List ℕ) {vs : List Variable} (a : Accepted s vs) where
   answered : variablesOf s ≡ answer 0 vs
-  answered = accepted-as s (a .is) (a .in-order)
+  answered = accepted-as s a
 
   pub not-refused : variablesOf s .refusal ≡ 0
   unfolding answer

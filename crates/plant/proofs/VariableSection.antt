@@ -23,7 +23,8 @@ use Rattle.codec.proofs.Padding.{pad-map-snoc}
 use Rattle.codec.proofs.Reading.{nat4At, int4-at, drop-past, drop-some}
 use Rattle.codec.proofs.Known.{cons}
 use Rattle.plant.specs.declared.variables.Variables.{Variables}
-use Rattle.plant.specs.Variables.{column, answer, refusedBy, orderedOr, variablesOf, Sized, Counted}
+use Rattle.plant.proofs.VariableAnswer.{refused-5, accepted-as}
+use Rattle.plant.specs.Variables.{column, answer, refusedBy, variablesOf, Sized, Counted}
 use Rattle.plant.proofs.Turns.{every-next, every-not}
 use Rattle.plant.proofs.Costs.{Costs, costs-give, costs-then, costs-int4, costs-times}
 
@@ -133,18 +134,6 @@ unfolding ordered
 in-order v h k = rw (not-more (v .initial) (v .minimum) h, not-more (v .maximum) (v .initial) k) refl
 
 -- ---- the answer
-pub refused-4 : (s : List ℕ) → variablesIn edition1 s ≡ none → variablesOf s ≡ refusedBy 4
-unfolding variablesOf
-refused-4 s h = rw (variablesOf, h) refl
-
-pub refused-5 : (s : List ℕ) {vs : List Variable} → variablesIn edition1 s ≡ some vs → every ordered vs ≡ false → variablesOf s ≡ refusedBy 5
-unfolding variablesOf orderedOr
-refused-5 s h o = rw (variablesOf, h, o) refl
-
-pub accepted-as : (s : List ℕ) {vs : List Variable} → variablesIn edition1 s ≡ some vs → every ordered vs ≡ true → variablesOf s ≡ answer 0 vs
-unfolding variablesOf orderedOr
-accepted-as s h o = rw (variablesOf, h, o) refl
-
 answer-is : (vs : List Variable) (n : ℕ) (lows highs initials : List ℤ) → n ≡ length vs → lows ≡ column (λ (v : Variable). v .minimum) vs → highs ≡ column (λ (v : Variable). v .maximum) vs → initials ≡ column (λ (v : Variable). v .initial) vs → _≡_ {A = Variables} (record { refusal = 0; count = n; lows = lows; highs = highs; initials = initials }) (answer 0 vs)
 unfolding answer
 answer-is vs n lows highs initials a b c d = λ i. record { refusal = 0; count = a i; lows = b i; highs = c i; initials = d i }
@@ -219,4 +208,4 @@ ended {s} {n} {i} {p} {lows} {highs} {initials} g e =
     let r : g .rest ≡ [] = sym (given [] (drop p s) (ap (λ m. times m (readVariable edition1) (drop p s)) (sym z) ∙ g .got)) in
     let o : every ordered (g .all) ≡ true = g .so-far ∙ ap (every ordered) r in
     let d : g .done ≡ g .all = sym (append-nil (g .done)) ∙ ap (λ l. g .done ++ l) (sym r) ∙ g .join in
-    answer-is (g .done) n lows highs initials (sym e ∙ sym (g .many)) (g .lows-are) (g .highs-are) (g .initials-are) ∙ ap (answer 0) d ∙ sym (accepted-as s (g .is) o)
+    answer-is (g .done) n lows highs initials (sym e ∙ sym (g .many)) (g .lows-are) (g .highs-are) (g .initials-are) ∙ ap (answer 0) d ∙ sym (accepted-as s (record { is = g .is; in-order = o }))

@@ -1,14 +1,14 @@
 -- Condition 8 of an equation section that 6 and 7 let pass.
 use mathlib.Core.Path.{_≡_}
-use mathlib.Core.Bool.{Bool, true, false, not, _||_}
-use mathlib.Core.List.{List, [], map, flatMap}
+use mathlib.Core.Bool.{Bool, true, false, not, _||_, _&&_}
+use mathlib.Core.List.{List, [], flatMap}
 use mathlib.Core.Option.{Option, some}
 use Prim.Native.Nat.{ℕ, _≤_, _<_}
-use lib.ListN.{length, getD}
-use Rattle.semantics.specs.Bytes.{every, Reader}
+use lib.ListN.{length, getD, drop}
+use Rattle.semantics.specs.Bytes.{every, Reader, read}
 use Rattle.semantics.specs.Sections.{Rate, Mode, Equation, equationsIn}
 use Rattle.plant.specs.Sound.{There, Sound}
-use Rattle.semantics.specs.Plant.{equationNamed, among, onceAfter, modeDrives}
+use Rattle.semantics.specs.Plant.{equationNamed, among, onceAfter, ratesDrive, modeDrives, drives, modeOnce, modesOnce}
 
 -- what 6 and 7 have shown, where there are at most 32 variables
 pub record Named (s : List ℕ) : Type 0 where
@@ -19,15 +19,6 @@ pub record Named (s : List ℕ) : Type 0 where
   pub named : every (equationNamed variables) equations ≡ true
 
 -- ---- for the parts of the code
-unfoldable pub drivers : List Rate → List ℕ
-drivers rs = map (λ (r : Rate). r .driven) rs
-
-unfoldable pub allDrivers : List Mode → List ℕ
-allDrivers ms = flatMap modeDrives ms
-
-unfoldable pub eachOnce : List Mode → Bool
-eachOnce ms = every (λ m. onceAfter [] (modeDrives m)) ms
-
 -- variables that the array has an entry for
 pub record Small (l : List ℕ) : Type 0 where
   pub below : (v : ℕ) → among v l ≡ true → v < 32
@@ -54,3 +45,17 @@ pub record Marked (a : List Bool) (l : List ℕ) (b : List Bool) : Type 0 where
 pub record Tried (test : Bool) (a : List Bool) (l : List ℕ) (r : Bool) (b : List Bool) : Type 0 where
   pub is : r ≡ test
   pub marks : r ≡ true → Marked a l b
+
+-- ---- 8 of rates, modes and an equation, against the variables that are marked
+abbrev pub ratesTest : List Bool → List Rate → Bool
+ratesTest before rs = onceAfter [] (ratesDrive rs) && unmarked before (ratesDrive rs)
+
+abbrev pub modesTest : List Bool → List Mode → Bool
+modesTest before ms = every modeOnce ms && unmarked before (flatMap modeDrives ms)
+
+abbrev pub equationTest : List Bool → Equation → Bool
+equationTest before q = modesOnce q && unmarked before (drives q)
+
+-- what r reads at place p of s is tried
+abbrev pub TriedAt : {A : Type 0} → Reader A → (A → Bool) → (A → List ℕ) → List ℕ → ℕ → List Bool → Bool → List Bool → Type 0
+TriedAt {A} r test named s p a x b = (v : A) (e : List ℕ) → r (drop p s) ≡ read v e → Tried (test v) a (named v) x b

@@ -6,10 +6,10 @@ use mathlib.Core.Option.{Option, none, some}
 use Prim.Native.Nat.{ℕ, _+_, _*_}
 use lib.IntN.{ℤ, pos}
 use lib.ListN.{length, drop, set, replicate}
-use Rattle.semantics.specs.Bytes.{every, Reader, broken, read}
-use Rattle.semantics.specs.Refusals.{Judged, refused, accepted, refusalOf, need, ensure, _>>=_, _>>_}
+use Rattle.semantics.specs.Bytes.{Reader, broken, read}
+use Rattle.semantics.specs.Refusals.{Judged, refused, accepted}
 use Rattle.semantics.specs.Sections.{Rate, Switch, Mode, Selector, Equation, steady, choice, readMode, equationsIn}
-use Rattle.semantics.specs.Plant.{equationNamed, selectorsOf, noMode}
+use Rattle.semantics.specs.Plant.{selectorsOf, noMode, ratesOf, judgeEquations}
 use Rattle.codec.specs.Reading.{Reads}
 use Rattle.codec.specs.Padding.{pad}
 use Rattle.plant.specs.PaperNumbers.{paperStep, paperSeen, partNumber, wholeNumber}
@@ -19,13 +19,6 @@ use Rattle.plant.specs.declared.equations.Step.{Step}
 use Rattle.plant.specs.declared.equations.Step.the-variants.{At, Broken}
 use Rattle.plant.specs.declared.equations.Seen.{Seen}
 use Rattle.plant.specs.declared.equations.Seen.the-variants.{Kept, Lost}
-
--- ---- conditions 6 and 7, as judgePlant has them
-unfoldable pub judgeEquations : List ℕ → ℕ → Judged (List Equation)
-judgeEquations s variables = do
-  es ← need 6 (equationsIn s)
-  ensure 7 (every (equationNamed variables) es)
-  accepted es
 
 -- ---- how many bytes a part of the section takes
 unfoldable pub sizes : {A : Type 0} → (A → ℕ) → List A → ℕ
@@ -62,12 +55,6 @@ unfoldable pub modeCount : Selector → ℕ
 modeCount c = length (c .modes)
 
 -- ---- rates
--- the rates of kind 1
-unfoldable pub steadyRates : List Equation → List Rate
-steadyRates [] = []
-steadyRates (steady r ∷ es) = r ∷ steadyRates es
-steadyRates (choice c ∷ es) = steadyRates es
-
 -- the rate of each variable, where these rates are put in: of two of one variable the first stays
 unfoldable pub putRates : List Rate → List ℤ → List ℤ
 putRates [] l = l
@@ -83,7 +70,8 @@ acceptedEquations es = record {
   selectors = length (selectorsOf es);
   modes = pad 16 0 (map modeCount (selectorsOf es));
   «mode_offsets» = pad 128 0 (modePlaces 1 es);
-  steady = putRates (steadyRates es) (replicate 32 (pos 0));
+  -- the rates of kind 1: those in force where no CASE has a mode
+  steady = putRates (ratesOf es []) (replicate 32 (pos 0));
 }
 
 unfoldable pub answerTo : Judged (List Equation) → Equations
@@ -91,11 +79,7 @@ answerTo (refused n) = refusedEquations n
 answerTo (accepted es) = acceptedEquations es
 
 unfoldable pub equationsOf : List ℕ → ℕ → Equations
-equationsOf s variables = answerTo (judgeEquations s variables)
-
--- its number alone
-unfoldable pub refusalIn : List ℕ → ℕ → ℕ
-refusalIn s variables = refusalOf (judgeEquations s variables)
+equationsOf s variables = answerTo (judgeEquations variables s)
 
 -- ---- places that are known
 -- what r reads stands at place p of s

@@ -1,14 +1,10 @@
--- What is known of an equation section that 6 lets pass, and 12 of its modes.
+-- What is known of an equation section that 6 lets pass.
 use mathlib.Core.Path.{_≡_}
-use mathlib.Core.Bool.{Bool}
 use mathlib.Core.List.{List}
 use mathlib.Core.Option.{Option, some}
 use Prim.Native.Nat.{ℕ, _≤_}
 use lib.ListN.{length, drop}
-use Rattle.semantics.specs.Bytes.{every, Reader, read}
-use Rattle.semantics.specs.Editions.{edition1}
-use Rattle.semantics.specs.Sections.{Mode}
-use Rattle.semantics.specs.Plant.{switchReads}
+use Rattle.semantics.specs.Bytes.{Reader, read}
 
 -- there is something
 pub record There {A : Type 0} (o : Option A) : Type 0 where
@@ -21,7 +17,3 @@ pub record Sound {A : Type 0} (r : Reader A) (s : List ℕ) (p : ℕ) : Type 0 w
   pub end : List ℕ
   pub got : r (drop p s) ≡ read value end
   pub inside : p ≤ length s
-
--- 12, of the switches of one mode
-unfoldable pub modeReads : ℕ → Mode → Bool
-modeReads variables m = every (switchReads edition1 variables) (m .switches)

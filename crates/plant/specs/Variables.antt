@@ -1,15 +1,14 @@
 -- Conditions 4 and 5: the variable section as the code answers it.
 use mathlib.Core.Path.{_≡_}
-use mathlib.Core.Bool.{cond}
 use mathlib.Core.List.{List, [], map}
-use mathlib.Core.Option.{none, some}
+use mathlib.Core.Option.{none}
 use Prim.Native.Nat.{ℕ, _+_, _*_, _≤_}
 use lib.ListN.{length, getD}
 use lib.IntN.{ℤ, pos}
-use Rattle.semantics.specs.Bytes.{every}
 use Rattle.semantics.specs.Editions.{edition1}
+use Rattle.semantics.specs.Refusals.{Judged, refused, accepted}
 use Rattle.semantics.specs.Sections.{Variable, variablesIn}
-use Rattle.semantics.specs.Plant.{ordered}
+use Rattle.semantics.specs.Plant.{judgeVariables}
 use Rattle.codec.specs.Padding.{pad}
 use Rattle.plant.specs.declared.variables.Variables.{Variables}
 
@@ -30,13 +29,14 @@ answer n vs = record {
 unfoldable pub refusedBy : ℕ → Variables
 refusedBy n = answer n []
 
--- 5: "Minimum ≤ initial ≤ maximum fails."
-unfoldable pub orderedOr : List Variable → Variables
-orderedOr vs = cond (every ordered vs) (answer 0 vs) (refusedBy 5)
+-- refused, or the variables
+unfoldable pub variablesAnswer : Judged (List Variable) → Variables
+variablesAnswer (refused n) = refusedBy n
+variablesAnswer (accepted vs) = answer 0 vs
 
--- 4: "The variable count or section length is wrong.", then 5
+-- 4 and 5
 unfoldable pub variablesOf : List ℕ → Variables
-variablesOf s = elim (variablesIn edition1 s) [ none ↦ refusedBy 4 | some vs ↦ orderedOr vs ]
+variablesOf s = variablesAnswer (judgeVariables edition1 s)
 
 -- ---- for the parts of the code
 -- the section has the bytes of n variables

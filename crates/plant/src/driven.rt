@@ -1,20 +1,18 @@
 // The equation section once more, after 6 and 7: no variable in two equations or twice in one mode (8).
 use crate::places::past;
 ghost use mathlib.Core.Path.{_≡_};
-ghost use mathlib.Core.Bool.{_&&_};
-ghost use mathlib.Core.List.{List, []};
+ghost use mathlib.Core.List.{List, [], flatMap};
 ghost use mathlib.Core.Option.{some};
-ghost use Prim.Native.Nat.{ℕ};
-ghost use lib.ListN.{length, drop};
-ghost use Rattle.semantics.specs.Bytes.{read, times};
-ghost use Rattle.semantics.specs.Sections.{Rate, Mode, Equation, readRate, readMode, equationIn, equationsIn};
-ghost use Rattle.semantics.specs.Plant.{onceAfter, drives, modesOnce, drivenOnce};
-ghost use Rattle.plant.specs.Driven.{Named, Held, Few, drivers, allDrivers, eachOnce, unmarked, Tried};
+ghost use lib.ListN.{length};
+ghost use Rattle.semantics.specs.Bytes.{times};
+ghost use Rattle.semantics.specs.Sections.{Equation, readRate, readMode, equationIn, equationsIn};
+ghost use Rattle.semantics.specs.Plant.{drives, drivenOnce, ratesDrive, modeDrives};
+ghost use Rattle.plant.specs.Driven.{Named, Held, Few, ratesTest, modesTest, equationTest, Tried, TriedAt};
 
 // n rates from a place on: none of a variable marked before, no variable twice; their variables are marked
 fn rates(s: &[u8], at: usize, n: usize, before: &[bool; 32], seen: &mut [bool; 32]) -> bool
-    requires { ⌜ Held (times n readRate) drivers (now s) at × (length (now seen) ≡ 32) ⌝ }
-    ensures { λ r. ⌜ ((rs : List Rate) (e : List ℕ) → times n readRate (drop at (now (s .entry))) ≡ read rs e → Tried (onceAfter [] (drivers rs) && unmarked (now (before .entry)) (drivers rs)) (now (seen .entry)) (drivers rs) r (now (seen .exit))) ⌝ }
+    requires { ⌜ Held (times n readRate) ratesDrive (now s) at × (length (now seen) ≡ 32) ⌝ }
+    ensures { λ r. ⌜ TriedAt (times n readRate) (ratesTest (now (before .entry))) ratesDrive (now (s .entry)) at (now (seen .entry)) r (now (seen .exit)) ⌝ }
 {
     let mut mine = [false; 32];
     let mut p = at;
@@ -37,8 +35,8 @@ fn rates(s: &[u8], at: usize, n: usize, before: &[bool; 32], seen: &mut [bool; 3
 
 // n modes of a CASE: each as above
 fn modes(s: &[u8], at: usize, n: usize, before: &[bool; 32], seen: &mut [bool; 32]) -> bool
-    requires { ⌜ Held (times n readMode) allDrivers (now s) at × (length (now seen) ≡ 32) ⌝ }
-    ensures { λ r. ⌜ ((ms : List Mode) (e : List ℕ) → times n readMode (drop at (now (s .entry))) ≡ read ms e → Tried (eachOnce ms && unmarked (now (before .entry)) (allDrivers ms)) (now (seen .entry)) (allDrivers ms) r (now (seen .exit))) ⌝ }
+    requires { ⌜ Held (times n readMode) (flatMap modeDrives) (now s) at × (length (now seen) ≡ 32) ⌝ }
+    ensures { λ r. ⌜ TriedAt (times n readMode) (modesTest (now (before .entry))) (flatMap modeDrives) (now (s .entry)) at (now (seen .entry)) r (now (seen .exit)) ⌝ }
 {
     let mut p = at;
     let mut i = 0;
@@ -57,7 +55,7 @@ fn modes(s: &[u8], at: usize, n: usize, before: &[bool; 32], seen: &mut [bool; 3
 // an equation's bytes: the variables marked so far are those of the equations before it
 fn equation(s: &[u8], seen: &mut [bool; 32]) -> bool
     requires { ⌜ Few (equationIn (now s)) drives × (length (now seen) ≡ 32) ⌝ }
-    ensures { λ r. ⌜ ((q : Equation) → equationIn (now (s .entry)) ≡ some q → Tried (modesOnce q && unmarked (now (seen .entry)) (drives q)) (now (seen .entry)) (drives q) r (now (seen .exit))) ⌝ }
+    ensures { λ r. ⌜ ((q : Equation) → equationIn (now (s .entry)) ≡ some q → Tried (equationTest (now (seen .entry)) q) (now (seen .entry)) (drives q) r (now (seen .exit))) ⌝ }
 {
     let before = *seen;
     if s[0] == 1 {

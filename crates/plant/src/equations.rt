@@ -7,9 +7,10 @@ ghost use lib.ListN.{length, set, replicate};
 ghost use lib.Seq.{sets};
 ghost use lib.IntN.{pos};
 ghost use Rattle.semantics.specs.Bytes.{times, every};
+ghost use Rattle.semantics.specs.Refusals.{refusalOf};
 ghost use Rattle.semantics.specs.Sections as sections;
 ghost use Rattle.semantics.specs.Plant as names;
-ghost use Rattle.plant.specs.Equations.{StepSays, SeenSays, refusalIn, Stands, SectionStands, sizes, switchSize, modeSize, startsFrom, steadyRates, putRates, CasesOf, equationsOf, refusedEquations};
+ghost use Rattle.plant.specs.Equations.{StepSays, SeenSays, Stands, SectionStands, sizes, switchSize, modeSize, startsFrom, putRates, CasesOf, equationsOf, refusedEquations};
 
 // refusal 6, 7 or 0; of selector j its modes, and at entry 8 * j + m where mode m of it stands; of each variable its rate of kind 1
 pub struct Equations {
@@ -268,7 +269,7 @@ fn some_equations(s: &[u8], at: usize, n: u8, variables: usize) -> Step
 
 // 6 where the layout is broken, 7 where a name is missing, else 0
 fn refusal(s: &[u8], variables: usize) -> u8
-    ensures { λ r. ⌜ r ≡ refusalIn (now (s .entry)) variables ⌝ }
+    ensures { λ r. ⌜ r ≡ refusalOf (names.judgeEquations variables (now (s .entry))) ⌝ }
 {
     if s.len() < 1 {
         return 6;
@@ -368,7 +369,7 @@ fn put_rate(rates: &mut [i32], v: usize, z: i32)
 // the rates with that of an equation of kind 1 put in
 fn with_steady(s: &[u8], at: usize, rates: [i32; 32]) -> [i32; 32]
     requires { ⌜ Stands sections.readEquationBody (now s) at ⌝ }
-    ensures { λ r. ⌜ ((t : Stands sections.readEquationBody (now (s .entry)) at) → r ≡ putRates (steadyRates (t .value ∷ [])) rates) ⌝ }
+    ensures { λ r. ⌜ ((t : Stands sections.readEquationBody (now (s .entry)) at) → r ≡ putRates (names.ratesOf (t .value ∷ []) []) rates) ⌝ }
 {
     if s[at] != 1 {
         return rates;
@@ -381,7 +382,7 @@ fn with_steady(s: &[u8], at: usize, rates: [i32; 32]) -> [i32; 32]
 // the rates of the equations of kind 1 among n; of two for one variable the first stays
 fn steady_rates(s: &[u8], at: usize, n: u8) -> [i32; 32]
     requires { ⌜ Stands (times n sections.readEquation) (now s) at ⌝ }
-    ensures { λ r. ⌜ ((t : Stands (times n sections.readEquation) (now (s .entry)) at) → r ≡ putRates (steadyRates (t .value)) (replicate 32 (pos 0))) ⌝ }
+    ensures { λ r. ⌜ ((t : Stands (times n sections.readEquation) (now (s .entry)) at) → r ≡ putRates (names.ratesOf (t .value) []) (replicate 32 (pos 0))) ⌝ }
 {
     if n == 0 {
         return [0i32; 32];

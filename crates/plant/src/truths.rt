@@ -8,8 +8,8 @@ ghost use lib.ListN.{drop};
 ghost use Rattle.semantics.specs.Bytes.{every, read, times};
 ghost use Rattle.semantics.specs.Editions.{edition1};
 ghost use Rattle.semantics.specs.Sections.{Switch, Mode, Equation, readSwitch, readMode, equationIn, equationsIn};
-ghost use Rattle.semantics.specs.Plant.{switchReads, equationReads};
-ghost use Rattle.plant.specs.Sound.{Sound, There, modeReads};
+ghost use Rattle.semantics.specs.Plant.{switchReads, equationReads, modeReads};
+ghost use Rattle.plant.specs.Sound.{Sound, There};
 
 // k switches from a place on
 fn switches(s: &[u8], at: usize, k: usize, variables: usize) -> bool
@@ -33,7 +33,7 @@ fn switches(s: &[u8], at: usize, k: usize, variables: usize) -> bool
 // n modes of a CASE
 fn modes(s: &[u8], at: usize, n: usize, variables: usize) -> bool
     requires { ⌜ Sound (times n readMode) (now s) at × (variables ≤ 32) ⌝ }
-    ensures { λ r. ⌜ ((ms : List Mode) (e : List ℕ) → times n readMode (drop at (now (s .entry))) ≡ read ms e → r ≡ every (modeReads variables) ms) ⌝ }
+    ensures { λ r. ⌜ ((ms : List Mode) (e : List ℕ) → times n readMode (drop at (now (s .entry))) ≡ read ms e → r ≡ every (modeReads edition1 variables) ms) ⌝ }
 {
     let mut p = at;
     let mut i = 0;

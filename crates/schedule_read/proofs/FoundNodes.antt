@@ -6,7 +6,7 @@ use Prim.Native.Nat.{ℕ}
 use Rattle.semantics.specs.Editions.{edition1}
 use Rattle.schedules.specs.Nodes.{Node, nodesIn}
 use Rattle.tree_read.specs.Index.{nodesOf, IndexOf}
-use Rattle.schedule_read.specs.Indexed.{NodesAt, Indexed}
+use Rattle.schedule_read.specs.Indexed.{NodesAt}
 use Rattle.tree_read.specs.declared.nodes.Nodes.{Nodes}
 use Rattle.tree_read.proofs.NodeIndex.{indexed}
 

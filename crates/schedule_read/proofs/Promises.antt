@@ -1,18 +1,16 @@
 -- What the index of a schedule file promises to those that run or compile it.
 use mathlib.Core.Path.{_≡_, refl, sym, ap, subst, _∙_}
-use mathlib.Core.Bool.{true}
 use mathlib.Core.List.{List}
-use Prim.Native.Nat.{ℕ, suc, _-_}
+use Prim.Native.Nat.{ℕ, suc}
 use native.Mathlib.Omega.{arith}
-use lib.ListN.{length, take, drop}
+use lib.ListN.{length}
 use Rattle.semantics.specs.Bytes.{every}
 use Rattle.semantics.specs.Editions.{edition1}
 use Rattle.semantics.specs.Refusals.{Judged, refused, accepted, refusalOf}
-use Rattle.semantics.specs.Plant.{judgePlant, selectors, switchesRead}
 use Rattle.semantics.specs.Conditions.{Condition}
 use Rattle.semantics.proofs.Facts.{All, all-nil, all-cons, some-is, and-left, and-right}
 use Rattle.semantics.proofs.CallsHold.{accepted-of}
-use Rattle.schedules.specs.Nodes.{nodeNamed, nodeReads}
+use Rattle.schedules.specs.Nodes.{nodeReads}
 use Rattle.schedules.specs.Laid.{Laid, Lies}
 use Rattle.schedules.specs.Files.{Schedule, judgeFile}
 use Rattle.schedules.specs.FileSections.{FileSections}
@@ -21,9 +19,8 @@ use Rattle.schedules.proofs.FirstNumber.{passed, file-first}
 use Rattle.plant.specs.PlantRead.{plantOf}
 pub use Rattle.schedule_read.specs.Promised.{Slice, Promised}
 use Rattle.schedule_read.specs.FileParts.{partsIn, partsRead, partsOf, sectionsAt}
-use Rattle.schedule_read.specs.Indexed.{NodesAt}
 use Rattle.tree_read.specs.Index.{nodesOf}
-use Rattle.tree_read.specs.Ends.{treeSize, treeIn}
+use Rattle.tree_read.specs.Ends.{treeIn}
 use Rattle.schedule_read.specs.ScheduleFile.{indexAt, scheduleIndex}
 use Rattle.schedule_read.specs.declared.call.ScheduleIndex.{ScheduleIndex}
 use Rattle.schedule_read.specs.declared.parts.Parts.{Parts}

@@ -16,7 +16,7 @@ use Rattle.semantics.proofs.Judging.{refused-not-accepted, refused-is, go-then,
 use Rattle.schedules.specs.FileSections.{FileSections, fileSectionsIn}
 use Rattle.schedules.specs.Nodes.{Node, nodesIn, nodeNamed, nodeReads}
 use Rattle.schedules.specs.Trees.{Tree, treeOf}
-use Rattle.schedules.specs.Files.{Schedule, fileHeader, fileLength, judgeFile}
+use Rattle.schedules.specs.Files.{Schedule, fileHeader, fileLength, judgeFile, judgeSections, judgeNodes}
 use Rattle.schedules.specs.Calls.{scheduleCounts, readSchedule}
 use Rattle.schedules.proofs.FirstNumber as FirstNumber
 use Rattle.plant.specs.ModeCounts.{ModesAt}
@@ -29,7 +29,7 @@ use Rattle.schedule_read.specs.FileParts.{noParts, partsIn, partsRead, p
 use Rattle.schedule_read.specs.Indexed.{NodesAt, Indexed, Passes}
 use Rattle.tree_read.specs.Index.{notNodes, nodesOf}
 use Rattle.tree_read.specs.Ends.{noTree, subtreesOf, treeIn}
-use Rattle.schedule_read.specs.ScheduleFile.{numbers, noSchedule, indexAt, scheduleIndex, judgeSections, sectionsIndex, judgeNodes, PlantAt, Planted}
+use Rattle.schedule_read.specs.ScheduleFile.{numbers, noSchedule, indexAt, scheduleIndex, sectionsIndex, PlantAt, Planted}
 use Rattle.schedule_read.specs.declared.call.FileRead.{FileRead}
 use Rattle.schedule_read.specs.declared.call.ScheduleIndex.{ScheduleIndex}
 use Rattle.schedule_read.specs.declared.parts.Parts.{Parts}
@@ -48,8 +48,8 @@ pub nothing-else : (r : ℕ) {q : Parts} {p : PlantRead} {n : Nodes} {t : Subtre
 nothing-else r e f g h = cc
 
 -- ---- 1 to 3
-after-3 : (f : List ℕ) {parts : FileSections} → Opened f → fileSectionsIn (drop 3 f) ≡ some parts → judgeFile edition1 f ≡ judgeSections parts
-unfolding judgeFile judgeSections
+after-3 : (f : List ℕ) {parts : FileSections} → Opened f → fileSectionsIn (drop 3 f) ≡ some parts → judgeFile edition1 f ≡ judgeSections edition1 parts
+unfolding judgeFile
 after-3 f o e = go-ensure 1 _ (o .header) ∙ go-ensure 2 _ (o .length-field) ∙ go-need 3 _ e
 
 module _ (f : List ℕ) {p : Parts} (h : p ≡ partsOf f) where
@@ -82,15 +82,6 @@ module _ (f : List ℕ) {p : Parts} (h : p ≡ partsOf f) where
   by-sections z = let a = parts-stand z in ap (indexAt p) (sym (after-3 f (a .opened) (a .are))) ∙ ap (λ q. indexAt q (judgeFile edition1 f)) h
 
 -- ---- 11 and 12
-both : (p : Plant) (ns : List Node) (x : Schedule) →
-    (ensure 11 (every (nodeNamed (length (p .variables)) (selectors p)) ns) >> (ensure 12 (every (nodeReads edition1 (length (p .variables))) ns && switchesRead edition1 p) >> accepted x)) ≡ (judgeNodes p ns >> accepted x)
-unfolding judgeNodes ensure _>>_
-both p ns x = go (every (nodeNamed (length (p .variables)) (selectors p)) ns) (every (nodeReads edition1 (length (p .variables))) ns && switchesRead edition1 p)
-  where
-    go : (a b : Bool) → (ensure 11 a >> (ensure 12 b >> accepted x)) ≡ ((ensure 11 a >> ensure 12 b) >> accepted x)
-    go true b = refl
-    go false b = refl
-
 then-refused : {j : Judged (Unit {0})} {n : ℕ} (k : Judged Schedule) → j ≡ refused n → (j >> k) ≡ refused n
 unfolding _>>_
 then-refused k e = rw e refl
@@ -100,7 +91,7 @@ unfolding _>>_
 then-accepted k e = rw e refl
 
 -- neither refuses with 0
-some-number : (p : Plant) (ns : List Node) {m : ℕ} → judgeNodes p ns ≡ refused m → 1 ≤ m
+some-number : (p : Plant) (ns : List Node) {m : ℕ} → judgeNodes edition1 p ns ≡ refused m → 1 ≤ m
 unfolding judgeNodes ensure _>>_
 some-number p ns h = go (every (nodeNamed (length (p .variables)) (selectors p)) ns) (every (nodeReads edition1 (length (p .variables))) ns && switchesRead edition1 p) h
   where
@@ -119,7 +110,7 @@ module _ {es s kinds starts ends modes : List ℕ} {count v c : ℕ} where
     names-are : (ns : List Node) → NodesAt s kinds starts ends count ns → (p : Plant) → PlantAt es v c modes p → a ≡ every (nodeNamed (length (p .variables)) (selectors p)) ns
     names-are ns d p e = h (selectors p) (e .modes-at) .of ns d ∙ ap (λ n. every (nodeNamed n (selectors p)) ns) (sym (e .counted))
 
-    pub by-11 : a ≡ false → (ns : List Node) → NodesAt s kinds starts ends count ns → (p : Plant) → PlantAt es v c modes p → 11 ≡ refusalOf (judgeNodes p ns)
+    pub by-11 : a ≡ false → (ns : List Node) → NodesAt s kinds starts ends count ns → (p : Plant) → PlantAt es v c modes p → 11 ≡ refusalOf (judgeNodes edition1 p ns)
     unfolding judgeNodes ensure _>>_ refusalOf
     by-11 x ns d p e = rw (sym (names-are ns d p e) ∙ x) refl
 
@@ -127,7 +118,7 @@ module _ {es s kinds starts ends modes : List ℕ} {count v c : ℕ} where
       nodes-read : (ns : List Node) → NodesAt s kinds starts ends count ns → (p : Plant) → PlantAt es v c modes p → b ≡ every (nodeReads edition1 (length (p .variables))) ns
       nodes-read ns d p e = k .of ns d ∙ ap (λ n. every (nodeReads edition1 n) ns) (sym (e .counted))
 
-      pub by-12 : b ≡ false → (ns : List Node) → NodesAt s kinds starts ends count ns → (p : Plant) → PlantAt es v c modes p → 12 ≡ refusalOf (judgeNodes p ns)
+      pub by-12 : b ≡ false → (ns : List Node) → NodesAt s kinds starts ends count ns → (p : Plant) → PlantAt es v c modes p → 12 ≡ refusalOf (judgeNodes edition1 p ns)
       unfolding judgeNodes ensure _>>_ refusalOf
       by-12 y ns d p e = rw (sym (names-are ns d p e) ∙ x, sym (nodes-read ns d p e) ∙ y) refl
 
@@ -136,11 +127,11 @@ module _ {es s kinds starts ends modes : List ℕ} {count v c : ℕ} where
         unfolding switchesRead
         switches-read p e = l (p .equations) (e .equations) ∙ ap (λ n. every (equationReads edition1 n) (p .equations)) (sym (e .counted))
 
-        pub by-switches : t ≡ false → (ns : List Node) → NodesAt s kinds starts ends count ns → (p : Plant) → PlantAt es v c modes p → 12 ≡ refusalOf (judgeNodes p ns)
+        pub by-switches : t ≡ false → (ns : List Node) → NodesAt s kinds starts ends count ns → (p : Plant) → PlantAt es v c modes p → 12 ≡ refusalOf (judgeNodes edition1 p ns)
         unfolding judgeNodes ensure _>>_ refusalOf
         by-switches z ns d p e = rw (sym (names-are ns d p e) ∙ x, sym (nodes-read ns d p e) ∙ y, sym (switches-read p e) ∙ z) refl
 
-        pub nodes-passed : t ≡ true → (ns : List Node) → NodesAt s kinds starts ends count ns → (p : Plant) → PlantAt es v c modes p → 0 ≡ refusalOf (judgeNodes p ns)
+        pub nodes-passed : t ≡ true → (ns : List Node) → NodesAt s kinds starts ends count ns → (p : Plant) → PlantAt es v c modes p → 0 ≡ refusalOf (judgeNodes edition1 p ns)
         unfolding judgeNodes ensure _>>_ refusalOf
         nodes-passed z ns d p e = rw (sym (names-are ns d p e) ∙ x, sym (nodes-read ns d p e) ∙ y, sym (switches-read p e) ∙ z) refl
 
@@ -219,31 +210,31 @@ module _ (at-parts : Parts) (vs es s : List ℕ) {p : PlantRead} (h : p ≡ plan
               go (some u) e = true-not-false (sym (ap (λ (t : Subtrees). t .ok) (tree-answer ∙ ap subtreesOf e)) ∙ x)
 
           -- ---- 11 and 12
-          module _ (x : t .ok ≡ true) {r : ℕ} (q : (ns : List Node) → NodesAt s (n .kinds) (n .starts) (n .ends) (n .count) ns → (p′ : Plant) → PlantAt es (p .variables) (p .selectors) (p .modes) p′ → r ≡ refusalOf (judgeNodes p′ ns)) where
-            last : r ≡ refusalOf (judgeNodes plant ns)
+          module _ (x : t .ok ≡ true) {r : ℕ} (q : (ns : List Node) → NodesAt s (n .kinds) (n .starts) (n .ends) (n .count) ns → (p′ : Plant) → PlantAt es (p .variables) (p .selectors) (p .modes) p′ → r ≡ refusalOf (judgeNodes edition1 p′ ns)) where
+            last : r ≡ refusalOf (judgeNodes edition1 plant ns)
             last = q ns at plant plant-at
 
-            after-10 : (u : Tree) × (judgeSections sections ≡ (judgeNodes plant ns >> accepted (record { sections = sections; plant = plant; nodes = ns; root = u })))
+            after-10 : (u : Tree) × (judgeSections edition1 sections ≡ (judgeNodes edition1 plant ns >> accepted (record { sections = sections; plant = plant; nodes = ns; root = u })))
             unfolding judgeSections subtreesOf sections
             after-10 = go (treeOf ns) refl
               where
-                go : (o : Option Tree) → treeOf ns ≡ o → (u : Tree) × (judgeSections sections ≡ (judgeNodes plant ns >> accepted (record { sections = sections; plant = plant; nodes = ns; root = u })))
+                go : (o : Option Tree) → treeOf ns ≡ o → (u : Tree) × (judgeSections edition1 sections ≡ (judgeNodes edition1 plant ns >> accepted (record { sections = sections; plant = plant; nodes = ns; root = u })))
                 go none e = true-not-false (sym x ∙ ap (λ (t : Subtrees). t .ok) (tree-answer ∙ ap subtreesOf e))
-                go (some u) e = (u, go-then _ plant-is ∙ go-need 9 _ nodes-are ∙ go-need 10 _ e ∙ both plant ns _)
+                go (some u) e = (u, go-then _ plant-is ∙ go-need 9 _ nodes-are ∙ go-need 10 _ e)
 
             pub by-last : (r ≡ 0 → ⊥) → noSchedule r ≡ sectionsIndex at-parts vs es s
             unfolding sectionsIndex sections refusalOf
-            by-last v = go (judgeNodes plant ns) refl
+            by-last v = go (judgeNodes edition1 plant ns) refl
               where
-                go : (j : Judged (Unit {0})) → judgeNodes plant ns ≡ j → noSchedule r ≡ sectionsIndex at-parts vs es s
+                go : (j : Judged (Unit {0})) → judgeNodes edition1 plant ns ≡ j → noSchedule r ≡ sectionsIndex at-parts vs es s
                 go (refused m) e = ap noSchedule (last ∙ ap refusalOf e) ∙ answer-refused at-parts (after-10 .1 ∙ then-refused _ e)
                 go (accepted m) e = absurd (v (last ∙ ap refusalOf e))
 
             pub all-passed : r ≡ 0 → record { refusal = 0; parts = at-parts; plant = p; nodes = n; subtrees = t } ≡ sectionsIndex at-parts vs es s
             unfolding sectionsIndex sections refusalOf indexAt
-            all-passed v = go (judgeNodes plant ns) refl
+            all-passed v = go (judgeNodes edition1 plant ns) refl
               where
-                go : (j : Judged (Unit {0})) → judgeNodes plant ns ≡ j → record { refusal = 0; parts = at-parts; plant = p; nodes = n; subtrees = t } ≡ sectionsIndex at-parts vs es s
+                go : (j : Judged (Unit {0})) → judgeNodes edition1 plant ns ≡ j → record { refusal = 0; parts = at-parts; plant = p; nodes = n; subtrees = t } ≡ sectionsIndex at-parts vs es s
                 go (refused m) e = let i : r ≡ m = last ∙ ap refusalOf e in absurd (omega (arith, some-number plant ns e))
                 go (accepted m) e = joined at-parts h k w ∙ sym (ap (indexAt at-parts) (after-10 .1 ∙ then-accepted _ e))
 

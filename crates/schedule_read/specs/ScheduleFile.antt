@@ -1,19 +1,14 @@
 -- The call "reading a schedule" (1 to 12), as the code answers it and in the parts that the code has.
 use mathlib.Core.Path.{_≡_}
-use mathlib.Core.Bool.{_&&_}
 use mathlib.Core.List.{List}
 use mathlib.Core.Option.{some}
 use Prim.Native.Nat.{ℕ, _≤_}
 use lib.ListN.{length}
-use Rattle.semantics.specs.Bytes.{every}
 use Rattle.semantics.specs.Editions.{edition1}
-use Rattle.semantics.specs.Refusals.{Judged, refused, accepted, _>>=_, _>>_, ensure, need}
+use Rattle.semantics.specs.Refusals.{Judged, refused, accepted}
 use Rattle.semantics.specs.Sections.{equationsIn}
-use Rattle.semantics.specs.Plant.{Plant, judgePlant, switchesRead, selectors}
-use Rattle.schedules.specs.FileSections.{FileSections}
-use Rattle.schedules.specs.Nodes.{Node, nodesIn, nodeNamed, nodeReads}
-use Rattle.schedules.specs.Trees.{treeOf}
-use Rattle.schedules.specs.Files.{Schedule, judgeFile}
+use Rattle.semantics.specs.Plant.{Plant, selectors}
+use Rattle.schedules.specs.Files.{Schedule, judgeFile, judgeSections}
 use Rattle.schedules.specs.Calls.{ScheduleRead}
 use Rattle.plant.specs.ModeCounts.{ModesAt}
 use Rattle.plant.specs.PlantRead.{refusedPlant, plantOf}
@@ -48,24 +43,9 @@ unfoldable pub scheduleIndex : List ℕ → ScheduleIndex
 scheduleIndex f = indexAt (partsOf f) (judgeFile edition1 f)
 
 -- ---- for the code's own contracts
--- 4 to 12, as judgeFile has them after 3
-unfoldable pub judgeSections : FileSections → Judged Schedule
-judgeSections parts = do
-  p ← judgePlant edition1 (parts .variables) (parts .equations)
-  ns ← need 9 (nodesIn edition1 (parts .schedule))
-  t ← need 10 (treeOf ns)
-  ensure 11 (every (nodeNamed (length (p .variables)) (selectors p)) ns)
-  ensure 12 (every (nodeReads edition1 (length (p .variables))) ns && switchesRead edition1 p)
-  accepted (record { sections = parts; plant = p; nodes = ns; root = t })
-
+-- 4 to 12, of the sections that stand there
 unfoldable pub sectionsIndex : Parts → List ℕ → List ℕ → List ℕ → ScheduleIndex
-sectionsIndex p vs es s = indexAt p (judgeSections (record { variables = vs; equations = es; schedule = s }))
-
--- 11 and 12
-unfoldable pub judgeNodes : Plant → List Node → Judged (Unit {0})
-judgeNodes p ns = do
-  ensure 11 (every (nodeNamed (length (p .variables)) (selectors p)) ns)
-  ensure 12 (every (nodeReads edition1 (length (p .variables))) ns && switchesRead edition1 p)
+sectionsIndex p vs es s = indexAt p (judgeSections edition1 (record { variables = vs; equations = es; schedule = s }))
 
 -- p is a plant of v variables and c selectors with these equations and mode counts
 pub record PlantAt (es : List ℕ) (v c : ℕ) (modes : List ℕ) (p : Plant) : Type 0 where

@@ -5,9 +5,10 @@ ghost use Rattle.semantics.specs.Editions.{edition1};
 ghost use Rattle.semantics.specs.Refusals.{refusalOf};
 ghost use Rattle.semantics.specs.Plant.{Plant};
 ghost use Rattle.schedules.specs.Nodes.{Node};
+ghost use Rattle.schedules.specs.Files.{judgeNodes};
 ghost use Rattle.schedules.specs.Calls.{readSchedule};
 ghost use Rattle.schedule_read.specs.Indexed.{NodesAt, Indexed};
-ghost use Rattle.schedule_read.specs.ScheduleFile.{numbers, noSchedule, sectionsIndex, scheduleIndex, judgeNodes, PlantAt, Planted};
+ghost use Rattle.schedule_read.specs.ScheduleFile.{numbers, noSchedule, sectionsIndex, scheduleIndex, PlantAt, Planted};
 use super::names;
 use super::operands;
 use super::parts;
@@ -65,7 +66,7 @@ fn checked(
     modes: &[usize],
 ) -> u8
     requires { ⌜ Indexed (now s) (now kinds) (now starts) (now ends) count × Planted (now es) variables selectors (now modes) ⌝ }
-    ensures { λ r. ⌜ ((ns : List Node) → NodesAt (now (s .entry)) (now (kinds .entry)) (now (starts .entry)) (now (ends .entry)) count ns → (p : Plant) → PlantAt (now (es .entry)) variables selectors (now (modes .entry)) p → r ≡ refusalOf (judgeNodes p ns)) ⌝ }
+    ensures { λ r. ⌜ ((ns : List Node) → NodesAt (now (s .entry)) (now (kinds .entry)) (now (starts .entry)) (now (ends .entry)) count ns → (p : Plant) → PlantAt (now (es .entry)) variables selectors (now (modes .entry)) p → r ≡ refusalOf (judgeNodes edition1 p ns)) ⌝ }
 {
     if !names::named(s, kinds, starts, ends, count, variables, selectors, modes) {
         return 11;

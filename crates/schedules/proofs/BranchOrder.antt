@@ -1,5 +1,5 @@
 -- The order in which a PARALLEL's children are listed changes neither whether a schedule is accepted nor the length of its table.
-use mathlib.Core.Path.{_≡_, refl, sym, ap, ap₂, _∙_}
+use mathlib.Core.Path.{_≡_, refl, sym, ap, ap₂, subst, _∙_}
 use mathlib.Core.Bool.{Bool, true, false, _&&_}
 use mathlib.Core.List.{List, [], _∷_, _++_, flatMap}
 use mathlib.Core.Option.{Option, none, some}
@@ -19,7 +19,7 @@ use Rattle.semantics.proofs.WrittenTables.{out-length}
 use Rattle.schedules.specs.Nodes.{Node, nodeNamed, nodeReads, actionOf, listed, actionsFrom, actionsOf}
 use Rattle.schedules.specs.Trees.{Tree, treeOf}
 use Rattle.schedules.specs.Numbering.{locations}
-use Rattle.schedules.specs.Files.{Schedule, judgeFile, fileHeader, fileLength}
+use Rattle.schedules.specs.Files.{Schedule, judgeSections, judgeFile, fileHeader, fileLength}
 use Rattle.schedules.specs.Compiling.{scheduleLocations, tableOf, judgeCompile}
 use Rattle.schedules.specs.Calls.{scheduleCounts, readSchedule, sizeTold, sizeCounts, size, compile, compiledInto}
 use Rattle.schedules.specs.Sizes.{Size, sizeOf}
@@ -29,6 +29,7 @@ use Rattle.schedules.proofs.Counting.{total}
 use Rattle.schedules.proofs.LocationCount.{few-locations}
 use Rattle.schedules.proofs.TableLength.{table-of-length}
 use Rattle.schedules.proofs.ReorderedTrees.{reordered-tree, reordered-none, reordered-total, reordered-length, reordered-every}
+use Rattle.schedules.proofs.FirstNumber.{nodes-in-order}
 
 -- ---- how long the actions are
 module _ (ed : Edition) where
@@ -130,9 +131,12 @@ alike-tree {R = R} f g ns ms r h = go (treeOf ns) refl
     go none e = rw (e, reordered-none r e) (both-refused 10)
     go (some t) e = let p = reordered-tree r e in alike-need 10 f g e (p .1) (h t (p .0) e (p .1) (p .2))
 
+as-judged : {A B : Type 0} {R : A → B → Type 0} {i j : Judged A} {k l : Judged B} → i ≡ j → k ≡ l → Alike R j l → Alike R i k
+as-judged e f a = rw (e, f) a
+
 module _ (ed : Edition) (file other : List ℕ) (s : SameButOrder ed file other) where
   judged-alike : Alike (AsLarge ed) (judgeFile ed file) (judgeFile ed other)
-  unfolding judgeFile
+  unfolding judgeFile judgeSections
   judged-alike =
       alike-ensure 1 (fileHeader ed file) (s .same-header) (λ h1.
       alike-ensure 2 (fileLength file) (s .same-length) (λ h2.
@@ -140,10 +144,11 @@ module _ (ed : Edition) (file other : List ℕ) (s : SameButOrder ed file other)
       alike-same (judgePlant ed (s .parts .variables) (s .parts .equations)) _ _ (ap₂ (judgePlant ed) (s .same-variables) (s .same-equations)) (λ p.
       alike-need 9 _ _ (s .nodes-read) (s .other-read) (
       alike-tree _ _ (s .nodes) (s .other-nodes) (s .order) (λ t u h k z.
+      as-judged (nodes-in-order ed p (s .nodes) _) (nodes-in-order ed p (s .other-nodes) _) (
       alike-ensure 11 (every (nodeNamed (length (p .variables)) (selectors p)) (s .nodes)) (reordered-every (nodeNamed (length (p .variables)) (selectors p)) (s .order)) (λ h11.
       alike-ensure 12 (every (nodeReads ed (length (p .variables))) (s .nodes) && switchesRead ed p)
       (ap (λ b. b && switchesRead ed p) (reordered-every (nodeReads ed (length (p .variables))) (s .order))) (λ h12.
-      both-accepted (reordered-large ed _ _ refl (s .same-variables) (s .same-equations) h k (s .order) z)))))))))
+      both-accepted (reordered-large ed _ _ refl (s .same-variables) (s .same-equations) h k (s .order) z))))))))))
 
   compiled-alike : (room : List ℕ) → Alike (λ (t u : List ℕ). length t ≡ length u) (judgeCompile ed file room) (judgeCompile ed other room)
   unfolding judgeCompile

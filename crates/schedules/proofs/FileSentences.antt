@@ -29,7 +29,7 @@ use Rattle.schedules.specs.FileSections.{FileSections, fileSectionsIn}
 use Rattle.schedules.specs.Nodes.{Node, nodesIn, nodeNamed, nodeReads}
 use Rattle.schedules.specs.Trees.{Tree, treeOf}
 use Rattle.schedules.specs.Residuals.{Residual}
-use Rattle.schedules.specs.Files.{Schedule, fileHeader, fileLength, judgeFile}
+use Rattle.schedules.specs.Files.{Schedule, fileHeader, fileLength, judgeSections, judgeFile}
 use Rattle.schedules.specs.Compiling.{scheduleLocations, tableOf, judgeCompile}
 use Rattle.schedules.specs.Calls.{ruleProgram, ruleRun, readSchedule, compile}
 use Rattle.schedules.specs.Writing.{writeSections, SectionsLimits, writeNodes, NodesLimits}
@@ -37,7 +37,7 @@ use Rattle.schedules.specs.Proper.{ScheduleWritten}
 use Rattle.schedules.specs.Agreement.{TooMany}
 use Rattle.schedules.specs.TableSizes.{tableLength}
 use Rattle.schedules.specs.Sentences.{FileHead, HeadOfFile, three-bytes, FileSource, FileSectionsThere, PlantSectionsOfFile, of-file, NodesThere, FileSourceThere, AllRead, fileClauses, compileClauses, FilePlant, file-plant, ruleRunClauses}
-use Rattle.schedules.proofs.FirstNumber.{schedule-refusal, compiled-refusal, passed}
+use Rattle.schedules.proofs.FirstNumber.{nodes-in-order, schedule-refusal, compiled-refusal, passed}
 use Rattle.schedules.proofs.OneTree.{one-tree}
 use Rattle.schedules.proofs.FileForms.{nodes-bytes, sections-bytes}
 use Rattle.schedules.proofs.FilesProper.{nodes-named, nodes-read, schedule-accepted}
@@ -118,8 +118,11 @@ module _ (file : List ℕ) (z : AllBytes file) where
         (λ h. record { nodes = n .0 (and-left a (switchesRead ed p) h); switches = e .0 (and-right a (switchesRead ed p) h) }, λ h. and-both (n .1 (h .nodes)) (e .1 (h .switches)))
 
 -- ---- 1 to 12
+as-judged : {A : Type 0} {i j : Judged A} {l : List Clause} → i ≡ j → Answers j l → Answers i l
+as-judged {l = l} e k = subst (λ i. Answers i l) (sym e) k
+
 pub file-answers : (ed : Edition) (file : List ℕ) → AllBytes file → Answers (judgeFile ed file) (fileClauses ed file)
-unfolding judgeFile
+unfolding judgeFile judgeSections
 file-answers ed file z =
     by-ensure 1 (fileHeader ed file) (λ e h i v. true-not-false (sym (head-here ed i v) ∙ e)) (λ e f. (let k = head-there ed file e in f (k .0) (k .1) (k .2))) (λ h1.
     let head = head-there ed file h1 in
@@ -141,8 +144,9 @@ file-answers ed file z =
       equations = (as-equations (x .equations) (p .equations) (l .equations .each)) .0 (k .1);
       nodes = nodes;
     } in
+    as-judged (nodes-in-order ed p ns _) (
     by-test s (λ y u. source-one file z ed s u) 11 (every (nodeNamed (length (p .variables)) (selectors p)) ns) (nodes-named p ns) (λ h11.
-    by-test s (λ y u. source-one file z ed s u) 12 (every (nodeReads ed (length (p .variables))) ns && switchesRead ed p) (reads-is file z ed (record { plant = p; nodes = ns }) s) (λ h12. by-end _))))))))
+    by-test s (λ y u. source-one file z ed s u) 12 (every (nodeReads ed (length (p .variables))) ns && switchesRead ed p) (reads-is file z ed (record { plant = p; nodes = ns }) s) (λ h12. by-end _)))))))))
 
 -- ---- 13 and 14, and a run
 module _ (ed : Edition) (file : List ℕ) (z : AllBytes file) where

@@ -19,13 +19,14 @@ use Rattle.semantics.specs.Proper.{IsTruth, IsNumber}
 use Rattle.semantics.proofs.Facts.{and-left, and-right, and-both, All}
 use Rattle.semantics.proofs.Judging.{go-need, go-ensure, go-then}
 use Rattle.semantics.proofs.ProperForms.{every-is, every-plain, truth-read, number-read, plant-proper, mode-there}
-use Rattle.semantics.proofs.TablesProper.{tail-bytes, plant-judged, judged-plant}
+use Rattle.semantics.proofs.PlantPassed.{plant-passed, plant-accepted}
+use Rattle.semantics.proofs.TablesProper.{tail-bytes}
 use Rattle.semantics.proofs.StartForms as StartForms
 use Rattle.schedules.specs.Nodes.{Node, sequence, parallel, while-do, if-else, continue-until, reset, reinitial, switch-to, stop-all, nodeReads, nodeNamed}
-use Rattle.schedules.specs.Files.{Schedule, judgeFile}
+use Rattle.schedules.specs.Files.{Schedule, judgeSections, judgeFile}
 use Rattle.schedules.specs.Writing.{nodeBytes, NodeLimits}
 use Rattle.schedules.specs.Proper.{NamedNode, ReadNode, ScheduleWritten}
-use Rattle.schedules.proofs.FirstNumber.{passed}
+use Rattle.schedules.proofs.FirstNumber.{nodes-in-order, passed}
 use Rattle.schedules.proofs.OneTree.{one-tree}
 use Rattle.schedules.proofs.FileForms.{payload-bytes, schedule-bytes, sections-written}
 
@@ -100,7 +101,7 @@ module _ (ed : Edition) (file : List ℕ) (s : Schedule) where
       let g = passed ed file s h in
       let p = s .plant in
       let v = length (p .variables) in
-      let j = plant-judged ed (s .sections .variables) (s .sections .equations) (g .plant) in
+      let j = plant-passed ed (s .sections .variables) (s .sections .equations) (g .plant) in
       let w = (schedule-bytes ed file p (s .nodes)) .0 (
         z,
         record {
@@ -120,7 +121,7 @@ module _ (ed : Edition) (file : List ℕ) (s : Schedule) where
         limits = l;
         proper = record {
           plant = (plant-proper ed p (l .plant .equations .each)) .0
-              (record { is-ordered = j .is-ordered; named = j .named; once = j .once; reads = and-right (every (nodeReads ed v) (s .nodes)) (switchesRead ed p) (g .reads) });
+              (record { is-ordered = j .in-order; named = j .named; once = j .once; reads = and-right (every (nodeReads ed v) (s .nodes)) (switchesRead ed p) (g .reads) });
           tree = (one-tree (s .nodes) (s .root)) .0 (g .tree);
           named = (nodes-named p (s .nodes)) .0 (g .named);
           read = (nodes-read p ed (l .nodes .each)) .0 (and-left (every (nodeReads ed v) (s .nodes)) (switchesRead ed p) (g .reads));
@@ -128,7 +129,7 @@ module _ (ed : Edition) (file : List ℕ) (s : Schedule) where
       }
 
   accepted-here : ScheduleWritten ed file s → AllBytes file × (judgeFile ed file ≡ accepted s)
-  unfolding judgeFile
+  unfolding judgeFile judgeSections
   accepted-here h =
       let p = s .plant in
       let v = length (p .variables) in
@@ -136,8 +137,8 @@ module _ (ed : Edition) (file : List ℕ) (s : Schedule) where
       let w = (schedule-bytes ed file p (s .nodes)) .1 (h .bytes, l) in
       let r = w .1 in
       let k = (plant-proper ed p (l .plant .equations .each)) .1 (h .proper .plant) in
-      let plant = judged-plant ed (r .sections .variables) (r .sections .equations)
-      (record { variables = r .variables-read; equations = r .equations-read; is-ordered = k .is-ordered; named = k .named; once = k .once }) in
+      let plant = plant-accepted ed (r .sections .variables) (r .sections .equations)
+      (record { variables = r .variables-read; equations = r .equations-read; in-order = k .is-ordered; named = k .named; once = k .once }) in
       let same = sections-written ed file p (s .nodes) (r .sections) (h .bytes) (r .sections-read) in (
         w .0,
         go-ensure 1 _ (r .header)
@@ -146,6 +147,7 @@ module _ (ed : Edition) (file : List ℕ) (s : Schedule) where
             ∙ go-then _ plant
             ∙ go-need 9 _ (r .nodes-read)
             ∙ go-need 10 _ ((one-tree (s .nodes) (s .root)) .1 (h .proper .tree))
+            ∙ nodes-in-order ed p (s .nodes) _
             ∙ go-ensure 11 _ ((nodes-named p (s .nodes)) .1 (h .proper .named))
             ∙ go-ensure 12 _ (and-both ((nodes-read p ed (l .nodes .each)) .1 (h .proper .read)) (k .reads))
             ∙ rw (same, ← h .sections) refl,

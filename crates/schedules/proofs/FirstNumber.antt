@@ -1,5 +1,5 @@
 -- Reading a schedule, running it by the rules and compiling it refuse with the first number that applies.
-use mathlib.Core.Path.{_≡_, refl, ap, subst, _∙_}
+use mathlib.Core.Path.{_≡_, refl, sym, ap, subst, _∙_}
 use mathlib.Core.Bool.{Bool, true, _&&_}
 use mathlib.Core.List.{List, _∷_, _++_}
 use mathlib.Core.Option.{some}
@@ -8,21 +8,30 @@ use lib.ListN.{length, drop}
 use lib.Dec.{leb}
 use Rattle.semantics.specs.Bytes.{every}
 use Rattle.semantics.specs.Editions.{Edition}
-use Rattle.semantics.specs.Refusals.{Judged, refused, accepted, _>>=_, _>>_, refusalOf}
-use Rattle.semantics.specs.Plant.{judgePlant, selectors, switchesRead}
+use Rattle.semantics.specs.Refusals.{Judged, refused, accepted, _>>=_, _>>_, ensure, refusalOf}
+use Rattle.semantics.specs.Plant.{Plant, judgePlant, selectors, switchesRead}
 use Rattle.semantics.specs.TableFile.{locationLimit}
 use Rattle.semantics.specs.Calls.{Program, judgeRun}
 use Rattle.semantics.specs.Conditions.{Condition, _if_, is4, is5, is6, is7, is8, plantConditions}
 use Rattle.semantics.proofs.Judging as Judging
 use Rattle.semantics.proofs.FirstNumber.{Firsts, by-ensure, by-need, by-then, by-map, by-end, given-some, bind-some, plant-first, plant-in, run-first}
 use Rattle.schedules.specs.FileSections.{FileSections, fileSectionsIn}
-use Rattle.schedules.specs.Nodes.{nodesIn, nodeNamed, nodeReads}
+use Rattle.schedules.specs.Nodes.{Node, nodesIn, nodeNamed, nodeReads}
 use Rattle.schedules.specs.Trees.{treeOf}
 use Rattle.schedules.specs.Residuals.{Residual}
-use Rattle.schedules.specs.Files.{Schedule, judgeFile, fileHeader, fileLength}
+use Rattle.schedules.specs.Files.{Schedule, judgeNodes, judgeSections, judgeFile, fileHeader, fileLength}
 use Rattle.schedules.specs.Compiling.{scheduleLocations, tableOf, judgeCompile}
 use Rattle.schedules.specs.Calls.{ruleProgram, scheduleCounts, compiledInto}
 use Rattle.schedules.specs.Conditions.{fileParts, filePlant, fileNodes, fileTree, fileSchedule, is1, is2, is3, ofPlant, is9, is10, is11, is12, is13, is14, fileConditions, compileConditions, ruleRunConditions}
+
+-- 11 and 12, as a call goes through them
+pub nodes-in-order : {A : Type 0} (ed : Edition) (p : Plant) (ns : List Node) (j : Judged A) →
+    (judgeNodes ed p ns >> j) ≡ (ensure 11 (every (nodeNamed (length (p .variables)) (selectors p)) ns) >> (ensure 12 (every (nodeReads ed (length (p .variables))) ns && switchesRead ed p) >> j))
+unfolding judgeNodes
+nodes-in-order ed p ns j = Judging.then-after _ _ j
+
+as-judged : {A : Type 0} {i j : Judged A} {l : List Condition} → i ≡ j → Firsts j l → Firsts i l
+as-judged {l = l} e f = subst (λ i. Firsts i l) (sym e) f
 
 module _ (ed : Edition) (file : List ℕ) where
   -- 4 to 8 of the two sections, as conditions of the file
@@ -37,7 +46,7 @@ module _ (ed : Edition) (file : List ℕ) where
   of-plant e f = rw (of-parts e is4, of-parts e is5, of-parts e is6, of-parts e is7, of-parts e is8) f
 
   pub file-first : Firsts (judgeFile ed file) (fileConditions ed file)
-  unfolding judgeFile fileConditions is1 is2 is3 is9 is10 is11 is12 fileNodes filePlant fileParts
+  unfolding judgeFile judgeSections fileConditions is1 is2 is3 is9 is10 is11 is12 fileNodes filePlant fileParts
   file-first =
       by-ensure 1 (fileHeader ed file) refl (λ h1.
       by-ensure 2 (fileLength file) refl (λ h2.
@@ -47,8 +56,9 @@ module _ (ed : Edition) (file : List ℕ) where
       by-need 9 (nodesIn ed (parts .schedule)) (given-some _ e) (λ ns f.
       let n = bind-some _ e ∙ f in
       by-need 10 (treeOf ns) (given-some _ n) (λ t g.
+      as-judged (nodes-in-order ed p ns _) (
       by-ensure 11 (every (nodeNamed (length (p .variables)) (selectors p)) ns) (given-some _ q ∙ given-some _ n) (λ h11.
-      by-ensure 12 (every (nodeReads ed (length (p .variables))) ns && switchesRead ed p) (given-some _ q ∙ given-some _ n) (λ h12. by-end _)))))))))
+      by-ensure 12 (every (nodeReads ed (length (p .variables))) ns && switchesRead ed p) (given-some _ q ∙ given-some _ n) (λ h12. by-end _))))))))))
 
 -- an accepted file: its parts, and the conditions that they passed
 pub record Passed (ed : Edition) (file : List ℕ) (s : Schedule) : Type 0 where
@@ -62,7 +72,7 @@ pub record Passed (ed : Edition) (file : List ℕ) (s : Schedule) : Type 0 where
   pub reads : (every (nodeReads ed (length (s .plant .variables))) (s .nodes) && switchesRead ed (s .plant)) ≡ true
 
 pub passed : (ed : Edition) (file : List ℕ) (s : Schedule) → judgeFile ed file ≡ accepted s → Passed ed file s
-unfolding judgeFile
+unfolding judgeFile judgeSections
 passed ed file s h =
     let a = Judging.passed-ensure 1 _ _ h in
     let b = Judging.passed-ensure 2 _ _ (a .1) in
@@ -70,7 +80,7 @@ passed ed file s h =
     let d = Judging.passed-then (judgePlant ed (c .0 .variables) (c .0 .equations)) _ (c .2) in
     let f = Judging.passed-need 9 (nodesIn ed (c .0 .schedule)) _ (d .2) in
     let g = Judging.passed-need 10 (treeOf (f .0)) _ (f .2) in
-    let i = Judging.passed-ensure 11 _ _ (g .2) in
+    let i = Judging.passed-ensure 11 _ _ (sym (nodes-in-order ed (d .0) (f .0) _) ∙ g .2) in
     let j = Judging.passed-ensure 12 _ _ (i .1) in
     subst (Passed ed file) (Judging.accepted-is (j .1)) (record {
       header = a .0;

@@ -8,8 +8,8 @@ use lib.ListN.{length, drop}
 use Rattle.semantics.specs.Bytes.{every, isSome}
 use Rattle.semantics.specs.Editions.{Edition}
 use Rattle.semantics.specs.Refusals.{Judged, refused, accepted, _>>=_, _>>_, ensure, need, oneNumber, refusalOf}
-use Rattle.semantics.specs.Sections.{variablesIn, equationsIn}
-use Rattle.semantics.specs.Plant.{Plant, judgePlant, switchesRead, ordered, equationNamed, drivenOnce}
+use Rattle.semantics.specs.Sections.{Variable, variablesIn, equationsIn}
+use Rattle.semantics.specs.Plant.{Plant, judgeVariables, judgeEquations, judgePlant, switchesRead, ordered, equationNamed, drivenOnce}
 use Rattle.semantics.specs.TableFile.{tableSectionsIn, actionsIn, locationsIn}
 use Rattle.semantics.specs.Tables.{Table, judgeSections, judgeTable, tableHeader, actionsFit, locationsFit}
 use Rattle.semantics.specs.Starts.{startIn, startFits}
@@ -17,6 +17,7 @@ use Rattle.semantics.specs.Calls.{Program, Outcome, report, tableCounts,
 use Rattle.semantics.specs.Conditions.{Condition, _if_, anyApplies, given, is4, is5, is6, is7, is8, is12Switches, plantConditions, plantIn, tableParts, tablePlant, is15, is16, is17, is18, is19, tableConditions, is20, is21, is22, runConditions, tableRunConditions}
 pub use Rattle.semantics.specs.Conditions.{First, here, further, Clear, none-left, one-clear, Firsts, refuses, accepts}
 use Rattle.semantics.proofs.Judging
+use Rattle.semantics.proofs.PlantPassed.{variables-passed, equations-passed, plant-passed}
 use Rattle.semantics.proofs.TablePassed.{table-passed}
 use Rattle.semantics.proofs.Judging.{accepted-is}
 
@@ -77,27 +78,29 @@ bind-some f e = rw e refl
 
 -- ---- 4 to 8
 module _ (ed : Edition) (vs es : List ℕ) where
-  pub plant-first : Firsts (judgePlant ed vs es) (plantConditions ed vs es)
-  unfolding judgePlant plantConditions is4 is5 is6 is7 is8
-  plant-first =
+  pub variables-first : Firsts (judgeVariables ed vs) ((4 if is4 ed vs es) ∷ (5 if is5 ed vs es) ∷ [])
+  unfolding judgeVariables is4 is5
+  variables-first =
       by-need 4 (variablesIn ed vs) refl (λ xs e.
-      by-ensure 5 (every ordered xs) (given-some _ e) (λ h5.
+      by-ensure 5 (every ordered xs) (given-some _ e) (λ h5. by-end _))
+
+  equations-first : {xs : List Variable} → variablesIn ed vs ≡ some xs → Firsts (judgeEquations (length xs) es) ((6 if is6 ed vs es) ∷ (7 if is7 ed vs es) ∷ [])
+  unfolding judgeEquations is6 is7
+  equations-first {xs} e =
       by-need 6 (equationsIn es) refl (λ eqs f.
-      by-ensure 7 (every (equationNamed (length xs)) eqs) (given-some _ e ∙ given-some _ f) (λ h7.
-      by-ensure 8 (drivenOnce [] eqs) (given-some _ f) (λ h8. by-end _)))))
+      by-ensure 7 (every (equationNamed (length xs)) eqs) (given-some _ e ∙ given-some _ f) (λ h7. by-end _))
+
+  pub plant-first : Firsts (judgePlant ed vs es) (plantConditions ed vs es)
+  unfolding judgePlant plantConditions is8
+  plant-first =
+      by-then variables-first (λ xs i.
+      by-then (equations-first ((variables-passed ed vs i) .is)) (λ eqs j.
+      by-ensure 8 (drivenOnce [] eqs) (given-some _ ((equations-passed (length xs) es j) .is)) (λ h8. by-end _)))
 
   -- the plant that is accepted is the one that stands in the two sections
   pub plant-is : {p : Plant} → judgePlant ed vs es ≡ accepted p →
       (variablesIn ed vs ≡ some (p .variables)) × (equationsIn es ≡ some (p .equations))
-  unfolding judgePlant
-  plant-is h =
-      let a = Judging.passed-need 4 (variablesIn ed vs) _ h in
-      let b = Judging.passed-ensure 5 _ _ (a .2) in
-      let c = Judging.passed-need 6 (equationsIn es) _ (b .1) in
-      let d = Judging.passed-ensure 7 _ _ (c .2) in
-      let g = Judging.passed-ensure 8 _ _ (d .1) in
-      let i = accepted-is (g .1) in
-      (a .1 ∙ ap (λ (p : Plant). some (p .variables)) i, c .1 ∙ ap (λ (p : Plant). some (p .equations)) i)
+  plant-is h = let k = plant-passed ed vs es h in (k .variables, k .equations)
 
   pub plant-in : {p : Plant} → judgePlant ed vs es ≡ accepted p → plantIn ed vs es ≡ some p
   unfolding plantIn

@@ -36,6 +36,12 @@ unfolding oneNumber
 passed-only n (refused m) h = refused-not-accepted h
 passed-only n (accepted b) h = h
 
+-- what follows two steps follows the second
+pub then-after : {A B C : Type 0} (i : Judged A) (j : Judged B) (k : Judged C) → ((i >> j) >> k) ≡ (i >> (j >> k))
+unfolding _>>_
+then-after (refused n) j k = refl
+then-after (accepted a) j k = refl
+
 -- a condition that holds lets the call go on
 pub go-then : {A B : Type 0} {j : Judged A} {a : A} (f : A → Judged B) → j ≡ accepted a → (j >>= f) ≡ f a
 unfolding _>>=_

@@ -4,6 +4,7 @@ pub mod Facts
 pub mod Judging
 pub mod Readers
 pub mod SignedBytes
+pub mod PlantPassed
 pub mod TablePassed
 pub mod Admission
 -- papers

@@ -8,11 +8,11 @@ use lib.IntN.{ℤ}
 use lib.ListN.{getD}
 use Rattle.semantics.specs.Editions.{Edition}
 use Rattle.semantics.specs.Refusals.{accepted}
-use Rattle.semantics.specs.Sections.{Rate, Mode, Equation, steady, choice, variablesIn, equationsIn}
-use Rattle.semantics.specs.Plant.{Plant, among, apart, onceAfter, modeDrives, drives, modesOnce, drivenOnce, noMode, ratesOf, judgePlant}
+use Rattle.semantics.specs.Sections.{Rate, Mode, Equation, steady, choice}
+use Rattle.semantics.specs.Plant.{Plant, among, apart, onceAfter, ratesDrive, modeDrives, drives, modeOnce, modesOnce, drivenOnce, noMode, ratesOf, judgePlant}
 use Rattle.semantics.specs.Rules.{CurrentRate}
 use Rattle.semantics.proofs.Facts.{true-not-false, and-left, and-right, All, all-nil, all-cons, all-mem, every-all, mem-among}
-use Rattle.semantics.proofs.Judging as Judging
+use Rattle.semantics.proofs.PlantPassed.{plant-passed}
 use Rattle.semantics.proofs.Currents.{rate-in}
 
 pub map-mem : {r : Rate} (l : List Rate) → Mem r l → Mem (r .driven) (map (λ (r : Rate). r .driven) l)
@@ -73,7 +73,7 @@ rates-split (choice c) es [] = refl
 rates-split (choice c) es (m ∷ ms) = refl
 
 mode-driven : (l : List Mode) (n : ℕ) {r : Rate} → Mem r ((getD l n noMode) .rates) → Mem (r .driven) (flatMap modeDrives l)
-unfolding flatMap modeDrives
+unfolding flatMap ratesDrive modeDrives
 mode-driven [] n m = absurd (List·Memᴰ·not-nil m)
 mode-driven (x ∷ l) zero m = Memᴰ·append-left (flatMap modeDrives l) (map-mem (x .rates) m)
 mode-driven (x ∷ l) (suc n) m = Memᴰ·append-right (modeDrives x) (mode-driven l n m)
@@ -85,13 +85,13 @@ here-driven (choice c) [] m = absurd (List·Memᴰ·not-nil m)
 here-driven (choice c) (n ∷ ms) m = mode-driven (c .modes) n m
 
 mode-once : {l : List Mode} → All (λ m. onceAfter [] (modeDrives m) ≡ true) l → (n : ℕ) → onceAfter [] (modeDrives (getD l n noMode)) ≡ true
-unfolding onceAfter modeDrives
+unfolding onceAfter ratesDrive modeDrives
 mode-once all-nil n = refl
 mode-once (all-cons h p) zero = h
 mode-once (all-cons h p) (suc n) = mode-once p n
 
 here-once : (e : Equation) (ms : List ℕ) → modesOnce e ≡ true → {r q : Rate} → Mem r (hereOf e ms) → Mem q (hereOf e ms) → r .driven ≡ q .driven → r .rate ≡ q .rate
-unfolding hereOf modesOnce modeDrives
+unfolding hereOf modesOnce modeOnce ratesDrive modeDrives
 here-once (steady x) ms h i j e = ap (λ (r : Rate). r .rate) (List·Memᴰ·eq-of-singleton i ∙ sym (List·Memᴰ·eq-of-singleton j))
 here-once (choice c) [] h i j e = absurd (List·Memᴰ·not-nil i)
 here-once (choice c) (n ∷ ms) h i j e = once-rate [] ((getD (c .modes) n noMode) .rates) (mode-once (every-all (λ m. onceAfter [] (modeDrives m)) (c .modes) h) n) i j e
@@ -146,19 +146,9 @@ one-of seen (x ∷ es) h ms {r} {q} i j e =
     go o (inr a) (inl b) f = absurd (not-seen (drives x ++ seen) es (o .others) (restOf x ms) a (Memᴰ·append-left seen (rw (sym e) at (here-driven x ms b))))
     go o (inr a) (inr b) f = f a b
 
-once-of : (ed : Edition) (variables equations : List ℕ) {p : Plant} → judgePlant ed variables equations ≡ accepted p → drivenOnce [] (p .equations) ≡ true
-unfolding judgePlant
-once-of ed variables equations h =
-    let a = Judging.passed-need 4 (variablesIn ed variables) _ h in
-    let b = Judging.passed-ensure 5 _ _ (a .2) in
-    let c = Judging.passed-need 6 (equationsIn equations) _ (b .1) in
-    let d = Judging.passed-ensure 7 _ _ (c .2) in
-    let e = Judging.passed-ensure 8 _ _ (d .1) in
-    rw (← Judging.accepted-is (e .1)) (e .0)
-
 pub one-rate : (ed : Edition) (variables equations : List ℕ) {p : Plant} → judgePlant ed variables equations ≡ accepted p →
     (ms : List ℕ) (v : ℕ) (y z : ℤ) → CurrentRate p ms v y → CurrentRate p ms v z → y ≡ z
 one-rate ed variables equations {p} h ms v y z a b =
     let r = rate-in a in
     let q = rate-in b in
-    sym (r .is-rate) ∙ one-of [] (p .equations) (once-of ed variables equations h) ms (r .listed) (q .listed) (r .drives-it ∙ sym (q .drives-it)) ∙ q .is-rate
+    sym (r .is-rate) ∙ one-of [] (p .equations) ((plant-passed ed variables equations h) .once) ms (r .listed) (q .listed) (r .drives-it ∙ sym (q .drives-it)) ∙ q .is-rate

@@ -13,7 +13,7 @@ use Rattle.semantics.specs.Bytes.{every, isSome}
 use Rattle.semantics.specs.Editions.{Edition}
 use Rattle.semantics.specs.Expressions.{Number, constant, variable, operate, negation, Truth, compare, connect, opposite, always, numberBytes, truthBytes, numberDepth, truthDepth, numberKnown, truthKnown, numberIn, truthIn}
 use Rattle.semantics.specs.Sections.{Variable, Rate, Mode, Selector, Equation, steady, choice}
-use Rattle.semantics.specs.Plant.{Plant, ordered, rateNamed, switchNamed, modeNamed, equationNamed, among, apart, onceAfter, modeDrives, drives, modesOnce, drivenOnce, switchReads, equationReads, switchesRead, modeExists}
+use Rattle.semantics.specs.Plant.{Plant, ordered, rateNamed, switchNamed, modeNamed, equationNamed, among, apart, onceAfter, ratesDrive, modeDrives, drives, modeOnce, modesOnce, drivenOnce, switchReads, modeReads, equationReads, switchesRead, modeExists}
 use Rattle.semantics.specs.Writing.{AllBytes, InRange, ModeLimits, SelectorLimits, PayloadLimits, steady-within, choice-within, EquationLimits}
 use Rattle.semantics.specs.Proper.{NamesKnown, known-constant, known-variable, known-operands, known-negation, TruthNamesKnown, known-numbers, known-truths, known-opposite, known-always, IsTruth, IsNumber, NamedInMode, Named, named-steady, named-choice, Once, once-nil, once-cons, OnceInModes, once-steady, once-choice, Drives, drives-always, drives-in-mode, Apart, apart-nil, apart-cons, DrivenOnce, TruthsInMode, Truths, truths-steady, truths-choice, ProperPlant, ModeThere}
 use Rattle.semantics.proofs.Facts.{true-not-false, by-cases, and-left, and-right, and-both, every-all, all-every, among-mem, mem-among, All, all-nil, all-cons, all-map, all-mem}
@@ -147,7 +147,7 @@ once-here seen (once-cons {n = n} {l = l} h k) w = rw ((not-among n seen) .1 (w 
         at (inr s) = w x (later m) s
 
 mode-once : (m : Mode) → (onceAfter [] (modeDrives m) ≡ true) ↔ Once (map (λ (r : Rate). r .driven) (m .rates))
-unfolding modeDrives
+unfolding ratesDrive modeDrives
 mode-once m = (λ h. (once-there [] (modeDrives m) h) .0, λ h. once-here [] h (λ n k e. List·Memᴰ·not-nil e))
 
 apart-is : (seen l : List ℕ) → (apart seen l ≡ true) ↔ Without seen l
@@ -172,7 +172,7 @@ rate-there (r ∷ l) n m = go (List·Memᴰ·cases-cons m) (rate-there l n)
     go (inr m) f = let p = f m in (p .0, later (p .1), p .2)
 
 modes-there : (l : List Mode) (n : ℕ) → Mem n (flatMap modeDrives l) → (m : Mode) × Mem m l × (r : Rate) × Mem r (m .rates) × (r .driven ≡ n)
-unfolding flatMap modeDrives
+unfolding flatMap ratesDrive modeDrives
 modes-there [] n i = absurd (List·Memᴰ·not-nil i)
 modes-there (m ∷ l) n i = go (List·Memᴰ·append-cases (modeDrives m) i) (modes-there l n)
   where
@@ -194,7 +194,7 @@ drives-there (steady r) n m = drives-always (sym (List·Memᴰ·eq-of-singleton 
 drives-there (choice c) n m = let p = modes-there (c .modes) n m in drives-in-mode (p .1) (p .3) (p .4)
 
 drives-here : {e : Equation} {n : ℕ} → Drives e n → Mem n (drives e)
-unfolding drives modeDrives
+unfolding drives ratesDrive modeDrives
 drives-here (drives-always h) = first (sym h)
 drives-here (drives-in-mode {m = m} i j h) = modes-here i (subst (λ n. Mem n (modeDrives m)) h (map-mem (m .rates) j))
 
@@ -266,12 +266,12 @@ pub all-named : (variables : ℕ) (es : List Equation) → (every (equationNamed
 all-named variables es = every-plain (equationNamed variables) (λ e. (named-there variables e, named-here variables)) es
 
 modes-once-there : (e : Equation) → modesOnce e ≡ true → OnceInModes e
-unfolding modesOnce
+unfolding modesOnce modeOnce
 modes-once-there (steady r) h = once-steady
 modes-once-there (choice c) h = once-choice ((every-plain (λ m. onceAfter [] (modeDrives m)) mode-once (c .modes)) .0 h)
 
 modes-once-here : {e : Equation} → OnceInModes e → modesOnce e ≡ true
-unfolding modesOnce
+unfolding modesOnce modeOnce
 modes-once-here once-steady = refl
 modes-once-here (once-choice {c = c} h) = (every-plain (λ m. onceAfter [] (modeDrives m)) mode-once (c .modes)) .1 h
 
@@ -290,12 +290,12 @@ module _ (ed : Edition) (variables : ℕ) where
   modes-read c h = every-is (λ (m : Mode). every (switchReads ed variables) (m .switches)) switches-read (h .modes)
 
   equation-read-there : {e : Equation} → PayloadLimits e → equationReads ed variables e ≡ true → Truths ed variables e
-  unfolding equationReads
+  unfolding equationReads modeReads
   equation-read-there (steady-within l) h = truths-steady
   equation-read-there (choice-within {c = c} l) h = truths-choice ((modes-read c l) .0 h)
 
   equation-read-here : {e : Equation} → PayloadLimits e → Truths ed variables e → equationReads ed variables e ≡ true
-  unfolding equationReads
+  unfolding equationReads modeReads
   equation-read-here (steady-within l) truths-steady = refl
   equation-read-here (choice-within {c = c} l) (truths-choice h) = (modes-read c l) .1 h
 

@@ -14,14 +14,14 @@ use Rattle.semantics.specs.Bytes.{every, be4}
 use Rattle.semantics.specs.Editions.{Edition}
 use Rattle.semantics.specs.Refusals.{Judged, accepted, _>>=_, _>>_, oneNumber}
 use Rattle.semantics.specs.Sections.{Variable, Equation, variablesIn, equationsIn}
-use Rattle.semantics.specs.Plant.{Plant, judgePlant, switchesRead, ordered, equationNamed, drivenOnce}
+use Rattle.semantics.specs.Plant.{Plant, judgeVariables, judgeEquations, judgePlant, switchesRead, ordered, equationNamed, drivenOnce}
 use Rattle.semantics.specs.TableFile.{NodeAction, Entry, TableSections, tableSectionsIn, actionsIn, locationsIn}
 use Rattle.semantics.specs.Tables.{Table, judgeSections, judgeTable, tableHeader, actionsFit, locationsFit}
 use Rattle.semantics.specs.Starts.{Start, startIn, startFits}
 use Rattle.semantics.specs.Calls.{Program, judgeStart, judgeAdmission, judgeRun, tableProgram, wholeEvents, roomForRecords, readTable, tableRun}
 use Rattle.semantics.specs.Writing.{AllBytes, writeVariables, VariablesLimits, writeEquations, EquationsLimits, writeTableSections, TableSectionsLimits, PlantLimits, startBytes, StartLimits}
 use Rattle.semantics.specs.Proper.{TableWritten}
-use Rattle.semantics.specs.Sentences.{Clause, _when_, FirstHolds, AnyHolds, Fails, WrittenAs, PlantSections, VariablesThere, PlantThere, Sentence4, SwitchSentence12, plantClauses, TableHead, HeadOfTable, five-bytes, TableSource, TableActions, ActionsOf, LocationsOf, ProperHead, TableSectionsThere, PlantSectionsOfTable, of-table, SourceThere, ActionsThere, tableClauses, TablePlant, table-plant, runClauses, tableRunClauses}
+use Rattle.semantics.specs.Sentences.{Clause, _when_, FirstHolds, AnyHolds, Fails, WrittenAs, PlantSections, VariablesThere, PlantThere, Sentence4, Sentence5, Sentence6, Sentence7, SwitchSentence12, plantClauses, TableHead, HeadOfTable, five-bytes, TableSource, TableActions, ActionsOf, LocationsOf, ProperHead, TableSectionsThere, PlantSectionsOfTable, of-table, SourceThere, ActionsThere, tableClauses, TablePlant, table-plant, runClauses, tableRunClauses}
 use Rattle.semantics.proofs.Facts.{true-not-false, some-is, and-left, and-right, and-both}
 use Rattle.semantics.proofs.Judging.{accepted-is, passed-then}
 use Rattle.semantics.proofs.EventsCut.{room-for-each}
@@ -29,6 +29,7 @@ use Rattle.semantics.proofs.FirstNumber.{plant-is, table-refusal, ran-r
 use Rattle.semantics.proofs.ProperForms.{all-ordered, all-named, driven-once, all-read}
 use Rattle.semantics.proofs.SectionForms.{variables-bytes, equations-bytes}
 use Rattle.semantics.proofs.TableForms.{actions-bytes, locations-bytes, sections-bytes}
+use Rattle.semantics.proofs.PlantPassed.{variables-passed, equations-passed}
 use Rattle.semantics.proofs.TablesProper.{actions-proper, locations-proper, table-accepted}
 use Rattle.semantics.proofs.StartForms as StartForms
 use Rattle.semantics.proofs.WrittenSources.{all-drop}
@@ -63,14 +64,27 @@ module _ (ed : Edition) {There : PlantSections → Type 0} (s : PlantSections) (
   plant-there : {xs : List Variable} {es : List Equation} → variablesIn ed (s .variables) ≡ some xs → equationsIn (s .equations) ≡ some es → PlantThere There (record { variables = xs; equations = es })
   plant-there {xs} {es} e f = record { sections = s; there = there; variables = (as-variables ed (s .variables) xs zv) .0 e; equations = (as-equations (s .equations) es ze) .0 f }
 
+  -- 4 and 5, then 6 and 7, then 8
+  variables-answers : Answers (judgeVariables ed (s .variables)) ((4 when Sentence4 There) ∷ (5 when Sentence5 There) ∷ [])
+  unfolding judgeVariables
+  variables-answers =
+      by-read there one 4 (variablesIn ed (s .variables)) (λ xs. as-variables ed (s .variables) xs zv) (λ xs e.
+      by-test (record { sections = s; there = there; variables = (as-variables ed (s .variables) xs zv) .0 e }) (variables-one e) 5 (every ordered xs) (all-ordered xs) (λ h5. by-end _))
+
+  equations-answers : {xs : List Variable} → variablesIn ed (s .variables) ≡ some xs → Answers (judgeEquations (length xs) (s .equations)) ((6 when Sentence6 There) ∷ (7 when Sentence7 There) ∷ [])
+  unfolding judgeEquations
+  equations-answers {xs} e =
+      by-read there one 6 (equationsIn (s .equations)) (λ es. as-equations (s .equations) es ze) (λ es f.
+      by-test (plant-there e f) (plant-one e f) 7 (every (equationNamed (length xs)) es) (all-named (length xs) es) (λ h7. by-end _))
+
   pub plant-answers : Answers (judgePlant ed (s .variables) (s .equations)) (plantClauses There)
   unfolding judgePlant
   plant-answers =
-      by-read there one 4 (variablesIn ed (s .variables)) (λ xs. as-variables ed (s .variables) xs zv) (λ xs e.
-      by-test (record { sections = s; there = there; variables = (as-variables ed (s .variables) xs zv) .0 e }) (variables-one e) 5 (every ordered xs) (all-ordered xs) (λ h5.
-      by-read there one 6 (equationsIn (s .equations)) (λ es. as-equations (s .equations) es ze) (λ es f.
-      by-test (plant-there e f) (plant-one e f) 7 (every (equationNamed (length xs)) es) (all-named (length xs) es) (λ h7.
-      by-test (plant-there e f) (plant-one e f) 8 (drivenOnce [] es) (driven-once es) (λ h8. by-end _)))))
+      by-then variables-answers (λ xs i.
+      let e = (variables-passed ed (s .variables) i) .is in
+      by-then (equations-answers e) (λ es j.
+      let f = (equations-passed (length xs) (s .equations) j) .is in
+      by-test (plant-there e f) (plant-one e f) 8 (drivenOnce [] es) (driven-once es) (λ h8. by-end _)))
 
   -- 12 of the switches, of the plant that 4 to 8 let pass
   pub switch-sentence : {p : Plant} → judgePlant ed (s .variables) (s .equations) ≡ accepted p → (switchesRead ed p ≡ false → SwitchSentence12 There ed) × (switchesRead ed p ≡ true → SwitchSentence12 There ed → ⊥)

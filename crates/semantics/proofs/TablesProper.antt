@@ -13,8 +13,7 @@ use Rattle.semantics.specs.Bytes.{every, isSome}
 use Rattle.semantics.specs.Editions.{Edition}
 use Rattle.semantics.specs.Refusals.{accepted}
 use Rattle.semantics.specs.Expressions.{numberIn}
-use Rattle.semantics.specs.Sections.{variablesIn, equationsIn}
-use Rattle.semantics.specs.Plant.{Plant, judgePlant, selectors, ordered, equationNamed, drivenOnce}
+use Rattle.semantics.specs.Plant.{Plant, selectors}
 use Rattle.semantics.specs.Run.{Action, test, wait, assign, switch, stop}
 use Rattle.semantics.specs.TableFile.{NodeAction, Entry, FINISHED, HALTED, NONE, actionBytes}
 use Rattle.semantics.specs.Tables.{Table, risingFrom, operandFits, operandsFit, nodeExists, actionsNumbered, actionNodes, actionsFit, actionAt, goesOn, targetsFit, entryFits, entryNodes, locationFits, locationsFit, judgeSections, judgeTable}
@@ -23,35 +22,13 @@ use Rattle.semantics.specs.Conditions.{is20}
 use Rattle.semantics.specs.Writing.{AllBytes, ActionLimits, startBytes, StartLimits}
 use Rattle.semantics.specs.Proper.{ProperAction, proper-test, proper-wait, proper-assign, proper-switch, proper-stop, Rising, rising-nil, rising-one, rising-more, GoesOn, FitTargets, fit-test, fit-wait, fit-assign, fit-switch, fit-stop, ProperEntry, ProperRow, ProperActions, ProperLocations, TableWritten}
 use Rattle.semantics.proofs.Facts.{true-not-false, and-left, and-right, and-both, All, all-nil, all-cons, all-map}
-use Rattle.semantics.proofs.Judging.{accepted-is, passed-need, passed-ensure, go-need, go-ensure, go-then, go-only}
+use Rattle.semantics.proofs.Judging.{go-need, go-ensure, go-then, go-only}
+use Rattle.semantics.proofs.PlantPassed.{plant-passed, plant-accepted}
 use Rattle.semantics.proofs.TablePassed.{table-passed}
 use Rattle.semantics.proofs.WrittenSources.{found}
 use Rattle.semantics.proofs.ProperForms.{every-is, every-plain, truth-read, number-read, plant-proper, mode-there}
 use Rattle.semantics.proofs.TableForms.{table-bytes}
 use Rattle.semantics.proofs.StartForms as StartForms
-
--- ---- 4 to 8 and 12: the plant
-pub record PlantJudged (ed : Edition) (vs es : List ℕ) (p : Plant) : Type 0 where
-  pub variables : variablesIn ed vs ≡ some (p .variables)
-  pub equations : equationsIn es ≡ some (p .equations)
-  pub is-ordered : every ordered (p .variables) ≡ true
-  pub named : every (equationNamed (length (p .variables))) (p .equations) ≡ true
-  pub once : drivenOnce [] (p .equations) ≡ true
-
-module _ (ed : Edition) (vs es : List ℕ) where
-  pub plant-judged : {p : Plant} → judgePlant ed vs es ≡ accepted p → PlantJudged ed vs es p
-  unfolding judgePlant
-  plant-judged {p} h =
-      let a = passed-need 4 (variablesIn ed vs) _ h in
-      let b = passed-ensure 5 _ _ (a .2) in
-      let c = passed-need 6 (equationsIn es) _ (b .1) in
-      let d = passed-ensure 7 _ _ (c .2) in
-      let e = passed-ensure 8 _ _ (d .1) in
-      subst (PlantJudged ed vs es) (accepted-is (e .1)) (record { variables = a .1; equations = c .1; is-ordered = b .0; named = d .0; once = e .0 })
-
-  pub judged-plant : {p : Plant} → PlantJudged ed vs es p → judgePlant ed vs es ≡ accepted p
-  unfolding judgePlant
-  judged-plant h = go-need 4 _ (h .variables) ∙ go-ensure 5 _ (h .is-ordered) ∙ go-need 6 _ (h .equations) ∙ go-ensure 7 _ (h .named) ∙ go-ensure 8 _ (h .once)
 
 -- ---- rising
 rising-head : (low n : ℕ) (l : List ℕ) → risingFrom low (n ∷ l) ≡ true → (low ≤ n) × (risingFrom (suc n) l ≡ true)
@@ -220,7 +197,7 @@ module _ (ed : Edition) where
   accepted-there : (table : List ℕ) (t : Table) → AllBytes table → judgeTable ed table ≡ accepted t → TableWritten ed table t
   accepted-there table t z h =
       let p = table-passed ed table h in
-      let j = plant-judged ed (p .parts .variables) (p .parts .equations) (p .plant) in
+      let j = plant-passed ed (p .parts .variables) (p .parts .equations) (p .plant) in
       let w = (table-bytes ed table t) .0 (
         z,
         record {
@@ -239,7 +216,7 @@ module _ (ed : Edition) where
         bytes = w .0;
         limits = l;
         proper = record {
-          plant = (plant-proper ed (t .plant) (l .plant .equations .each)) .0 (record { is-ordered = j .is-ordered; named = j .named; once = j .once; reads = p .switches });
+          plant = (plant-proper ed (t .plant) (l .plant .equations .each)) .0 (record { is-ordered = j .in-order; named = j .named; once = j .once; reads = p .switches });
           actions = a;
           locations = (locations-proper (t .actions) (t .locations) (a .rising)) .0 (p .locs-fit);
         };
@@ -253,8 +230,8 @@ module _ (ed : Edition) where
       let w = (table-bytes ed table t) .1 (k .bytes, l) in
       let r = w .1 in
       let p = (plant-proper ed (t .plant) (l .plant .equations .each)) .1 (h .plant) in
-      let plant = judged-plant ed (r .sections .variables) (r .sections .equations)
-      (record { variables = r .variables-read; equations = r .equations-read; is-ordered = p .is-ordered; named = p .named; once = p .once }) in (
+      let plant = plant-accepted ed (r .sections .variables) (r .sections .equations)
+      (record { variables = r .variables-read; equations = r .equations-read; in-order = p .is-ordered; named = p .named; once = p .once }) in (
         w .0,
         go-ensure 15 _ (r .header)
             ∙ go-need 16 _ (r .sections-read)

@@ -23,6 +23,7 @@ use Rattle.semantics.specs.Tables.{Table, judgeTable, actionAt, actionOr
 use Rattle.semantics.specs.Calls.{Program, Outcome, runFrom, outcomeOf, judgeAdmission, judgeRun, report, tableProgram, tableRun}
 use Rattle.semantics.proofs.Facts.{all-mem, none-not-some, some-is, All, all-nil, all-cons, all-append}
 use Rattle.semantics.proofs.TablePassed.{table-passed}
+use Rattle.semantics.proofs.PlantPassed.{plant-passed}
 use Rattle.semantics.proofs.Judging.{accepted-is, passed-then, passed-need, passed-ensure}
 use Rattle.semantics.proofs.Admission.{admission-passed}
 use Rattle.semantics.proofs.Readers.{broken-not-read, split, given, given-rest, guarded, from-some, byte-read, bytes-read, whole-read}
@@ -191,14 +192,10 @@ selectors-bytes (all-cons steady-bytes q) = selectors-bytes q
 selectors-bytes (all-cons (choice-bytes h) q) = all-cons h (selectors-bytes q)
 
 pub plant-bytes : (ed : Edition) (vs es : List ℕ) {p : Plant} → judgePlant ed vs es ≡ accepted p → All Byte vs → All Byte es → PlantBytes p
-unfolding judgePlant variablesIn equationsIn selectors
+unfolding variablesIn equationsIn selectors
 plant-bytes ed vs es e v w =
-    let a = passed-need 4 _ _ e in
-    let b = passed-ensure 5 _ _ (a .2) in
-    let c = passed-need 6 _ _ (b .1) in
-    let d = passed-ensure 7 _ _ (c .2) in
-    let f = passed-ensure 8 _ _ (d .1) in
-    subst PlantBytes (accepted-is (f .1)) (record { variables = whole-makes (makes-variables ed) vs v (a .1); selectors = selectors-bytes (whole-makes makes-equations es w (c .1)) })
+    let k = plant-passed ed vs es e in
+    record { variables = whole-makes (makes-variables ed) vs v (k .variables); selectors = selectors-bytes (whole-makes makes-equations es w (k .equations)) }
 
 -- ---- a start
 makes-start : (p : Plant) → Makes (readStart p) (λ (st : Start). StateBytes p (st .values) (st .modes))

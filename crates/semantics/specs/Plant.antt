@@ -49,16 +49,22 @@ unfoldable pub onceAfter : List ℕ → List ℕ → Bool
 onceAfter seen [] = true
 onceAfter seen (n ∷ l) = elim (among n seen) [ true ↦ false | false ↦ onceAfter (n ∷ seen) l ]
 
+unfoldable pub ratesDrive : List Rate → List ℕ
+ratesDrive rs = map (λ (r : Rate). r .driven) rs
+
 unfoldable pub modeDrives : Mode → List ℕ
-modeDrives m = map (λ (r : Rate). r .driven) (m .rates)
+modeDrives m = ratesDrive (m .rates)
 
 unfoldable pub drives : Equation → List ℕ
 drives (steady r) = r .driven ∷ []
 drives (choice c) = flatMap modeDrives (c .modes)
 
+unfoldable pub modeOnce : Mode → Bool
+modeOnce m = onceAfter [] (modeDrives m)
+
 unfoldable pub modesOnce : Equation → Bool
 modesOnce (steady r) = true
-modesOnce (choice c) = every (λ m. onceAfter [] (modeDrives m)) (c .modes)
+modesOnce (choice c) = every modeOnce (c .modes)
 
 unfoldable pub drivenOnce : List ℕ → List Equation → Bool
 drivenOnce seen [] = true
@@ -68,20 +74,35 @@ drivenOnce seen (e ∷ es) = modesOnce e && apart seen (drives e) && drivenOnce 
 unfoldable pub switchReads : Edition → ℕ → Switch → Bool
 switchReads ed variables w = isSome (truthIn ed variables (w .truth))
 
+unfoldable pub modeReads : Edition → ℕ → Mode → Bool
+modeReads ed variables m = every (switchReads ed variables) (m .switches)
+
 unfoldable pub equationReads : Edition → ℕ → Equation → Bool
 equationReads ed variables (steady r) = true
-equationReads ed variables (choice c) = every (λ (m : Mode). every (switchReads ed variables) (m .switches)) (c .modes)
+equationReads ed variables (choice c) = every (modeReads ed variables) (c .modes)
 
 unfoldable pub switchesRead : Edition → Plant → Bool
 switchesRead ed p = every (equationReads ed (length (p .variables))) (p .equations)
 
+-- 4: "The variable count or section length is wrong.", then 5
+unfoldable pub judgeVariables : Edition → List ℕ → Judged (List Variable)
+judgeVariables ed section = do
+  vs ← need 4 (variablesIn ed section)
+  ensure 5 (every ordered vs)
+  accepted vs
+
+-- 6: "The equation section breaks its layout or a count.", then 7, of a plant with so many variables
+unfoldable pub judgeEquations : ℕ → List ℕ → Judged (List Equation)
+judgeEquations variables section = do
+  es ← need 6 (equationsIn section)
+  ensure 7 (every (equationNamed variables) es)
+  accepted es
+
 -- 4 to 8 of the two sections
 unfoldable pub judgePlant : Edition → List ℕ → List ℕ → Judged Plant
 judgePlant ed variables equations = do
-  vs ← need 4 (variablesIn ed variables)
-  ensure 5 (every ordered vs)
-  es ← need 6 (equationsIn equations)
-  ensure 7 (every (equationNamed (length vs)) es)
+  vs ← judgeVariables ed variables
+  es ← judgeEquations (length vs) equations
   ensure 8 (drivenOnce [] es)
   accepted (record { variables = vs; equations = es })
 

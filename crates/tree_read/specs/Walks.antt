@@ -5,9 +5,9 @@ use mathlib.Core.List.{List, map}
 use mathlib.Core.Option.{some}
 use Prim.Native.Nat.{ℕ, _+_, _≤_}
 use lib.Dec.{leb, eqb}
-use lib.ListN.{drop, getElem?}
+use lib.ListN.{drop, getElem?, length}
 use Rattle.schedules.specs.Nodes.{Node}
-use Rattle.schedules.specs.Trees.{Tree, Forest, children, treeFrom, Walked, lost, walked}
+use Rattle.schedules.specs.Trees.{Tree, Forest, children, treeFrom, Walked, lost, walked, readTree, readForest}
 use Rattle.schedules.specs.Preorder.{forestLength}
 use Rattle.codec.specs.Writing.{Wrote}
 use Rattle.tree_read.specs.Ends.{treeSize, forestSize, treeEnds, forestEnds}
@@ -46,3 +46,10 @@ TreeWalked ns n d e (walked t m ms) r = Passed ns n m (treeSize t) ms (treeEnds 
 abbrev pub ForestWalked : List Node → ℕ → List ℕ → List ℕ → Walked Forest → Walk → Type 0
 ForestWalked ns n d e lost r = paperWalk r ≡ 10
 ForestWalked ns n d e (walked ts m ms) r = Passed ns n m (forestSize ts) ms (forestEnds ts n) d e r
+
+-- a walk from node n on, whatever nodes have these child counts; f bounds the depth
+abbrev pub NodeWalked : List ℕ → ℕ → List ℕ → List ℕ → Walk → Type 0
+NodeWalked ks n d e r = Bound (n + 1) (length ks) r × ((ns : List Node) → Counts ks ns → (f : ℕ) → length ks ≤ n + f → TreeWalked ns n d e (readTree f n (drop n ns)) r)
+
+abbrev pub NodesWalked : List ℕ → ℕ → ℕ → List ℕ → List ℕ → Walk → Type 0
+NodesWalked ks k n d e r = Bound n (length ks) r × ((ns : List Node) → Counts ks ns → (f : ℕ) → length ks ≤ n + f → ForestWalked ns n d e (readForest (readTree f) k n (drop n ns)) r)

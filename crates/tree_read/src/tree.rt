@@ -3,15 +3,15 @@ use super::nodes::Nodes;
 ghost use mathlib.Core.Path.{_≡_};
 ghost use mathlib.Core.List.{List, map};
 ghost use mathlib.Core.Option.{some};
-ghost use Prim.Native.Nat.{ℕ, _+_, _≤_, _<_};
-ghost use lib.ListN.{length, getD, drop};
+ghost use Prim.Native.Nat.{_+_, _≤_, _<_};
+ghost use lib.ListN.{length, getD};
 ghost use Rattle.semantics.specs.Editions.{edition1};
 ghost use Rattle.schedules.specs.Nodes.{Node, nodesIn};
-ghost use Rattle.schedules.specs.Trees.{children, readTree, readForest};
+ghost use Rattle.schedules.specs.Trees.{children};
 ghost use Rattle.codec.specs.Padding.{pad};
 ghost use Rattle.tree_read.specs.Index.{nodesOf};
 ghost use Rattle.tree_read.specs.Ends.{noTree, treeIn};
-ghost use Rattle.tree_read.specs.Walks.{childrenOf, Counts, Bound, TreeWalked, ForestWalked};
+ghost use Rattle.tree_read.specs.Walks.{childrenOf, NodeWalked, NodesWalked};
 
 pub struct Subtrees {
     pub ok: bool,
@@ -71,7 +71,7 @@ fn child_counts(s: &[u8], n: Nodes) -> [u8; 64]
 // node n, and the nodes below it: where it ends goes to ends[n]
 fn node(counts: &[u8], ends: &mut [usize], n: usize) -> Walk
     requires { ⌜ length (now counts) ≤ length (now ends) ⌝ }
-    ensures { λ r. ⌜ Bound (n + 1) (length (now (counts .entry))) r × ((ns : List Node) → Counts (now (counts .entry)) ns → (f : ℕ) → length (now (counts .entry)) ≤ n + f → TreeWalked ns n (now (ends .entry)) (now (ends .exit)) (readTree f n (drop n ns)) r) ⌝ }
+    ensures { λ r. ⌜ NodeWalked (now (counts .entry)) n (now (ends .entry)) (now (ends .exit)) r ⌝ }
 {
     if n >= counts.len() {
         return Walk::Lost;
@@ -89,7 +89,7 @@ fn node(counts: &[u8], ends: &mut [usize], n: usize) -> Walk
 // k trees from node n on
 fn forest(counts: &[u8], ends: &mut [usize], n: usize, k: u8) -> Walk
     requires { ⌜ (length (now counts) ≤ length (now ends)) × (n ≤ length (now counts)) ⌝ }
-    ensures { λ r. ⌜ Bound n (length (now (counts .entry))) r × ((ns : List Node) → Counts (now (counts .entry)) ns → (f : ℕ) → length (now (counts .entry)) ≤ n + f → ForestWalked ns n (now (ends .entry)) (now (ends .exit)) (readForest (readTree f) k n (drop n ns)) r) ⌝ }
+    ensures { λ r. ⌜ NodesWalked (now (counts .entry)) k n (now (ends .entry)) (now (ends .exit)) r ⌝ }
 {
     if k == 0 {
         return Walk::Next(n);

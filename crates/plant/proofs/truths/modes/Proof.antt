@@ -3,15 +3,16 @@ use Prim.Native.Nat.{_+_, _-_, _*_, _≤_}
 use native.Mathlib.Omega.{arith}
 use lib.ListN.{getD}
 use borrow.Author.Tests.{not-true, not-false}
+use Rattle.semantics.specs.Editions.{edition1}
+use Rattle.semantics.specs.Plant.{modeReads}
 use Rattle.semantics.specs.Sections.{readMode}
-use Rattle.plant.specs.Sound.{modeReads}
 use Rattle.plant.proofs.Turns.{Turns, turns-start, turns-false, turns-true}
 use Rattle.plant.proofs.TruthTurns.{mode-before, mode-between, mode-switches, mode-reads, modes-next}
 use Rattle.plant.proofs.truths.modes.Statement.{statement}
 use Rattle.plant.proofs.truths.modes.Tie as tie
 
 abbrev Inv-loop : tie.InvT-loop
-Inv-loop s at n variables p₀ i₀ p i = (i ≤ n) × Turns readMode (modeReads variables) s at n p i
+Inv-loop s at n variables p₀ i₀ p i = (i ≤ n) × Turns readMode (modeReads edition1 variables) s at n p i
 
 abbrev μ-loop : tie.MeasureT-loop
 μ-loop s at n variables p₀ i₀ p i = n - i

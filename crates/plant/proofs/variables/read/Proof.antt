@@ -1,7 +1,7 @@
 use mathlib.Core.Path.{sym, _∙_}
 use native.Mathlib.Omega.{arith}
 use borrow.Author.Needs.{needs}
-use Rattle.plant.proofs.VariableSection.{refused-4}
+use Rattle.plant.proofs.VariableAnswer.{refused-4}
 use Rattle.plant.proofs.variables.read.Statement.{statement}
 use Rattle.plant.proofs.variables.read.Tie as tie
 

@@ -44,7 +44,8 @@ returns c =
     let low = value (c .before .before .before .before .int4 .ok) (c .before .before .before .before .int4 .ensures) in
     let first = value (c .before .before .int43 .ok) (c .before .before .int43 .ensures) in
     let l = c .before .before .before .before .before .before .loop in
-    let a = c .before .before .before .before .before .before .before .before .args in
+    let c7 = c .before .before .before .before .before .before .before in
+    let a = c7 .before .args in
     c .refused .ensures ∙ sym (stopped (l .inv .2) (omega arith) (omega arith) (below-minimum (variableAt (a .s .now) (l .p)) (lt-as first low (c .before .if1 .taken))))
 
 refused-requires-2 : tie.Need-refused-requires-2 Inv-loop μ-loop
@@ -55,7 +56,8 @@ returns-2 c =
     let high = value (c .before .before .before .before .int42 .ok) (c .before .before .before .before .int42 .ensures) in
     let first = value (c .before .before .before .int43 .ok) (c .before .before .before .int43 .ensures) in
     let l = c .before .before .before .before .before .before .before .loop in
-    let a = c .before .before .before .before .before .before .before .before .before .args in
+    let c7 = c .before .before .before .before .before .before .before in
+    let a = c7 .before .before .args in
     c .refused2 .ensures ∙ sym (stopped (l .inv .2) (omega arith) (omega arith) (above-maximum (variableAt (a .s .now) (l .p)) (lt-as high first (c .before .if2 .taken))))
 
 mul-lows : tie.Need-mul-lows Inv-loop μ-loop
@@ -97,7 +99,8 @@ loop-again c =
     let high = value (c .before .before .before .int42 .ok) (c .before .before .before .int42 .ensures) in
     let first = value (c .before .before .int43 .ok) (c .before .before .int43 .ensures) in
     let l = c .before .before .before .before .before .before .loop in
-    let a = c .before .before .before .before .before .before .before .before .args in
+    let c7 = c .before .before .before .before .before .before .before in
+    let a = c7 .before .args in
     let o = in-order (variableAt (a .s .now) (l .p)) (lt-as first low (c .before .if1 .left)) (lt-as high first (c .if2 .left)) in
     (omega arith, omega arith, going-next (l .inv .2) (omega arith) (omega arith) o _ _ _ low high first (omega arith))
 

@@ -22,28 +22,44 @@ mul-b : tie.Need-mul-b Inv-loop μ-loop
 mul-b c = omega (arith, c .before .before .before .before .before .before .before .pre .0 .at .starts-full, c .before .before .before .before .before .before .before .pre .0 .at .few)
 
 shared-slice-read-b : tie.Need-shared-slice-read-b Inv-loop μ-loop
-shared-slice-read-b c = omega (arith, c .before .before .before .before .before .before .before .before .pre .0 .at .starts-full, c .before .before .before .before .before .before .before .before .pre .0 .at .few)
+shared-slice-read-b c =
+    let c7 = c .before .before .before .before .before .before .before in
+    omega (arith, c7 .before .pre .0 .at .starts-full, c7 .before .pre .0 .at .few)
 
 mul-e : tie.Need-mul-e Inv-loop μ-loop
-mul-e c = omega (arith, c .before .before .before .before .before .before .before .before .pre .0 .at .ends-full, c .before .before .before .before .before .before .before .before .pre .0 .at .few)
+mul-e c =
+    let c7 = c .before .before .before .before .before .before .before in
+    omega (arith, c7 .before .pre .0 .at .ends-full, c7 .before .pre .0 .at .few)
 
 shared-slice-read-e : tie.Need-shared-slice-read-e Inv-loop μ-loop
-shared-slice-read-e c = omega (arith, c .before .before .before .before .before .before .before .before .before .pre .0 .at .ends-full, c .before .before .before .before .before .before .before .before .before .pre .0 .at .few)
+shared-slice-read-e c =
+    let c7 = c .before .before .before .before .before .before .before in
+    omega (arith, c7 .before .before .pre .0 .at .ends-full, c7 .before .before .pre .0 .at .few)
 
 shared-slice-read-one : tie.Need-shared-slice-read-one Inv-loop μ-loop
-shared-slice-read-one c = omega (arith, c .before .before .before .before .before .before .before .before .before .before .pre .0 .at .kinds-full, c .before .before .before .before .before .before .before .before .before .before .pre .0 .at .few)
+shared-slice-read-one c =
+    let c7 = c .before .before .before .before .before .before .before in
+    omega (arith, c7 .before .before .before .pre .0 .at .kinds-full, c7 .before .before .before .pre .0 .at .few)
 
 sub-one : tie.Need-sub-one Inv-loop μ-loop
-sub-one c = c .before .before .before .before .before .before .before .before .before .before .pre .0 .at .entries (c .before .before .before .before .loop .i) (c .before .before .before .loop-test .taken) .ordered
+sub-one c =
+    let c7 = c .before .before .before .before .before .before .before in
+    c7 .before .before .before .pre .0 .at .entries (c .before .before .before .before .loop .i) (c .before .before .before .loop-test .taken) .ordered
 
 part-one-start : tie.Need-part-one-start Inv-loop μ-loop
-part-one-start c = c .before .before .before .before .before .before .before .before .before .before .pre .0 .at .entries (c .before .before .before .before .loop .i) (c .before .before .before .loop-test .taken) .ordered
+part-one-start c =
+    let c7 = c .before .before .before .before .before .before .before in
+    c7 .before .before .before .pre .0 .at .entries (c .before .before .before .before .loop .i) (c .before .before .before .loop-test .taken) .ordered
 
 part-one-end : tie.Need-part-one-end Inv-loop μ-loop
-part-one-end c = c .before .before .before .before .before .before .before .before .before .before .pre .0 .at .entries (c .before .before .before .before .loop .i) (c .before .before .before .loop-test .taken) .inside
+part-one-end c =
+    let c7 = c .before .before .before .before .before .before .before in
+    c7 .before .before .before .pre .0 .at .entries (c .before .before .before .before .loop .i) (c .before .before .before .loop-test .taken) .inside
 
 one-requires : tie.Need-one-requires Inv-loop μ-loop
-one-requires c κs = (made (c .before .before .before .before .before .loop .i) (c .before .before .before .before .loop-test .taken) (c .before .before .before .before .before .before .before .before .before .before .before .pre .0), c .before .before .before .before .before .before .before .before .before .before .before .pre .1)
+one-requires c κs =
+    let c7 = c .before .before .before .before .before .before .before in
+    (made (c .before .before .before .before .before .loop .i) (c .before .before .before .before .loop-test .taken) (c7 .before .before .before .before .pre .0), c7 .before .before .before .before .pre .1)
 
 returns : tie.Need-returns Inv-loop μ-loop
 returns c = λ cs d. pass-stop (nodeNamed _ cs) (c .before .before .before .before .before .before .loop-test .taken) (c .before .before .before .before .before .before .before .loop .inv .1 cs d) (c .before .one .ensures cs d) (not-true _ (c .if1 .taken))
