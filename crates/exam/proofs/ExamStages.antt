@@ -10,9 +10,12 @@ use Rattle.semantics.specs.Bytes.{overwrite}
 use Rattle.semantics.specs.Editions.{Edition, edition1}
 use Rattle.semantics.specs.Refusals.{Judged, refused, accepted, _>>=_, _>>_, ensure, refusalOf}
 use Rattle.semantics.specs.Plant.{Plant}
-use Rattle.semantics.specs.Starts.{startIn}
-use Rattle.semantics.specs.Calls.{Program, Outcome, Ran, judgeRun, tableRun, eventCount, recordSize, roomForRecords}
+use Rattle.semantics.specs.Starts.{Start}
+use Rattle.semantics.specs.Calls.{Program, Outcome, Ran, judgeAdmission, judgeRun, tableRun, eventCount, recordSize, roomForRecords}
+use Rattle.semantics.specs.Conditions.{Condition}
+use Rattle.semantics.proofs.Facts.{All, all-append}
 use Rattle.semantics.proofs.Judging as Judging
+use Rattle.semantics.proofs.Admission.{Admits, start-judged, admission-passed}
 use Rattle.semantics.proofs.CallsHold.{accepted-of}
 use Rattle.schedules.specs.Residuals.{Residual}
 use Rattle.schedules.specs.Files.{Schedule, judgeFile, ruleControl}
@@ -44,21 +47,26 @@ refused-at : {A B : Type 0} {j : Judged A} {n : ℕ} (f : A → Judged B) → j 
 unfolding refusalOf _>>=_
 refused-at f e = rw e refl
 
--- a last test's number does not depend on what is accepted
-last-test : {A B : Type 0} (n : ℕ) (t : Bool) (a : A) (b : B) → refusalOf (ensure n t >> accepted a) ≡ refusalOf (ensure n t >> accepted b)
-unfolding refusalOf _>>_ ensure
-last-test n true a b = refl
-last-test n false a b = refl
+-- a last test's number does not depend on what is accepted, nor on what is made of it
+tested-last : {A B C : Type 0} (n : ℕ) (t : Bool) (a : A) (f : A → B) (c : C) → refusalOf ((ensure n t >> accepted a) >>= λ x. accepted (f x)) ≡ refusalOf (ensure n t >> accepted c)
+unfolding refusalOf _>>=_ _>>_ ensure
+tested-last n true a f c = refl
+tested-last n false a f c = refl
+
+-- what a run that is taken on was admitted by
+run-admits : {S : Type 0} (ed : Edition) (g : Program S) (start events buffer : List ℕ) {o : Outcome} → judgeRun ed (accepted g) start events buffer ≡ accepted o → (st : Start) × Admits ed (g .plant) start events buffer st
+unfolding judgeRun
+run-admits ed g start events buffer h =
+    let a = Judging.passed-then (judgeAdmission ed (g .plant) start events buffer) _ (sym (Judging.go-then _ refl) ∙ h) in
+    (a .0, admission-passed ed (g .plant) start events buffer (a .1))
 
 -- a run into another buffer: only 22 is left to judge
 other-buffer : {S A : Type 0} (ed : Edition) (g : Program S) (start events buffer other : List ℕ) {o : Outcome} (a : A) → judgeRun ed (accepted g) start events buffer ≡ accepted o →
     refusalOf (judgeRun ed (accepted g) start events other) ≡ refusalOf (ensure 22 (roomForRecords ed (g .plant) events other) >> accepted a)
-unfolding judgeRun
+unfolding judgeRun judgeAdmission
 other-buffer ed g start events buffer other a h =
-    let b = Judging.passed-need 20 (startIn (g .plant) start) _ (sym (Judging.go-then _ refl) ∙ h) in
-    let c = Judging.passed-ensure 20 _ _ (b .2) in
-    let d = Judging.passed-ensure 21 _ _ (c .1) in
-    ap refusalOf (Judging.go-then _ refl ∙ Judging.go-need 20 _ (b .1) ∙ Judging.go-ensure 20 _ (c .0) ∙ Judging.go-ensure 21 _ (d .0)) ∙ last-test 22 _ _ a
+    let b = run-admits ed g start events buffer h .1 in
+    ap refusalOf (Judging.go-then _ refl ∙ ap (λ j. j >>= _) (Judging.go-then _ (start-judged (g .plant) start (b .starts)) ∙ Judging.go-ensure 21 _ (b .whole))) ∙ tested-last 22 (roomForRecords ed (g .plant) events other) _ _ a
 
 module _ (ed : Edition) (file start events table records others : List ℕ) where
   -- 1 to 13
@@ -115,14 +123,6 @@ table-long : (ed : Edition) (file table : List ℕ) {t : List ℕ} → judgeComp
 unfolding compile compiledInto overwrite
 table-long ed file table {t} e = rw e (simp length-append (omega arith))
 
-run-room : {S : Type 0} (ed : Edition) (g : Program S) (start events buffer : List ℕ) {o : Outcome} → judgeRun ed (accepted g) start events buffer ≡ accepted o → roomForRecords ed (g .plant) events buffer ≡ true
-unfolding judgeRun
-run-room ed g start events buffer h =
-    let b = Judging.passed-need 20 (startIn (g .plant) start) _ (sym (Judging.go-then _ refl) ∙ h) in
-    let c = Judging.passed-ensure 20 _ _ (b .2) in
-    let d = Judging.passed-ensure 21 _ _ (c .1) in
-    Judging.passed-ensure 22 _ _ (d .1) .0
-
 room-is : (ed : Edition) (p : Plant) (events buffer : List ℕ) → roomForRecords ed p events buffer ≡ true → eventCount ed events * recordSize ed p ≤ length buffer
 unfolding roomForRecords
 room-is ed p events buffer h = leb-true _ (length buffer) h
@@ -141,7 +141,7 @@ admitted ed file start events table records others z =
       schedule = k .of;
       schedule-read = k .of-file;
       judged = x .1 ∙ ap accepted (sym (exam-length ed file start events table records others (k .of-file) (x .1)));
-      room = room-is ed (k .of .plant) events records (ap (λ (g : Program Residual). roomForRecords ed (g .plant) events records) (sym i) ∙ run-room ed (b .0) start events records (c .1));
+      room = room-is ed (k .of .plant) events records (ap (λ (g : Program Residual). roomForRecords ed (g .plant) events records) (sym i) ∙ run-admits ed (b .0) start events records (c .1) .1 .room);
       room-too = room-is ed (k .of .plant) events others (ap (λ (g : Program Residual). roomForRecords ed (g .plant) events others) (sym i) ∙ d .0);
       compiled = table-long ed file table (a .1);
     }

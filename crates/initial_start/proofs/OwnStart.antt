@@ -17,11 +17,14 @@ use Rattle.semantics.specs.Sections.{Variable, Selector, Equation, steady, choi
 use Rattle.semantics.specs.Plant.{Plant, ordered, equationNamed, selectorsOf, selectors, declared, allDeclared, judgePlant}
 use Rattle.semantics.specs.Starts.{readStart, startIn, isOk, modesFit, startFits}
 use Rattle.semantics.specs.Run.{valueBytes}
+use Rattle.semantics.specs.Writing.{startBytes}
+use Rattle.semantics.specs.Calls.{judgeStart}
+use Rattle.semantics.proofs.Admission.{start-judged}
 use Rattle.semantics.proofs.Facts.{true-not-false, and-left, and-right, and-both, every-all}
 use Rattle.semantics.proofs.Readers.{Reads, reads-then, reads-last, reads-give, reads-byte, whole-reads}
 use Rattle.semantics.proofs.SignedBytes.{reads-int4}
 use Rattle.plant.proofs.PlantLaws.{passed-all}
-use Rattle.initial_start.specs.Initial.{initialValues, initialModes, initialStart, startBytes}
+use Rattle.initial_start.specs.Initial.{initialValues, initialModes, initialStart}
 
 -- what four bytes give
 abbrev pub InBits : Variable → Type 0
@@ -82,5 +85,5 @@ module _ (vs es : List ℕ) {p : Plant} (h : judgePlant edition1 vs es ≡ accep
       and-both (ap isOk (values-fit (p .variables) (every-all ordered (p .variables) (a .in-order))))
       (modes-fit (length (p .variables)) (p .equations) (every-all (equationNamed (length (p .variables))) (p .equations) (a .named)))
 
-  pub own-start-admitted : All InBits (p .variables) → (startIn p (startBytes (initialStart p)) ≡ some (initialStart p)) × (startFits p (initialStart p) ≡ true)
-  own-start-admitted b = (own-start-read p b, own-start-fits)
+  pub own-start-admitted : All InBits (p .variables) → judgeStart p (startBytes (initialStart p)) ≡ accepted (initialStart p)
+  own-start-admitted b = start-judged p _ (record { is-read = own-start-read p b; fits = own-start-fits })

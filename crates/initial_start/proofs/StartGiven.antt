@@ -1,10 +1,10 @@
 -- The start of a plant's two sections, of a schedule file and of a table, from what was read of them.
-use mathlib.Core.Path.{_≡_, refl, sym, ap, ap₂, subst, _∙_}
+use mathlib.Core.Path.{_≡_, refl, sym, ap, ap₂, _∙_}
 use mathlib.Core.List.{List, [], _++_, flatMap}
-use Prim.Native.Nat.{ℕ, _+_, _-_, _*_, _≤_}
+use Prim.Native.Nat.{ℕ, _+_, _*_, _≤_}
 use native.Mathlib.Nat.{zero-add}
 use native.Mathlib.Omega.{arith}
-use lib.ListN.{length, take, drop, replicate, length-append}
+use lib.ListN.{length, take, replicate, length-append}
 use lib.Seq.{length-take-le}
 use Rattle.semantics.specs.Bytes.{overwrite}
 use Rattle.semantics.specs.Editions.{edition1}
@@ -12,6 +12,8 @@ use Rattle.semantics.specs.Refusals.{Judged, refused, accepted}
 use Rattle.semantics.specs.Sections.{Variable}
 use Rattle.semantics.specs.Plant.{Plant, judgePlant}
 use Rattle.semantics.specs.Run.{valueBytes}
+use Rattle.semantics.specs.Writing.{startBytes}
+use Rattle.semantics.proofs.Computes as Computes
 use Rattle.semantics.specs.Tables.{Table, judgeTable}
 use Rattle.schedules.specs.Files.{Schedule, judgeFile}
 use Rattle.codec.specs.Writing.{Wrote}
@@ -23,17 +25,15 @@ use Rattle.plant.specs.declared.sections.PlantRead.{PlantRead}
 use Rattle.plant.specs.declared.variables.Variables.{Variables}
 use Rattle.plant.proofs.VariableLaws.{Accepted, count-of, initials-of, column-long, column-front}
 use Rattle.plant.proofs.PlantLaws.{passed-all, variables-high, Passes, passes, not-refused}
-use Rattle.schedule_read.specs.ScheduleFile.{scheduleIndex}
+use Rattle.schedule_read.specs.ScheduleFile.{indexAt, scheduleIndex}
 use Rattle.schedule_read.specs.declared.call.ScheduleIndex.{ScheduleIndex}
-use Rattle.schedule_read.proofs.Promises.{Promised, index-refused, index-schedule, promised}
-use Rattle.schedule_read.proofs.PartsStand.{Inside}
-use Rattle.table_read.specs.TableIndex.{tableIndex}
+use Rattle.schedule_read.proofs.Promises.{promised}
+use Rattle.table_read.specs.TableIndex.{indexOf, tableIndex}
 use Rattle.table_read.specs.TableParts.{partsOf, sectionsAt}
 use Rattle.table_read.specs.declared.call.TableIndex.{TableIndex}
-use Rattle.table_read.specs.declared.parts.Parts.{Parts}
-use Rattle.table_read.proofs.Promises.{table-of, refused-table, opened, parts-read}
-use Rattle.initial_start.specs.Initial.{initialValues, initialModes, initialStart, startBytes, startOf, sectionsStart, startOfFile, scheduleStart, startOfTable, tableStart}
-use Rattle.initial_start.specs.Held.{held}
+use Rattle.table_read.proofs.Promises.{Opened, opened, parts-read}
+use Rattle.initial_start.specs.Initial.{initialValues, initialModes, initialStart, startOf, sectionsStart, scheduleStart, tableStart}
+use Rattle.initial_start.specs.Held.{held, part, Between}
 use Rattle.initial_start.specs.declared.Start.{Start}
 use Rattle.records.proofs.Records.{values-length}
 
@@ -52,7 +52,7 @@ module _ (vs es : List ℕ) {q : PlantRead} (e : q ≡ plantOf vs es) where
   unfolding sectionsStart startOf
   nothing-given z = go (judgePlant edition1 vs es) refl
     where
-      go : (j : Judged Plant) → judgePlant edition1 vs es ≡ j → startOf j ≡ []
+      go : (j : Judged Plant) → judgePlant edition1 vs es ≡ j → startOf (λ p. p) j ≡ []
       go (refused n) h = refl
       go (accepted p) h = absurd (z (ap (λ (x : PlantRead). x .refusal) e ∙ not-refused vs es h))
 
@@ -88,7 +88,7 @@ module _ (vs es : List ℕ) {q : PlantRead} (e : q ≡ plantOf vs es) where
 
       is-start : flatMap valueBytes (take (v .count) (v .initials)) ++ initialModes (stands .equations) ≡ sectionsStart vs es
       unfolding sectionsStart startOf startBytes initialStart stands
-      is-start = ap (λ l. flatMap valueBytes l ++ initialModes (plant .equations)) values-are ∙ ap startOf (sym (passing .is))
+      is-start = ap (λ l. flatMap valueBytes l ++ initialModes (plant .equations)) values-are ∙ ap (startOf (λ p. p)) (sym (passing .is))
 
       pub given : {d g h : List ℕ} {at r : ℕ}
           → (at ≡ 0 + 4 * length (take (v .count) (v .initials))) × Wrote d 0 (flatMap valueBytes (take (v .count) (v .initials))) g
@@ -105,51 +105,47 @@ module _ (vs es : List ℕ) {q : PlantRead} (e : q ≡ plantOf vs es) where
           length-of : (xs ms : List ℕ) → at ≡ 0 + length xs → r ≡ at + length ms → r ≡ length (xs ++ ms)
           length-of xs ms i j = omega (arith, length-append xs ms)
 
--- ---- a schedule file
+-- ---- a file
+-- two sections that stand in it, and the start that they give
+pub record Gives (f : List ℕ) (a b c d : ℕ) (start : List ℕ) : Type 0 where
+  pub stand : Between f a b c d
+  pub is : sectionsStart (part f a b) (part f c d) ≡ start
+
+-- a refused file has none
+none-stand : (f : List ℕ) → Gives f 0 0 0 0 []
+unfolding sectionsStart startOf Computes.bytes Computes.refusals Computes.sections Computes.plant
+none-stand f = record { stand = record { first-ordered = omega arith; first-inside = omega arith; second-ordered = omega arith; second-inside = omega arith }; is = refl }
+
 module _ (f : List ℕ) {ix : ScheduleIndex} (h : ix ≡ scheduleIndex f) where
-  pub no-schedule : (ix .refusal ≡ 0 → ⊥) → scheduleStart f ≡ []
-  unfolding scheduleStart startOfFile
-  no-schedule z = ap startOfFile (index-refused f h z)
+  pub schedule-gives : Gives f (ix .parts .«variables_from») (ix .parts .«variables_to») (ix .parts .«equations_from») (ix .parts .«equations_to») (scheduleStart f)
+  unfolding sectionsStart startOf scheduleStart scheduleIndex indexAt
+  schedule-gives = go (judgeFile edition1 f) refl
+    where
+      go : (j : Judged Schedule) → judgeFile edition1 f ≡ j → Gives f (ix .parts .«variables_from») (ix .parts .«variables_to») (ix .parts .«equations_from») (ix .parts .«equations_to») (scheduleStart f)
+      go (refused n) e = rw (h, e) (none-stand f)
+      go (accepted s) e =
+          let p = promised f h e in
+          let v = p .variables in
+          let q = p .equations in
+          record {
+            stand = record { first-ordered = v .inside .ordered; first-inside = v .inside .inside; second-ordered = q .inside .ordered; second-inside = q .inside .inside };
+            is = ap₂ sectionsStart (v .is) (q .is) ∙ ap (startOf (λ p. p)) (p .plant-judged) ∙ sym (ap (startOf (λ (s : Schedule). s .plant)) e);
+          }
 
-  module _ (z : ix .refusal ≡ 0) where
-    schedule-read : (s : Schedule) × Promised f ix s
-    schedule-read = let k = index-schedule f h z in (k .0, promised f h (k .1))
-
-    pub variables-inside : Inside f (ix .parts .«variables_from») (ix .parts .«variables_to»)
-    variables-inside = schedule-read .1 .variables .inside
-
-    pub equations-inside : Inside f (ix .parts .«equations_from») (ix .parts .«equations_to»)
-    equations-inside = schedule-read .1 .equations .inside
-
-    pub schedule-start : sectionsStart (take (ix .parts .«variables_to» - ix .parts .«variables_from») (drop (ix .parts .«variables_from») f)) (take (ix .parts .«equations_to» - ix .parts .«equations_from») (drop (ix .parts .«equations_from») f)) ≡ scheduleStart f
-    unfolding sectionsStart startOf scheduleStart startOfFile
-    schedule-start = let p = schedule-read .1 in ap₂ sectionsStart (p .variables .is) (p .equations .is) ∙ ap startOf (p .plant-judged) ∙ sym (ap startOfFile (p .judged))
-
--- ---- a table
 module _ (t : List ℕ) {ix : TableIndex} (h : ix ≡ tableIndex t) where
-  pub no-table : (ix .refusal ≡ 0 → ⊥) → tableStart t ≡ []
-  unfolding tableStart startOfTable
-  no-table z = ap startOfTable (refused-table t h z)
+  pub table-gives : Gives t (ix .parts .variables) (ix .parts .«variables_end») (ix .parts .equations) (ix .parts .«equations_end») (tableStart t)
+  unfolding sectionsStart startOf tableStart tableIndex indexOf sectionsAt
+  table-gives = go (judgeTable edition1 t) refl
+    where
+      at-parts : {tb : Table} → Opened t tb → judgeTable edition1 t ≡ accepted tb → Gives t (partsOf t .variables) (partsOf t .«variables_end») (partsOf t .equations) (partsOf t .«equations_end») (tableStart t)
+      at-parts o e =
+          let v = o .stand .variables in
+          let q = o .stand .equations in
+          record {
+            stand = record { first-ordered = v .ordered; first-inside = v .inside; second-ordered = q .ordered; second-inside = q .inside };
+            is = ap (startOf (λ p. p)) (o .plant) ∙ sym (ap (startOf (λ (t : Table). t .plant)) e);
+          }
 
-  -- its two sections stand where the index says
-  pub record Sections : Type 0 where
-    pub variables-ordered : ix .parts .variables ≤ ix .parts .«variables_end»
-    pub variables-within : ix .parts .«variables_end» ≤ length t
-    pub equations-ordered : ix .parts .equations ≤ ix .parts .«equations_end»
-    pub equations-within : ix .parts .«equations_end» ≤ length t
-    pub start : sectionsStart (take (ix .parts .«variables_end» - ix .parts .variables) (drop (ix .parts .variables) t)) (take (ix .parts .«equations_end» - ix .parts .equations) (drop (ix .parts .equations) t)) ≡ tableStart t
-
-  pub table-sections : ix .refusal ≡ 0 → Sections
-  unfolding sectionsStart startOf tableStart startOfTable sectionsAt
-  table-sections z =
-      let k = table-of t h z in
-      let o = opened t (k .is) in
-      let e = parts-read t h (k .is) in
-      let st = o .stand in
-      record {
-        variables-ordered = subst (λ (p : Parts). p .variables ≤ p .«variables_end») (sym e) (st .variables .ordered);
-        variables-within = subst (λ (p : Parts). p .«variables_end» ≤ length t) (sym e) (st .variables .inside);
-        equations-ordered = subst (λ (p : Parts). p .equations ≤ p .«equations_end») (sym e) (st .equations .ordered);
-        equations-within = subst (λ (p : Parts). p .«equations_end» ≤ length t) (sym e) (st .equations .inside);
-        start = ap (λ (p : Parts). sectionsStart (sectionsAt t p .variables) (sectionsAt t p .equations)) e ∙ ap startOf (o .plant) ∙ sym (ap startOfTable (k .is));
-      }
+      go : (j : Judged Table) → judgeTable edition1 t ≡ j → Gives t (ix .parts .variables) (ix .parts .«variables_end») (ix .parts .equations) (ix .parts .«equations_end») (tableStart t)
+      go (refused n) e = rw (h, e) (none-stand t)
+      go (accepted tb) e = rw (parts-read t h e) (at-parts (opened t e) e)

@@ -1,5 +1,5 @@
 -- The start that a file itself gives: "minimum, maximum, initial" of each variable, "initial mode" of each CASE.
-use mathlib.Core.List.{List, [], _++_, map, flatMap}
+use mathlib.Core.List.{List, [], map}
 use Prim.Native.Nat.{ℕ}
 use lib.IntN.{ℤ}
 use Rattle.semantics.specs.Editions.{edition1}
@@ -7,7 +7,7 @@ use Rattle.semantics.specs.Refusals.{Judged, refused, accepted}
 use Rattle.semantics.specs.Sections.{Variable, Selector, Equation}
 use Rattle.semantics.specs.Plant.{Plant, selectorsOf, judgePlant}
 use Rattle.semantics.specs.Starts.{Start}
-use Rattle.semantics.specs.Run.{valueBytes}
+use Rattle.semantics.specs.Writing.{startBytes}
 use Rattle.semantics.specs.Tables.{Table, judgeTable}
 use Rattle.schedules.specs.Files.{Schedule, judgeFile}
 
@@ -20,30 +20,19 @@ initialModes es = map (λ (c : Selector). c .initial) (selectorsOf es)
 unfoldable pub initialStart : Plant → Start
 initialStart p = record { values = initialValues (p .variables); modes = initialModes (p .equations) }
 
--- 20: "The starting values (4 bytes each, then modes)"
-unfoldable pub startBytes : Start → List ℕ
-startBytes st = flatMap valueBytes (st .values) ++ st .modes
-
-unfoldable pub startOf : Judged Plant → List ℕ
-startOf (refused n) = []
-startOf (accepted p) = startBytes (initialStart p)
+-- the bytes of the start of a plant that was judged; none where it is refused
+unfoldable pub startOf : {A : Type 0} → (A → Plant) → Judged A → List ℕ
+startOf plant (refused n) = []
+startOf plant (accepted a) = startBytes (initialStart (plant a))
 
 -- of the two sections of a plant
 unfoldable pub sectionsStart : List ℕ → List ℕ → List ℕ
-sectionsStart vs es = startOf (judgePlant edition1 vs es)
-
-unfoldable pub startOfFile : Judged Schedule → List ℕ
-startOfFile (refused n) = []
-startOfFile (accepted s) = startBytes (initialStart (s .plant))
+sectionsStart vs es = startOf (λ p. p) (judgePlant edition1 vs es)
 
 -- of a schedule file
 unfoldable pub scheduleStart : List ℕ → List ℕ
-scheduleStart f = startOfFile (judgeFile edition1 f)
-
-unfoldable pub startOfTable : Judged Table → List ℕ
-startOfTable (refused n) = []
-startOfTable (accepted t) = startBytes (initialStart (t .plant))
+scheduleStart f = startOf (λ (s : Schedule). s .plant) (judgeFile edition1 f)
 
 -- of a table
 unfoldable pub tableStart : List ℕ → List ℕ
-tableStart t = startOfTable (judgeTable edition1 t)
+tableStart t = startOf (λ (t : Table). t .plant) (judgeTable edition1 t)

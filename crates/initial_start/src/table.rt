@@ -4,18 +4,17 @@ ghost use mathlib.Core.Path.{_≡_};
 ghost use Rattle.initial_start.specs.Held.{held};
 ghost use Rattle.initial_start.specs.Initial.{tableStart};
 
-// none where 15 to 19 refuse the table
+// none where 15 to 19 refuse the table: no section of it stands anywhere then
 pub fn start(table: &[u8]) -> Start
     ensures { λ r. ⌜ r ≡ held (tableStart (now (table .entry))) ⌝ }
 {
     let x = table_read::call::index(table);
-    if x.refusal != 0 {
-        return super::none();
-    }
-    let parts = x.parts;
-    let a = parts.variables;
-    let b = parts.variables_end;
-    let c = parts.equations;
-    let d = parts.equations_end;
-    super::of(&table[a..b], &table[c..d])
+    let p = x.parts;
+    super::between(
+        table,
+        p.variables,
+        p.variables_end,
+        p.equations,
+        p.equations_end,
+    )
 }

@@ -11,7 +11,7 @@ use Rattle.semantics.specs.Plant.{Plant, selectorsOf, selectors, judgePlant}
 use Rattle.semantics.specs.Sections.{Selector, Equation, steady, choice}
 use Rattle.semantics.specs.Starts.{Start}
 use Rattle.semantics.specs.Calls as Calls
-use Rattle.semantics.specs.Calls.{Program, Outcome, judgeRun, report, runFrom}
+use Rattle.semantics.specs.Calls.{Program, Outcome, judgeAdmission, judgeRun, report, runFrom}
 use Rattle.schedules.specs.Residuals.{Residual}
 use Rattle.schedules.specs.Files.{Schedule, judgeFile, ruleControl}
 use Rattle.schedules.specs.Calls.{ruleProgram, ruleRun}
@@ -64,7 +64,7 @@ places-full vs es {p} h =
     let e = passed-all vs es h .equations in
     ap length (places-of vs es h) ∙ length-pad 128 0 (modePlaces 1 (p .equations)) (omega (arith, places-few 1 (p .equations) (λ j c g. few-modes-each es e j g), few-selectors es e))
 
-room-as : {x y : PlantRead} → x ≡ y → Room (y .variables) (y .lows) (y .highs) (y .selectors) (y .modes) → Room (x .variables) (x .lows) (x .highs) (x .selectors) (x .modes)
+room-as : {x y : PlantRead} → x ≡ y → Room y → Room x
 room-as e a = rw e a
 
 -- of all that is lent
@@ -135,7 +135,7 @@ module _ (f : List ℕ) {ix : ScheduleIndex} (h : ix ≡ scheduleIndex f) {asked
       }
 
 -- ---- the call
-arrays-as : {x y : PlantRead} {p : Plant} → x ≡ y → Arrays p (y .variables) (y .lows) (y .highs) (y .selectors) (y .modes) → Arrays p (x .variables) (x .lows) (x .highs) (x .selectors) (x .modes)
+arrays-as : {x y : PlantRead} {p : Plant} → x ≡ y → Arrays p y → Arrays p x
 arrays-as e a = rw e a
 
 program-refused : (f : List ℕ) {n : ℕ} → judgeFile edition1 f ≡ refused n → ruleProgram edition1 f ≡ refused n
@@ -183,17 +183,17 @@ module _ (f start events d : List ℕ) {ix : ScheduleIndex} (h : ix ≡ schedule
     vows = promised f h judged
 
     -- what admission asks
-    pub room-of : Room (ix .plant .variables) (ix .plant .lows) (ix .plant .highs) (ix .plant .selectors) (ix .plant .modes)
+    pub room-of : Room (ix .plant)
     room-of = room-as (vows .plant) (room-held _ _ (vows .plant-judged))
 
-    arrays-of : Arrays (schedule .plant) (ix .plant .variables) (ix .plant .lows) (ix .plant .highs) (ix .plant .selectors) (ix .plant .modes)
+    arrays-of : Arrays (schedule .plant) (ix .plant)
     arrays-of = arrays-as (vows .plant) (arrays-held _ _ (vows .plant-judged))
 
     run-is : {j : Judged Outcome} → judgeRun edition1 (accepted (programOf schedule)) start events d ≡ j → judgeRun edition1 (ruleProgram edition1 f) start events d ≡ j
     run-is e = ap (λ j. judgeRun edition1 j start events d) (program-accepted f judged) ∙ e
 
-    module _ {asked : Admitted} (g : (p : Plant) → Arrays p (ix .plant .variables) (ix .plant .lows) (ix .plant .highs) (ix .plant .selectors) (ix .plant .modes) → asked ≡ admitted p start (length events) (length d)) where
-      asked-is : asked ≡ admitted (schedule .plant) start (length events) (length d)
+    module _ {asked : Admitted} (g : (p : Plant) → Arrays p (ix .plant) → asked ≡ admitted (judgeAdmission edition1 p start events d)) where
+      asked-is : asked ≡ admitted (judgeAdmission edition1 (schedule .plant) start events d)
       asked-is = g (schedule .plant) arrays-of
 
       admission-refused : (asked .refusal ≡ 0 → ⊥) → judgeRun edition1 (ruleProgram edition1 f) start events d ≡ refused (asked .refusal)
@@ -231,6 +231,7 @@ module _ (f start events d : List ℕ) {ix : ScheduleIndex} (h : ix ≡ schedule
         unfolding ruleRun ranWith
         by-events {r} {cs} {d'} w k =
             let a = run-admitted (programOf schedule) start events d (sym (ap (λ (a : Admitted). a .refusal) asked-is) ∙ y) in
-            let st : Start = record { values = take (length (schedule .plant .variables)) (admitted (schedule .plant) start (length events) (length d) .values); modes = take (length (selectors (schedule .plant))) (admitted (schedule .plant) start (length events) (length d) .modes) } in
+            let x = admitted (judgeAdmission edition1 (schedule .plant) start events d) in
+            let st : Start = record { values = take (length (schedule .plant .variables)) (x .values); modes = take (length (selectors (schedule .plant))) (x .modes) } in
             let done : RunDone (ruleControl schedule) (runFrom edition1 (programOf schedule) st events) d cs d' = whole-from schedule events asked-is (w schedule admits) in
             ap (λ (r : Ran). ranWith r d') k ∙ sym (ap (report d) (run-is (a .judged)) ∙ reported (ruleControl schedule) _ d done)

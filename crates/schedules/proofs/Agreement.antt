@@ -11,17 +11,18 @@ use lib.ListN.{length, take, drop}
 use lib.Seq.{take-append-seam}
 use Rattle.semantics.specs.Bytes.{overwrite}
 use Rattle.semantics.specs.Editions.{Edition}
-use Rattle.semantics.specs.Refusals.{Judged, refused, accepted, _>>=_, _>>_, ensure, need}
+use Rattle.semantics.specs.Refusals.{Judged, refused, accepted, _>>=_}
 use Rattle.semantics.specs.Events.{eventsIn}
 use Rattle.semantics.specs.Plant.{Plant, selectors}
 use Rattle.semantics.specs.Starts.{Start, startIn, startFits}
 use Rattle.semantics.specs.Run.{Action, possible, isTest, Control, Situation, Answered, at, answers}
 use Rattle.semantics.specs.TableFile.{locationLimit}
 use Rattle.semantics.specs.Tables.{judgeTable, tableControl, actionOrStop}
-use Rattle.semantics.specs.Calls.{Program, Outcome, outcomeOf, runFrom, judgeRun, report, tableProgram, tableRun, tableCounts, readTable, wholeEvents, eventCount, recordSize, roomForRecords}
+use Rattle.semantics.specs.Calls.{Program, outcomeOf, runFrom, judgeAdmission, judgeRun, report, tableProgram, tableRun, tableCounts, readTable, wholeEvents, eventCount, recordSize, roomForRecords}
 use Rattle.semantics.specs.Conditions.{Condition, given, is20, is21, is22}
 use Rattle.semantics.proofs.Facts.{true-not-false, All, all-nil, all-cons}
 use Rattle.semantics.proofs.Judging as Judging
+use Rattle.semantics.proofs.Admission.{Starts, admission-judged}
 use Rattle.semantics.proofs.EventsCut.{events-length}
 use Rattle.semantics.proofs.CallsHold.{start-values}
 use Rattle.semantics.proofs.Simulation.{Agree, runs-agree}
@@ -44,27 +45,21 @@ use Rattle.schedules.proofs.TableAgrees.{tableFor, table-agrees}
 use Rattle.schedules.proofs.TableAccepted.{table-accepted}
 
 -- ---- 20 to 22 passed
-record Starts (p : Plant) (start : List ℕ) : Type 0 where
-  st : Start
-  start-read : startIn p start ≡ some st
-  start-fits : startFits p st ≡ true
-
-starts : (ed : Edition) (p : Plant) (start events buffer : List ℕ) → is20 ed (some p) start events buffer ≡ false → Starts p start
+starts : (ed : Edition) (p : Plant) (start events buffer : List ℕ) → is20 ed (some p) start events buffer ≡ false → (st : Start) × Starts p start st
 unfolding is20 given
 starts ed p start events buffer h = go (startIn p start) refl (not-false _ h)
   where
-    go : (o : Option Start) → startIn p start ≡ o → given o (startFits p) ≡ true → Starts p start
+    go : (o : Option Start) → startIn p start ≡ o → given o (startFits p) ≡ true → (st : Start) × Starts p start st
     go none e h = true-not-false (sym h)
-    go (some st) e h = record { st = st; start-read = e; start-fits = h }
+    go (some st) e h = (st, record { is-read = e; fits = h })
 
 -- a run whose start, events and buffer are let pass is accepted with its outcome
-module _ {S : Type 0} (ed : Edition) (p : Plant) (c : Control S) (start events buffer : List ℕ) (b : Starts p start) where
+module _ {S : Type 0} (ed : Edition) (p : Plant) (c : Control S) (start events buffer : List ℕ) {st : Start} (b : Starts p start st) where
   accepted-run : {j : Judged (Program S)} → j ≡ accepted (record { plant = p; control = c }) →
       wholeEvents (ed .event-bytes) events ≡ true → roomForRecords ed p events buffer ≡ true →
-      judgeRun ed j start events buffer ≡ accepted (outcomeOf ed c (runFrom ed (record { plant = p; control = c }) (b .st) events))
+      judgeRun ed j start events buffer ≡ accepted (outcomeOf ed c (runFrom ed (record { plant = p; control = c }) st events))
   unfolding judgeRun
-  accepted-run h w r =
-      Judging.go-then _ h ∙ Judging.go-need 20 _ (b .start-read) ∙ Judging.go-ensure 20 _ (b .start-fits) ∙ Judging.go-ensure 21 _ w ∙ Judging.go-ensure 22 _ r
+  accepted-run h w r = Judging.go-then _ h ∙ Judging.go-then _ (admission-judged ed p start events buffer (record { starts = b; whole = w; room = r }))
 
 outcomes : (a : Action) (b : Bool) → possible a b ≡ true → (b ≡ true) ⊎ (isTest a ≡ true)
 unfolding possible
@@ -75,16 +70,12 @@ outcomes a false c = inr c
 judged-same : {S R : Type 0} (ed : Edition) (p : Plant) (c : Control S) (d : Control R) (start events buffer : List ℕ) →
     ((st : Start) → outcomeOf ed c (runFrom ed (record { plant = p; control = c }) st events) ≡ outcomeOf ed d (runFrom ed (record { plant = p; control = d }) st events)) →
     judgeRun ed (accepted (record { plant = p; control = c })) start events buffer ≡ judgeRun ed (accepted (record { plant = p; control = d })) start events buffer
-unfolding judgeRun _>>=_ need
-judged-same {S} {R} ed p c d start events buffer h = go (startIn p start)
+unfolding judgeRun _>>=_
+judged-same ed p c d start events buffer h = go (judgeAdmission ed p start events buffer)
   where
-    rest : Start → Outcome → Judged Outcome
-    rest st o = ensure 20 (startFits p st) >> (ensure 21 (wholeEvents (ed .event-bytes) events) >> (ensure 22 (roomForRecords ed p events buffer) >> accepted o))
-
-    go : (o : Option Start) →
-        (need 20 o >>= λ st. rest st (outcomeOf ed c (runFrom ed (record { plant = p; control = c }) st events))) ≡ (need 20 o >>= λ st. rest st (outcomeOf ed d (runFrom ed (record { plant = p; control = d }) st events)))
-    go none = refl
-    go (some st) = ap (rest st) (h st)
+    go : (j : Judged Start) → (j >>= λ st. accepted (outcomeOf ed c (runFrom ed (record { plant = p; control = c }) st events))) ≡ (j >>= λ st. accepted (outcomeOf ed d (runFrom ed (record { plant = p; control = d }) st events)))
+    go (refused n) = refl
+    go (accepted st) = ap accepted (h st)
 
 -- ---- a schedule that compiling takes
 module _ (ed : Edition) (file : List ℕ) (s : Schedule) (h : judgeFile ed file ≡ accepted s) (fits : length (scheduleLocations s) ≤ locationLimit) where
@@ -115,10 +106,10 @@ module _ (ed : Edition) (file : List ℕ) (s : Schedule) (h : judgeFile ed file 
       ∙ sym (ap (λ j. judgeRun ed j start events buffer) table-program))
 
   -- both runs come to one outcome
-  module _ (start events by-rules by-table : List ℕ) (b : Starts (s .plant) start) (w : wholeEvents (ed .event-bytes) events ≡ true)
+  module _ (start events by-rules by-table : List ℕ) {st : Start} (b : Starts (s .plant) start st) (w : wholeEvents (ed .event-bytes) events ≡ true)
       (room : roomForRecords ed (s .plant) events by-rules ≡ true) (room-too : roomForRecords ed (s .plant) events by-table ≡ true) where
     abbrev begin : Situation Residual
-    begin = at (fresh (s .root)) (b .st .values) (b .st .modes)
+    begin = at (fresh (s .root)) (st .values) (st .modes)
 
     abbrev es : List (List ℕ)
     es = eventsIn (ed .event-bytes) (eventCount ed events) events
@@ -133,18 +124,18 @@ module _ (ed : Edition) (file : List ℕ) (s : Schedule) (h : judgeFile ed file 
     by-the-table : tableRun ed (tableOf ed s) start events by-table ≡ report by-table (accepted (outcomeOf ed (ruleControl s) told))
     unfolding tableRun runFrom ruleControl
     by-the-table = ap (report by-table) (accepted-run ed (s .plant) (tableControl (tableFor s)) start events by-table b table-program w room-too
-        ∙ ap accepted (sym (runs-agree ed (s .plant) controls-agree (b .st .values) (b .st .modes) es)))
+        ∙ ap accepted (sym (runs-agree ed (s .plant) controls-agree (st .values) (st .modes) es)))
 
-    lengths : (length (b .st .values) ≡ length (s .plant .variables)) × (length (b .st .modes) ≡ length (selectors (s .plant)))
-    lengths = start-values (s .plant) start (b .start-read)
+    lengths : (length (st .values) ≡ length (s .plant .variables)) × (length (st .modes) ≡ length (selectors (s .plant)))
+    lengths = start-values (s .plant) start (b .is-read)
 
-    both-agree : RunsAgree ed s (b .st) events by-rules by-table (ruleRun ed file start events by-rules) (tableRun ed (tableOf ed s) start events by-table)
+    both-agree : RunsAgree ed s st events by-rules by-table (ruleRun ed file start events by-rules) (tableRun ed (tableOf ed s) start events by-table)
     unfolding report outcomeOf
     both-agree = rw (by-the-rules, by-the-table) (record {
       rules-taken-on = refl;
       table-taken-on = refl;
       said = told;
-      derived = answers-derived ed (s .plant) (ruleControl s) (schedule-sound ed file s (passed ed file s h)) begin (root-stands s (b .st .values) (b .st .modes)) es;
+      derived = answers-derived ed (s .plant) (ruleControl s) (schedule-sound ed file s (passed ed file s h)) begin (root-stands s (st .values) (st .modes)) es;
       rules-records = refl;
       table-records = refl;
       records-length = written-length ed (s .plant) (ruleControl s) begin es (lengths .0) (lengths .1) ∙ ap (λ n. n * recordSize ed (s .plant)) (events-length (ed .event-bytes) (eventCount ed events) events);
@@ -205,7 +196,7 @@ table-agreement ed file s h fits = record {
   same = same-runs ed file s h fits;
   runs = λ start events by-rules by-table c20 c21 c22 d22.
       let b = starts ed (s .plant) start events by-rules c20 in
-      (b .st, b .start-read, both-agree ed file s h fits start events by-rules by-table b (not-false _ c21) (not-false _ c22) (not-false _ d22));
+      (b .0, b .1 .is-read, both-agree ed file s h fits start events by-rules by-table (b .1) (not-false _ c21) (not-false _ c22) (not-false _ d22));
 }
 
 -- demand 3, for every file, every room lent for its table, and then every start, every list of events and every two record buffers

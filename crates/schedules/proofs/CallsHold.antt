@@ -107,7 +107,7 @@ rule-run-holds ed file start events buffer z =
     let c = Judging.passed-then (judgeFile ed file) _ (b .is-program) in (
       c .0,
       c .1,
-      run-built ed (c .0 .plant) (ruleControl (c .0)) (sound-rules ed file (c .0) (c .1)) start events buffer (ruleProgram ed file) (b .program) (Judging.accepted-is (c .2)) (b .st) (b .start-read) (b .room)
+      run-built ed (c .0 .plant) (ruleControl (c .0)) (sound-rules ed file (c .0) (c .1)) start events buffer (ruleProgram ed file) (b .program) (Judging.accepted-is (c .2)) (b .st) (b .admits)
           (a .1 ∙ ap accepted (sym (b .outcome))),
     )
 

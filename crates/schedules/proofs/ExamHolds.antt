@@ -118,7 +118,7 @@ module _ (ed : Edition) (file start events table records others : List ℕ) wher
       (Steps.by-then (run-answers ed start events records y (Steps.by-end _) (λ g i.
       subst (λ q. FilePlant ed file q × ((p : Plant) → FilePlant ed file p → q ≡ p) × PlantLimits q) (ap (λ (g : Program Residual). g .plant) (Judging.accepted-is i)) q)) (λ o i.
       Steps.by-test (q .0) (q .1) 22 (roomForRecords ed (k .of .plant) events others)
-      (room-for-each ed (k .of .plant) events others ((whole-events (ed .event-bytes) events) .0 ((run-passed ed _ start events records i) .whole))) (λ h22. Steps.by-end _))))
+      (room-for-each ed (k .of .plant) events others ((whole-events (ed .event-bytes) events) .0 ((run-passed ed _ start events records i) .admits .whole))) (λ h22. Steps.by-end _))))
 
   -- the refusal is the number of the first sentence that holds, or 0 where none does
   pub exam-first : AllBytes file → AllBytes start → FirstHolds ((examOf ed file start events table records others) .refusal) (examClauses ed file start events table records others) ⊎

@@ -16,7 +16,7 @@ use Rattle.semantics.specs.Refusals.{accepted}
 use Rattle.semantics.specs.Plant.{selectors, switchesRead}
 use Rattle.semantics.specs.Run.{Action, test, wait, assign, switch, stop, isTest, Next, to}
 use Rattle.semantics.specs.TableFile.{NodeAction, FINISHED, HALTED, NONE, locationLimit}
-use Rattle.semantics.specs.Tables.{judgeTable, risingFrom, actionFits, actionsFit, actionAt, actionOrStop, goesOn, targetsFit, entryFits, locationFits, locationsFit}
+use Rattle.semantics.specs.Tables.{judgeTable, risingFrom, operandFits, operandsFit, nodeExists, actionsNumbered, actionsFit, actionAt, actionOrStop, goesOn, targetsFit, entryFits, locationFits, locationsFit}
 use Rattle.semantics.proofs.Facts.{none-not-some, and-left, and-right, and-both, All, all-nil, all-cons, every-all, all-every, at-below}
 use Rattle.semantics.proofs.TableBack.{Short, table-back}
 use Rattle.schedules.specs.Nodes.{actionsOf, nodeNamed, nodeReads}
@@ -108,10 +108,13 @@ module _ (ed : Edition) (file : List ℕ) (s : Schedule) (g : Passed ed file s) 
   both-of (all-cons p ps) (all-cons q qs) = all-cons (p, q) (both-of ps qs)
 
   pub acts-fit : actionsFit ed (s .plant) acts ≡ true
-  unfolding actionsFit actionFits actionsOf
-  acts-fit = and-both (actions-rise (s .nodes)) (all-every (actionFits ed (s .plant)) (actions-all (λ a. actionFits ed (s .plant) a ≡ true) _ (ed .nodes)
-      (λ n x y h e q. and-both (lt-ltb n (ed .nodes) h) (operand-fits ed (length (s .plant .variables)) (selectors (s .plant)) x y e (q .0) (q .1)))
-      0 (both-of named reading) (let c = counted .few-nodes in omega arith)))
+  unfolding actionsFit actionsNumbered nodeExists operandsFit actionsOf
+  acts-fit =
+      let fits = operandFits ed (length (s .plant .variables)) (selectors (s .plant)) in
+      let few = counted .few-nodes in
+      and-both (and-both (actions-rise (s .nodes)) (all-every (nodeExists ed) (actions-all (λ a. nodeExists ed a ≡ true) _ (ed .nodes) (λ n x y h e q. lt-ltb n (ed .nodes) h) 0 named (omega arith))))
+      (all-every (λ (a : NodeAction). fits (a .action)) (actions-all (λ a. fits (a .action) ≡ true) _ (ed .nodes)
+      (λ n x y h e q. operand-fits ed (length (s .plant .variables)) (selectors (s .plant)) x y e (q .0) (q .1)) 0 (both-of named reading) (omega arith)))
 
   pub acts-short : All Short acts
   unfolding actionsOf

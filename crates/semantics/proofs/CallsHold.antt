@@ -18,12 +18,13 @@ use Rattle.semantics.specs.Starts.{Start, startIn, readStart}
 use Rattle.semantics.specs.Run.{Action, test, wait, assign, switch, stop, possible, isTest, to, halted, Control, at, answers, recordOf}
 use Rattle.semantics.specs.Rules.{at-start, stands-at, Sound}
 use Rattle.semantics.specs.TableFile.{NodeAction, Entry, FINISHED, HALTED, NONE, locationLimit, readLocation, readLocations, locationsIn}
-use Rattle.semantics.specs.Tables.{Table, judgeTable, operandFits, actionFits, actionsFit, actionAt, actionOrStop, goesOn, targetsFit, entryFits, entryNodes, locationFits, locationsFit, risingFrom, actionNodes, goingTo, entryNext, entriesAt, tableControl}
-use Rattle.semantics.specs.Calls.{Program, Outcome, outcomeOf, runFrom, judgeRun, report, eventCount, recordSize, wholeEvents, roomForRecords, tableProgram, tableRun, tableCounts, readTable}
+use Rattle.semantics.specs.Tables.{Table, judgeTable, operandFits, operandsFit, actionsNumbered, actionsFit, actionAt, actionOrStop, goesOn, targetsFit, entryFits, entryNodes, locationFits, locationsFit, risingFrom, actionNodes, goingTo, entryNext, entriesAt, tableControl}
+use Rattle.semantics.specs.Calls.{Program, Outcome, outcomeOf, runFrom, judgeAdmission, judgeRun, report, eventCount, recordSize, roomForRecords, tableProgram, tableRun, tableCounts, readTable}
 use Rattle.semantics.specs.Conditions.{Condition, First, here, further, Firsts, refuses, accepts, tableConditions, runConditions, tableRunConditions}
 use Rattle.semantics.specs.Statements.{RunHolds}
 use Rattle.semantics.proofs.Facts.{true-not-false, and-left, and-right, within-high, All, all-nil, all-cons, all-mem, every-all}
 use Rattle.semantics.proofs.Judging as Judging
+use Rattle.semantics.proofs.Admission.{Admits, admission-passed}
 use Rattle.semantics.proofs.Readers as Readers
 use Rattle.semantics.proofs.FirstNumber.{table-run-first, ran-refusal}
 use Rattle.semantics.proofs.Halting.{Fitting, fits-on, fits-end, fits-halt, fitting-moves, fitting-halts}
@@ -161,12 +162,12 @@ module _ (ed : Edition) (table : List ℕ) (t : Table) (h : judgeTable ed table 
       subst₂ (λ a x. Fitting a x) a (sym (q .next b)) f
 
   named : (n v : ℕ) (e : List ℕ) → actionOrStop acts n ≡ assign v e → v < length (t .plant .variables)
-  unfolding actionsFit actionFits operandFits
+  unfolding actionsFit operandsFit operandFits
   named n v e i =
       let f = found acts n (in-list acts n v e i) in
-      let g = all-mem (every-all (actionFits ed (t .plant)) acts (and-right (risingFrom 0 (actionNodes acts)) _ ((table-passed ed table h) .acts-fit))) (f .listed) in
-      let o = and-right (ltb (f .entry .node) (ed .nodes)) (operandFits ed (length (t .plant .variables)) (selectors (t .plant)) (f .entry .action)) g in
-      let d : operandFits ed (length (t .plant .variables)) (selectors (t .plant)) (assign v e) ≡ true = ap (operandFits ed (length (t .plant .variables)) (selectors (t .plant))) (sym (f .action-is)) ∙ o in
+      let fits = operandFits ed (length (t .plant .variables)) (selectors (t .plant)) in
+      let o = all-mem (every-all (λ (a : NodeAction). fits (a .action)) acts (and-right (actionsNumbered ed acts) _ ((table-passed ed table h) .acts-fit))) (f .listed) in
+      let d : fits (assign v e) ≡ true = ap fits (sym (f .action-is)) ∙ o in
       ltb-true v (length (t .plant .variables)) (and-left (ltb v (length (t .plant .variables))) _ d)
 
   pub sound-table : Sound (t .plant) (tableControl t)
@@ -215,20 +216,15 @@ pub record Passed {S : Type 0} (ed : Edition) (j : Judged (Program S)) (start ev
   pub program : Program S
   pub is-program : j ≡ accepted program
   pub st : Start
-  pub start-read : startIn (program .plant) start ≡ some st
-  pub whole : wholeEvents (ed .event-bytes) events ≡ true
-  pub room : roomForRecords ed (program .plant) events buffer ≡ true
+  pub admits : Admits ed (program .plant) start events buffer st
   pub outcome : outcomeOf ed (program .control) (runFrom ed program st events) ≡ o
 
 pub run-passed : {S : Type 0} (ed : Edition) (j : Judged (Program S)) (start events buffer : List ℕ) {o : Outcome} → judgeRun ed j start events buffer ≡ accepted o → Passed ed j start events buffer o
 unfolding judgeRun
 run-passed ed j start events buffer h =
     let a = Judging.passed-then j _ h in
-    let b = Judging.passed-need 20 (startIn (a .0 .plant) start) _ (a .2) in
-    let c = Judging.passed-ensure 20 _ _ (b .2) in
-    let d = Judging.passed-ensure 21 _ _ (c .1) in
-    let e = Judging.passed-ensure 22 _ _ (d .1) in
-    record { program = a .0; is-program = a .1; st = b .0; start-read = b .1; whole = d .0; room = e .0; outcome = Judging.accepted-is (e .1) }
+    let b = Judging.passed-then (judgeAdmission ed (a .0 .plant) start events buffer) _ (a .2) in
+    record { program = a .0; is-program = a .1; st = b .0; admits = admission-passed ed (a .0 .plant) start events buffer (b .1); outcome = Judging.accepted-is (b .2) }
 
 -- a run that is taken on says what the rules derive
 module _ {S : Type 0} (ed : Edition) (p : Plant) (c : Control S) (sound : Sound p c) (start events buffer : List ℕ) where
@@ -253,12 +249,11 @@ module _ {S : Type 0} (ed : Edition) (p : Plant) (c : Control S) (sound : Sound 
 
   -- the same of the call's own result
   pub run-built : (j : Judged (Program S)) (g : Program S) → record { plant = p; control = c } ≡ g →
-      (st : Start) → startIn (g .plant) start ≡ some st → roomForRecords ed (g .plant) events buffer ≡ true →
-      judgeRun ed j start events buffer ≡ accepted (outcomeOf ed (g .control) (runFrom ed g st events)) →
+      (st : Start) → Admits ed (g .plant) start events buffer st → judgeRun ed j start events buffer ≡ accepted (outcomeOf ed (g .control) (runFrom ed g st events)) →
       RunHolds ed p c start events buffer (report buffer (judgeRun ed j start events buffer))
-  run-built j g e st i r k = rw k
+  run-built j g e st a k = rw k
       (subst (λ (g : Program S). startIn (g .plant) start ≡ some st → roomForRecords ed (g .plant) events buffer ≡ true →
-      RunHolds ed p c start events buffer (report buffer (accepted (outcomeOf ed (g .control) (runFrom ed g st events))))) e (run-holds st) i r)
+      RunHolds ed p c start events buffer (report buffer (accepted (outcomeOf ed (g .control) (runFrom ed g st events))))) e (run-holds st) (a .starts .is-read) (a .room))
 
 table-numbers : (ed : Edition) (table start events buffer : List ℕ) → All (λ (c : Condition). c .refusal ≡ 0 → ⊥) (tableRunConditions ed table start events buffer)
 unfolding tableRunConditions tableConditions runConditions
@@ -276,7 +271,7 @@ table-run-holds ed table start events buffer z =
     let a = accepted-of (table-run-first ed table start events buffer) (table-numbers ed table start events buffer) (sym (ran-refusal buffer j) ∙ z) in
     let b = run-passed ed (tableProgram ed table) start events buffer (a .1) in
     let c = Judging.passed-then (judgeTable ed table) _ (b .is-program) in
-    (c .0, c .1, run-built ed (c .0 .plant) (tableControl (c .0)) (sound-table ed table (c .0) (c .1)) start events buffer (tableProgram ed table) (b .program) (Judging.accepted-is (c .2)) (b .st) (b .start-read) (b .room) (a .1 ∙ ap accepted (sym (b .outcome))))
+    (c .0, c .1, run-built ed (c .0 .plant) (tableControl (c .0)) (sound-table ed table (c .0) (c .1)) start events buffer (tableProgram ed table) (b .program) (Judging.accepted-is (c .2)) (b .st) (b .admits) (a .1 ∙ ap accepted (sym (b .outcome))))
 
 -- on a refusal: the number, and nothing written
 pub refused-run : (buffer : List ℕ) (j : Judged Outcome) → ((report buffer j) .refusal ≡ 0 → ⊥) →

@@ -46,7 +46,7 @@ unfolding TableFile.FINISHED TableFile.HALTED TableFile.NONE TableFile.actionKin
 tableFile = tt
 
 unfoldable pub tables : Unit {0}
-unfolding Tables.tableHeader Tables.risingFrom Tables.operandFits Tables.actionFits Tables.actionNodes Tables.actionsFit Tables.actionAt Tables.goesOn Tables.targetsFit Tables.entryFits Tables.entryNodes Tables.locationFits Tables.locationsFit Tables.judgeTable Tables.goingTo Tables.entryNext Tables.entriesAt Tables.actionOrStop Tables.tableControl
+unfolding Tables.tableHeader Tables.risingFrom Tables.operandFits Tables.operandsFit Tables.nodeExists Tables.actionNodes Tables.actionsNumbered Tables.actionsFit Tables.actionAt Tables.goesOn Tables.targetsFit Tables.entryFits Tables.entryNodes Tables.locationFits Tables.locationsFit Tables.judgeSections Tables.judgeTable Tables.goingTo Tables.entryNext Tables.entriesAt Tables.actionOrStop Tables.tableControl
 tables = tt
 
 unfoldable pub starts : Unit {0}
@@ -58,7 +58,7 @@ unfolding Writing.writeVariable Writing.writeVariables Writing.writeRate Writing
 writing = tt
 
 unfoldable pub calls : Unit {0}
-unfolding Calls.wholeEvents Calls.eventCount Calls.recordSize Calls.roomForRecords Calls.runFrom Calls.outcomeOf Calls.judgeRun Calls.report Calls.tableProgram Calls.tableRun Calls.tableCounts Calls.readTable
+unfolding Calls.wholeEvents Calls.eventCount Calls.recordSize Calls.roomForRecords Calls.judgeStart Calls.judgeAdmission Calls.runFrom Calls.outcomeOf Calls.judgeRun Calls.report Calls.tableProgram Calls.tableRun Calls.tableCounts Calls.readTable
 calls = tt
 
 unfoldable pub semantics : Unit {0}

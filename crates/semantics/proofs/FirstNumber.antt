@@ -11,9 +11,9 @@ use Rattle.semantics.specs.Refusals.{Judged, refused, accepted, _>>=_, _
 use Rattle.semantics.specs.Sections.{Variable, variablesIn, equationsIn}
 use Rattle.semantics.specs.Plant.{Plant, judgeVariables, judgeEquations, judgePlant, switchesRead, ordered, equationNamed, drivenOnce}
 use Rattle.semantics.specs.TableFile.{tableSectionsIn, actionsIn, locationsIn}
-use Rattle.semantics.specs.Tables.{Table, judgeTable, tableHeader, actionsFit, locationsFit}
+use Rattle.semantics.specs.Tables.{Table, judgeSections, judgeTable, tableHeader, actionsFit, locationsFit}
 use Rattle.semantics.specs.Starts.{startIn, startFits}
-use Rattle.semantics.specs.Calls.{Program, Outcome, report, tableCounts, judgeRun, tableProgram, wholeEvents, roomForRecords}
+use Rattle.semantics.specs.Calls.{Program, Outcome, report, tableCounts, judgeStart, judgeAdmission, judgeRun, tableProgram, wholeEvents, roomForRecords}
 use Rattle.semantics.specs.Conditions.{Condition, _if_, anyApplies, given, is4, is5, is6, is7, is8, is12Switches, plantConditions, plantIn, tableParts, tablePlant, is15, is16, is17, is18, is19, tableConditions, is20, is21, is22, runConditions, tableRunConditions}
 pub use Rattle.semantics.specs.Conditions.{First, here, further, Clear, none-left, one-clear, Firsts, refuses, accepts}
 use Rattle.semantics.proofs.Judging
@@ -144,7 +144,7 @@ by-read n (some a) t e f = by-ensure n (t a) e (f a refl)
 -- ---- 15 to 19
 module _ (ed : Edition) (table : List ℕ) where
   pub table-first : Firsts (judgeTable ed table) (tableConditions ed table)
-  unfolding judgeTable tableConditions is15 is16 is17 is18 is19 tableParts tablePlant
+  unfolding judgeTable judgeSections tableConditions is15 is16 is17 is18 is19 tableParts tablePlant
   table-first =
       by-ensure 15 (tableHeader ed table) refl (λ h15.
       by-need 16 (tableSectionsIn (drop 5 table)) refl (λ parts e.
@@ -159,21 +159,29 @@ module _ (ed : Edition) (table : List ℕ) where
   unfolding tablePlant tableParts
   table-plant h = let p = table-passed ed table h in bind-some _ (p .is-parts) ∙ plant-in ed (p .parts .variables) (p .parts .equations) (p .plant)
 
--- ---- 20 to 22, of a program whose plant is the one that its call speaks of
-module _ {S : Type 0} (ed : Edition) (start events buffer : List ℕ) where
-  pub run-first : {j : Judged (Program S)} {plant : Option Plant} {k : List Condition} → Firsts j k → ((g : Program S) → j ≡ accepted g → plant ≡ some (g .plant)) →
-      Firsts (judgeRun ed j start events buffer) (k ++ runConditions ed plant start events buffer)
-  unfolding judgeRun runConditions is20 is21 is22
-  run-first f h = by-then f (λ g e.
-      by-read 20 (startIn (g .plant) start) (startFits (g .plant)) (given-some _ (h g e)) (λ st i h20.
-      by-ensure 21 (wholeEvents (ed .event-bytes) events) refl (λ h21.
-      by-ensure 22 (roomForRecords ed (g .plant) events buffer) (given-some _ (h g e)) (λ h22. by-end _))))
-
 -- a call that makes one more thing of what another accepted keeps its list
 pub by-map : {A B : Type 0} {j : Judged A} (f : A → B) {k : List Condition} → Firsts j k → Firsts (j >>= λ a. accepted (f a)) k
 unfolding _>>=_
 by-map f (refuses g) = refuses g
 by-map f (accepts c) = accepts c
+
+-- ---- 20 to 22, of the plant that a call speaks of
+module _ (ed : Edition) (start events buffer : List ℕ) {plant : Option Plant} {p : Plant} (h : plant ≡ some p) where
+  pub start-first : Firsts (judgeStart p start) ((20 if is20 ed plant start events buffer) ∷ [])
+  unfolding judgeStart is20
+  start-first = by-read 20 (startIn p start) (startFits p) (given-some _ h) (λ st i h20. by-end st)
+
+  pub admission-first : Firsts (judgeAdmission ed p start events buffer) (runConditions ed plant start events buffer)
+  unfolding judgeAdmission runConditions is21 is22
+  admission-first = by-then start-first (λ st i.
+      by-ensure 21 (wholeEvents (ed .event-bytes) events) refl (λ h21.
+      by-ensure 22 (roomForRecords ed p events buffer) (given-some _ h) (λ h22. by-end st)))
+
+module _ {S : Type 0} (ed : Edition) (start events buffer : List ℕ) where
+  pub run-first : {j : Judged (Program S)} {plant : Option Plant} {k : List Condition} → Firsts j k → ((g : Program S) → j ≡ accepted g → plant ≡ some (g .plant)) →
+      Firsts (judgeRun ed j start events buffer) (k ++ runConditions ed plant start events buffer)
+  unfolding judgeRun
+  run-first f h = by-then f (λ g e. by-map _ (admission-first ed start events buffer (h g e)))
 
 pub table-run-first : (ed : Edition) (table start events buffer : List ℕ) →
     Firsts (judgeRun ed (tableProgram ed table) start events buffer) (tableRunConditions ed table start events buffer)

@@ -6,6 +6,7 @@ pub mod Readers
 pub mod SignedBytes
 pub mod PlantPassed
 pub mod TablePassed
+pub mod Admission
 -- papers
 pub mod Papers
 pub mod DepthPapers

@@ -13,7 +13,7 @@ use Rattle.semantics.specs.Editions.{Edition}
 use Rattle.semantics.specs.Refusals.{accepted}
 use Rattle.semantics.specs.Run.{Action, test, wait, assign, switch, stop}
 use Rattle.semantics.specs.TableFile.{NodeAction, Entry, FINISHED, HALTED, NONE, locationLimit}
-use Rattle.semantics.specs.Tables.{Table, judgeTable, risingFrom, actionNodes, actionsFit, actionFits, actionOrStop, entryNodes, goingTo, entryNext, entriesAt, tableControl}
+use Rattle.semantics.specs.Tables.{Table, judgeTable, risingFrom, actionNodes, actionsFit, operandsFit, nodeExists, actionsNumbered, actionOrStop, entryNodes, goingTo, entryNext, entriesAt, tableControl}
 use Rattle.semantics.specs.Bytes.{every}
 use Rattle.semantics.specs.Proper.{Rising, GoesOn, FitTargets, fit-test, fit-wait, fit-assign, fit-switch, fit-stop, ProperEntry, ProperRow}
 use Rattle.semantics.specs.TableRuns.{Coded, coded-location, coded-finished, coded-halted, EntryRuns, TableRuns}
@@ -71,8 +71,10 @@ module _ (ed : Edition) (table : List ℕ) (t : Table) (h : judgeTable ed table 
   few = few-locations ed _ ((table-passed ed table h) .locs)
 
   acts-rise : Rising (actionNodes (t .actions))
-  unfolding actionsFit
-  acts-rise = rising-there 0 _ (and-left (risingFrom 0 (actionNodes (t .actions))) (every (actionFits ed (t .plant)) (t .actions)) ((table-passed ed table h) .acts-fit))
+  unfolding actionsFit actionsNumbered
+  acts-rise =
+      let a = t .actions in
+      rising-there 0 _ (and-left (risingFrom 0 (actionNodes a)) (every (nodeExists ed) a) (and-left (actionsNumbered ed a) (operandsFit ed (t .plant) a) ((table-passed ed table h) .acts-fit)))
 
   row : (x : ℕ) {es : List Entry} → getElem? (t .locations) x ≡ some es → ProperRow (t .actions) (length (t .locations)) es
   row x i = all-mem ((locations-proper (t .actions) (t .locations) acts-rise) .0 ((table-passed ed table h) .locs-fit)) (at-mem (t .locations) x i)

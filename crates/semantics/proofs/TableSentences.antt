@@ -16,9 +16,9 @@ use Rattle.semantics.specs.Refusals.{Judged, accepted, _>>=_, _>>_, oneN
 use Rattle.semantics.specs.Sections.{Variable, Equation, variablesIn, equationsIn}
 use Rattle.semantics.specs.Plant.{Plant, judgeVariables, judgeEquations, judgePlant, switchesRead, ordered, equationNamed, drivenOnce}
 use Rattle.semantics.specs.TableFile.{NodeAction, Entry, TableSections, tableSectionsIn, actionsIn, locationsIn}
-use Rattle.semantics.specs.Tables.{Table, judgeTable, tableHeader, actionsFit, locationsFit}
+use Rattle.semantics.specs.Tables.{Table, judgeSections, judgeTable, tableHeader, actionsFit, locationsFit}
 use Rattle.semantics.specs.Starts.{Start, startIn, startFits}
-use Rattle.semantics.specs.Calls.{Program, judgeRun, tableProgram, wholeEvents, roomForRecords, readTable, tableRun}
+use Rattle.semantics.specs.Calls.{Program, judgeStart, judgeAdmission, judgeRun, tableProgram, wholeEvents, roomForRecords, readTable, tableRun}
 use Rattle.semantics.specs.Writing.{AllBytes, writeVariables, VariablesLimits, writeEquations, EquationsLimits, writeTableSections, TableSectionsLimits, PlantLimits, startBytes, StartLimits}
 use Rattle.semantics.specs.Proper.{TableWritten}
 use Rattle.semantics.specs.Sentences.{Clause, _when_, FirstHolds, AnyHolds, Fails, WrittenAs, PlantSections, VariablesThere, PlantThere, Sentence4, Sentence5, Sentence6, Sentence7, SwitchSentence12, plantClauses, TableHead, HeadOfTable, five-bytes, TableSource, TableActions, ActionsOf, LocationsOf, ProperHead, TableSectionsThere, PlantSectionsOfTable, of-table, SourceThere, ActionsThere, tableClauses, TablePlant, table-plant, runClauses, tableRunClauses}
@@ -185,7 +185,7 @@ abbrev last : Edition → List ℕ → List Clause
 last ed table = (12 when SwitchSentence12 (PlantSectionsOfTable table) ed) ∷ []
 
 pub table-answers : (ed : Edition) (table : List ℕ) → AllBytes table → Answers (judgeTable ed table) (tableClauses ed table)
-unfolding judgeTable
+unfolding judgeTable judgeSections
 table-answers ed table z =
     by-ensure 15 (tableHeader ed table) (λ e h p. true-not-false (sym (head-here ed table h p) ∙ e)) (λ e f. (let k = head-there ed table e in f (k .0) (k .1))) (λ h15.
     let head = head-there ed table h15 in
@@ -222,13 +222,13 @@ module _ {S : Type 0} (ed : Edition) {Accepted : Plant → Type 0} (start events
   pub run-answers : {j : Judged (Program S)} {k : List Clause} → Answers j k →
       ((g : Program S) → j ≡ accepted g → Accepted (g .plant) × ((p : Plant) → Accepted p → g .plant ≡ p) × PlantLimits (g .plant)) →
       Answers (judgeRun ed j start events buffer) (k ++ runClauses ed Accepted start events buffer)
-  unfolding judgeRun
+  unfolding judgeRun judgeAdmission judgeStart
   run-answers f h = by-then f (λ g e.
       let a = h g e in
       let p = g .plant in
-      by-read-test (a .0) (a .1) 20 (startIn p start) (startFits p) (admitted p (a .2)) (λ st i h20.
+      by-map _ (by-then (by-read-test (a .0) (a .1) 20 (startIn p start) (startFits p) (admitted p (a .2)) (λ st i h20. by-end st)) (λ st i.
       by-test (a .0) (a .1) 21 (wholeEvents (ed .event-bytes) events) (whole-events (ed .event-bytes) events) (λ h21.
-      by-test (a .0) (a .1) 22 (roomForRecords ed p events buffer) (room-for-each ed p events buffer ((whole-events (ed .event-bytes) events) .0 h21)) (λ h22. by-end _))))
+      by-test (a .0) (a .1) 22 (roomForRecords ed p events buffer) (room-for-each ed p events buffer ((whole-events (ed .event-bytes) events) .0 h21)) (λ h22. by-end st)))))
     where
       admitted : (p : Plant) → PlantLimits p → (st : Start) → ((startIn p start ≡ some st) × (startFits p st ≡ true)) ↔ WrittenAs startBytes (StartLimits p) start st
       admitted p l st =

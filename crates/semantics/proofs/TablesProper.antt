@@ -16,7 +16,7 @@ use Rattle.semantics.specs.Expressions.{numberIn}
 use Rattle.semantics.specs.Plant.{Plant, selectors}
 use Rattle.semantics.specs.Run.{Action, test, wait, assign, switch, stop}
 use Rattle.semantics.specs.TableFile.{NodeAction, Entry, FINISHED, HALTED, NONE, actionBytes}
-use Rattle.semantics.specs.Tables.{Table, risingFrom, operandFits, actionFits, actionNodes, actionsFit, actionAt, goesOn, targetsFit, entryFits, entryNodes, locationFits, locationsFit, judgeTable}
+use Rattle.semantics.specs.Tables.{Table, risingFrom, operandFits, operandsFit, nodeExists, actionsNumbered, actionNodes, actionsFit, actionAt, goesOn, targetsFit, entryFits, entryNodes, locationFits, locationsFit, judgeSections, judgeTable}
 use Rattle.semantics.specs.Starts.{Start, startIn, startFits}
 use Rattle.semantics.specs.Conditions.{is20}
 use Rattle.semantics.specs.Writing.{AllBytes, ActionLimits, startBytes, StartLimits}
@@ -99,36 +99,22 @@ module _ (ed : Edition) (p : Plant) where
   action-here z proper-stop = refl
 
   -- 18
-  record ProperListed (a : NodeAction) : Type 0 where
-    node : a .node < ed .nodes
-    action : ProperAction ed p (a .action)
-
-  listed-is : (a : NodeAction) → ActionLimits ed a → (actionFits ed p a ≡ true) ↔ ProperListed a
-  unfolding actionFits
-  listed-is a l =
-      let s = ltb (a .node) (ed .nodes) in
-      let t = operandFits ed n (selectors p) (a .action) in (
-        λ h. record { node = ltb-true (a .node) (ed .nodes) (and-left s t h); action = action-there (a .action) (l .bytes) (and-right s t h) },
-        λ h. and-both (lt-ltb (a .node) (ed .nodes) (h .node)) (action-here (l .bytes) (h .action)),
-      )
-
   pub actions-proper : {l : List NodeAction} → All (ActionLimits ed) l → (actionsFit ed p l ≡ true) ↔ ProperActions ed p l
-  unfolding actionsFit
-  actions-proper {l} h = (there, λ k. and-both (rising-here (k .rising)) (each .1 (pair (k .nodes) (k .operands))))
+  unfolding actionsFit actionsNumbered nodeExists operandsFit
+  actions-proper {l} h = (there, λ k. and-both (and-both (rising-here (k .rising)) (nodes .1 (k .nodes))) (operands .1 (k .operands)))
     where
-      each : (every (actionFits ed p) l ≡ true) ↔ All ProperListed l
-      each = every-is (actionFits ed p) listed-is h
+      nodes : (every (nodeExists ed) l ≡ true) ↔ All (λ (a : NodeAction). a .node < ed .nodes) l
+      nodes = every-plain (nodeExists ed) (λ a. (ltb-true (a .node) (ed .nodes), lt-ltb (a .node) (ed .nodes))) l
 
-      pair : {l : List NodeAction} → All (λ (a : NodeAction). a .node < ed .nodes) l → All (λ (a : NodeAction). ProperAction ed p (a .action)) l → All ProperListed l
-      pair all-nil all-nil = all-nil
-      pair (all-cons i j) (all-cons u v) = all-cons (record { node = i; action = u }) (pair j v)
+      operands : (operandsFit ed p l ≡ true) ↔ All (λ (a : NodeAction). ProperAction ed p (a .action)) l
+      operands = every-is (λ (a : NodeAction). operandFits ed n (selectors p) (a .action)) (λ a k. (action-there (a .action) (k .bytes), action-here (k .bytes))) h
 
-      there : (risingFrom 0 (actionNodes l) && every (actionFits ed p) l) ≡ true → ProperActions ed p l
+      there : (actionsNumbered ed l && operandsFit ed p l) ≡ true → ProperActions ed p l
       there k =
           let a = risingFrom 0 (actionNodes l) in
-          let b = every (actionFits ed p) l in
-          let e = each .0 (and-right a b k) in
-          record { rising = rising-there 0 (actionNodes l) (and-left a b k); nodes = all-map (λ a i. i .node) e; operands = all-map (λ a i. i .action) e }
+          let b = every (nodeExists ed) l in
+          let c = and-left (a && b) (operandsFit ed p l) k in
+          record { rising = rising-there 0 (actionNodes l) (and-left a b c); nodes = nodes .0 (and-right a b c); operands = operands .0 (and-right (a && b) (operandsFit ed p l) k) }
 
 -- ---- locations
 -- the action of a node that is listed
@@ -237,7 +223,7 @@ module _ (ed : Edition) where
       }
 
   accepted-here : (table : List ℕ) (t : Table) → TableWritten ed table t → AllBytes table × (judgeTable ed table ≡ accepted t)
-  unfolding judgeTable
+  unfolding judgeTable judgeSections
   accepted-here table t k =
       let l = k .limits in
       let h = k .proper in

@@ -20,11 +20,12 @@ use Rattle.semantics.specs.Starts.{Start, readStart, startIn}
 use Rattle.semantics.specs.Run.{at, Action, stop}
 use Rattle.semantics.specs.TableFile.{NodeAction, TableSections, ActionKind, a-test, a-wait, an-assignment, a-switch, a-stop, no-kind, actionKind, actionOfKind, readTableSections, tableSectionsIn, readAction, readActions, actionsIn, actionBytes}
 use Rattle.semantics.specs.Tables.{Table, judgeTable, actionAt, actionOrStop, tableControl}
-use Rattle.semantics.specs.Calls.{Program, Outcome, runFrom, outcomeOf, judgeRun, report, tableProgram, tableRun}
+use Rattle.semantics.specs.Calls.{Program, Outcome, runFrom, outcomeOf, judgeAdmission, judgeRun, report, tableProgram, tableRun}
 use Rattle.semantics.proofs.Facts.{all-mem, none-not-some, some-is, All, all-nil, all-cons, all-append}
 use Rattle.semantics.proofs.TablePassed.{table-passed}
 use Rattle.semantics.proofs.PlantPassed.{plant-passed}
 use Rattle.semantics.proofs.Judging.{accepted-is, passed-then, passed-need, passed-ensure}
+use Rattle.semantics.proofs.Admission.{admission-passed}
 use Rattle.semantics.proofs.Readers.{broken-not-read, split, given, given-rest, guarded, from-some, byte-read, bytes-read, whole-read}
 use Rattle.semantics.proofs.WrittenRecords.{records-bytes, Byte, Bits32, VariableBytes, TargetByte, ModeBytes, SelectorBytes, PlantBytes, ActionByte, ActionsBytes, StateBytes}
 
@@ -319,14 +320,12 @@ module _ {S : Type 0} (ed : Edition) (j : Judged (Program S)) (b : (g : Program 
   written-bytes {o} e =
       let p = passed-then j _ e in
       let g = p .0 in
-      let s = passed-need 20 _ _ (p .2) in
+      let s = passed-then (judgeAdmission ed (g .plant) start events buffer) _ (p .2) in
       let st = s .0 in
-      let c = passed-ensure 20 _ _ (s .2) in
-      let d = passed-ensure 21 _ _ (c .1) in
-      let f = passed-ensure 22 _ _ (d .1) in
+      let i = admission-passed ed (g .plant) start events buffer (s .1) .starts .is-read in
       let q = b g (p .1) in
-      subst (λ (o : Outcome). All Byte (o .written)) (accepted-is (f .1))
-      (records-bytes ed (g .plant) (g .control) (q .plant) (q .control) (at (g .control .start) (st .values) (st .modes)) (start-bytes (g .plant) start (s .1) h) _)
+      subst (λ (o : Outcome). All Byte (o .written)) (accepted-is (s .2))
+      (records-bytes ed (g .plant) (g .control) (q .plant) (q .control) (at (g .control .start) (st .values) (st .modes)) (start-bytes (g .plant) start i h) _)
 
   pub buffer-bytes : All Byte buffer → All Byte ((report buffer (judgeRun ed j start events buffer)) .records)
   unfolding report overwrite

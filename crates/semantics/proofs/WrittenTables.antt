@@ -14,7 +14,7 @@ use Rattle.semantics.specs.Editions.{Edition, capacity}
 use Rattle.semantics.specs.TableFile.{FINISHED, HALTED, NONE, NodeAction, Entry, locationLimit, actionBytes, inSection2, inSection4, writeAction, writeActions, writeEntry, writeLocation, writeLocations, tableBody, tableBytes}
 use Rattle.semantics.specs.Run.{Action, test, wait, assign, switch, stop}
 use Rattle.semantics.specs.Plant.{Plant}
-use Rattle.semantics.specs.Tables.{risingFrom, actionNodes, entryNodes, actionFits, actionsFit, actionAt, goesOn, targetsFit, entryFits, locationFits, locationsFit}
+use Rattle.semantics.specs.Tables.{risingFrom, actionNodes, entryNodes, operandsFit, nodeExists, actionsNumbered, actionsFit, actionAt, goesOn, targetsFit, entryFits, locationFits, locationsFit}
 use Rattle.semantics.proofs.Facts.{true-not-false, and-left, and-right, every-all, All, all-nil, all-cons, all-append, all-map, all-mem, all-flat}
 use Rattle.semantics.proofs.TableBack.{Short}
 use Rattle.semantics.proofs.WrittenSources.{ActionWritten, found}
@@ -255,13 +255,10 @@ module _ (ed : Edition) (acts : List NodeAction) (nodes : All (λ (x : NodeActio
       record { few = few; entries = all-map (λ e. entry-fits n e h) (every-all (entryFits n acts) es (and-right (risingFrom 0 (entryNodes es)) (every (entryFits n acts) es) k)) }
 
 module _ (ed : Edition) (p : Plant) where
-  node-fits : (a : NodeAction) → actionFits ed p a ≡ true → a .node < ed .nodes
-  unfolding actionFits
-  node-fits a h = ltb-true (a .node) (ed .nodes) (and-left (ltb (a .node) (ed .nodes)) _ h)
-
   nodes-fit : (l : List NodeAction) → actionsFit ed p l ≡ true → All (λ (a : NodeAction). a .node < ed .nodes) l
-  unfolding actionsFit
-  nodes-fit l h = all-map node-fits (every-all (actionFits ed p) l (and-right (risingFrom 0 (actionNodes l)) (every (actionFits ed p) l) h))
+  unfolding actionsFit actionsNumbered nodeExists
+  nodes-fit l h = all-map (λ (a : NodeAction). ltb-true (a .node) (ed .nodes))
+      (every-all (nodeExists ed) l (and-right (risingFrom 0 (actionNodes l)) (every (nodeExists ed) l) (and-left (actionsNumbered ed l) (operandsFit ed p l) h)))
 
   -- actions and locations that 18 and 19 let pass
   pub writable : (vs es : List ℕ) (acts : List NodeAction) (locs : List (List Entry)) →

@@ -29,6 +29,21 @@ recordSize ed p = 1 + (ed .set-bytes + (4 * length (p .variables) + length (sele
 unfoldable pub roomForRecords : Edition → Plant → List ℕ → List ℕ → Bool
 roomForRecords ed p events buffer = leb (eventCount ed events * recordSize ed p) (length buffer)
 
+-- 20: "The starting values (4 bytes each, then modes) have a wrong length, value or mode."
+unfoldable pub judgeStart : Plant → List ℕ → Judged Start
+judgeStart p start = do
+  st ← need 20 (startIn p start)
+  ensure 20 (startFits p st)
+  accepted st
+
+-- 20 to 22 of a run of this plant: the start that it is admitted with
+unfoldable pub judgeAdmission : Edition → Plant → List ℕ → List ℕ → List ℕ → Judged Start
+judgeAdmission ed p start events buffer = do
+  st ← judgeStart p start
+  ensure 21 (wholeEvents (ed .event-bytes) events)
+  ensure 22 (roomForRecords ed p events buffer)
+  accepted st
+
 -- what is run: by the rules or by a table
 pub record Program (S : Type 0) : Type 0 where
   pub plant : Plant
@@ -52,10 +67,7 @@ module _ {S : Type 0} (ed : Edition) where
   unfoldable pub judgeRun : Judged (Program S) → List ℕ → List ℕ → List ℕ → Judged Outcome
   judgeRun program start events buffer = do
     g ← program
-    st ← need 20 (startIn (g .plant) start)
-    ensure 20 (startFits (g .plant) st)
-    ensure 21 (wholeEvents (ed .event-bytes) events)
-    ensure 22 (roomForRecords ed (g .plant) events buffer)
+    st ← judgeAdmission ed (g .plant) start events buffer
     accepted (outcomeOf (g .control) (runFrom ed g st events))
 
 -- what a call that runs returns

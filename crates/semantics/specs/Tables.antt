@@ -12,7 +12,7 @@ use Rattle.semantics.specs.Refusals.{Judged, accepted, _>>=_, _>>_, ensu
 use Rattle.semantics.specs.Sections.{Selector}
 use Rattle.semantics.specs.Plant.{Plant, judgePlant, switchesRead, selectors, modeExists}
 use Rattle.semantics.specs.Run.{Action, test, wait, assign, switch, stop, Next, to, finished, halted, idle, Control}
-use Rattle.semantics.specs.TableFile.{NodeAction, Entry, FINISHED, HALTED, NONE, tableSectionsIn, actionsIn, locationsIn}
+use Rattle.semantics.specs.TableFile.{NodeAction, Entry, FINISHED, HALTED, NONE, TableSections, tableSectionsIn, actionsIn, locationsIn}
 
 pub record Table : Type 0 where
   pub plant : Plant
@@ -36,16 +36,23 @@ operandFits ed variables cs (assign v e) = ltb v variables && isSome (numberIn e
 operandFits ed variables cs (switch s m) = modeExists cs s m
 operandFits ed variables cs stop = true
 
+unfoldable pub operandsFit : Edition → Plant → List NodeAction → Bool
+operandsFit ed p l = every (λ (a : NodeAction). operandFits ed (length (p .variables)) (selectors p) (a .action)) l
+
 -- 18: "a node number above 63"
-unfoldable pub actionFits : Edition → Plant → NodeAction → Bool
-actionFits ed p a = ltb (a .node) (ed .nodes) && operandFits ed (length (p .variables)) (selectors p) (a .action)
+unfoldable pub nodeExists : Edition → NodeAction → Bool
+nodeExists ed a = ltb (a .node) (ed .nodes)
 
 unfoldable pub actionNodes : List NodeAction → List ℕ
 actionNodes l = map (λ (a : NodeAction). a .node) l
 
--- 18: "or not rising"; the kinds, lengths and missing bytes are the layout's
+-- 18: "a node number above 63 or not rising"
+unfoldable pub actionsNumbered : Edition → List NodeAction → Bool
+actionsNumbered ed l = risingFrom 0 (actionNodes l) && every (nodeExists ed) l
+
+-- 18, but for the kinds, lengths and missing bytes, which are the layout's
 unfoldable pub actionsFit : Edition → Plant → List NodeAction → Bool
-actionsFit ed p l = risingFrom 0 (actionNodes l) && every (actionFits ed p) l
+actionsFit ed p l = actionsNumbered ed l && operandsFit ed p l
 
 -- the action of a node
 unfoldable pub actionAt : List NodeAction → ℕ → Option Action
@@ -77,10 +84,9 @@ locationFits locations l es = risingFrom 0 (entryNodes es) && every (entryFits l
 unfoldable pub locationsFit : List NodeAction → List (List Entry) → Bool
 locationsFit l locations = every (locationFits (length locations) l) locations
 
-unfoldable pub judgeTable : Edition → List ℕ → Judged Table
-judgeTable ed t = do
-  ensure 15 (tableHeader ed t)
-  parts ← need 16 (tableSectionsIn (drop 5 t))
+-- 17 to 19 of the four sections
+unfoldable pub judgeSections : Edition → TableSections → Judged Table
+judgeSections ed parts = do
   -- 17: "Its first two sections break 4..8 or 12."
   p ← oneNumber 17 (judgePlant ed (parts .variables) (parts .equations))
   ensure 17 (switchesRead ed p)
@@ -89,6 +95,12 @@ judgeTable ed t = do
   locs ← need 19 (locationsIn ed (parts .locations))
   ensure 19 (locationsFit acts locs)
   accepted (record { plant = p; actions = acts; locations = locs })
+
+unfoldable pub judgeTable : Edition → List ℕ → Judged Table
+judgeTable ed t = do
+  ensure 15 (tableHeader ed t)
+  parts ← need 16 (tableSectionsIn (drop 5 t))
+  judgeSections ed parts
 
 -- ---- "A run of a table starts at location 0 .. The acting nodes are the location's entries, their actions hold the truths and assignments,
 -- a wait stands for CONTINUE .. A taken pick goes to its entry's target, a false test to the second one."

@@ -1,58 +1,80 @@
 -- What the answer about 20 to 22 says of a run.
 use mathlib.Core.Path.{_≡_, refl, sym, ap, _∙_}
-use mathlib.Core.Bool.{Bool, true, false}
+use mathlib.Core.Bool.{true, false}
 use mathlib.Core.List.{List}
 use mathlib.Core.Option.{some}
-use Prim.Native.Nat.{ℕ, _*_, _/_, _%_, _≤_, _<_}
+use Prim.Native.Nat.{ℕ, suc, _+_, _*_, _/_, _%_, _≤_, _<_}
 use native.Mathlib.Nat.{le-div-iff-mul-le}
 use native.Mathlib.Omega.{arith}
 use borrow.Author.Tests.{eqb-true, ne-eqb, eq-eqb, leb-true, le-leb, lt-leb}
 use lib.Dec.{eqb, leb}
+use lib.IntN.{pos}
 use lib.ListN.{length, take}
 use Rattle.semantics.specs.Editions.{edition1}
-use Rattle.semantics.specs.Refusals.{Judged, refused, accepted, need, ensure, _>>=_, _>>_}
+use Rattle.semantics.specs.Refusals.{Judged, refused, accepted, refusalOf, ensure, _>>=_, _>>_}
 use Rattle.semantics.specs.Plant.{Plant, selectors}
-use Rattle.semantics.specs.Starts.{Start, startIn, startFits}
-use Rattle.semantics.specs.Calls.{wholeEvents, eventCount, recordSize, roomForRecords, Program, Outcome, runFrom, outcomeOf, judgeRun}
-use Rattle.start_read.specs.StartRead.{noStart, startOf, startRead}
-use Rattle.start_read.specs.declared.StartRead.{StartRead}
+use Rattle.semantics.specs.Starts.{Start, startFits}
+use Rattle.semantics.specs.Calls.{wholeEvents, eventCount, recordSize, roomForRecords, judgeStart, judgeAdmission, Program, runFrom, outcomeOf, judgeRun}
+use Rattle.semantics.specs.Conditions.{Condition, runConditions}
+use Rattle.semantics.proofs.Facts.{All, all-nil, all-cons}
+use Rattle.semantics.proofs.Judging.{go-then}
+use Rattle.semantics.proofs.FirstNumber.{start-first, admission-first}
+use Rattle.semantics.proofs.Admission.{admission-passed}
+use Rattle.semantics.proofs.CallsHold.{accepted-of, start-values}
+use Rattle.codec.proofs.Padding.{take-pad}
 use Rattle.start_read.specs.declared.admission.Admitted.{Admitted}
-use Rattle.start_read.specs.Admission.{notAdmitted, admittedWith, admitted, recordBytes}
-use Rattle.start_read.proofs.StartLaws.{Cases, cases, missing, unfit, started, start-counted, startIs, started-of}
+use Rattle.start_read.specs.Admission.{notAdmitted, admitted}
 
 -- ---- room for n records, judged by a quotient
-size-is : (p : Plant) {variables selectors' : ℕ} → variables ≡ length (p .variables) → selectors' ≡ length (selectors p) → recordBytes variables selectors' ≡ recordSize edition1 p
-unfolding recordSize
-size-is p e f = omega arith
-
 no-room : (n size room : ℕ) → 1 ≤ size → room / size < n → leb (n * size) room ≡ false
 no-room n size room h i = lt-leb (n * size) room (elim (native.Mathlib.Decide.decLt room (n * size)) [ yes j ↦ j | no j ↦ (let k : n ≤ room / size = le-div-iff-mul-le h .1 (omega arith) in absurd (omega arith)) ])
 
 enough-room : (n size room : ℕ) → 1 ≤ size → n ≤ room / size → leb (n * size) room ≡ true
 enough-room n size room h i = le-leb (n * size) room (le-div-iff-mul-le h .0 i)
 
+some-bytes : (p : Plant) → 1 ≤ recordSize edition1 p
+unfolding recordSize
+some-bytes p = omega arith
+
+pub size-is : (p : Plant) {variables cases : ℕ} → variables ≡ length (p .variables) → cases ≡ length (selectors p) → 9 + 4 * variables + cases ≡ recordSize edition1 p
+unfolding recordSize
+size-is p e f = omega arith
+
+refusal-is : (j : Judged Start) → admitted j .refusal ≡ refusalOf j
+unfolding admitted notAdmitted refusalOf
+refusal-is (refused n) = refl
+refusal-is (accepted st) = refl
+
+not-0 : (n : ℕ) → suc n ≡ 0 → ⊥
+not-0 n e = omega arith
+
 -- ---- one law for each return
-module _ (p : Plant) (start : List ℕ) (events room : ℕ) {first : StartRead} (e : first ≡ startRead p start) where
-  pub by-20 : first .ok ≡ false → notAdmitted 20 ≡ admitted p start events room
-  unfolding admitted
-  by-20 h = rw (← e, h) refl
+module _ (p : Plant) (start es d : List ℕ) {first : Admitted} (e : first ≡ admitted (judgeStart p start)) where
+  pub by-20 : (first .refusal ≡ 0 → ⊥) → first ≡ admitted (judgeAdmission edition1 p start es d)
+  unfolding judgeAdmission _>>=_ refusalOf
+  by-20 h = e ∙ go (judgeStart p start) (λ z. h (ap (λ (a : Admitted). a .refusal) e ∙ refusal-is (judgeStart p start) ∙ z))
+    where
+      go : (j : Judged Start) → (refusalOf j ≡ 0 → ⊥) →
+          admitted j ≡ admitted (j >>= λ st. ensure 21 (wholeEvents (edition1 .event-bytes) es) >> (ensure 22 (roomForRecords edition1 p es d) >> accepted st))
+      go (refused n) z = refl
+      go (accepted st) z = absurd (z refl)
 
-  module _ (h : first .ok ≡ true) where
-    pub by-21 : (events % 3 ≡ 0 → ⊥) → notAdmitted 21 ≡ admitted p start events room
-    unfolding admitted
-    by-21 i = rw (← e, h, ne-eqb (events % 3) 0 i) refl
+  module _ (h : first .refusal ≡ 0) {events room : ℕ} (l : length es ≡ events) (k : length d ≡ room) where
+    started : (st : Start) × (judgeStart p start ≡ accepted st)
+    started = accepted-of (start-first edition1 start es d refl) (all-cons (not-0 19) all-nil) (sym (refusal-is (judgeStart p start)) ∙ sym (ap (λ (a : Admitted). a .refusal) e) ∙ h)
 
-    module _ (i : events % 3 ≡ 0) {variables cases size : ℕ} (v : variables ≡ length (p .variables)) (s : cases ≡ length (selectors p)) (k : size ≡ recordBytes variables cases) where
-      some-bytes : 1 ≤ size
-      some-bytes = omega arith
+    pub by-21 : (events % 3 ≡ 0 → ⊥) → notAdmitted 21 ≡ admitted (judgeAdmission edition1 p start es d)
+    unfolding judgeAdmission admitted wholeEvents ensure _>>=_ _>>_
+    by-21 i = rw (started .1, l, ne-eqb (events % 3) 0 i) refl
 
-      pub by-22 : room / size < events / 3 → notAdmitted 22 ≡ admitted p start events room
-      unfolding admitted
-      by-22 j = rw (← e, h, eq-eqb (events % 3) 0 i, ← (k ∙ size-is p v s), no-room (events / 3) size room some-bytes j) refl
+    module _ (i : events % 3 ≡ 0) {size : ℕ} (s : size ≡ recordSize edition1 p) where
+      pub by-22 : room / size < events / 3 → notAdmitted 22 ≡ admitted (judgeAdmission edition1 p start es d)
+      unfolding judgeAdmission admitted wholeEvents roomForRecords eventCount ensure _>>=_ _>>_
+      by-22 j = rw (started .1, l, k, eq-eqb (events % 3) 0 i, no-room (events / 3) (recordSize edition1 p) room (some-bytes p) (rw s at j)) refl
 
-      pub by-all : events / 3 ≤ room / size → record { refusal = 0; values = first .values; modes = first .modes } ≡ admitted p start events room
-      unfolding admitted admittedWith
-      by-all j = rw (← e, h, eq-eqb (events % 3) 0 i, ← (k ∙ size-is p v s), enough-room (events / 3) size room some-bytes j) refl
+      pub by-all : events / 3 ≤ room / size → first ≡ admitted (judgeAdmission edition1 p start es d)
+      unfolding judgeAdmission wholeEvents roomForRecords eventCount ensure _>>=_ _>>_
+      by-all j = e ∙ rw (started .1, l, k, eq-eqb (events % 3) 0 i, enough-room (events / 3) (recordSize edition1 p) room (some-bytes p) (rw s at j)) refl
 
 -- ---- the call
 -- 20 to 22 are not judged where the program is refused
@@ -61,58 +83,23 @@ unfolding judgeRun _>>=_
 run-unread S n start events buffer = refl
 
 module _ {S : Type 0} (g : Program S) (start events buffer : List ℕ) where
+  abbrev judged : Judged Start
+  judged = judgeAdmission edition1 (g .plant) start events buffer
+
   abbrev pub asked : Admitted
-  asked = admitted (g .plant) start (length events) (length buffer)
+  asked = admitted judged
 
   -- the start that the answer's arrays hold
   abbrev pub startAsked : Start
   startAsked = record { values = take (length (g .plant .variables)) (asked .values); modes = take (length (selectors (g .plant))) (asked .modes) }
 
-  abbrev run : Judged Outcome
-  run = judgeRun edition1 (accepted g) start events buffer
-
-  abbrev whole-events : Bool
-  whole-events = eqb (length events % 3) 0
-
-  abbrev enough : Bool
-  enough = leb (length events / 3 * recordSize edition1 (g .plant)) (length buffer)
-
-  data Asked : Type 0 where
-    turned : {n : ℕ} → 1 ≤ n → asked ≡ notAdmitted n → run ≡ refused n → Asked
-    taken : startRead (g .plant) start .ok ≡ true → whole-events ≡ true → enough ≡ true → asked ≡ admittedWith (startRead (g .plant) start)
-        → run ≡ accepted (outcomeOf edition1 (g .control) (runFrom edition1 g (startIs (g .plant) start) events)) → Asked
-
-  by-events : startRead (g .plant) start .ok ≡ true → (a b : Bool) → whole-events ≡ a → enough ≡ b → Asked
-  unfolding admitted judgeRun need ensure _>>=_ _>>_ wholeEvents roomForRecords eventCount
-  by-events h a b d e = go a b d e
-    where
-      is : startIn (g .plant) start ≡ some (startIs (g .plant) start)
-      is = started-of (g .plant) start h .is
-
-      fits : startFits (g .plant) (startIs (g .plant) start) ≡ true
-      fits = started-of (g .plant) start h .fits
-
-      go : (a b : Bool) → whole-events ≡ a → enough ≡ b → Asked
-      go false b d e = turned {n = 21} (omega arith) (rw (h, d) refl) (rw (is, fits, d) refl)
-      go true false d e = turned {n = 22} (omega arith) (rw (h, d, e) refl) (rw (is, fits, d, e) refl)
-      go true true d e = taken h d e (rw (h, d, e) refl) (rw (is, fits, d, e) refl)
-
-  by-start : Asked
-  unfolding admitted judgeRun need ensure _>>=_ _>>_ noStart startOf
-  by-start = go (cases (g .plant) start)
-    where
-      go : Cases (g .plant) start → Asked
-      go (missing e a) = turned {n = 20} (omega arith) (rw (a) refl) (rw (e) refl)
-      go (unfit e h a) = turned {n = 20} (omega arith) (rw (a) refl) (rw (e, h) refl)
-      go (started e h a) = by-events (ap (λ r. r .ok) a) whole-events enough refl refl
-
   pub run-refused : (asked .refusal ≡ 0 → ⊥) → judgeRun edition1 (accepted g) start events buffer ≡ refused (asked .refusal)
-  unfolding notAdmitted admittedWith
-  run-refused h = go by-start
+  unfolding judgeRun admitted notAdmitted _>>=_
+  run-refused h = go judged h
     where
-      go : Asked → run ≡ refused (asked .refusal)
-      go (turned i a r) = r ∙ ap (λ (z : Admitted). refused (z .refusal)) (sym a)
-      go (taken o d e a r) = absurd (h (ap (λ (z : Admitted). z .refusal) a))
+      go : (j : Judged Start) → (admitted j .refusal ≡ 0 → ⊥) → (j >>= λ st. accepted (outcomeOf edition1 (g .control) (runFrom edition1 g st events))) ≡ refused (admitted j .refusal)
+      go (refused n) z = refl
+      go (accepted st) z = absurd (z refl)
 
   pub record RunAdmitted : Type 0 where
     pub judged : judgeRun edition1 (accepted g) start events buffer ≡ accepted (outcomeOf edition1 (g .control) (runFrom edition1 g startAsked events))
@@ -122,21 +109,24 @@ module _ {S : Type 0} (g : Program S) (start events buffer : List ℕ) where
     pub whole : length events % 3 ≡ 0
     pub room : length events / 3 * recordSize edition1 (g .plant) ≤ length buffer
 
+  numbers : All (λ (c : Condition). c .refusal ≡ 0 → ⊥) (runConditions edition1 (some (g .plant)) start events buffer)
+  unfolding runConditions
+  numbers = all-cons (not-0 19) (all-cons (not-0 20) (all-cons (not-0 21) all-nil))
+
   pub run-admitted : asked .refusal ≡ 0 → RunAdmitted
-  unfolding notAdmitted admittedWith
-  run-admitted h = go by-start
-    where
-      go : Asked → RunAdmitted
-      go (turned {n = n} i a r) = let z : n ≡ 0 = ap (λ (z : Admitted). z .refusal) (sym a) ∙ h in absurd (omega arith)
-      go (taken o d e a r) =
-          let same : startIs (g .plant) start ≡ startAsked = ap (λ (z : Admitted). record { values = take (length (g .plant .variables)) (z .values); modes = take (length (selectors (g .plant))) (z .modes) }) (sym a) in
-          let s = started-of (g .plant) start o in
-          let c = start-counted (g .plant) start (s .is) in
-          record {
-            judged = r ∙ ap (λ st. accepted (outcomeOf edition1 (g .control) (runFrom edition1 g st events))) same;
-            values = ap (λ (st : Start). length (st .values)) (sym same) ∙ c .values;
-            modes = ap (λ (st : Start). length (st .modes)) (sym same) ∙ c .modes;
-            fits = ap (startFits (g .plant)) (sym same) ∙ s .fits;
-            whole = eqb-true (length events % 3) 0 d;
-            room = leb-true (length events / 3 * recordSize edition1 (g .plant)) (length buffer) e;
-          }
+  unfolding judgeRun admitted wholeEvents roomForRecords eventCount
+  run-admitted h =
+      let j = accepted-of (admission-first edition1 start events buffer refl) numbers (sym (refusal-is judged) ∙ h) in
+      let a = admission-passed edition1 (g .plant) start events buffer (j .1) in
+      let c = start-values (g .plant) start (a .starts .is-read) in
+      let v = ap (λ (x : Judged Start). take (length (g .plant .variables)) (admitted x .values)) (j .1) ∙ take-pad 32 (pos 0) (j .0 .values) (length (g .plant .variables)) (c .0) in
+      let m = ap (λ (x : Judged Start). take (length (selectors (g .plant))) (admitted x .modes)) (j .1) ∙ take-pad 16 0 (j .0 .modes) (length (selectors (g .plant))) (c .1) in
+      let same : startAsked ≡ j .0 = λ i. record { values = v i; modes = m i } in
+      record {
+        judged = go-then _ refl ∙ go-then _ (j .1) ∙ ap (λ st. accepted (outcomeOf edition1 (g .control) (runFrom edition1 g st events))) (sym same);
+        values = ap (λ (st : Start). length (st .values)) same ∙ c .0;
+        modes = ap (λ (st : Start). length (st .modes)) same ∙ c .1;
+        fits = ap (startFits (g .plant)) same ∙ a .starts .fits;
+        whole = eqb-true (length events % 3) 0 (a .whole);
+        room = leb-true (length events / 3 * recordSize edition1 (g .plant)) (length buffer) (a .room);
+      }

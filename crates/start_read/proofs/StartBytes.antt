@@ -14,18 +14,25 @@ use lib.Seq.{take-all}
 use mir.Syntax.{w32}
 use mir.Val.{SFits, toZ, ofZ}
 use mir.ValLaws.{toZ-ofZ}
-use Rattle.semantics.specs.Bytes.{read, andThen, _>>=_, give, byte, int4, times, just, whole}
+use Rattle.semantics.specs.Bytes as Bytes
+use Rattle.semantics.specs.Bytes.{read, andThen, give, byte, int4, times, just, whole}
+use Rattle.semantics.specs.Refusals.{accepted, need, ensure, _>>=_, _>>_}
 use Rattle.semantics.specs.Expressions.{Value, ok, fault, ranged, thenValue}
 use Rattle.semantics.specs.Sections.{Variable, Selector}
 use Rattle.semantics.specs.Plant.{Plant, selectors, declared, allDeclared}
 use Rattle.semantics.specs.Starts.{Start, readStart, startIn, isOk, modesFit, startFits}
+use Rattle.semantics.specs.Calls.{judgeStart}
+use Rattle.semantics.proofs.Admission.{start-judged}
 use Rattle.semantics.proofs.Facts.{and-both}
 use Rattle.semantics.proofs.Readers.{whole-read}
 use Rattle.codec.proofs.Reading.{int4-at, drop-past, drop-some}
-use Rattle.start_read.specs.declared.StartRead.{StartRead}
+use Rattle.plant.specs.declared.sections.PlantRead.{PlantRead}
 use Rattle.start_read.specs.declared.Values.{Values}
 use Rattle.start_read.specs.declared.Modes.{Modes}
-use Rattle.start_read.specs.StartRead.{noStart, startOf, startRead, Ranges, Counts, Arrays, entries, valueAt, modeAt, ValuesOf, ModesOf}
+use Rattle.start_read.specs.declared.admission.Admitted.{Admitted}
+use Rattle.plant.specs.ModeCounts.{ModesAt}
+use Rattle.start_read.specs.StartRead.{Ranges, Arrays, entries, valueAt, modeAt, ValuesOf, ModesOf}
+use Rattle.start_read.specs.Admission.{notAdmitted, admitted}
 use Rattle.plant.proofs.Costs.{costs-give, costs-byte, costs-then, costs-int4, costs-times}
 
 -- ---- a value against its range, a mode against its count
@@ -84,12 +91,12 @@ pub value-at : {n : ℕ} {lows highs : List ℤ} (k : ℕ) (z : ℤ) {b : Bool} 
 unfolding declared
 value-at k z h xs x r e = rw (r .low k e, r .high k e) at h
 
-pub mode-at : {n : ℕ} {counts : List ℕ} (k m : ℕ) {b : Bool} → ltb m (getD counts k 0) ≡ b → (cs : List Selector) (c : Selector) → Counts cs n counts → getElem? cs k ≡ some c → modeFits c m ≡ b
-mode-at k m h cs c r e = rw (r .modes k e) at h
+pub mode-at : {n : ℕ} {counts : List ℕ} (k m : ℕ) {b : Bool} → ltb m (getD counts k 0) ≡ b → (cs : List Selector) (c : Selector) → ModesAt counts n cs → getElem? cs k ≡ some c → modeFits c m ≡ b
+mode-at k m h cs c r e = rw (r .entries k e) at h
 
 -- ---- the bytes
 values-read : (s : List ℕ) (n k : ℕ) → 4 * (k + n) ≤ length s → times n int4 (drop (4 * k) s) ≡ read (entries (valueAt s) k n) (drop (4 * (k + n)) s)
-unfolding times _>>=_ andThen give entries
+unfolding times Bytes._>>=_ andThen give entries
 values-read s zero k h = rw add-zero refl
 values-read s (suc n) k h =
     let e : 4 * k + 4 ≡ 4 * suc k = omega arith in
@@ -98,7 +105,7 @@ values-read s (suc n) k h =
     rw (int4-at s (4 * k) (omega arith), m) refl
 
 modes-read : (s : List ℕ) (n k : ℕ) → k + n ≤ length s → times n byte (drop k s) ≡ read (entries (modeAt s) k n) (drop (k + n) s)
-unfolding times _>>=_ andThen give byte entries
+unfolding times Bytes._>>=_ andThen give byte entries
 modes-read s zero k h = rw add-zero refl
 modes-read s (suc n) k h =
     let e : k + 1 ≡ suc k = omega arith in
@@ -107,7 +114,7 @@ modes-read s (suc n) k h =
     rw (drop-some k s (omega arith), m) refl
 
 start-from : (p : Plant) (s : List ℕ) {vs : List ℤ} {ms l : List ℕ} → times (length (p .variables)) int4 s ≡ read vs l → times (length (selectors p)) byte l ≡ read ms [] → startIn p s ≡ some (record { values = vs; modes = ms })
-unfolding startIn readStart whole just _>>=_ andThen give
+unfolding startIn readStart whole just Bytes._>>=_ andThen give
 start-from p s a b = rw (a, b) refl
 
 start-size : (p : Plant) (s : List ℕ) {st : Start} → startIn p s ≡ some st → length s ≡ 4 * length (p .variables) + length (selectors p)
@@ -116,25 +123,17 @@ start-size p s h =
     let c = costs-then (costs-times (length (p .variables)) costs-int4) (λ vs. costs-then {B = Start} (costs-times (length (selectors p)) costs-byte) (λ ms. costs-give (record { values = vs; modes = ms }))) in
     omega (arith, c .spent s (whole-read (readStart p) s h))
 
--- all bytes from a place on
-pub modes-of : (s : List ℕ) (k : ℕ) {m : ℕ} {counts : List ℕ} {r : Modes} → ModesOf (take (length s - k) (drop k s)) m counts r → ModesOf (drop k s) m counts r
-modes-of s k {m} {counts} {r} v = subst (λ l. ModesOf l m counts r) (take-all (length s - k) (drop k s) (omega (arith, length-drop k s))) v
-
 -- ---- the answer
-pub not-there : (p : Plant) (s : List ℕ) → startIn p s ≡ none → startRead p s ≡ noStart
-unfolding startRead
-not-there p s h = rw (startRead, h) refl
+not-there : (p : Plant) (s : List ℕ) → startIn p s ≡ none → notAdmitted 20 ≡ admitted (judgeStart p s)
+unfolding judgeStart admitted need _>>=_
+not-there p s h = rw h refl
 
-pub not-fit : (p : Plant) (s : List ℕ) {st : Start} → startIn p s ≡ some st → startFits p st ≡ false → startRead p s ≡ noStart
-unfolding startRead
-not-fit p s h k = rw (startRead, h, k) refl
+not-fit : (p : Plant) (s : List ℕ) {st : Start} → startIn p s ≡ some st → startFits p st ≡ false → notAdmitted 20 ≡ admitted (judgeStart p s)
+unfolding judgeStart admitted need ensure _>>=_ _>>_
+not-fit p s h k = rw (h, k) refl
 
-pub fit : (p : Plant) (s : List ℕ) {st : Start} → startIn p s ≡ some st → startFits p st ≡ true → startRead p s ≡ startOf st
-unfolding startRead
-fit p s h k = rw (startRead, h, k) refl
-
-module _ (p : Plant) (s : List ℕ) {n : ℕ} {lows highs : List ℤ} {m : ℕ} {counts : List ℕ} (a : Arrays p n lows highs m counts) where
-  pub wrong-size : (length s ≡ 4 * n + m → ⊥) → startRead p s ≡ noStart
+module _ (p : Plant) (s : List ℕ) {x : PlantRead} (a : Arrays p x) where
+  pub wrong-size : (length s ≡ 4 * x .variables + x .selectors → ⊥) → notAdmitted 20 ≡ admitted (judgeStart p s)
   wrong-size f = not-there p s (go (startIn p s) refl)
     where
       go : (o : Option Start) → startIn p s ≡ o → startIn p s ≡ none
@@ -142,34 +141,48 @@ module _ (p : Plant) (s : List ℕ) {n : ℕ} {lows highs : List ℤ} {m : ℕ} 
       go (some st) e =
           let z = start-size p s e in
           let i = a .ranges .count in
-          let j = a .counts .count in
+          let j = a .counts .counted in
           absurd (f (omega arith))
 
-  module _ (h : length s ≡ 4 * n + m) where
+  module _ (h : length s ≡ 4 * x .variables + x .selectors) where
+    abbrev n : ℕ
+    n = x .variables
+
+    abbrev rest : List ℕ
+    rest = drop (4 * n) s
+
     abbrev started : Start
-    started = record { values = entries (valueAt s) 0 n; modes = entries (modeAt (drop (4 * n) s)) 0 m }
+    started = record { values = entries (valueAt s) 0 n; modes = entries (modeAt rest) 0 (x .selectors) }
 
     there : startIn p s ≡ some started
     there =
         let z : 4 * (0 + n) ≡ 4 * n = omega arith in
-        let v : times n int4 s ≡ read (entries (valueAt s) 0 n) (drop (4 * n) s) = values-read s n 0 (omega arith) ∙ ap (λ q. read (entries (valueAt s) 0 n) (drop q s)) z in
+        let v : times n int4 s ≡ read (started .values) rest = values-read s n 0 (omega arith) ∙ ap (λ q. read (started .values) (drop q s)) z in
         let l = length-drop (4 * n) s in
-        let k : times m byte (drop (4 * n) s) ≡ read (entries (modeAt (drop (4 * n) s)) 0 m) [] = modes-read (drop (4 * n) s) m 0 (omega arith) ∙ ap (read (entries (modeAt (drop (4 * n) s)) 0 m)) (drop-past (0 + m) (drop (4 * n) s) (omega arith)) in
-        start-from p s (ap (λ q. times q int4 s) (sym (a .ranges .count)) ∙ v) (ap (λ q. times q byte (drop (4 * n) s)) (sym (a .counts .count)) ∙ k)
+        let k : times (x .selectors) byte rest ≡ read (started .modes) [] = modes-read rest (x .selectors) 0 (omega arith) ∙ ap (read (started .modes)) (drop-past (0 + x .selectors) rest (omega arith)) in
+        start-from p s (ap (λ q. times q int4 s) (sym (a .ranges .count)) ∙ v) (ap (λ q. times q byte rest) (a .counts .counted) ∙ k)
 
-    pub values-unfit : {r : Values} → ValuesOf s n lows highs r → r .ok ≡ false → startRead p s ≡ noStart
+    pub values-unfit : {r : Values} → ValuesOf s n (x .lows) (x .highs) r → r .ok ≡ false → notAdmitted 20 ≡ admitted (judgeStart p s)
     unfolding startFits
     values-unfit v e = not-fit p s there (rw (v .fit (p .variables) (a .ranges) ∙ e) refl)
 
-    pub modes-unfit : {r : Modes} → ModesOf (drop (4 * n) s) m counts r → r .ok ≡ false → startRead p s ≡ noStart
-    unfolding startFits
-    modes-unfit v e = not-fit p s there (rw (v .fit (selectors p) (a .counts) ∙ e) (and-false (valuesFit (p .variables) (started .values))))
+    module _ {r : Values} {t : Modes} (v : ValuesOf s n (x .lows) (x .highs) r) (m : ModesOf (take (length s - 4 * n) rest) (x .selectors) (x .modes) t) where
+      -- all bytes from that place on
+      modes-are : ModesOf rest (x .selectors) (x .modes) t
+      modes-are = subst (λ l. ModesOf l (x .selectors) (x .modes) t) (take-all (length s - 4 * n) rest (omega (arith, length-drop (4 * n) s))) m
 
-    pub all-fit : {r : Values} {t : Modes} → ValuesOf s n lows highs r → ModesOf (drop (4 * n) s) m counts t → r .ok ≡ true → t .ok ≡ true → _≡_ {A = StartRead} (record { ok = true; values = r .values; modes = t .modes }) (startRead p s)
-    unfolding startFits startOf
-    all-fit {r} {t} v k e i =
-        let x = v .are e in
-        let y = k .are i in
-        let o : startFits p started ≡ true = and-both (v .fit (p .variables) (a .ranges) ∙ e) (k .fit (selectors p) (a .counts) ∙ i) in
-        let q : _≡_ {A = StartRead} (record { ok = true; values = r .values; modes = t .modes }) (startOf started) = λ j. record { ok = true; values = x j; modes = y j } in
-        q ∙ sym (fit p s there o)
+      modes-fit : modesFit (selectors p) (started .modes) ≡ t .ok
+      modes-fit = modes-are .fit (selectors p) (a .counts)
+
+      pub modes-unfit : t .ok ≡ false → notAdmitted 20 ≡ admitted (judgeStart p s)
+      unfolding startFits
+      modes-unfit e = not-fit p s there (rw (modes-fit ∙ e) (and-false (valuesFit (p .variables) (started .values))))
+
+      pub all-fit : r .ok ≡ true → t .ok ≡ true → record { refusal = 0; values = r .values; modes = t .modes } ≡ admitted (judgeStart p s)
+      unfolding startFits admitted
+      all-fit e i =
+          let k = start-judged p s (record { is-read = there; fits = and-both (v .fit (p .variables) (a .ranges) ∙ e) (modes-fit ∙ i) }) in
+          let y = v .are e in
+          let z = modes-are .are i in
+          let q : _≡_ {A = Admitted} (record { refusal = 0; values = r .values; modes = t .modes }) (admitted (accepted started)) = λ j. record { refusal = 0; values = y j; modes = z j } in
+          q ∙ ap admitted (sym k)

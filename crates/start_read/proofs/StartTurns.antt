@@ -13,7 +13,8 @@ use Rattle.semantics.specs.Expressions.{ranged}
 use Rattle.semantics.specs.Starts.{isOk, modesFit}
 use Rattle.semantics.proofs.Facts.{true-not-false}
 use Rattle.codec.specs.Padding.{pad}
-use Rattle.start_read.specs.StartRead.{Ranges, Counts, valueAt, modeAt, ValuesOf, ModesOf}
+use Rattle.plant.specs.ModeCounts.{ModesAt}
+use Rattle.start_read.specs.StartRead.{Ranges, valueAt, modeAt, ValuesOf, ModesOf}
 use Rattle.start_read.proofs.StartLoop.{Going, going-start, going-next, stopped, ended, filled-all}
 use Rattle.start_read.proofs.StartBytes.{held, valuesFit, valueFits, modeFits, values-step, values-none, modes-step, modes-none, value-at, mode-at}
 
@@ -46,23 +47,23 @@ module _ (s : List ℕ) (n : ℕ) (lows highs : List ℤ) where
 
 module _ (s : List ℕ) (n : ℕ) (counts : List ℕ) where
   abbrev pub Moded : ℕ → List ℕ → Type 0
-  Moded i modes = Going 16 0 modesFit (λ cs. Counts cs n counts) (modeAt s) n i modes
+  Moded i modes = Going 16 0 modesFit (λ cs. ModesAt counts n cs) (modeAt s) n i modes
 
   pub modes-start : Moded 0 (pad 16 0 [])
-  modes-start = going-start 16 0 modesFit (λ cs. Counts cs n counts) (modeAt s) n
+  modes-start = going-start 16 0 modesFit (λ cs. ModesAt counts n cs) (modeAt s) n
 
   module _ (i : ℕ) {modes : List ℕ} (g : Moded i modes) where
     pub modes-next : i < n → i < 16 → modeAt s i < getD counts i 0 → (m : ℕ) → m ≡ modeAt s i → Moded (i + 1) (set modes i m)
-    modes-next h k t m e = going-next 16 0 modesFit (λ cs. Counts cs n counts) (modeAt s) n modeFits modes-step (λ cs r. r .count) i g h k (mode-at i (modeAt s i) (lt-ltb (modeAt s i) (getD counts i 0) t)) m e
+    modes-next h k t m e = going-next 16 0 modesFit (λ cs. ModesAt counts n cs) (modeAt s) n modeFits modes-step (λ cs r. sym (r .counted)) i g h k (mode-at i (modeAt s i) (lt-ltb (modeAt s i) (getD counts i 0) t)) m e
 
     pub modes-stop : i < n → getD counts i 0 ≤ modeAt s i → ModesOf s n counts (record { ok = false; modes = modes })
     modes-stop h t = record {
-      fit = stopped 16 0 modesFit (λ cs. Counts cs n counts) (modeAt s) n modeFits modes-step (λ cs r. r .count) i g h (mode-at i (modeAt s i) (le-ltb (modeAt s i) (getD counts i 0) t));
+      fit = stopped 16 0 modesFit (λ cs. ModesAt counts n cs) (modeAt s) n modeFits modes-step (λ cs r. sym (r .counted)) i g h (mode-at i (modeAt s i) (le-ltb (modeAt s i) (getD counts i 0) t));
       are = λ e. true-not-false (sym e);
     }
 
     pub modes-end : i ≡ n → ModesOf s n counts (record { ok = true; modes = modes })
     modes-end h = record {
-      fit = ended 16 0 modesFit (λ cs. Counts cs n counts) (modeAt s) n modeFits modes-step (λ cs r. r .count) i g h modes-none;
+      fit = ended 16 0 modesFit (λ cs. ModesAt counts n cs) (modeAt s) n modeFits modes-step (λ cs r. sym (r .counted)) i g h modes-none;
       are = λ e. filled-all g h;
     }

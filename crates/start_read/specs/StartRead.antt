@@ -1,30 +1,20 @@
--- Condition 20: the values and modes that a run starts from, as the code answers them.
+-- Condition 20: what the code that reads a start's bytes asks and answers.
 use mathlib.Core.Path.{_≡_}
-use mathlib.Core.Bool.{true, false, cond}
+use mathlib.Core.Bool.{true}
 use mathlib.Core.List.{List, [], _∷_}
-use mathlib.Core.Option.{none, some}
+use mathlib.Core.Option.{some}
 use Prim.Native.Nat.{ℕ, zero, suc, _+_, _*_, _≤_}
 use lib.ListN.{length, getD, getElem?}
 use lib.IntN.{ℤ, pos}
 use Rattle.semantics.specs.Bytes.{be4, signed}
 use Rattle.semantics.specs.Sections.{Variable, Selector}
 use Rattle.semantics.specs.Plant.{Plant, selectors, allDeclared}
-use Rattle.semantics.specs.Starts.{Start, startIn, isOk, modesFit, startFits}
+use Rattle.semantics.specs.Starts.{isOk, modesFit}
 use Rattle.codec.specs.Padding.{pad}
-use Rattle.start_read.specs.declared.StartRead.{StartRead}
+use Rattle.plant.specs.ModeCounts.{ModesAt}
+use Rattle.plant.specs.declared.sections.PlantRead.{PlantRead}
 use Rattle.start_read.specs.declared.Values.{Values}
 use Rattle.start_read.specs.declared.Modes.{Modes}
-
--- ---- the answer
-unfoldable pub noStart : StartRead
-noStart = record { ok = false; values = pad 32 (pos 0) []; modes = pad 16 0 [] }
-
-unfoldable pub startOf : Start → StartRead
-startOf st = record { ok = true; values = pad 32 (pos 0) (st .values); modes = pad 16 0 (st .modes) }
-
--- 20: "The starting values (4 bytes each, then modes) have a wrong length, value or mode."
-unfoldable pub startRead : Plant → List ℕ → StartRead
-startRead p s = elim (startIn p s) [ none ↦ noStart | some st ↦ cond (startFits p st) (startOf st) noStart ]
 
 -- ---- a plant's numbers in arrays
 -- the range of each variable
@@ -33,22 +23,18 @@ pub record Ranges (xs : List Variable) (n : ℕ) (lows highs : List ℤ) : Type 
   pub low : (k : ℕ) {x : Variable} → getElem? xs k ≡ some x → getD lows k (pos 0) ≡ x .minimum
   pub high : (k : ℕ) {x : Variable} → getElem? xs k ≡ some x → getD highs k (pos 0) ≡ x .maximum
 
--- how many modes each selector has
-pub record Counts (cs : List Selector) (n : ℕ) (counts : List ℕ) : Type 0 where
-  pub count : n ≡ length cs
-  pub modes : (j : ℕ) {c : Selector} → getElem? cs j ≡ some c → getD counts j 0 ≡ length (c .modes)
-
-pub record Arrays (p : Plant) (variables : ℕ) (lows highs : List ℤ) (cases : ℕ) (mode-counts : List ℕ) : Type 0 where
-  pub ranges : Ranges (p .variables) variables lows highs
-  pub counts : Counts (selectors p) cases mode-counts
+-- a plant's numbers in its reader's answer
+pub record Arrays (p : Plant) (x : PlantRead) : Type 0 where
+  pub ranges : Ranges (p .variables) (x .variables) (x .lows) (x .highs)
+  pub counts : ModesAt (x .modes) (x .selectors) (selectors p)
 
 -- an entry for each of them
-pub record Room (variables : ℕ) (lows highs : List ℤ) (cases : ℕ) (mode-counts : List ℕ) : Type 0 where
-  pub variables-most : variables ≤ 32
-  pub lows-there : variables ≤ length lows
-  pub highs-there : variables ≤ length highs
-  pub cases-most : cases ≤ 16
-  pub counts-there : cases ≤ length mode-counts
+pub record Room (x : PlantRead) : Type 0 where
+  pub variables-most : x .variables ≤ 32
+  pub lows-there : x .variables ≤ length (x .lows)
+  pub highs-there : x .variables ≤ length (x .highs)
+  pub cases-most : x .selectors ≤ 16
+  pub counts-there : x .selectors ≤ length (x .modes)
 
 -- ---- for the parts of the code
 -- f i and the n - 1 after it
@@ -79,5 +65,5 @@ pub record RoomForModes (s : List ℕ) (n : ℕ) (counts : List ℕ) : Type 0 wh
   pub counts-there : n ≤ length counts
 
 pub record ModesOf (s : List ℕ) (n : ℕ) (counts : List ℕ) (r : Modes) : Type 0 where
-  pub fit : (cs : List Selector) → Counts cs n counts → modesFit cs (entries (modeAt s) 0 n) ≡ r .ok
+  pub fit : (cs : List Selector) → ModesAt counts n cs → modesFit cs (entries (modeAt s) 0 n) ≡ r .ok
   pub are : r .ok ≡ true → r .modes ≡ pad 16 0 (entries (modeAt s) 0 n)

@@ -1,10 +1,14 @@
 // What a run is admitted by: its start (20), whole events (21), room for its records (22).
 use plant::sections::PlantRead;
 ghost use mathlib.Core.Path.{_≡_};
-ghost use Prim.Native.Nat.{_≤_};
+ghost use mathlib.Core.List.{List};
+ghost use Prim.Native.Nat.{ℕ};
+ghost use lib.ListN.{length};
+ghost use Rattle.semantics.specs.Editions.{edition1};
 ghost use Rattle.semantics.specs.Plant.{Plant};
+ghost use Rattle.semantics.specs.Calls.{judgeAdmission};
 ghost use Rattle.start_read.specs.StartRead.{Arrays, Room};
-ghost use Rattle.start_read.specs.Admission.{notAdmitted, admitted, recordBytes};
+ghost use Rattle.start_read.specs.Admission.{notAdmitted, admitted};
 
 // 0, or the number of the first condition that is broken; all values and modes are 0 then
 pub struct Admitted {
@@ -13,7 +17,7 @@ pub struct Admitted {
     pub modes: [u8; 16],
 }
 
-fn refused(n: u8) -> Admitted
+pub fn refused(n: u8) -> Admitted
     ensures { λ r. ⌜ r ≡ notAdmitted n ⌝ }
 {
     Admitted {
@@ -23,40 +27,23 @@ fn refused(n: u8) -> Admitted
     }
 }
 
-// the bytes of a record
-fn record_size(variables: usize, selectors: usize) -> usize
-    requires { ⌜ (variables ≤ 32) × (selectors ≤ 16) ⌝ }
-    ensures { λ r. ⌜ r ≡ recordBytes variables selectors ⌝ }
-{
-    9 + 4 * variables + selectors
-}
-
 // a start, so many event bytes and a record buffer of so many bytes
 pub fn admit(plant: PlantRead, start: &[u8], events: usize, room: usize) -> Admitted
-    requires { ⌜ Room (plant .variables) (plant .lows) (plant .highs) (plant .selectors) (plant .modes) ⌝ }
-    ensures { λ r. ⌜ ((p : Plant) → Arrays p (plant .variables) (plant .lows) (plant .highs) (plant .selectors) (plant .modes) → r ≡ admitted p (now (start .entry)) events room) ⌝ }
+    requires { ⌜ Room plant ⌝ }
+    ensures { λ r. ⌜ ((p : Plant) → Arrays p plant → (es d : List ℕ) → length es ≡ events → length d ≡ room →
+        r ≡ admitted (judgeAdmission edition1 p (now (start .entry)) es d)) ⌝ }
 {
-    let variables = plant.variables;
-    let selectors = plant.selectors;
-    let lows = plant.lows;
-    let highs = plant.highs;
-    let counts = plant.modes;
-    let first = super::read(start, variables, &lows, &highs, selectors, &counts);
-    if !first.ok {
-        return refused(20);
+    let first = super::read(start, plant);
+    if first.refusal != 0 {
+        return first;
     }
     if events % 3 != 0 {
         return refused(21);
     }
-    let size = record_size(variables, selectors);
+    // the bytes of a record
+    let size = 9 + 4 * plant.variables + plant.selectors;
     if room / size < events / 3 {
         return refused(22);
     }
-    let values = first.values;
-    let modes = first.modes;
-    Admitted {
-        refusal: 0,
-        values,
-        modes,
-    }
+    first
 }

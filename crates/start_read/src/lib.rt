@@ -1,17 +1,15 @@
 // The values and modes that a run starts from: 20.
 pub mod admission; // admission.rt: 20 to 22 in order
 
+use admission::Admitted;
+use plant::sections::PlantRead;
 ghost use mathlib.Core.Path.{_≡_};
 ghost use Rattle.semantics.specs.Expressions.{ranged};
 ghost use Rattle.semantics.specs.Plant.{Plant};
 ghost use Rattle.semantics.specs.Starts.{isOk};
-ghost use Rattle.start_read.specs.StartRead.{noStart, startRead, Arrays, Room, RoomForValues, RoomForModes, ValuesOf, ModesOf};
-
-pub struct StartRead {
-    pub ok: bool,
-    pub values: [i32; 32],
-    pub modes: [u8; 16],
-}
+ghost use Rattle.semantics.specs.Calls.{judgeStart};
+ghost use Rattle.start_read.specs.StartRead.{Arrays, Room, RoomForValues, RoomForModes, ValuesOf, ModesOf};
+ghost use Rattle.start_read.specs.Admission.{admitted};
 
 struct Values {
     ok: bool,
@@ -21,16 +19,6 @@ struct Values {
 struct Modes {
     ok: bool,
     modes: [u8; 16],
-}
-
-fn refused() -> StartRead
-    ensures { λ r. ⌜ r ≡ noStart ⌝ }
-{
-    StartRead {
-        ok: false,
-        values: [0; 32],
-        modes: [0; 16],
-    }
 }
 
 fn inside(low: i32, high: i32, z: i32) -> bool
@@ -43,12 +31,6 @@ fn inside(low: i32, high: i32, z: i32) -> bool
         return false;
     }
     true
-}
-
-fn wide(x: u8) -> usize
-    ensures { λ r. ⌜ r ≡ x ⌝ }
-{
-    x as usize
 }
 
 // the first n values, each in its range
@@ -78,7 +60,7 @@ fn read_modes(s: &[u8], n: usize, counts: &[usize]) -> Modes
     let mut i = 0;
     while i < n {
         let m = s[i];
-        if wide(m) >= counts[i] {
+        if m as usize >= counts[i] {
             return Modes { ok: false, modes };
         }
         modes[i] = m;
@@ -88,33 +70,31 @@ fn read_modes(s: &[u8], n: usize, counts: &[usize]) -> Modes
 }
 
 // the starting values and modes, where 20 does not refuse them
-pub fn read(
-    s: &[u8],
-    variables: usize,
-    lows: &[i32],
-    highs: &[i32],
-    selectors: usize,
-    counts: &[usize],
-) -> StartRead
-    requires { ⌜ Room variables (now lows) (now highs) selectors (now counts) ⌝ }
-    ensures { λ r. ⌜ ((p : Plant) → Arrays p variables (now (lows .entry)) (now (highs .entry)) selectors (now (counts .entry)) → r ≡ startRead p (now (s .entry))) ⌝ }
+fn read(s: &[u8], plant: PlantRead) -> Admitted
+    requires { ⌜ Room plant ⌝ }
+    ensures { λ r. ⌜ ((p : Plant) → Arrays p plant → r ≡ admitted (judgeStart p (now (s .entry)))) ⌝ }
 {
+    let variables = plant.variables;
+    let selectors = plant.selectors;
+    let lows = plant.lows;
+    let highs = plant.highs;
+    let counts = plant.modes;
     let place = 4 * variables;
     if s.len() != place + selectors {
-        return refused();
+        return admission::refused(20);
     }
-    let v = read_values(s, variables, lows, highs);
+    let v = read_values(s, variables, &lows, &highs);
     if !v.ok {
-        return refused();
+        return admission::refused(20);
     }
-    let m = read_modes(&s[place..], selectors, counts);
+    let m = read_modes(&s[place..], selectors, &counts);
     if !m.ok {
-        return refused();
+        return admission::refused(20);
     }
     let values = v.values;
     let modes = m.modes;
-    StartRead {
-        ok: true,
+    Admitted {
+        refusal: 0,
         values,
         modes,
     }

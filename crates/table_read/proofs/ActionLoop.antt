@@ -12,7 +12,7 @@ use lib.ListN.{length, getD, set, drop, replicate, length-drop}
 use Rattle.semantics.specs.Bytes.{number, broken, read, andThen, _>>=_, byte, give, guard, times, just, whole}
 use Rattle.semantics.specs.Editions.{edition1}
 use Rattle.semantics.specs.TableFile.{NodeAction, readAction, readActions, actionsIn}
-use Rattle.semantics.specs.Tables.{actionNodes, actionAt}
+use Rattle.semantics.specs.Tables.{actionNodes, actionAt, nodeExists, actionsNumbered}
 use Rattle.semantics.proofs.Facts.{and-left, and-right, and-both, within-both, none-not-some}
 use Rattle.semantics.proofs.Readers.{broken-not-read, read-rest, guarded, whole-read}
 use Rattle.codec.specs.Reading.{Took}
@@ -23,7 +23,7 @@ use Rattle.codec.proofs.Loops.{counted as as-many}
 use Rattle.codec.proofs.Places.{places-more, places-count}
 use Rattle.table_read.specs.declared.actions.Actions.{Actions}
 use Rattle.table_read.specs.Ends.{anything, follows, EndsWith, good-at, good-none}
-use Rattle.table_read.specs.ActionIndex.{kindCode, kindAt, nodeOf, placeAt, operandStart, operandEnd, byNode, nodeExists, actionsLaid, noActions, actionIndex, indexRead, actionsOf, Counted, counted, miscounted}
+use Rattle.table_read.specs.ActionIndex.{kindCode, kindAt, nodeOf, placeAt, operandStart, operandEnd, byNode, noActions, actionIndex, indexRead, actionsOf, Counted, counted, miscounted}
 use Rattle.table_read.proofs.Early.{early}
 use Rattle.table_read.proofs.Rising.{laid, Laid, laid-none, laid-more, laid-true, not-laid, laid-fronts}
 use Rattle.table_read.proofs.ActionForms.{was, ends, kind-is}
@@ -33,7 +33,7 @@ abbrev placesTo : List ℕ → ℕ → List ℕ
 placesTo s i = placesFrom (length s) (readAction edition1) i (drop 1 s)
 
 -- ---- refusals
-pub refuse : (s : List ℕ) → ((l : List NodeAction) → actionsIn edition1 s ≡ some l → actionsLaid l ≡ true → ⊥) → noActions ≡ actionsOf s
+pub refuse : (s : List ℕ) → ((l : List NodeAction) → actionsIn edition1 s ≡ some l → actionsNumbered edition1 l ≡ true → ⊥) → noActions ≡ actionsOf s
 unfolding actionsOf indexRead
 refuse s h = go (actionsIn edition1 s) (λ l e. h l e)
   where
@@ -41,11 +41,11 @@ refuse s h = go (actionsIn edition1 s) (λ l e. h l e)
     pick true a h = absurd (h refl)
     pick false a h = refl
 
-    go : (o : Option (List NodeAction)) → ((l : List NodeAction) → o ≡ some l → actionsLaid l ≡ true → ⊥) → noActions ≡ indexRead s o
+    go : (o : Option (List NodeAction)) → ((l : List NodeAction) → o ≡ some l → actionsNumbered edition1 l ≡ true → ⊥) → noActions ≡ indexRead s o
     go none h = refl
-    go (some l) h = pick (actionsLaid l) (actionIndex s l) (h l refl)
+    go (some l) h = pick (actionsNumbered edition1 l) (actionIndex s l) (h l refl)
 
-pub accept : (s : List ℕ) {l : List NodeAction} → actionsIn edition1 s ≡ some l → actionsLaid l ≡ true → actionsOf s ≡ actionIndex s l
+pub accept : (s : List ℕ) {l : List NodeAction} → actionsIn edition1 s ≡ some l → actionsNumbered edition1 l ≡ true → actionsOf s ≡ actionIndex s l
 unfolding actionsOf indexRead
 accept s e h = rw (e, h) refl
 
@@ -89,7 +89,7 @@ times-in (a ∷ s) i g h e = rw (within-both 1 64 a g h, e) refl
 -- ---- the first i actions, the last of which ends at p, are in the lists; the next node is low or above
 pub record Indexing (s : List ℕ) (i p low : ℕ) (ks ss es : List ℕ) : Type 0 where
   pub took : Took (times i (readAction edition1)) anything s 1 p tt
-  pub sound : Laid nodeOf nodeExists (took .value) low
+  pub sound : Laid nodeOf (nodeExists edition1) (took .value) low
   pub kinds : ks ≡ byNode (kindAt (took .value))
   pub starts : ss ≡ byNode (λ n. operandStart (placeAt (took .value) (placesTo s i) n))
   pub stops : es ≡ byNode (λ n. operandEnd s (placeAt (took .value) (placesTo s i) n))
@@ -98,7 +98,7 @@ pub index-start : (s : List ℕ) → 1 ≤ length s → Indexing s 0 1 0 (replic
 unfolding times give byNode kindAt actionAt kindCode operandStart operandEnd
 index-start s h = record {
   took = record { value = []; got = refl; inside = h; means = tt };
-  sound = laid-none nodeOf nodeExists;
+  sound = laid-none nodeOf (nodeExists edition1);
   kinds = listed-zero 64 (kindAt []) (λ n. refl);
   starts = listed-zero 64 _ (λ n. start-none n);
   stops = listed-zero 64 _ (λ n. stop-none n);
@@ -131,18 +131,18 @@ places-more-by f l ps a n p v ss e m new b c h =
 
 -- ---- the action at p, where its node is the next one
 module _ {s : List ℕ} {p : ℕ} (low : ℕ) where
-  pub next-broken : readAction edition1 (drop p s) ≡ broken → EndsWith (readAction edition1) (follows nodeOf nodeExists low) s p 0
+  pub next-broken : readAction edition1 (drop p s) ≡ broken → EndsWith (readAction edition1) (follows nodeOf (nodeExists edition1) low) s p 0
   next-broken h = good-none refl (λ a e k. broken-not-read (sym h ∙ k))
 
-  pub next-low : getD s (p + 1) 0 < low → EndsWith (readAction edition1) (follows nodeOf nodeExists low) s p 0
+  pub next-low : getD s (p + 1) 0 < low → EndsWith (readAction edition1) (follows nodeOf (nodeExists edition1) low) s p 0
   unfolding follows
   next-low h = good-none refl (λ a e k. rw (lt-leb low (a .node) (subst (λ n. n < low) (was s p k .node) h)) refl)
 
-  pub next-high : 64 ≤ getD s (p + 1) 0 → EndsWith (readAction edition1) (follows nodeOf nodeExists low) s p 0
+  pub next-high : 64 ≤ getD s (p + 1) 0 → EndsWith (readAction edition1) (follows nodeOf (nodeExists edition1) low) s p 0
   unfolding follows nodeExists
   next-high h = good-none refl (λ a e k. rw (le-ltb (a .node) 64 (subst (λ n. 64 ≤ n) (was s p k .node) h), and-false (leb low (a .node))) refl)
 
-  pub next-found : {q : ℕ} → (q ≡ 0 → ⊥) → Took (readAction edition1) anything s p q tt → low ≤ getD s (p + 1) 0 → getD s (p + 1) 0 < 64 → EndsWith (readAction edition1) (follows nodeOf nodeExists low) s p q
+  pub next-found : {q : ℕ} → (q ≡ 0 → ⊥) → Took (readAction edition1) anything s p q tt → low ≤ getD s (p + 1) 0 → getD s (p + 1) 0 < 64 → EndsWith (readAction edition1) (follows nodeOf (nodeExists edition1) low) s p q
   unfolding follows nodeExists
   next-found {q} z t h k =
       let node = was s p (t .got) .node in
@@ -150,7 +150,7 @@ module _ {s : List ℕ} {p : ℕ} (low : ℕ) where
       good-at {q = q} (omega arith) (record { value = t .value; got = t .got; inside = t .inside; means = and-both (le-leb low n (subst (λ n. low ≤ n) node h)) (lt-ltb n 64 (subst (λ n. n < 64) node k)) })
 
 abbrev Next : List ℕ → ℕ → ℕ → ℕ → Type 0
-Next s p q low = Took (readAction edition1) (λ a (x : Unit {0}). follows nodeOf nodeExists low a ≡ true) s p q tt
+Next s p q low = Took (readAction edition1) (λ a (x : Unit {0}). follows nodeOf (nodeExists edition1) low a ≡ true) s p q tt
 
 -- its node is the next one, and there is one
 pub next-node : {s : List ℕ} {p q low : ℕ} → Next s p q low → (low ≤ getD s (p + 1) 0) × (getD s (p + 1) 0 < 64)
@@ -177,20 +177,20 @@ module _ {s : List ℕ} {i p low : ℕ} {ks ss es : List ℕ} (x : Indexing s i 
       let three : p + 3 ≡ p + 1 + 1 + 1 = omega arith in
       record {
         took = record { value = done ++ (a ∷ []); got = rw add-one (snoc (readAction edition1) i (drop 1 s) (x .took .got) (u .got)); inside = u .inside; means = tt };
-        sound = subst (λ n. Laid nodeOf nodeExists (done ++ (a ∷ [])) (n + 1)) (sym node) (laid-more nodeOf nodeExists a (x .sound) (u .means));
+        sound = subst (λ n. Laid nodeOf (nodeExists edition1) (done ++ (a ∷ [])) (n + 1)) (sym node) (laid-more nodeOf (nodeExists edition1) a (x .sound) (u .means));
         kinds = kinds-more done a _ _ ks (x .kinds) node new (kind-is _ _ (w .is)) k;
         starts = places-more-by operandStart done (placesTo s i) a _ p _ ss (x .starts) node new counts three k ∙ ap (λ ps. byNode (λ m. operandStart (placeAt (done ++ (a ∷ [])) ps m))) (sym more);
         stops = places-more-by (operandEnd s) done (placesTo s i) a _ p _ es (x .stops) node new counts (sym (ends u w)) k ∙ ap (λ ps. byNode (λ m. operandEnd s (placeAt (done ++ (a ∷ [])) ps m))) (sym more);
       }
 
 -- ---- a loop that stops early
-laid-is : (l : List NodeAction) → actionsLaid l ≡ laid nodeOf nodeExists l
-unfolding actionsLaid actionNodes laid
+laid-is : (l : List NodeAction) → actionsNumbered edition1 l ≡ laid nodeOf (nodeExists edition1) l
+unfolding actionsNumbered actionNodes laid
 laid-is l = refl
 
-pub index-stop : {s : List ℕ} {i p low n : ℕ} {ks ss es : List ℕ} (x : Indexing s i p low ks ss es) → Count s n → i < n → ((a : NodeAction) (e : List ℕ) → readAction edition1 (drop p s) ≡ read a e → follows nodeOf nodeExists low a ≡ false) → noActions ≡ actionsOf s
+pub index-stop : {s : List ℕ} {i p low n : ℕ} {ks ss es : List ℕ} (x : Indexing s i p low ks ss es) → Count s n → i < n → ((a : NodeAction) (e : List ℕ) → readAction edition1 (drop p s) ≡ read a e → follows nodeOf (nodeExists edition1) low a ≡ false) → noActions ≡ actionsOf s
 index-stop {s} {i} x c h bad =
-    refuse s (λ l e g. early (readAction edition1) (laid nodeOf nodeExists) (laid-fronts nodeOf nodeExists) i (x .took) h (λ a r k. not-laid nodeOf nodeExists a (x .sound) (bad a r k)) (in-times c e) (sym (laid-is l) ∙ g))
+    refuse s (λ l e g. early (readAction edition1) (laid nodeOf (nodeExists edition1)) (laid-fronts nodeOf (nodeExists edition1)) i (x .took) h (λ a r k. not-laid nodeOf (nodeExists edition1) a (x .sound) (bad a r k)) (in-times c e) (sym (laid-is l) ∙ g))
 
 -- ---- after the last turn
 module _ {s : List ℕ} {i p low n : ℕ} {ks ss es : List ℕ} (x : Indexing s i p low ks ss es) (c : Count s n) (e : i ≡ n) where
@@ -215,7 +215,7 @@ module _ {s : List ℕ} {i p low n : ℕ} {ks ss es : List ℕ} (x : Indexing s 
       same (sym e ∙ sym m) (x .kinds)
       (x .starts ∙ ap (λ j. byNode (λ m. operandStart (placeAt l (placesTo s j) m))) (sym m))
       (x .stops ∙ ap (λ j. byNode (λ m. operandEnd s (placeAt l (placesTo s j) m))) (sym m))
-      ∙ sym (accept s (all-read k) (laid-is l ∙ laid-true nodeOf nodeExists (x .sound)))
+      ∙ sym (accept s (all-read k) (laid-is l ∙ laid-true nodeOf (nodeExists edition1) (x .sound)))
     where
       same : {c d : ℕ} {ks ls ss ts es fs : List ℕ} → c ≡ d → ks ≡ ls → ss ≡ ts → es ≡ fs → _≡_ {A = Actions} (record { refusal = 0; count = c; kinds = ks; starts = ss; ends = es }) (record { refusal = 0; count = d; kinds = ls; starts = ts; ends = fs })
       same h i j k = cc

@@ -1,41 +1,20 @@
--- 18 in two parts: the node numbers, and the operands, which can be looked at node by node.
+-- 18 of the operands: they can be looked at node by node.
 use mathlib.Core.Path.{_≡_, refl, sym, ap, _∙_}
-use mathlib.Core.Bool.{Bool, true, false, _&&_, and-false}
+use mathlib.Core.Bool.{Bool, true, false}
 use mathlib.Core.List.{List, [], _∷_, map}
 use mathlib.Core.Option.{Option, some}
 use Prim.Native.Nat.{ℕ, suc, _≤_, _<_}
 use native.Mathlib.Omega.{arith}
 use borrow.Author.Tests.{eq-eqb, ne-eqb, leb-true, ltb-true}
 use lib.Dec.{eqb, leb}
-use lib.ListN.{length}
 use Rattle.semantics.specs.Bytes.{every}
 use Rattle.semantics.specs.Editions.{edition1}
 use Rattle.semantics.specs.Run.{Action}
-use Rattle.semantics.specs.Plant.{Plant, selectors}
 use Rattle.semantics.specs.TableFile.{NodeAction}
-use Rattle.semantics.specs.Tables.{risingFrom, operandFits, actionFits, actionNodes, actionsFit, actionAt}
+use Rattle.semantics.specs.Tables.{risingFrom, actionNodes, actionAt, nodeExists, actionsNumbered}
 use Rattle.semantics.proofs.Facts.{All, all-nil, all-cons, all-map, every-all, all-every, true-not-false, none-not-some, some-is, and-left, and-right}
-use Rattle.table_read.specs.ActionIndex.{nodeOf, nodeExists, actionsLaid, operandsFit}
+use Rattle.table_read.specs.ActionIndex.{nodeOf}
 
-every-and : {A : Type 0} (f g : A → Bool) (l : List A) → every (λ a. f a && g a) l ≡ (every f l && every g l)
-unfolding every
-every-and f g [] = refl
-every-and f g (a ∷ l) = go (f a) (g a) (every (λ a. f a && g a) l) (every f l) (every g l) (every-and f g l)
-  where
-    go : (b c u v w : Bool) → u ≡ (v && w) → elim (b && c) [ true ↦ u | false ↦ false ] ≡ (elim b [ true ↦ v | false ↦ false ] && elim c [ true ↦ w | false ↦ false ])
-    go true true u v w h = h
-    go true false u v w h = sym (and-false v)
-    go false c u v w h = refl
-
-pub fit-parts : (p : Plant) (l : List NodeAction) → actionsFit edition1 p l ≡ (actionsLaid l && operandsFit p l)
-unfolding actionsFit actionFits actionsLaid nodeExists operandsFit
-fit-parts p l = regroup (risingFrom 0 (actionNodes l)) _ _ _ (every-and nodeExists (λ a. operandFits edition1 (length (p .variables)) (selectors p) (a .action)) l)
-  where
-    regroup : (r u v w : Bool) → u ≡ (v && w) → (r && u) ≡ ((r && v) && w)
-    regroup true u v w h = h
-    regroup false u v w h = refl
-
--- ---- by node
 found-all : (low : ℕ) (l : List NodeAction) → risingFrom low (map nodeOf l) ≡ true → All (λ a. (low ≤ a .node) × (actionAt l (a .node) ≡ some (a .action))) l
 unfolding risingFrom actionAt
 found-all low [] h = all-nil
@@ -55,11 +34,11 @@ both-all f all-nil all-nil = all-nil
 both-all f (all-cons {x = x} h p) (all-cons i q) = all-cons (f x h i) (both-all f p q)
 
 -- a test of actions that each node's action passes, all of them pass
-pub every-by-node : (fits : Action → Bool) (l : List NodeAction) → actionsLaid l ≡ true → ((n : ℕ) (a : Action) → n < 64 → actionAt l n ≡ some a → fits a ≡ true) → every (λ a. fits (a .action)) l ≡ true
-unfolding actionsLaid actionNodes nodeExists
+pub every-by-node : (fits : Action → Bool) (l : List NodeAction) → actionsNumbered edition1 l ≡ true → ((n : ℕ) (a : Action) → n < 64 → actionAt l n ≡ some a → fits a ≡ true) → every (λ a. fits (a .action)) l ≡ true
+unfolding actionsNumbered actionNodes nodeExists
 every-by-node fits l h f =
     all-every (λ a. fits (a .action)) (both-all (λ x p q. f (x .node) (x .action) (ltb-true (x .node) 64 q) (p .1))
-    (found-all 0 l (and-left (risingFrom 0 (map nodeOf l)) (every nodeExists l) h)) (every-all nodeExists l (and-right (risingFrom 0 (map nodeOf l)) (every nodeExists l) h)))
+    (found-all 0 l (and-left (risingFrom 0 (map nodeOf l)) (every (nodeExists edition1) l) h)) (every-all (nodeExists edition1) l (and-right (risingFrom 0 (map nodeOf l)) (every (nodeExists edition1) l) h)))
 
 -- and back
 pub by-node-every : (fits : Action → Bool) (l : List NodeAction) (n : ℕ) {a : Action} → every (λ a. fits (a .action)) l ≡ true → actionAt l n ≡ some a → fits a ≡ true

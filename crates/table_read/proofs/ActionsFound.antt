@@ -13,7 +13,7 @@ use Rattle.semantics.specs.Bytes.{every, read, give, times}
 use Rattle.semantics.specs.Editions.{edition1}
 use Rattle.semantics.specs.Run.{Action, test, wait, assign, switch, stop}
 use Rattle.semantics.specs.TableFile.{NodeAction, actionKind, actionOfKind, readAction, readActions, actionsIn}
-use Rattle.semantics.specs.Tables.{risingFrom, actionNodes, actionAt}
+use Rattle.semantics.specs.Tables.{risingFrom, actionNodes, actionAt, nodeExists, actionsNumbered}
 use Rattle.semantics.proofs.Facts.{All, all-nil, all-cons, every-all, none-not-some, some-is, and-right}
 use Rattle.semantics.proofs.Readers.{read-value, guarded, whole-read}
 use Rattle.codec.specs.Places.{placesFrom}
@@ -21,41 +21,41 @@ use Rattle.codec.proofs.Known.{cons, times-length, after-number, not-number}
 use Rattle.codec.proofs.Reading.{either}
 use Rattle.codec.proofs.Places.{Takes, takes-then, takes-guard, takes-byte, takes-number, takes-bytes, takes-from, takes-give, places-next}
 use Rattle.table_read.specs.declared.actions.Actions.{Actions}
-use Rattle.table_read.specs.ActionIndex.{kindCode, kindAt, KindsSay, placeAt, operandStart, operandEnd, byNode, nodeExists, actionsLaid, noActions, actionIndex, indexRead, actionsOf}
+use Rattle.table_read.specs.ActionIndex.{kindCode, kindAt, KindsSay, placeAt, operandStart, operandEnd, byNode, noActions, actionIndex, indexRead, actionsOf}
 use Rattle.table_read.proofs.ActionForms.{was, kind-is}
 use Rattle.table_read.proofs.ByNode.{listed-length, listed-at}
 use Rattle.table_read.proofs.ActionLoop.{accept}
 
 -- ---- where nothing is refused
-pub accepted-actions : (s : List ℕ) → actionsOf s .refusal ≡ 0 → (l : List NodeAction) × (actionsIn edition1 s ≡ some l) × (actionsLaid l ≡ true)
+pub accepted-actions : (s : List ℕ) → actionsOf s .refusal ≡ 0 → (l : List NodeAction) × (actionsIn edition1 s ≡ some l) × (actionsNumbered edition1 l ≡ true)
 unfolding actionsOf indexRead
 accepted-actions s h = go (actionsIn edition1 s) refl h
   where
-    pick : (l : List NodeAction) (b : Bool) → actionsIn edition1 s ≡ some l → actionsLaid l ≡ b → cond b (actionIndex s l) noActions .refusal ≡ 0 → (l : List NodeAction) × (actionsIn edition1 s ≡ some l) × (actionsLaid l ≡ true)
+    pick : (l : List NodeAction) (b : Bool) → actionsIn edition1 s ≡ some l → actionsNumbered edition1 l ≡ b → cond b (actionIndex s l) noActions .refusal ≡ 0 → (l : List NodeAction) × (actionsIn edition1 s ≡ some l) × (actionsNumbered edition1 l ≡ true)
     pick l true e k h = (l, e, k)
     pick l false e k h = absurd (omega arith)
 
-    go : (o : Option (List NodeAction)) → actionsIn edition1 s ≡ o → indexRead s o .refusal ≡ 0 → (l : List NodeAction) × (actionsIn edition1 s ≡ some l) × (actionsLaid l ≡ true)
+    go : (o : Option (List NodeAction)) → actionsIn edition1 s ≡ o → indexRead s o .refusal ≡ 0 → (l : List NodeAction) × (actionsIn edition1 s ≡ some l) × (actionsNumbered edition1 l ≡ true)
     go none e h = absurd (omega arith)
-    go (some l) e h = pick l (actionsLaid l) e refl h
+    go (some l) e h = pick l (actionsNumbered edition1 l) e refl h
 
 -- where something is
-pub refused-actions : (s : List ℕ) → (actionsOf s .refusal ≡ 0 → ⊥) → (actionsOf s .refusal ≡ 18) × ((l : List NodeAction) → actionsIn edition1 s ≡ some l → actionsLaid l ≡ false)
+pub refused-actions : (s : List ℕ) → (actionsOf s .refusal ≡ 0 → ⊥) → (actionsOf s .refusal ≡ 18) × ((l : List NodeAction) → actionsIn edition1 s ≡ some l → actionsNumbered edition1 l ≡ false)
 unfolding actionsOf indexRead actionIndex
 refused-actions s h = go (actionsIn edition1 s) h
   where
-    pick : (l : List NodeAction) (b : Bool) → actionsLaid l ≡ b → (cond b (actionIndex s l) noActions .refusal ≡ 0 → ⊥) → (cond b (actionIndex s l) noActions .refusal ≡ 18) × ((k : List NodeAction) → some l ≡ some k → actionsLaid k ≡ false)
+    pick : (l : List NodeAction) (b : Bool) → actionsNumbered edition1 l ≡ b → (cond b (actionIndex s l) noActions .refusal ≡ 0 → ⊥) → (cond b (actionIndex s l) noActions .refusal ≡ 18) × ((k : List NodeAction) → some l ≡ some k → actionsNumbered edition1 k ≡ false)
     pick l true e h = absurd (h refl)
-    pick l false e h = (refl, λ k i. ap actionsLaid (sym (some-is i)) ∙ e)
+    pick l false e h = (refl, λ k i. ap (actionsNumbered edition1) (sym (some-is i)) ∙ e)
 
-    go : (o : Option (List NodeAction)) → (indexRead s o .refusal ≡ 0 → ⊥) → (indexRead s o .refusal ≡ 18) × ((l : List NodeAction) → o ≡ some l → actionsLaid l ≡ false)
+    go : (o : Option (List NodeAction)) → (indexRead s o .refusal ≡ 0 → ⊥) → (indexRead s o .refusal ≡ 18) × ((l : List NodeAction) → o ≡ some l → actionsNumbered edition1 l ≡ false)
     go none h = (refl, λ l e. none-not-some e)
-    go (some l) h = pick l (actionsLaid l) refl h
+    go (some l) h = pick l (actionsNumbered edition1 l) refl h
 
-pub laid-actions : (s : List ℕ) {l : List NodeAction} → actionsIn edition1 s ≡ some l → actionsOf s .refusal ≡ 0 → actionsLaid l ≡ true
+pub laid-actions : (s : List ℕ) {l : List NodeAction} → actionsIn edition1 s ≡ some l → actionsOf s .refusal ≡ 0 → actionsNumbered edition1 l ≡ true
 laid-actions s {l} e h =
     let k = accepted-actions s h in
-    subst (λ l. actionsLaid l ≡ true) (some-is (sym (k .1) ∙ e)) (k .2)
+    subst (λ l. actionsNumbered edition1 l ≡ true) (some-is (sym (k .1) ∙ e)) (k .2)
 
 -- the index is that of the actions
 pub index-is : (s : List ℕ) {l : List NodeAction} → actionsIn edition1 s ≡ some l → actionsOf s .refusal ≡ 0 → actionsOf s ≡ actionIndex s l
@@ -198,22 +198,22 @@ module _ (s : List ℕ) {l : List NodeAction} (e : actionsIn edition1 s ≡ some
       go (one-action j z b c o) = (b, c)
 
 -- ---- the kinds by node say what the actions are
-pub nowhere-above : (l : List NodeAction) (n : ℕ) → every nodeExists l ≡ true → 64 ≤ n → actionAt l n ≡ none
+pub nowhere-above : (l : List NodeAction) (n : ℕ) → every (nodeExists edition1) l ≡ true → 64 ≤ n → actionAt l n ≡ none
 unfolding actionAt nodeExists
-nowhere-above l n h k = go (every-all nodeExists l h)
+nowhere-above l n h k = go (every-all (nodeExists edition1) l h)
   where
-    go : {l : List NodeAction} → All (λ a. nodeExists a ≡ true) l → actionAt l n ≡ none
+    go : {l : List NodeAction} → All (λ a. nodeExists edition1 a ≡ true) l → actionAt l n ≡ none
     go all-nil = refl
     go (all-cons {x = a} h p) =
         let i = ltb-true (a .node) 64 h in
         rw (actionAt, ne-eqb (a .node) n (λ e. omega arith)) (go p)
 
 pub kinds-say : (s : List ℕ) {l : List NodeAction} → actionsIn edition1 s ≡ some l → actionsOf s .refusal ≡ 0 → KindsSay l (actionsOf s .kinds)
-unfolding actionsLaid actionIndex byNode kindAt kindCode
+unfolding actionsNumbered actionIndex byNode kindAt kindCode
 kinds-say s {l} e h = record { says = λ n. ap (λ x. getD (x .kinds) n 0) (index-is s e h) ∙ either n 64 (λ k. listed-at 64 (kindAt l) n k) (λ k. List·getD-eq-default (byNode (kindAt l)) 0 (size k) ∙ sym (ap kindCode (nowhere-above l n exist k))) }
   where
-    exist : every nodeExists l ≡ true
-    exist = and-right (risingFrom 0 (actionNodes l)) (every nodeExists l) (laid-actions s e h)
+    exist : every (nodeExists edition1) l ≡ true
+    exist = and-right (risingFrom 0 (actionNodes l)) (every (nodeExists edition1) l) (laid-actions s e h)
 
     size : {n : ℕ} → 64 ≤ n → length (byNode (kindAt l)) ≤ n
     size k = let z = listed-length 64 (kindAt l) in omega arith

@@ -6,40 +6,25 @@ use mathlib.Core.Option.{Option, none, some}
 use Prim.Native.Nat.{ℕ, suc, _+_, _-_, _≤_, _<_}
 use native.Mathlib.Omega.{arith}
 use borrow.Author.Tests.{ne-eqb, lt-ltb, le-ltb}
-use lib.Dec.{ltb, eqb}
+use lib.Dec.{eqb}
 use lib.ListN.{length, getD, take, drop}
 use lib.Seq.{take-all}
 use Rattle.semantics.specs.Bytes.{every, isSome, noBytes, twoBytes, byteAndRest}
 use Rattle.semantics.specs.Editions.{edition1}
 use Rattle.semantics.specs.Expressions.{numberIn, truthIn}
 use Rattle.semantics.specs.Sections.{Selector}
-use Rattle.semantics.specs.Plant.{modeExists}
+use Rattle.semantics.specs.Plant.{selectors, modeExists}
 use Rattle.semantics.specs.Run.{Action}
 use Rattle.semantics.specs.TableFile.{NodeAction, an-assignment, a-switch, a-stop, no-kind, actionKind, actionOfKind, actionsIn}
-use Rattle.semantics.specs.Tables.{operandFits, actionAt}
-use Rattle.semantics.proofs.Facts.{true-not-false, at-exists, by-cases}
-use Rattle.codec.proofs.Known.{past-end}
+use Rattle.semantics.specs.Tables.{operandFits, operandsFit, actionAt}
+use Rattle.semantics.proofs.Facts.{true-not-false, by-cases}
 use Rattle.codec.proofs.Reading.{either}
 use Rattle.table_read.specs.declared.actions.Actions.{Actions}
 use Rattle.table_read.specs.ActionIndex.{actionsOf}
-use Rattle.table_read.specs.OperandForms.{ModesAt, fitsHere}
+use Rattle.plant.specs.ModeCounts.{ModesAt}
+use Rattle.table_read.specs.OperandForms.{fitsHere, AllFit}
 use Rattle.table_read.proofs.ActionsFound.{Here, no-action, one-action, action-here, accepted-actions, laid-actions, operand-inside as inside-here}
 use Rattle.table_read.proofs.ActionsFit.{every-by-node, by-node-every}
-
--- ---- a selector and a mode
-judged : (m : ℕ) → Option Selector → Bool
-judged m o = elim o [ none ↦ false | some c ↦ ltb m (length (c .modes)) ]
-
-module _ {counts : List ℕ} {n : ℕ} {cs : List Selector} (d : ModesAt counts n cs) (c m : ℕ) where
-  pub no-selector : n ≤ c → false ≡ modeExists cs c m
-  unfolding modeExists judged
-  no-selector h = sym (ap (judged m) (past-end cs c (omega (arith, d .counted))))
-
-  pub selector : c < n → ltb m (getD counts c 0) ≡ modeExists cs c m
-  unfolding modeExists judged
-  selector h =
-      let x = at-exists cs c (omega (arith, d .counted)) in
-      ap (ltb m) (d .entries c (x .1)) ∙ sym (ap (judged m) (x .1))
 
 -- ---- the forms of an operand
 module _ (v : ℕ) (cs : List Selector) where
@@ -130,8 +115,13 @@ module _ (s : List ℕ) {x : Actions} (q : x ≡ actionsOf s) (z : x .refusal �
 pub record Fitting (s : List ℕ) (v n : ℕ) (counts : List ℕ) (i : ℕ) : Type 0 where
   pub of : (cs : List Selector) → ModesAt counts n cs → (l : List NodeAction) → actionsIn edition1 s ≡ some l → (m : ℕ) → m < i → fitsHere v cs (actionAt l m) ≡ true
 
-abbrev pub AllFit : List ℕ → ℕ → ℕ → List ℕ → Bool → Type 0
-AllFit s v n counts r = (cs : List Selector) → ModesAt counts n cs → (l : List NodeAction) → actionsIn edition1 s ≡ some l → r ≡ every (λ (a : NodeAction). operandFits edition1 v cs (a .action)) l
+-- by any selectors
+abbrev AllFitted : List ℕ → ℕ → ℕ → List ℕ → Bool → Type 0
+AllFitted s v n counts r = (cs : List Selector) → ModesAt counts n cs → (l : List NodeAction) → actionsIn edition1 s ≡ some l → r ≡ every (λ (a : NodeAction). operandFits edition1 v cs (a .action)) l
+
+of-plant : (s : List ℕ) (v n : ℕ) (counts : List ℕ) {r : Bool} → AllFitted s v n counts r → AllFit s v n counts r
+unfolding operandsFit
+of-plant s v n counts f p w d l e = f (selectors p) d l e ∙ ap (λ n. every (λ (a : NodeAction). operandFits edition1 n (selectors p) (a .action)) l) w
 
 pub fit-start : {s : List ℕ} {v n : ℕ} {counts : List ℕ} → Fitting s v n counts 0
 fit-start = record { of = λ cs d l e m h. absurd (omega arith) }
@@ -143,14 +133,17 @@ module _ (s : List ℕ) {x : Actions} (q : x ≡ actionsOf s) (z : x .refusal �
   pub fit-next : r ≡ true → Fitting s v n counts i → Fitting s v n counts (i + 1)
   fit-next h f = record { of = λ cs d l e m b. either m i (λ j. f .of cs d l e m j) (λ j. let y : m ≡ i = omega arith in ap (λ o. fitsHere v cs (actionAt l o)) y ∙ sym (told cs d e) ∙ h) }
 
-  pub fit-stop : r ≡ false → AllFit s v n counts false
+  unfit : r ≡ false → AllFitted s v n counts false
   unfolding fitsHere
-  fit-stop h cs d l e = by-cases (every (λ (a : NodeAction). operandFits edition1 v cs (a .action)) l) (λ y. go y (actionAt l i) refl) (λ y. sym y)
+  unfit h cs d l e = by-cases (every (λ (a : NodeAction). operandFits edition1 v cs (a .action)) l) (λ y. go y (actionAt l i) refl) (λ y. sym y)
     where
       go : every (λ (a : NodeAction). operandFits edition1 v cs (a .action)) l ≡ true → (o : Option Action) → actionAt l i ≡ o → false ≡ every (λ (a : NodeAction). operandFits edition1 v cs (a .action)) l
       go y none p = true-not-false (sym (told cs d e ∙ ap (fitsHere v cs) p) ∙ h)
       go y (some a) p = true-not-false (sym (by-node-every (operandFits edition1 v cs) l i y p) ∙ sym (told cs d e ∙ ap (fitsHere v cs) p) ∙ h)
 
+  pub fit-stop : r ≡ false → AllFit s v n counts false
+  fit-stop h = of-plant s v n counts (unfit h)
+
 pub fit-end : (s : List ℕ) {x : Actions} → x ≡ actionsOf s → x .refusal ≡ 0 → (v n : ℕ) (counts : List ℕ) {i : ℕ} → 64 ≤ i → Fitting s v n counts i → AllFit s v n counts true
 unfolding fitsHere
-fit-end s q z v n counts h f cs d l e = sym (every-by-node (operandFits edition1 v cs) l (laid-actions s e (sym (ap (λ (x : Actions). x .refusal) q) ∙ z)) (λ n a k p. sym (ap (fitsHere v cs) p) ∙ f .of cs d l e n (omega arith)))
+fit-end s q z v n counts h f = of-plant s v n counts (λ cs d l e. sym (every-by-node (operandFits edition1 v cs) l (laid-actions s e (sym (ap (λ (x : Actions). x .refusal) q) ∙ z)) (λ n a k p. sym (ap (fitsHere v cs) p) ∙ f .of cs d l e n (omega arith))))

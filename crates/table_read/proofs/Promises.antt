@@ -14,7 +14,7 @@ use Rattle.semantics.specs.Refusals.{Judged, refused, accepted, refusalOf}
 use Rattle.semantics.specs.Plant.{Plant, judgePlant, switchesRead, selectors}
 use Rattle.semantics.specs.Run.{Action, test, wait, assign, switch, stop, isTest, possible}
 use Rattle.semantics.specs.TableFile.{NodeAction, Entry, FINISHED, HALTED, NONE, actionKind, actionOfKind, actionsIn, locationsIn}
-use Rattle.semantics.specs.Tables.{Table, risingFrom, operandFits, actionNodes, actionAt, goesOn, targetsFit, entryFits, entryNodes, locationFits, locationsFit, judgeTable}
+use Rattle.semantics.specs.Tables.{actionsFit, Table, risingFrom, operandFits, actionNodes, actionAt, goesOn, targetsFit, entryFits, entryNodes, locationFits, locationsFit, judgeTable, operandsFit, nodeExists, actionsNumbered}
 use Rattle.semantics.specs.Conditions.{Condition, First, here, further, Firsts, refuses, accepts, _if_, is15, is16, is17, is18, is19, tableConditions}
 use Rattle.semantics.proofs.Facts.{All, all-nil, all-cons, all-map, every-all, by-cases, true-not-false, none-not-some, some-is, and-left, and-right}
 use Rattle.semantics.proofs.Judging.{refused-not-accepted, refused-is}
@@ -27,7 +27,7 @@ use Rattle.table_read.specs.declared.actions.Actions.{Actions}
 use Rattle.table_read.specs.declared.locations.Locations.{Locations}
 use Rattle.table_read.specs.declared.call.TableIndex.{TableIndex}
 use Rattle.table_read.specs.TableParts.{partsIn, partsOf, sectionsAt}
-use Rattle.table_read.specs.ActionIndex.{nodeExists, actionsLaid, operandsFit, actionIndex, byNode, actionsOf}
+use Rattle.table_read.specs.ActionIndex.{actionIndex, byNode, actionsOf}
 use Rattle.table_read.specs.LocationIndex.{locationIndex, locationsOf}
 use Rattle.table_read.specs.Promised.{LocationPromised, Leads, leads-to, finishes, halts}
 use Rattle.table_read.specs.TableIndex.{indexOf, tableIndex}
@@ -36,7 +36,7 @@ use Rattle.table_read.proofs.ByNode.{listed-length}
 use Rattle.table_read.proofs.ActionLoop.{accept as actions-accept}
 use Rattle.table_read.proofs.LocationLoop.{accept as locations-accept}
 use Rattle.table_read.proofs.ActionsFound.{Here, no-action, one-action, action-here, index-is, laid-actions, nowhere-above}
-use Rattle.table_read.proofs.ActionsFit.{fit-parts, by-node-every}
+use Rattle.table_read.proofs.ActionsFit.{by-node-every}
 use Rattle.table_read.proofs.LocationsFound.{location-at, location-entries, count-is, count-bounds, places-full}
 use Rattle.table_read.proofs.OperandTurns.{operandOf}
 
@@ -96,19 +96,19 @@ pub record Opened (t : List ℕ) (tb : Table) : Type 0 where
   pub switches : switchesRead edition1 (tb .plant) ≡ true
   pub actions : actionsIn edition1 (sectionsAt t (partsOf t) .actions) ≡ some (tb .actions)
   pub actions-passed : actionsOf (sectionsAt t (partsOf t) .actions) .refusal ≡ 0
-  pub operands : operandsFit (tb .plant) (tb .actions) ≡ true
+  pub operands : operandsFit edition1 (tb .plant) (tb .actions) ≡ true
   pub locations : locationsIn edition1 (sectionsAt t (partsOf t) .locations) ≡ some (tb .locations)
   pub locations-fit : locationsFit (tb .actions) (tb .locations) ≡ true
   pub locations-passed : locationsOf (tb .actions) (sectionsAt t (partsOf t) .locations) .refusal ≡ 0
 
 pub opened : (t : List ℕ) {tb : Table} → judgeTable edition1 t ≡ accepted tb → Opened t tb
-unfolding partsIn actionIndex locationIndex
+unfolding partsIn actionIndex locationIndex actionsFit
 opened t {tb} e =
     let k = table-passed edition1 t e in
     let z : partsOf t .refusal ≡ 0 = ap (λ (p : Parts). p .refusal) (read-parts t (k .header) (k .is-parts)) in
     let s = some-is (sym (k .is-parts) ∙ parts-are t z) in
-    let f = sym (fit-parts (tb .plant) (tb .actions)) ∙ k .acts-fit in
-    let laid = and-left (actionsLaid (tb .actions)) (operandsFit (tb .plant) (tb .actions)) f in
+    let f = k .acts-fit in
+    let laid = and-left (actionsNumbered edition1 (tb .actions)) (operandsFit edition1 (tb .plant) (tb .actions)) f in
     let acts : actionsIn edition1 (sectionsAt t (partsOf t) .actions) ≡ some (tb .actions) = ap (λ s. actionsIn edition1 (s .actions)) (sym s) ∙ k .acts in
     let locs : locationsIn edition1 (sectionsAt t (partsOf t) .locations) ≡ some (tb .locations) = ap (λ s. locationsIn edition1 (s .locations)) (sym s) ∙ k .locs in
     let a = accepted-parts t z in
@@ -118,7 +118,7 @@ opened t {tb} e =
       switches = k .switches;
       actions = acts;
       actions-passed = ap (λ (x : Actions). x .refusal) (actions-accept _ acts laid);
-      operands = and-right (actionsLaid (tb .actions)) (operandsFit (tb .plant) (tb .actions)) f;
+      operands = and-right (actionsNumbered edition1 (tb .actions)) (operandsFit edition1 (tb .plant) (tb .actions)) f;
       locations = locs;
       locations-fit = k .locs-fit;
       locations-passed = ap (λ (x : Locations). x .refusal) (locations-accept (tb .actions) _ locs (k .locs-fit));
@@ -150,9 +150,9 @@ pub record ActionPromised (s : List ℕ) (x : Actions) (p : Plant) (n : ℕ) (a 
   pub is : actionOfKind (actionKind (getD (x .kinds) n 0)) (operandOf s x n) ≡ some a
   pub fits : operandFits edition1 (length (p .variables)) (selectors p) a ≡ true
 
-nodes-below : (l : List NodeAction) (n : ℕ) {a : Action} → actionsLaid l ≡ true → actionAt l n ≡ some a → n < 64
-unfolding actionsLaid
-nodes-below l n h e = either n 64 (λ i. i) (λ i. none-not-some (sym (nowhere-above l n (and-right (risingFrom 0 (actionNodes l)) (every nodeExists l) h) i) ∙ e))
+nodes-below : (l : List NodeAction) (n : ℕ) {a : Action} → actionsNumbered edition1 l ≡ true → actionAt l n ≡ some a → n < 64
+unfolding actionsNumbered
+nodes-below l n h e = either n 64 (λ i. i) (λ i. none-not-some (sym (nowhere-above l n (and-right (risingFrom 0 (actionNodes l)) (every (nodeExists edition1) l) h) i) ∙ e))
 
 pub action-promised : (t : List ℕ) {tb : Table} → Opened t tb → {x : Actions} → x ≡ actionsOf (sectionsAt t (partsOf t) .actions) → (n : ℕ) {a : Action} → actionAt (tb .actions) n ≡ some a → ActionPromised (sectionsAt t (partsOf t) .actions) x (tb .plant) n a
 unfolding operandsFit

@@ -12,30 +12,27 @@ use Rattle.semantics.specs.Refusals.{Judged, refused, accepted, oneNumber, need
 use Rattle.semantics.specs.Sections.{Selector, Equation, equationsIn}
 use Rattle.semantics.specs.Plant.{Plant, judgePlant, switchesRead, equationReads, selectorsOf, selectors}
 use Rattle.semantics.specs.TableFile.{NodeAction, Entry, TableSections, tableSectionsIn, actionsIn, locationsIn}
-use Rattle.semantics.specs.Tables.{Table, tableHeader, operandFits, actionsFit, locationsFit, judgeTable}
+use Rattle.semantics.specs.Tables.{Table, tableHeader, operandFits, actionsFit, locationsFit, judgeSections, judgeTable, operandsFit, actionsNumbered}
 use Rattle.semantics.proofs.Judging.{go-then, go-need, go-ensure, go-only}
-use Rattle.plant.specs.Equations.{modeCount}
+use Rattle.plant.specs.ModeCounts.{ModesAt}
 use Rattle.plant.specs.Sound.{There}
 use Rattle.plant.specs.PlantRead.{refusedPlant, acceptedPlant, plantAnswer, plantOf}
 use Rattle.plant.specs.declared.sections.PlantRead.{PlantRead}
-use Rattle.codec.proofs.Padding.{length-pad}
-use Rattle.plant.proofs.EquationLaws.{few-selectors, mode-count-at}
-use Rattle.plant.proofs.PlantLaws.{passed-all, passes, variables-of, variables-high, selectors-of, modes-of}
+use Rattle.plant.proofs.ModeCounts.{modes-held, modes-full, modes-room}
+use Rattle.plant.proofs.PlantLaws.{passed-all, passes, variables-of, variables-high}
 use Rattle.table_read.specs.declared.parts.Parts.{Parts}
 use Rattle.table_read.specs.declared.actions.Actions.{Actions}
 use Rattle.table_read.specs.declared.locations.Locations.{Locations}
 use Rattle.table_read.specs.declared.call.TableIndex.{TableIndex}
 use Rattle.table_read.specs.TableParts.{noParts, partsIn, partsRead, partsOf, sectionsAt}
-use Rattle.table_read.specs.ActionIndex.{noActions, actionsLaid, operandsFit, actionsOf}
-use Rattle.table_read.specs.OperandForms.{ModesAt}
+use Rattle.table_read.specs.ActionIndex.{noActions, actionsOf}
+use Rattle.table_read.specs.OperandForms.{AllFit}
 use Rattle.table_read.specs.LocationIndex.{noLocations, actionsLike, locationsOf}
-use Rattle.table_read.specs.TableIndex.{noTable, indexOf, tableIndex, judgeSections, sectionsFrom, sectionsIndex}
+use Rattle.table_read.specs.TableIndex.{noTable, indexOf, tableIndex, sectionsFrom, sectionsIndex}
 use Rattle.table_read.proofs.PartsStand.{AllStand, refused-15, refused-16, accepted-parts, parts-are}
 use Rattle.table_read.proofs.ActionsFound.{accepted-actions, refused-actions, kinds-say}
-use Rattle.table_read.proofs.ActionsFit.{fit-parts}
 use Rattle.table_read.proofs.LikeKinds.{locations-like}
 use Rattle.table_read.proofs.LocationsFound.{accepted-locations, refused-locations}
-use Rattle.table_read.proofs.OperandTurns.{AllFit}
 
 index-refused : (p : Parts) (s : TableSections) {j : Judged Table} {n : ℕ} → j ≡ refused n → noTable n ≡ indexOf p s j
 unfolding indexOf
@@ -66,23 +63,46 @@ module _ (t : List ℕ) {p : Parts} (h : p ≡ partsOf t) where
     pub parts-stand : (s : TableSections) × AllStand t p s
     parts-stand = let a = accepted-parts t not-refused in (a .0, subst (λ p. AllStand t p (a .0)) (sym h) (a .3))
 
-    after-16 : judgeTable edition1 t ≡ judgeSections (sectionsAt t (partsOf t))
-    unfolding judgeTable judgeSections
+    after-16 : judgeTable edition1 t ≡ judgeSections edition1 (sectionsAt t (partsOf t))
+    unfolding judgeTable
     after-16 = go-ensure 15 _ (accepted-parts t not-refused .1) ∙ go-need 16 _ (parts-are t not-refused)
 
     pub by-sections : sectionsIndex p (take (p .«variables_end» - p .variables) (drop (p .variables) t)) (take (p .«equations_end» - p .equations) (drop (p .equations) t)) (take (p .«actions_end» - p .actions) (drop (p .actions) t)) (take (p .«locations_end» - p .locations) (drop (p .locations) t)) ≡ tableIndex t
     unfolding sectionsIndex tableIndex sectionsAt
-    by-sections = ap (λ (p : Parts). indexOf p (sectionsAt t p) (judgeSections (sectionsAt t p))) h ∙ ap (indexOf (partsOf t) (sectionsAt t (partsOf t))) (sym after-16)
+    by-sections = ap (λ (p : Parts). indexOf p (sectionsAt t p) (judgeSections edition1 (sectionsAt t p))) h ∙ ap (indexOf (partsOf t) (sectionsAt t (partsOf t))) (sym after-16)
 
 -- ---- 17
-moded : {counts full : List ℕ} {c n : ℕ} {cs : List Selector} → counts ≡ full → c ≡ n → ModesAt full n cs → ModesAt counts c cs
-moded e f a = rw (e, f) a
+module _ (vs es : List ℕ) {q : PlantRead} (h : q ≡ plantOf vs es) (z : q .refusal ≡ 0) where
+  plant : Plant
+  plant = passes vs es (sym (ap (λ (q : PlantRead). q .refusal) h) ∙ z) .plant
+
+  plant-is : judgePlant edition1 vs es ≡ accepted plant
+  unfolding plant
+  plant-is = passes vs es (sym (ap (λ (q : PlantRead). q .refusal) h) ∙ z) .is
+
+  variables-are : q .variables ≡ length (plant .variables)
+  variables-are = ap (λ (q : PlantRead). q .variables) h ∙ variables-of vs es plant-is
+
+  pub few-variables : q .variables ≤ 32
+  few-variables = omega (arith, variables-are, variables-high vs es plant-is)
+
+  pub counts-full : length (q .modes) ≡ 16
+  counts-full = ap (λ (q : PlantRead). length (q .modes)) h ∙ modes-full vs es plant-is
+
+  pub counts-room : q .selectors ≤ length (q .modes)
+  counts-room = subst (λ (q : PlantRead). q .selectors ≤ length (q .modes)) (sym h) (modes-room vs es plant-is)
+
+  counts-at : ModesAt (q .modes) (q .selectors) (selectors plant)
+  counts-at = subst (λ (q : PlantRead). ModesAt (q .modes) (q .selectors) (selectors plant)) (sym h) (modes-held vs es plant-is)
+
+  pub equations-there : There (equationsIn es)
+  equations-there = record { value = plant .equations; is = passed-all vs es plant-is .equations }
 
 pub found : {p : Parts} {q q' : PlantRead} {a a' : Actions} {l l' : Locations} → q ≡ q' → a ≡ a' → l ≡ l' → _≡_ {A = TableIndex} (record { refusal = 0; parts = p; plant = q; actions = a; locations = l }) (record { refusal = 0; parts = p; plant = q'; actions = a'; locations = l' })
 found e f g = cc
 
 module _ (p : Parts) (vs es ops locs : List ℕ) {q : PlantRead} (h : q ≡ plantOf vs es) where
-  refuses : {n : ℕ} → judgeSections (sectionsFrom vs es ops locs) ≡ refused n → noTable n ≡ sectionsIndex p vs es ops locs
+  refuses : {n : ℕ} → judgeSections edition1 (sectionsFrom vs es ops locs) ≡ refused n → noTable n ≡ sectionsIndex p vs es ops locs
   unfolding sectionsIndex
   refuses e = index-refused p (sectionsFrom vs es ops locs) e
 
@@ -95,68 +115,37 @@ module _ (p : Parts) (vs es ops locs : List ℕ) {q : PlantRead} (h : q ≡ plan
       go (accepted x) e = absurd (z (ap (λ (q : PlantRead). q .refusal) (h ∙ ap plantAnswer e)))
 
   module _ (z : q .refusal ≡ 0) where
-    plant : Plant
-    plant = passes vs es (sym (ap (λ (q : PlantRead). q .refusal) h) ∙ z) .plant
+    abbrev own : Plant
+    own = plant vs es h z
 
-    plant-is : judgePlant edition1 vs es ≡ accepted plant
-    unfolding plant
-    plant-is = passes vs es (sym (ap (λ (q : PlantRead). q .refusal) h) ∙ z) .is
-
-    variables-are : q .variables ≡ length (plant .variables)
-    variables-are = ap (λ (q : PlantRead). q .variables) h ∙ variables-of vs es plant-is
-
-    pub few-variables : q .variables ≤ 32
-    few-variables = omega (arith, variables-are, variables-high vs es plant-is)
-
-    selectors-are : q .selectors ≡ length (selectors plant)
-    selectors-are = ap (λ (q : PlantRead). q .selectors) h ∙ selectors-of vs es plant-is
-
-    few-cases : q .selectors ≤ 16
-    unfolding selectors
-    few-cases = omega (arith, selectors-are, few-selectors es (passed-all vs es plant-is .equations))
-
-    pub modes-full : length (q .modes) ≡ 16
-    unfolding selectors
-    modes-full = ap length (ap (λ (q : PlantRead). q .modes) h ∙ modes-of vs es plant-is) ∙ length-pad 16 0 (map modeCount (selectors plant)) few
-      where
-        few : length (map modeCount (selectorsOf (plant .equations))) ≤ 16
-        few = omega (arith, few-selectors es (passed-all vs es plant-is .equations), length-map (selectorsOf (plant .equations)) modeCount)
-
-    pub modes-room : q .selectors ≤ length (q .modes)
-    modes-room = omega (arith, few-cases, modes-full)
-
-    modes-at : ModesAt (q .modes) (q .selectors) (selectors plant)
-    unfolding selectors
-    modes-at = moded (ap (λ (q : PlantRead). q .modes) h ∙ modes-of vs es plant-is) selectors-are (record { counted = refl; entries = λ j g. mode-count-at (plant .equations) j g })
-
-    pub equations-there : There (equationsIn es)
-    equations-there = record { value = plant .equations; is = passed-all vs es plant-is .equations }
+    abbrev passed-plant : judgePlant edition1 vs es ≡ accepted own
+    passed-plant = plant-is vs es h z
 
     module _ {b : Bool} (k : (qs : List Equation) → equationsIn es ≡ some qs → b ≡ every (equationReads edition1 (q .variables)) qs) where
-      switches-are : b ≡ switchesRead edition1 plant
+      switches-are : b ≡ switchesRead edition1 own
       unfolding switchesRead
-      switches-are = k (plant .equations) (passed-all vs es plant-is .equations) ∙ ap (λ n. every (equationReads edition1 n) (plant .equations)) variables-are
+      switches-are = k (own .equations) (passed-all vs es passed-plant .equations) ∙ ap (λ n. every (equationReads edition1 n) (own .equations)) (variables-are vs es h z)
 
       pub by-switches : b ≡ false → noTable 17 ≡ sectionsIndex p vs es ops locs
       unfolding judgeSections ensure _>>_
-      by-switches e = refuses (go-then _ (go-only 17 plant-is) ∙ rw (sym switches-are ∙ e) refl)
+      by-switches e = refuses (go-then _ (go-only 17 passed-plant) ∙ rw (sym switches-are ∙ e) refl)
 
       -- ---- 18
       module _ (e : b ≡ true) where
-        passed-17 : switchesRead edition1 plant ≡ true
+        passed-17 : switchesRead edition1 own ≡ true
         passed-17 = sym switches-are ∙ e
 
         module _ {a : Actions} (i : a ≡ actionsOf ops) where
           pub by-actions : (a .refusal ≡ 0 → ⊥) → noTable 18 ≡ sectionsIndex p vs es ops locs
-          unfolding judgeSections need ensure _>>=_ _>>_
+          unfolding judgeSections actionsFit need ensure _>>=_ _>>_
           by-actions y = go (actionsIn edition1 ops) refl
             where
-              unfit : (l : List NodeAction) → actionsIn edition1 ops ≡ some l → actionsFit edition1 plant l ≡ false
-              unfit l f = fit-parts plant l ∙ ap (λ b. b && operandsFit plant l) (refused-actions ops (λ w. y (ap (λ (a : Actions). a .refusal) i ∙ w)) .1 l f)
+              unfit : (l : List NodeAction) → actionsIn edition1 ops ≡ some l → actionsFit edition1 own l ≡ false
+              unfit l f = ap (λ b. b && operandsFit edition1 own l) (refused-actions ops (λ w. y (ap (λ (a : Actions). a .refusal) i ∙ w)) .1 l f)
 
               go : (o : Option (List NodeAction)) → actionsIn edition1 ops ≡ o → noTable 18 ≡ sectionsIndex p vs es ops locs
-              go none f = refuses (go-then _ (go-only 17 plant-is) ∙ go-ensure 17 _ passed-17 ∙ rw f refl)
-              go (some l) f = refuses (go-then _ (go-only 17 plant-is) ∙ go-ensure 17 _ passed-17 ∙ go-need 18 _ f ∙ rw (unfit l f) refl)
+              go none f = refuses (go-then _ (go-only 17 passed-plant) ∙ go-ensure 17 _ passed-17 ∙ rw f refl)
+              go (some l) f = refuses (go-then _ (go-only 17 passed-plant) ∙ go-ensure 17 _ passed-17 ∙ go-need 18 _ f ∙ rw (unfit l f) refl)
 
           module _ (y : a .refusal ≡ 0) where
             index-passed : actionsOf ops .refusal ≡ 0
@@ -169,21 +158,21 @@ module _ (p : Parts) (vs es ops locs : List ℕ) {q : PlantRead} (h : q ≡ plan
             unfolding acts
             acts-are = accepted-actions ops index-passed .1
 
-            acts-laid : actionsLaid acts ≡ true
+            acts-laid : actionsNumbered edition1 acts ≡ true
             unfolding acts
             acts-laid = accepted-actions ops index-passed .2
 
             module _ {r : Bool} (j : AllFit ops (q .variables) (q .selectors) (q .modes) r) where
-              operands-are : r ≡ operandsFit plant acts
-              unfolding operandsFit
-              operands-are = j (selectors plant) modes-at acts acts-are ∙ ap (λ n. every (λ (a : NodeAction). operandFits edition1 n (selectors plant) (a .action)) acts) variables-are
+              operands-are : r ≡ operandsFit edition1 own acts
+              operands-are = j own (variables-are vs es h z) (counts-at vs es h z) acts acts-are
 
-              fit-is : actionsFit edition1 plant acts ≡ r
-              fit-is = fit-parts plant acts ∙ ap (λ b. b && operandsFit plant acts) acts-laid ∙ sym operands-are
+              fit-is : actionsFit edition1 own acts ≡ r
+              unfolding actionsFit
+              fit-is = ap (λ b. b && operandsFit edition1 own acts) acts-laid ∙ sym operands-are
 
               pub by-operands : r ≡ false → noTable 18 ≡ sectionsIndex p vs es ops locs
               unfolding judgeSections ensure _>>_
-              by-operands f = refuses (go-then _ (go-only 17 plant-is) ∙ go-ensure 17 _ passed-17 ∙ go-need 18 _ acts-are ∙ rw (fit-is ∙ f) refl)
+              by-operands f = refuses (go-then _ (go-only 17 passed-plant) ∙ go-ensure 17 _ passed-17 ∙ go-need 18 _ acts-are ∙ rw (fit-is ∙ f) refl)
 
               -- ---- 19
               module _ (f : r ≡ true) {l : Locations} (w : l ≡ locationsOf (actionsLike (a .kinds)) locs) where
@@ -201,14 +190,14 @@ module _ (p : Parts) (vs es ops locs : List ℕ) {q : PlantRead} (h : q ≡ plan
                     unfit ls g = refused-locations acts locs (λ u. x (ap (λ (l : Locations). l .refusal) locations-are ∙ u)) .1 ls g
 
                     go : (o : Option (List (List Entry))) → locationsIn edition1 locs ≡ o → noTable 19 ≡ sectionsIndex p vs es ops locs
-                    go none g = refuses (go-then _ (go-only 17 plant-is) ∙ go-ensure 17 _ passed-17 ∙ go-need 18 _ acts-are ∙ go-ensure 18 _ (fit-is ∙ f) ∙ rw g refl)
-                    go (some ls) g = refuses (go-then _ (go-only 17 plant-is) ∙ go-ensure 17 _ passed-17 ∙ go-need 18 _ acts-are ∙ go-ensure 18 _ (fit-is ∙ f) ∙ go-need 19 _ g ∙ rw (unfit ls g) refl)
+                    go none g = refuses (go-then _ (go-only 17 passed-plant) ∙ go-ensure 17 _ passed-17 ∙ go-need 18 _ acts-are ∙ go-ensure 18 _ (fit-is ∙ f) ∙ rw g refl)
+                    go (some ls) g = refuses (go-then _ (go-only 17 passed-plant) ∙ go-ensure 17 _ passed-17 ∙ go-need 18 _ acts-are ∙ go-ensure 18 _ (fit-is ∙ f) ∙ go-need 19 _ g ∙ rw (unfit ls g) refl)
 
                 pub all-passed : l .refusal ≡ 0 → record { refusal = 0; parts = p; plant = q; actions = a; locations = l } ≡ sectionsIndex p vs es ops locs
                 unfolding sectionsIndex indexOf judgeSections
                 all-passed x =
                     let g = accepted-locations acts locs (sym (ap (λ (l : Locations). l .refusal) locations-are) ∙ x) in
-                    found h i locations-are ∙ sym (ap (indexOf p (sectionsFrom vs es ops locs)) (go-then _ (go-only 17 plant-is) ∙ go-ensure 17 _ passed-17 ∙ go-need 18 _ acts-are ∙ go-ensure 18 _ (fit-is ∙ f) ∙ go-need 19 _ (g .1) ∙ go-ensure 19 _ (g .2)))
+                    found h i locations-are ∙ sym (ap (indexOf p (sectionsFrom vs es ops locs)) (go-then _ (go-only 17 passed-plant) ∙ go-ensure 17 _ passed-17 ∙ go-need 18 _ acts-are ∙ go-ensure 18 _ (fit-is ∙ f) ∙ go-need 19 _ (g .1) ∙ go-ensure 19 _ (g .2)))
 
 -- ---- the answers
 pub refused-is : {n : ℕ} {p : Parts} {q : PlantRead} {a : Actions} {l : Locations} → p ≡ noParts n → q ≡ refusedPlant n → a ≡ noActions → l ≡ noLocations → record { refusal = n; parts = p; plant = q; actions = a; locations = l } ≡ noTable n

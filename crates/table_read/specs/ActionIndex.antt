@@ -1,17 +1,15 @@
 -- The actions of a table by node: kind, and where the operand stands.
 use mathlib.Core.Path.{_≡_}
-use mathlib.Core.Bool.{Bool, true, false, _&&_, cond}
+use mathlib.Core.Bool.{true, false, cond}
 use mathlib.Core.List.{List, [], _∷_}
 use mathlib.Core.Option.{Option, none, some}
 use Prim.Native.Nat.{ℕ, zero, suc, _+_, _≤_, _<_}
-use lib.Dec.{ltb, eqb}
+use lib.Dec.{eqb}
 use lib.ListN.{length, getD, drop, replicate}
-use Rattle.semantics.specs.Bytes.{every}
 use Rattle.semantics.specs.Editions.{edition1}
-use Rattle.semantics.specs.Plant.{Plant, selectors}
 use Rattle.semantics.specs.Run.{Action, test, wait, assign, switch, stop}
 use Rattle.semantics.specs.TableFile.{NodeAction, readAction, actionsIn}
-use Rattle.semantics.specs.Tables.{risingFrom, operandFits, actionNodes, actionAt}
+use Rattle.semantics.specs.Tables.{actionsNumbered, actionAt}
 use Rattle.codec.specs.Places.{placesFrom}
 use Rattle.table_read.specs.declared.actions.Actions.{Actions}
 
@@ -57,17 +55,6 @@ byNode f = listed (edition1 .nodes) f
 abbrev pub nodeOf : NodeAction → ℕ
 nodeOf a = a .node
 
--- 18: "a node number above 63 or not rising"
-unfoldable pub nodeExists : NodeAction → Bool
-nodeExists a = ltb (a .node) (edition1 .nodes)
-
-unfoldable pub actionsLaid : List NodeAction → Bool
-actionsLaid l = risingFrom 0 (actionNodes l) && every nodeExists l
-
--- 18: "or operand wrong (.. 11 and 12 judge operands)"
-unfoldable pub operandsFit : Plant → List NodeAction → Bool
-operandsFit p l = every (λ a. operandFits edition1 (length (p .variables)) (selectors p) (a .action)) l
-
 abbrev pub noActions : Actions
 noActions = record { refusal = 18; count = 0; kinds = replicate 64 0; starts = replicate 64 0; ends = replicate 64 0 }
 
@@ -84,7 +71,7 @@ actionIndex s l =
 
 unfoldable pub indexRead : List ℕ → Option (List NodeAction) → Actions
 indexRead s none = noActions
-indexRead s (some l) = cond (actionsLaid l) (actionIndex s l) noActions
+indexRead s (some l) = cond (actionsNumbered edition1 l) (actionIndex s l) noActions
 
 -- 18 for the layout of the section and its node numbers, or the index; 11 and 12 are not looked at
 unfoldable pub actionsOf : List ℕ → Actions

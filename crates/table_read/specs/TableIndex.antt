@@ -2,10 +2,9 @@
 use mathlib.Core.List.{List}
 use Prim.Native.Nat.{ℕ}
 use Rattle.semantics.specs.Editions.{edition1}
-use Rattle.semantics.specs.Refusals.{Judged, refused, accepted, _>>=_, _>>_, ensure, need, oneNumber}
-use Rattle.semantics.specs.Plant.{judgePlant, switchesRead}
-use Rattle.semantics.specs.TableFile.{TableSections, actionsIn, locationsIn}
-use Rattle.semantics.specs.Tables.{Table, actionsFit, locationsFit, judgeTable}
+use Rattle.semantics.specs.Refusals.{Judged, refused, accepted}
+use Rattle.semantics.specs.TableFile.{TableSections}
+use Rattle.semantics.specs.Tables.{Table, judgeSections, judgeTable}
 use Rattle.semantics.specs.Calls as Calls
 use Rattle.plant.specs.PlantRead.{refusedPlant, plantOf}
 use Rattle.table_read.specs.declared.parts.Parts.{Parts}
@@ -38,20 +37,10 @@ indexOf p s (accepted t) = record {
 unfoldable pub tableIndex : List ℕ → TableIndex
 tableIndex t = indexOf (partsOf t) (sectionsAt t (partsOf t)) (judgeTable edition1 t)
 
--- ---- for the code's own contracts
--- 17 to 19, as judgeTable has them after 16
-unfoldable pub judgeSections : TableSections → Judged Table
-judgeSections parts = do
-  p ← oneNumber 17 (judgePlant edition1 (parts .variables) (parts .equations))
-  ensure 17 (switchesRead edition1 p)
-  acts ← need 18 (actionsIn edition1 (parts .actions))
-  ensure 18 (actionsFit edition1 p acts)
-  locs ← need 19 (locationsIn edition1 (parts .locations))
-  ensure 19 (locationsFit acts locs)
-  accepted (record { plant = p; actions = acts; locations = locs })
-
+-- ---- for the code's own contract
 abbrev pub sectionsFrom : List ℕ → List ℕ → List ℕ → List ℕ → TableSections
 sectionsFrom vs es ops locs = record { variables = vs; equations = es; actions = ops; locations = locs }
 
+-- 17 to 19 of the four sections
 unfoldable pub sectionsIndex : Parts → List ℕ → List ℕ → List ℕ → List ℕ → TableIndex
-sectionsIndex p vs es ops locs = indexOf p (sectionsFrom vs es ops locs) (judgeSections (sectionsFrom vs es ops locs))
+sectionsIndex p vs es ops locs = indexOf p (sectionsFrom vs es ops locs) (judgeSections edition1 (sectionsFrom vs es ops locs))

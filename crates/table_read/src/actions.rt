@@ -4,9 +4,10 @@ ghost use Prim.Native.Nat.{_≤_};
 ghost use lib.ListN.{length};
 ghost use Rattle.semantics.specs.Bytes.{isSome};
 ghost use Rattle.semantics.specs.Editions.{edition1};
+ghost use Rattle.semantics.specs.Tables.{nodeExists};
 ghost use Rattle.semantics.specs.TableFile.{actionKind, actionOfKind, readAction};
 ghost use Rattle.table_read.specs.Ends.{Ends, EndsWith, follows};
-ghost use Rattle.table_read.specs.ActionIndex.{nodeOf, nodeExists, Counted, actionsOf, noActions};
+ghost use Rattle.table_read.specs.ActionIndex.{nodeOf, Counted, actionsOf, noActions};
 
 // 0 or 18; how many actions there are; by node, the kind of its action and where the operand starts and ends, or 0, 0 and 0
 pub struct Actions {
@@ -76,7 +77,7 @@ fn end(s: &[u8], at: usize) -> usize
 // the same where the node is low or above and there is such a node
 fn next(s: &[u8], at: usize, low: usize) -> usize
     requires { ⌜ at ≤ length (now s) ⌝ }
-    ensures { λ r. ⌜ EndsWith (readAction edition1) (follows nodeOf nodeExists low) (now (s .entry)) at r ⌝ }
+    ensures { λ r. ⌜ EndsWith (readAction edition1) (follows nodeOf (nodeExists edition1) low) (now (s .entry)) at r ⌝ }
 {
     let q = end(s, at);
     if q == 0 {

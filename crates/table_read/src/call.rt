@@ -10,7 +10,6 @@ use plant::sections::PlantRead;
 ghost use mathlib.Core.Path.{_≡_};
 ghost use Rattle.semantics.specs.Editions.{edition1};
 ghost use Rattle.semantics.specs.Calls.{readTable};
-ghost use Rattle.plant.specs.PlantRead.{refusedPlant};
 ghost use Rattle.table_read.specs.TableIndex.{tableNumbers, noTable, tableIndex, sectionsIndex};
 
 // 0, or the number of the first condition that is broken; where the sections stand, and what a run looks up in them
@@ -31,26 +30,11 @@ pub struct TableRead {
     pub locations: usize,
 }
 
-fn no_plant(n: u8) -> PlantRead
-    ensures { λ r. ⌜ r ≡ refusedPlant n ⌝ }
-{
-    PlantRead {
-        refusal: n,
-        variables: 0,
-        lows: [0; 32],
-        highs: [0; 32],
-        selectors: 0,
-        modes: [0; 16],
-        mode_offsets: [0; 128],
-        steady: [0; 32],
-    }
-}
-
 fn refused(n: u8) -> TableIndex
     ensures { λ r. ⌜ r ≡ noTable n ⌝ }
 {
     let parts = parts::refused(n);
-    let plant = no_plant(n);
+    let plant = plant::sections::refused(n);
     let actions = actions::refused();
     let locations = locations::refused();
     TableIndex {

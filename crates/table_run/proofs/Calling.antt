@@ -12,7 +12,7 @@ use Rattle.semantics.specs.Sections.{Selector, Equation, steady, choice}
 use Rattle.semantics.specs.Starts.{Start}
 use Rattle.semantics.specs.Tables.{Table, judgeTable, tableControl}
 use Rattle.semantics.specs.Calls as Calls
-use Rattle.semantics.specs.Calls.{Program, Outcome, judgeRun, report, runFrom, tableProgram, tableRun}
+use Rattle.semantics.specs.Calls.{Program, Outcome, judgeAdmission, judgeRun, report, runFrom, tableProgram, tableRun}
 use Rattle.codec.specs.Padding.{pad}
 use Rattle.plant.specs.PlantRead.{plantOf}
 use Rattle.plant.specs.declared.sections.PlantRead.{PlantRead}
@@ -60,10 +60,10 @@ rows-full vs es {p} h =
     let e = passed-all vs es h .equations in
     ap length (places-of vs es h) ∙ length-pad 128 0 (modePlaces 1 (p .equations)) (omega (arith, places-few 1 (p .equations) (λ j c g. few-modes-each es e j g), few-selectors es e))
 
-room-as : {x y : PlantRead} → x ≡ y → Room (y .variables) (y .lows) (y .highs) (y .selectors) (y .modes) → Room (x .variables) (x .lows) (x .highs) (x .selectors) (x .modes)
+room-as : {x y : PlantRead} → x ≡ y → Room y → Room x
 room-as e a = rw e a
 
-arrays-as : {x y : PlantRead} {p : Plant} → x ≡ y → Arrays p (y .variables) (y .lows) (y .highs) (y .selectors) (y .modes) → Arrays p (x .variables) (x .lows) (x .highs) (x .selectors) (x .modes)
+arrays-as : {x y : PlantRead} {p : Plant} → x ≡ y → Arrays p y → Arrays p x
 arrays-as e a = rw e a
 
 -- from a place of the bytes to another
@@ -175,17 +175,17 @@ module _ (f start events d : List ℕ) {ix : TableIndex} (h : ix ≡ tableIndex 
     judged = table-of f h z .is
 
     -- what admission asks
-    pub room-of : Room (ix .plant .variables) (ix .plant .lows) (ix .plant .highs) (ix .plant .selectors) (ix .plant .modes)
+    pub room-of : Room (ix .plant)
     room-of = room-as (plant-is f h judged) (room-held _ _ (plant-judged f h judged))
 
-    arrays-of : Arrays (table .plant) (ix .plant .variables) (ix .plant .lows) (ix .plant .highs) (ix .plant .selectors) (ix .plant .modes)
+    arrays-of : Arrays (table .plant) (ix .plant)
     arrays-of = arrays-as (plant-is f h judged) (arrays-held _ _ (plant-judged f h judged))
 
     run-is : {j : Judged Outcome} → judgeRun edition1 (accepted (programOf table)) start events d ≡ j → judgeRun edition1 (tableProgram edition1 f) start events d ≡ j
     run-is e = ap (λ j. judgeRun edition1 j start events d) (program-accepted f judged) ∙ e
 
-    module _ {asked : Admitted} (g : (p : Plant) → Arrays p (ix .plant .variables) (ix .plant .lows) (ix .plant .highs) (ix .plant .selectors) (ix .plant .modes) → asked ≡ admitted p start (length events) (length d)) where
-      asked-is : asked ≡ admitted (table .plant) start (length events) (length d)
+    module _ {asked : Admitted} (g : (p : Plant) → Arrays p (ix .plant) → asked ≡ admitted (judgeAdmission edition1 p start events d)) where
+      asked-is : asked ≡ admitted (judgeAdmission edition1 (table .plant) start events d)
       asked-is = g (table .plant) arrays-of
 
       pub by-admission : {r : Ran} → (asked .refusal ≡ 0 → ⊥) → r ≡ notRun (asked .refusal) → ranWith r d ≡ tableRun edition1 f start events d
@@ -212,6 +212,7 @@ module _ (f start events d : List ℕ) {ix : TableIndex} (h : ix ≡ tableIndex 
         unfolding tableRun ranWith
         by-events {r} {cs} {d'} w k =
             let a = run-admitted (programOf table) start events d (sym (ap (λ (a : Admitted). a .refusal) asked-is) ∙ y) in
-            let st : Start = record { values = take (length (table .plant .variables)) (admitted (table .plant) start (length events) (length d) .values); modes = take (length (selectors (table .plant))) (admitted (table .plant) start (length events) (length d) .modes) } in
+            let x = admitted (judgeAdmission edition1 (table .plant) start events d) in
+            let st : Start = record { values = take (length (table .plant .variables)) (x .values); modes = take (length (selectors (table .plant))) (x .modes) } in
             let done : RunDone (tableControl table) (runFrom edition1 (programOf table) st events) d cs d' = whole-from table events asked-is (w table admits) in
             ap (λ (r : Ran). ranWith r d') k ∙ sym (ap (report d) (run-is (a .judged)) ∙ reported (tableControl table) _ d done)

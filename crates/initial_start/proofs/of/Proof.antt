@@ -38,12 +38,18 @@ slice-aggregate-put-modes c = search needs
 
 put-modes-requires : tie.Need-put-modes-requires
 put-modes-requires c κs =
-    let n = few _ _ (c .before .before .before .before .before .before .before .before .before .read .ensures) (c .before .before .before .before .before .before .before .if1 .left) (c .before .before .before .before .before .before .read2 .ensures) in
-    let l = cut-length _ _ (c .before .before .before .before .before .before .before .before .before .read .ensures) (c .before .before .before .before .before .before .before .if1 .left) (c .before .before .before .before .before .before .read2 .ensures) in
-    (omega (arith, c .before .before .put-values .ensures .0, c .before .before .put-values .kept .0), stands _ _ (c .before .before .before .before .before .before .before .before .before .read .ensures) (c .before .before .before .before .before .before .before .if1 .left))
+    let v = c .before .before .before .before .before .before in
+    let e = v .before .before .before .read .ensures in
+    let z = v .before .if1 .left in
+    let n = few _ _ e z (v .read2 .ensures) in
+    let l = cut-length _ _ e z (v .read2 .ensures) in
+    (omega (arith, c .before .before .put-values .ensures .0, c .before .before .put-values .kept .0), stands _ _ e z)
 
 returns-2 : tie.Need-returns-2
-returns-2 c = given _ _ (c .before .before .before .before .before .before .before .before .before .before .before .read .ensures) (c .before .before .before .before .before .before .before .before .before .if1 .left) (c .before .before .before .before .before .before .before .before .read2 .ensures) (c .before .before .before .before .put-values .ensures) (c .before .put-modes .ensures) refl
+returns-2 c =
+    let w = c .before .before .before .before in
+    let v = w .before .before .before .before in
+    given _ _ (v .before .before .before .read .ensures) (v .before .if1 .left) (v .read2 .ensures) (w .put-values .ensures) (c .before .put-modes .ensures) refl
 
 pub of-spec : {M : Type 1} → statement M
 of-spec =

@@ -1,3 +1,4 @@
+-- The loop of Modes: the initial modes of the equations before a place are written.
 use mathlib.Core.Path.{_≡_, refl, ap, _∙_}
 use mathlib.Core.Logic.{⊎-elim}
 use Prim.Native.Nat.{_+_, _≤_}
@@ -28,22 +29,29 @@ shared-slice-read-if1 : tie.Need-shared-slice-read-if1 Inv-loop μ-loop
 shared-slice-read-if1 c = here-fits (c .before .before .loop .inv .1 (c .before .before .before .before .before .before .pre .1)) (c .before .loop-test .taken)
 
 add-put1 : tie.Need-add-put1 Inv-loop μ-loop
-add-put1 c = omega (arith, mode-fits (c .before .before .before .before .loop .inv .1 (c .before .before .before .before .before .before .before .before .pre .1)) (c .before .before .before .loop-test .taken) (c .before .if1 .taken))
+add-put1 c =
+    let b = c .before .before .before .before in
+    omega (arith, mode-fits (b .loop .inv .1 (b .before .before .before .before .pre .1)) (c .before .before .before .loop-test .taken) (c .before .if1 .taken))
 
 shared-slice-read-put1 : tie.Need-shared-slice-read-put1 Inv-loop μ-loop
-shared-slice-read-put1 c = mode-fits (c .before .before .before .before .before .loop .inv .1 (c .before .before .before .before .before .before .before .before .before .pre .1)) (c .before .before .before .before .loop-test .taken) (c .before .before .if1 .taken)
+shared-slice-read-put1 c =
+    let b = c .before .before .before .before .before in
+    mode-fits (b .loop .inv .1 (b .before .before .before .before .pre .1)) (c .before .before .before .before .loop-test .taken) (c .before .before .if1 .taken)
 
 put1-requires : tie.Need-put1-requires Inv-loop μ-loop
 put1-requires c κs =
-    let s = c .before .before .before .before .before .before .before .before .before in
-    let l = c .before .before .before .before .before .loop in
+    let b = c .before .before .before .before .before in
+    let s = b .before .before .before .before in
+    let l = b .loop in
     place-fits (l .inv .1 (s .pre .1)) (c .before .before .before .before .loop-test .taken) (let e = l .inv .0 in let f = s .pre .0 in omega arith)
 
 nat2-requires : tie.Need-nat2-requires Inv-loop μ-loop
 nat2-requires c κs = omega (arith, here-fits (c .before .before .before .loop .inv .1 (c .before .before .before .before .before .before .before .pre .1)) (c .before .before .loop-test .taken))
 
 add-p : tie.Need-add-p Inv-loop μ-loop
-add-p c = omega (arith, past-fits (c .before .before .before .before .loop .inv .1 (c .before .before .before .before .before .before .before .before .pre .1)) (c .before .before .before .loop-test .taken) (c .nat2 .result) (c .nat2 .ensures))
+add-p c =
+    let b = c .before .before .before .before in
+    omega (arith, past-fits (b .loop .inv .1 (b .before .before .before .before .pre .1)) (c .before .before .before .loop-test .taken) (c .nat2 .result) (c .nat2 .ensures))
 
 sub-left : tie.Need-sub-left Inv-loop μ-loop
 sub-left c = omega arith
@@ -53,8 +61,9 @@ loop-less c = omega arith
 
 loop-again : tie.Need-loop-again Inv-loop μ-loop
 loop-again c =
-    let s = c .before .before .before .before .before .before .before .before in
-    let l = c .before .before .before .before .loop in
+    let b = c .before .before .before .before in
+    let s = b .before .before .before .before in
+    let l = b .loop in
     let m = c .before .before .before .loop-test .taken in (
       ⊎-elim (λ w. ap length (w .6) ∙ w .3 .kept .0 ∙ l .inv .0) (λ w. ap length (w .1) ∙ l .inv .0) (c .before .if1 .came),
       λ t. ⊎-elim

@@ -1,9 +1,9 @@
-use mathlib.Core.Path.{sym, _∙_}
-use Prim.Native.Nat.{_*_}
+-- One law of StartBytes for each return.
+use mathlib.Core.Path.{_∙_}
 use native.Mathlib.Omega.{arith}
 use borrow.Author.Tests.{not-true, not-false}
-use Rattle.start_read.proofs.StartBytes.{wrong-size, values-unfit, modes-unfit, all-fit, modes-of}
 use borrow.Author.Needs.{needs}
+use Rattle.start_read.proofs.StartBytes.{wrong-size, values-unfit, modes-unfit, all-fit}
 use Rattle.start_read.proofs.read.Statement.{statement}
 use Rattle.start_read.proofs.read.Tie as tie
 
@@ -17,9 +17,13 @@ refused-requires : tie.Need-refused-requires
 refused-requires c κs = search needs
 
 returns : tie.Need-returns
-returns c p a =
-    let s = c .before .before .before .before .args .s .now in
-    c .refused .ensures ∙ sym (wrong-size p s a (λ e. omega arith))
+returns c p a = c .refused .ensures ∙ wrong-size p (c .before .before .before .before .before .before .args .s .now) a (λ e. omega arith)
+
+slice-aggregate-read-values : tie.Need-slice-aggregate-read-values
+slice-aggregate-read-values c = search needs
+
+slice-aggregate-read-values-2 : tie.Need-slice-aggregate-read-values-2
+slice-aggregate-read-values-2 c = search needs
 
 read-values-requires : tie.Need-read-values-requires
 read-values-requires c κs = search needs
@@ -29,8 +33,9 @@ refused-requires-2 c κs = search needs
 
 returns-2 : tie.Need-returns-2
 returns-2 c p a =
-    let s = c .before .before .before .before .before .before .before .args .s .now in
-    c .refused2 .ensures ∙ sym (values-unfit p s a (omega arith) (c .before .before .before .read-values .ensures) (not-true _ (c .before .if2 .taken)))
+    let v = c .before .before .before in
+    let g = v .before .before .before .before in
+    c .refused2 .ensures ∙ values-unfit p (g .before .before .before .before .args .s .now) a (omega arith) (v .read-values .ensures) (not-true _ (c .before .if2 .taken))
 
 sub-read-modes : tie.Need-sub-read-modes
 sub-read-modes c = search needs
@@ -41,6 +46,9 @@ part-read-modes-start c = search needs
 part-read-modes-end : tie.Need-part-read-modes-end
 part-read-modes-end c = search needs
 
+slice-aggregate-read-modes : tie.Need-slice-aggregate-read-modes
+slice-aggregate-read-modes c = search needs
+
 read-modes-requires : tie.Need-read-modes-requires
 read-modes-requires c κs = search needs
 
@@ -49,15 +57,17 @@ refused-requires-3 c κs = search needs
 
 returns-3 : tie.Need-returns-3
 returns-3 c p a =
-    let g = c .before .before .before .before .before .before .before .before .before .before .before .args in
-    let s = g .s .now in
-    c .refused3 .ensures ∙ sym (modes-unfit p s a (omega arith) (modes-of s (4 * g .variables) (c .before .before .before .read-modes .ensures)) (not-true _ (c .before .if3 .taken)))
+    let m = c .before .before .before in
+    let v = m .before .before .before .before .before in
+    let g = v .before .before .before .before in
+    c .refused3 .ensures ∙ modes-unfit p (g .before .before .before .before .args .s .now) a (omega arith) (v .read-values .ensures) (m .read-modes .ensures) (not-true _ (c .before .if3 .taken))
 
 returns-4 : tie.Need-returns-4
 returns-4 c p a =
-    let g = c .before .before .before .before .before .before .before .before .before .before .before .before .args in
-    let s = g .s .now in
-    all-fit p s a (omega arith) (c .before .before .before .before .before .before .before .before .read-values .ensures) (modes-of s (4 * g .variables) (c .before .before .before .before .read-modes .ensures)) (not-false _ (c .before .before .before .before .before .before .if2 .left)) (not-false _ (c .before .before .if3 .left))
+    let m = c .before .before .before .before in
+    let v = m .before .before .before .before .before in
+    let g = v .before .before .before .before in
+    all-fit p (g .before .before .before .before .args .s .now) a (omega arith) (v .read-values .ensures) (m .read-modes .ensures) (not-false _ (m .before .before .before .if2 .left)) (not-false _ (c .before .before .if3 .left))
 
 pub read-spec : {M : Type 1} → statement M
 read-spec =
@@ -67,12 +77,15 @@ read-spec =
     add-if1
     refused-requires
     returns
+    slice-aggregate-read-values
+    slice-aggregate-read-values-2
     read-values-requires
     refused-requires-2
     returns-2
     sub-read-modes
     part-read-modes-start
     part-read-modes-end
+    slice-aggregate-read-modes
     read-modes-requires
     refused-requires-3
     returns-3

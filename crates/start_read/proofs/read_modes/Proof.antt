@@ -15,13 +15,13 @@ abbrev μ-loop : tie.MeasureT-loop
 
 loop-holds : tie.Need-loop-holds Inv-loop μ-loop
 unfolding pad
-loop-holds c = let a = c .before .before .args in (omega arith, modes-start (a .s .now) (a .n) (a .counts .now))
+loop-holds c = let a = c .args in (omega arith, modes-start (a .s .now) (a .n) (a .counts .now))
 
 shared-slice-read-m : tie.Need-shared-slice-read-m Inv-loop μ-loop
 shared-slice-read-m c = omega arith
 
-wide-requires : tie.Need-wide-requires Inv-loop μ-loop
-wide-requires c κs = search needs
+cast-if1 : tie.Need-cast-if1 Inv-loop μ-loop
+cast-if1 c = omega (arith, c .shared-slice-known .given (c .before .before .loop .i))
 
 mul-if1 : tie.Need-mul-if1 Inv-loop μ-loop
 mul-if1 c = omega arith
@@ -31,8 +31,8 @@ shared-slice-read-if1 c = omega arith
 
 returns : tie.Need-returns Inv-loop μ-loop
 returns c =
-    let a = c .before .before .before .before .before .before .before .before .args in
-    let l = c .before .before .before .before .before .loop in
+    let a = c .before .before .before .before .before .args in
+    let l = c .before .before .before .before .loop in
     modes-stop (a .s .now) (a .n) (a .counts .now) (l .i) (l .inv .1) (omega arith) (omega arith)
 
 array-write-modes : tie.Need-array-write-modes Inv-loop μ-loop
@@ -46,13 +46,13 @@ loop-less c = omega arith
 
 loop-again : tie.Need-loop-again Inv-loop μ-loop
 loop-again c =
-    let a = c .before .before .before .before .before .before .before .before .args in
-    let l = c .before .before .before .before .before .loop in
+    let a = c .before .before .before .before .before .args in
+    let l = c .before .before .before .before .loop in
     (omega arith, modes-next (a .s .now) (a .n) (a .counts .now) (l .i) (l .inv .1) (omega arith) (omega arith) (omega arith) _ refl)
 
 returns-2 : tie.Need-returns-2 Inv-loop μ-loop
 returns-2 c =
-    let a = c .before .before .before .before .args in
+    let a = c .before .before .args in
     let l = c .before .loop in
     modes-end (a .s .now) (a .n) (a .counts .now) (l .i) (l .inv .1) (omega arith)
 
@@ -64,7 +64,7 @@ read-modes-spec =
     μ-loop
     loop-holds
     shared-slice-read-m
-    wide-requires
+    cast-if1
     mul-if1
     shared-slice-read-if1
     returns

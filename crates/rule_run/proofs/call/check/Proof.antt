@@ -1,7 +1,5 @@
-use mathlib.Core.Path.{sym, ap₂, _∙_}
 use mathlib.Core.List.{[]}
 use borrow.Author.Needs.{needs}
-use Rattle.start_read.specs.Admission.{admitted}
 use Rattle.rule_run.proofs.Calling.{check-file, room-of, check-admission}
 use Rattle.rule_run.proofs.call.check.Statement.{statement}
 use Rattle.rule_run.proofs.call.check.Tie as tie
@@ -16,7 +14,7 @@ admit-requires : tie.Need-admit-requires
 admit-requires c κs = let a = c .before .before .before .before .before .args in room-of (a .file .now) (a .start .now) [] [] (c .before .before .index .ensures) (c .before .if1 .left)
 
 returns-2 : tie.Need-returns-2
-returns-2 c = let a = c .before .before .before .before .before .before .args in λ es d i j. check-admission (a .file .now) (a .start .now) es d (c .before .before .before .index .ensures) (c .before .before .if1 .left) (λ p k. c .admit .ensures p k ∙ ap₂ (admitted p (a .start .now)) (sym i) (sym j))
+returns-2 c = let a = c .before .before .before .before .before .before .args in λ es d i j. check-admission (a .file .now) (a .start .now) es d (c .before .before .before .index .ensures) (c .before .before .if1 .left) (λ p k. c .admit .ensures p k es d i j)
 
 pub check-spec : {M : Type 1} → statement M
 check-spec = tie.close (tie.spec index-requires returns admit-requires returns-2)

@@ -46,7 +46,9 @@ add-low : tie.Need-add-low Inv-loop μ-loop
 add-low c = omega (arith, c .shared-slice-known4 .given (c .before .before .before .before .loop .p))
 
 add-i : tie.Need-add-i Inv-loop μ-loop
-add-i c = omega (arith, c .before .before .before .before .before .before .shared-slice-known3 .given (c .before .before .before .before .before .before .before .before .before .before .args .at))
+add-i c =
+    let k = c .before .before .before .before .before .before in
+    omega (arith, k .shared-slice-known3 .given (k .before .before .before .before .args .at))
 
 loop-less : tie.Need-loop-less Inv-loop μ-loop
 loop-less c = omega arith

@@ -1,22 +1,26 @@
+-- An operand without its form fits; else its variable, then its number.
 use Prim.Native.Nat.{_≤_, _<_}
 use lib.ListN.{getD}
-use Rattle.table_read.proofs.OperandTurns.{assigns-nothing, assigns-missing, assigns-known}
-use borrow.Author.Needs.{needs}
 use native.Mathlib.Omega.{arith}
+use borrow.Author.Needs.{needs}
+use Rattle.table_read.proofs.OperandTurns.{assigns-nothing, assigns-missing, assigns-known}
 use Rattle.table_read.proofs.operands.assigns.Statement.{statement}
 use Rattle.table_read.proofs.operands.assigns.Tie as tie
 
 returns : tie.Need-returns
 returns c = λ cs. assigns-nothing _ cs _ (c .if1 .taken)
 
-shared-slice-read-wide : tie.Need-shared-slice-read-wide
-shared-slice-read-wide c = search needs
+shared-slice-read-if2 : tie.Need-shared-slice-read-if2
+shared-slice-read-if2 c = search needs
 
-wide-requires : tie.Need-wide-requires
-wide-requires c κs = search needs
+cast-if2 : tie.Need-cast-if2
+cast-if2 c = omega (arith, c .shared-slice-known2 .given 0)
 
 returns-2 : tie.Need-returns-2
-returns-2 c = λ cs. let i : (c .before .before .before .before .before .args .variables) ≤ getD ((c .before .before .before .before .before .args .b .now)) 0 0 = omega (arith, (c .before .wide .ensures)) in assigns-missing _ cs _ (omega arith) i
+returns-2 c = λ cs.
+    let a = c .before .before .before .before .args in
+    let i : a .variables ≤ getD (a .b .now) 0 0 = omega arith in
+    assigns-missing _ cs _ (omega arith) i
 
 sub-number-reads : tie.Need-sub-number-reads
 sub-number-reads c = search needs
@@ -31,7 +35,10 @@ number-reads-requires : tie.Need-number-reads-requires
 number-reads-requires c κs = search needs
 
 returns-3 : tie.Need-returns-3
-returns-3 c = λ cs. let i : getD ((c .before .before .before .before .before .before .before .args .b .now)) 0 0 < (c .before .before .before .before .before .before .before .args .variables) = omega (arith, (c .before .before .before .wide .ensures)) in assigns-known _ cs _ (omega arith) i (c .number-reads .ensures)
+returns-3 c = λ cs.
+    let a = c .before .before .before .before .before .before .args in
+    let i : getD (a .b .now) 0 0 < a .variables = omega arith in
+    assigns-known _ cs _ (omega arith) i (c .number-reads .ensures)
 
 pub assigns-spec : {M : Type 1} → statement M
-assigns-spec = tie.close (tie.spec returns shared-slice-read-wide wide-requires returns-2 sub-number-reads part-number-reads-start part-number-reads-end number-reads-requires returns-3)
+assigns-spec = tie.close (tie.spec returns shared-slice-read-if2 cast-if2 returns-2 sub-number-reads part-number-reads-start part-number-reads-end number-reads-requires returns-3)

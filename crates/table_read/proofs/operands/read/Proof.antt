@@ -31,19 +31,22 @@ array-read-fits : tie.Need-array-read-fits Inv-loop μ-loop
 array-read-fits c = search needs
 
 sub-fits : tie.Need-sub-fits Inv-loop μ-loop
-sub-fits c = operand-inside (c .before .before .before .before .before .before .before .args .s .now) (c .before .before .before .before .before .before .before .pre .0) (c .before .before .before .before .before .before .before .pre .1) (c .before .loop .i) (c .loop-test .taken) .0
+sub-fits c = let g = c .before .before .before .before .before .before .before in operand-inside (g .args .s .now) (g .pre .0) (g .pre .1) (c .before .loop .i) (c .loop-test .taken) .0
 
 part-fits-start : tie.Need-part-fits-start Inv-loop μ-loop
-part-fits-start c = operand-inside (c .before .before .before .before .before .before .before .args .s .now) (c .before .before .before .before .before .before .before .pre .0) (c .before .before .before .before .before .before .before .pre .1) (c .before .loop .i) (c .loop-test .taken) .0
+part-fits-start c = let g = c .before .before .before .before .before .before .before in operand-inside (g .args .s .now) (g .pre .0) (g .pre .1) (c .before .loop .i) (c .loop-test .taken) .0
 
 part-fits-end : tie.Need-part-fits-end Inv-loop μ-loop
-part-fits-end c = operand-inside (c .before .before .before .before .before .before .before .args .s .now) (c .before .before .before .before .before .before .before .pre .0) (c .before .before .before .before .before .before .before .pre .1) (c .before .loop .i) (c .loop-test .taken) .1
+part-fits-end c = let g = c .before .before .before .before .before .before .before in operand-inside (g .args .s .now) (g .pre .0) (g .pre .1) (c .before .loop .i) (c .loop-test .taken) .1
 
 fits-requires : tie.Need-fits-requires Inv-loop μ-loop
 fits-requires c κs = search needs
 
 returns : tie.Need-returns Inv-loop μ-loop
-returns c = fit-stop (c .before .before .before .before .before .before .before .before .before .before .args .s .now) (c .before .before .before .before .before .before .before .before .before .before .pre .0) (c .before .before .before .before .before .before .before .before .before .before .pre .1) _ _ _ (c .before .before .before .loop-test .taken) (c .before .fits2 .ensures) (not-true _ (c .if1 .taken))
+returns c =
+    let l = c .before .before .before .before in
+    let g = l .before .before .before .before .before .before in
+    fit-stop (g .args .s .now) (g .pre .0) (g .pre .1) _ _ _ (c .before .before .before .loop-test .taken) (c .before .fits2 .ensures) (not-true _ (c .if1 .taken))
 
 add-i : tie.Need-add-i Inv-loop μ-loop
 add-i c = omega arith
@@ -52,10 +55,13 @@ loop-less : tie.Need-loop-less Inv-loop μ-loop
 loop-less c = omega arith
 
 loop-again : tie.Need-loop-again Inv-loop μ-loop
-loop-again c = (omega arith, fit-next (c .before .before .before .before .before .before .before .before .before .before .args .s .now) (c .before .before .before .before .before .before .before .before .before .before .pre .0) (c .before .before .before .before .before .before .before .before .before .before .pre .1) _ _ _ (c .before .before .before .loop-test .taken) (c .before .fits2 .ensures) (not-false _ (c .if1 .left)) (c .before .before .before .before .loop .inv .1))
+loop-again c =
+    let l = c .before .before .before .before in
+    let g = l .before .before .before .before .before .before in
+    (omega arith, fit-next (g .args .s .now) (g .pre .0) (g .pre .1) _ _ _ (c .before .before .before .loop-test .taken) (c .before .fits2 .ensures) (not-false _ (c .if1 .left)) (l .loop .inv .1))
 
 returns-2 : tie.Need-returns-2 Inv-loop μ-loop
-returns-2 c = fit-end (c .before .before .before .before .before .before .before .args .s .now) (c .before .before .before .before .before .before .before .pre .0) (c .before .before .before .before .before .before .before .pre .1) _ _ _ (omega arith) (c .before .loop .inv .1)
+returns-2 c = let g = c .before .before .before .before .before .before .before in fit-end (g .args .s .now) (g .pre .0) (g .pre .1) _ _ _ (omega arith) (c .before .loop .inv .1)
 
 pub read-spec : {M : Type 1} → statement M
 read-spec = tie.close (tie.spec Inv-loop μ-loop loop-holds mul-b array-read-b mul-e array-read-e array-read-fits sub-fits part-fits-start part-fits-end fits-requires returns add-i loop-less loop-again returns-2)

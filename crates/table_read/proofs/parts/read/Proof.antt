@@ -1,3 +1,4 @@
+-- One law of PartsStand for each return. x, y, w, u: where the ends of the sections stand, from the first to the last.
 use mathlib.Core.Path.{sym, _∙_}
 use native.Mathlib.Omega.{arith}
 use borrow.Author.Tests.{not-true, not-false}
@@ -41,7 +42,13 @@ refused-requires-4 : tie.Need-refused-requires-4
 refused-requires-4 c κs = search needs
 
 returns-4 : tie.Need-returns-4
-returns-4 c = c .refused4 .ensures ∙ sym (refused-16 _ (sym (c .before .before .before .before .before .before .before .before .header .ensures) ∙ not-false _ (c .before .before .before .before .before .before .before .if1 .left)) (no-actions _ (ended (ends2 (c .before .before .before .before .before .before .end2 .ensures)) (c .before .before .before .before .before .if2 .left)) (ended (ends2 (c .before .before .before .before .end22 .ensures)) (c .before .before .before .if3 .left)) (not-ended (ends2 (c .before .before .end23 .ensures)) (c .before .if4 .taken))))
+returns-4 c =
+    let y = c .before .before .before .before in
+    let x = y .before .before in
+    let z = sym (x .before .before .header .ensures) ∙ not-false _ (x .before .if1 .left) in
+    let vs = ended (ends2 (x .end2 .ensures)) (y .before .if2 .left) in
+    let es = ended (ends2 (y .end22 .ensures)) (c .before .before .before .if3 .left) in
+    c .refused4 .ensures ∙ sym (refused-16 _ z (no-actions _ vs es (not-ended (ends2 (c .before .before .end23 .ensures)) (c .before .if4 .taken))))
 
 end4-requires : tie.Need-end4-requires
 end4-requires c κs = (ended (ends2 (c .before .end23 .ensures)) (c .if4 .left)) .inside
@@ -50,25 +57,69 @@ refused-requires-5 : tie.Need-refused-requires-5
 refused-requires-5 c κs = search needs
 
 returns-5 : tie.Need-returns-5
-returns-5 c = c .refused5 .ensures ∙ sym (refused-16 _ (sym (c .before .before .before .before .before .before .before .before .before .before .header .ensures) ∙ not-false _ (c .before .before .before .before .before .before .before .before .before .if1 .left)) (no-locations _ (ended (ends2 (c .before .before .before .before .before .before .before .before .end2 .ensures)) (c .before .before .before .before .before .before .before .if2 .left)) (ended (ends2 (c .before .before .before .before .before .before .end22 .ensures)) (c .before .before .before .before .before .if3 .left)) (ended (ends2 (c .before .before .before .before .end23 .ensures)) (c .before .before .before .if4 .left)) (not-ended (ends4 (c .before .before .end4 .ensures)) (c .before .if5 .taken))))
+returns-5 c =
+    let w = c .before .before .before .before in
+    let y = w .before .before in
+    let x = y .before .before in
+    let z = sym (x .before .before .header .ensures) ∙ not-false _ (x .before .if1 .left) in
+    let vs = ended (ends2 (x .end2 .ensures)) (y .before .if2 .left) in
+    let es = ended (ends2 (y .end22 .ensures)) (w .before .if3 .left) in
+    let acts = ended (ends2 (w .end23 .ensures)) (c .before .before .before .if4 .left) in
+    c .refused5 .ensures ∙ sym (refused-16 _ z (no-locations _ vs es acts (not-ended (ends4 (c .before .before .end4 .ensures)) (c .before .if5 .taken))))
 
 refused-requires-6 : tie.Need-refused-requires-6
 refused-requires-6 c κs = search needs
 
 returns-6 : tie.Need-returns-6
-returns-6 c = c .refused6 .ensures ∙ sym (refused-16 _ (sym (c .before .before .before .before .before .before .before .before .before .before .before .header .ensures) ∙ not-false _ (c .before .before .before .before .before .before .before .before .before .before .if1 .left)) (left-over _ (ended (ends2 (c .before .before .before .before .before .before .before .before .before .end2 .ensures)) (c .before .before .before .before .before .before .before .before .if2 .left)) (ended (ends2 (c .before .before .before .before .before .before .before .end22 .ensures)) (c .before .before .before .before .before .before .if3 .left)) (ended (ends2 (c .before .before .before .before .before .end23 .ensures)) (c .before .before .before .before .if4 .left)) (ended (ends4 (c .before .before .before .end4 .ensures)) (c .before .before .if5 .left)) (c .before .if6 .taken)))
+returns-6 c =
+    let u = c .before .before .before in
+    let w = u .before .before in
+    let y = w .before .before in
+    let x = y .before .before in
+    let z = sym (x .before .before .header .ensures) ∙ not-false _ (x .before .if1 .left) in
+    let vs = ended (ends2 (x .end2 .ensures)) (y .before .if2 .left) in
+    let es = ended (ends2 (y .end22 .ensures)) (w .before .if3 .left) in
+    let acts = ended (ends2 (w .end23 .ensures)) (u .before .if4 .left) in
+    c .refused6 .ensures ∙ sym (refused-16 _ z (left-over _ vs es acts (ended (ends4 (u .end4 .ensures)) (c .before .before .if5 .left)) (c .before .if6 .taken)))
 
 add-t8 : tie.Need-add-t8
-add-t8 c = omega (arith, ends-inside (ended (ends2 (c .before .before .before .before .before .before .end22 .ensures)) (c .before .before .before .before .before .if3 .left)) (ended (ends2 (c .before .before .before .before .end23 .ensures)) (c .before .before .before .if4 .left)) (ended (ends4 (c .before .before .end4 .ensures)) (c .before .if5 .left)) (ended (ends2 (c .before .before .before .before .before .before .before .before .end2 .ensures)) (c .before .before .before .before .before .before .before .if2 .left) .inside))
+add-t8 c =
+    let u = c .before .before in
+    let w = u .before .before in
+    let y = w .before .before in
+    let vs = ended (ends2 (y .before .before .end2 .ensures)) (y .before .if2 .left) in
+    let es = ended (ends2 (y .end22 .ensures)) (w .before .if3 .left) in
+    omega (arith, ends-inside es (ended (ends2 (w .end23 .ensures)) (u .before .if4 .left)) (ended (ends4 (u .end4 .ensures)) (c .before .if5 .left)) (vs .inside))
 
 add-t9 : tie.Need-add-t9
-add-t9 c = omega (arith, ends-inside (ended (ends2 (c .before .before .before .before .before .before .end22 .ensures)) (c .before .before .before .before .before .if3 .left)) (ended (ends2 (c .before .before .before .before .end23 .ensures)) (c .before .before .before .if4 .left)) (ended (ends4 (c .before .before .end4 .ensures)) (c .before .if5 .left)) (ended (ends2 (c .before .before .before .before .before .before .before .before .end2 .ensures)) (c .before .before .before .before .before .before .before .if2 .left) .inside))
+add-t9 c =
+    let u = c .before .before in
+    let w = u .before .before in
+    let y = w .before .before in
+    let vs = ended (ends2 (y .before .before .end2 .ensures)) (y .before .if2 .left) in
+    let es = ended (ends2 (y .end22 .ensures)) (w .before .if3 .left) in
+    omega (arith, ends-inside es (ended (ends2 (w .end23 .ensures)) (u .before .if4 .left)) (ended (ends4 (u .end4 .ensures)) (c .before .if5 .left)) (vs .inside))
 
 add-t10 : tie.Need-add-t10
-add-t10 c = omega (arith, ends-inside (ended (ends2 (c .before .before .before .before .before .before .end22 .ensures)) (c .before .before .before .before .before .if3 .left)) (ended (ends2 (c .before .before .before .before .end23 .ensures)) (c .before .before .before .if4 .left)) (ended (ends4 (c .before .before .end4 .ensures)) (c .before .if5 .left)) (ended (ends2 (c .before .before .before .before .before .before .before .before .end2 .ensures)) (c .before .before .before .before .before .before .before .if2 .left) .inside))
+add-t10 c =
+    let u = c .before .before in
+    let w = u .before .before in
+    let y = w .before .before in
+    let vs = ended (ends2 (y .before .before .end2 .ensures)) (y .before .if2 .left) in
+    let es = ended (ends2 (y .end22 .ensures)) (w .before .if3 .left) in
+    omega (arith, ends-inside es (ended (ends2 (w .end23 .ensures)) (u .before .if4 .left)) (ended (ends4 (u .end4 .ensures)) (c .before .if5 .left)) (vs .inside))
 
 returns-7 : tie.Need-returns-7
-returns-7 c = parts-found _ (ended (ends2 (c .before .before .before .before .before .before .before .before .end2 .ensures)) (c .before .before .before .before .before .before .before .if2 .left)) (ended (ends2 (c .before .before .before .before .before .before .end22 .ensures)) (c .before .before .before .before .before .if3 .left)) (ended (ends2 (c .before .before .before .before .end23 .ensures)) (c .before .before .before .if4 .left)) (ended (ends4 (c .before .before .end4 .ensures)) (c .before .if5 .left)) (header-room _ (sym (c .before .before .before .before .before .before .before .before .before .before .header .ensures) ∙ not-false _ (c .before .before .before .before .before .before .before .before .before .if1 .left))) (sym (c .before .before .before .before .before .before .before .before .before .before .header .ensures) ∙ not-false _ (c .before .before .before .before .before .before .before .before .before .if1 .left)) (c .if6 .left)
+returns-7 c =
+    let u = c .before .before in
+    let w = u .before .before in
+    let y = w .before .before in
+    let x = y .before .before in
+    let z = sym (x .before .before .header .ensures) ∙ not-false _ (x .before .if1 .left) in
+    let vs = ended (ends2 (x .end2 .ensures)) (y .before .if2 .left) in
+    let es = ended (ends2 (y .end22 .ensures)) (w .before .if3 .left) in
+    let acts = ended (ends2 (w .end23 .ensures)) (u .before .if4 .left) in
+    parts-found _ vs es acts (ended (ends4 (u .end4 .ensures)) (c .before .if5 .left)) (header-room _ z) z (c .if6 .left)
 
 pub read-spec : {M : Type 1} → statement M
 read-spec =
