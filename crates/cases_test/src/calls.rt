@@ -1,4 +1,4 @@
-// The product's calls, each behind its word.
+// The product's calls, each with its word on the line.
 use super::line;
 use super::stored;
 

@@ -1,4 +1,4 @@
-// A case's call with what is lent to it, and what it returned and left beside the stored.
+// A case's call with what is lent to it; what it returns and leaves is compared with what is stored.
 ghost use mathlib.Core.Path.{_≡_};
 ghost use lib.ListN.{length};
 use super::calls;
@@ -29,7 +29,7 @@ fn left(lent: &[u8], stored: &[u8], is_written: bool) -> bool {
     check::same(&lent[..n], stored) & untouched(&lent[n..])
 }
 
-// whether the lent buffers are left as the case says: refused, a call writes nothing
+// whether the lent buffers are left as the case says; a refused call writes nothing
 fn written(
     c: Case,
     table: &[u8],
@@ -76,6 +76,7 @@ fn made(
         & written(c, table, records, lent_table, lent_records, lent_others)
 }
 
+// as long as the longest table and the longest records
 fn lent() -> [u8; 420000]
     ensures { λ r. ⌜ 420000 ≡ length r ⌝ }
 {
@@ -111,21 +112,18 @@ pub fn strings(
     start: &[u8],
     events: &[u8],
     records: &[u8],
-) -> u64 {
+) -> bool {
     let f = output::front(c.file, file);
     let t = output::front(c.table, table);
     let s = output::front(c.start, start);
     let e = output::front(c.events, events);
     let r = output::front(c.records, records);
-    if call(
+    call(
         c,
         &file[..f],
         &table[..t],
         &start[..s],
         &events[..e],
         &records[..r],
-    ) {
-        return stored::AS_STORED;
-    }
-    stored::DIFFERENT
+    )
 }

@@ -4,7 +4,7 @@ pub fn text(s: &[u8]) {
     io::write_all(1, s);
 }
 
-// the first n bytes, a colon
+// the first n bytes and a colon
 pub fn name(n: usize, s: &[u8]) {
     let k = output::front(n, s);
     text(&s[..k]);
@@ -16,13 +16,13 @@ fn number(n: usize) {
     io::print_decimal(1, n as u64);
 }
 
-// the refusal, a comma
+// the refusal and a comma
 pub fn refusal(n: usize) {
     number(n);
     text(b",");
 }
 
-// the first of eight numbers, so many; whether all eight are the stored ones
+// shows the first `count` of eight numbers; whether all eight are the stored ones
 pub fn numbers(got: [usize; 8], stored: [usize; 8], count: usize) -> bool {
     let mut same = true;
     let mut i = 0;
@@ -34,12 +34,4 @@ pub fn numbers(got: [usize; 8], stored: [usize; 8], count: usize) -> bool {
         i += 1;
     }
     same
-}
-
-pub fn verdict(v: u64) {
-    if v == super::stored::AS_STORED {
-        text(b"; as stored\n");
-    } else {
-        text(b"; DIFFERENT\n");
-    }
 }

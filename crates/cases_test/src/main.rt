@@ -1,4 +1,4 @@
-// The product's seven calls on the stored cases of standard input: a line for each, and at its end whether every number and every lent byte is the stored one.
+// The product's seven calls on the stored cases of standard input: a line for each case, which ends in whether every number and every lent byte is the stored one.
 // Its functions promise nothing but to end and to be safe.
 mod calls;
 mod compared;
@@ -10,28 +10,26 @@ use stored::Case;
 // more than any input has
 const MOST: u64 = 18446744073709551615;
 
-// The next case, and its line: its verdict is whether all is as stored.
-fn next(
-    before: Case,
-    name: &mut [u8; stored::NAME],
-    file: &mut [u8; stored::FILE],
-    table: &mut [u8; stored::TABLE],
-    start: &mut [u8; stored::START],
-    events: &mut [u8; stored::EVENTS],
-    records: &mut [u8; stored::RECORDS],
-) -> Case {
-    let mut c = stored::read(before, name, file, table, start, events, records);
-    if !stored::whole(c) {
-        return c;
-    }
+// the case's line; 1 where the case is different
+fn shown(
+    c: Case,
+    name: &[u8; stored::NAME],
+    file: &[u8; stored::FILE],
+    table: &[u8; stored::TABLE],
+    start: &[u8; stored::START],
+    events: &[u8; stored::EVENTS],
+    records: &[u8; stored::RECORDS],
+) -> u64 {
     line::name(c.name, name);
-    let v = compared::strings(c, file, table, start, events, records);
-    line::verdict(v);
-    c.verdict = v;
-    c
+    if compared::strings(c, file, table, start, events, records) {
+        line::text(b"; as stored\n");
+        return 0;
+    }
+    line::text(b"; DIFFERENT\n");
+    1
 }
 
-// the last line: the counts where the input ended behind a case
+// the last line: the counts, where the input ends behind a case
 fn last(call: usize, cases: u64, different: u64) {
     if call != stored::CUT {
         line::text(b"no list of cases\n");
@@ -43,6 +41,7 @@ fn last(call: usize, cases: u64, different: u64) {
     line::text(b" different\n");
 }
 
+// the cases one after the other; the buffers keep the strings for the next
 fn all(
     name: &mut [u8; stored::NAME],
     file: &mut [u8; stored::FILE],
@@ -55,12 +54,13 @@ fn all(
     let mut cases = 0;
     let mut different = 0;
     while cases < MOST {
-        c = next(c, name, file, table, start, events, records);
-        if c.verdict > stored::DIFFERENT {
+        c = stored::read(c, name, file, table, start, events, records);
+        if !stored::whole(c) {
             last(c.call, cases, different);
             return;
         }
-        different = std::num::wrapping_add_u64(different, c.verdict);
+        let d = shown(c, name, file, table, start, events, records);
+        different = std::num::wrapping_add_u64(different, d);
         cases += 1;
     }
 }

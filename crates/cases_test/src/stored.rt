@@ -1,7 +1,7 @@
 // A case as it is stored: the call, a name, five strings, what is lent, what the call returns.
 ghost use Prim.Native.Nat.{_<_};
 
-// what stands for a byte or a length that the input does not have: longer than every buffer
+// in place of a byte or a number that the input does not have, and of the length of a string that is cut or too long
 pub const CUT: usize = 4294967296;
 // the length that stands for the string of the case before
 const AS_BEFORE: usize = 4294967295;
@@ -33,13 +33,6 @@ pub const BY_TABLE: usize = 6;
 
 pub const EXAMINE: usize = 7;
 
-// verdicts
-pub const AS_STORED: u64 = 0;
-
-pub const DIFFERENT: u64 = 1;
-
-pub const NO_CASE: u64 = 2;
-
 pub struct Case {
     pub call: usize,
     // the lengths of the name and the five strings
@@ -56,11 +49,9 @@ pub struct Case {
     // what the call returns
     pub refusal: usize,
     pub numbers: [usize; 8],
-    // what became of the case
-    pub verdict: u64,
 }
 
-// what stands before the first case: every string is empty
+// before the first case: every string is empty
 pub fn none() -> Case {
     Case {
         call: 0,
@@ -75,7 +66,6 @@ pub fn none() -> Case {
         other_room: 0,
         refusal: 0,
         numbers: [0; 8],
-        verdict: NO_CASE,
     }
 }
 
@@ -101,7 +91,7 @@ fn number() -> usize {
     wide(b[0]) * 16777216 + wide(b[1]) * 65536 + wide(b[2]) * 256 + wide(b[3])
 }
 
-// n bytes at the front of the buffer; their length
+// the next n bytes, to the front of the buffer; their length
 fn taken(n: usize, buf: &mut [u8]) -> usize {
     let k = output::front(n, buf);
     if io::read_full(0, &mut buf[..k]) < n {
@@ -132,7 +122,7 @@ fn numbers() -> [usize; 8] {
     ]
 }
 
-// the next case; its call is CUT where the input ends
+// the next case; its call is CUT where there is none
 pub fn read(
     before: Case,
     name: &mut [u8; NAME],
@@ -155,11 +145,10 @@ pub fn read(
         other_room: number(),
         refusal: byte(),
         numbers: numbers(),
-        verdict: NO_CASE,
     }
 }
 
-// whether the case is there to its last number, its call one of the seven, every string and lent buffer no longer than the program's buffer
+// whether the case is there to its last number, its call is one of the seven, and no string and no lent buffer is longer than the program's
 pub fn whole(c: Case) -> bool {
     let numbers = c.numbers;
     (c.call >= READ)

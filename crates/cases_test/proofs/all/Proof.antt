@@ -1,3 +1,4 @@
+-- Nothing has to hold from turn to turn; the count of cases rises to its largest.
 use Prim.Native.Nat.{_-_}
 use native.Mathlib.Omega.{arith}
 use Rattle.cases_test.proofs.all.Statement.{statement}
@@ -17,14 +18,20 @@ none-requires c κs = tt
 loop-holds : tie.Need-loop-holds Inv-loop μ-loop
 loop-holds c = tt
 
-next-requires : tie.Need-next-requires Inv-loop μ-loop
-next-requires c κs = tt
+read-requires : tie.Need-read-requires Inv-loop μ-loop
+read-requires c κs = tt
+
+whole-requires : tie.Need-whole-requires Inv-loop μ-loop
+whole-requires c κs = tt
 
 last-requires : tie.Need-last-requires Inv-loop μ-loop
 last-requires c κs = tt
 
 returns : tie.Need-returns Inv-loop μ-loop
 returns c = tt
+
+shown-requires : tie.Need-shown-requires Inv-loop μ-loop
+shown-requires c κs = tt
 
 wrapping-add-u64-requires : tie.Need-wrapping-add-u64-requires Inv-loop μ-loop
 wrapping-add-u64-requires c κs = tt
@@ -49,9 +56,11 @@ all-spec =
     μ-loop
     none-requires
     loop-holds
-    next-requires
+    read-requires
+    whole-requires
     last-requires
     returns
+    shown-requires
     wrapping-add-u64-requires
     add-cases
     loop-less

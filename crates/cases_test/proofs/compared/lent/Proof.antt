@@ -1,3 +1,4 @@
+-- The length of a repeated byte; the law, since counting the list out takes seconds.
 use Prim.Native.Nat.{ℕ}
 use mathlib.Core.Path.{sym}
 use lib.ListN.{length-replicate}

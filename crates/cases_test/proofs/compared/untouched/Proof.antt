@@ -1,3 +1,4 @@
+-- Nothing has to hold from turn to turn; the place goes up to the slice's length.
 use lib.ListN.{length}
 use Prim.Native.Nat.{_-_}
 use native.Mathlib.Omega.{arith}

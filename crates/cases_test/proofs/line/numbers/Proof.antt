@@ -1,3 +1,4 @@
+-- Nothing has to hold from turn to turn; there are eight numbers.
 use Prim.Native.Nat.{_-_}
 use native.Mathlib.Omega.{arith}
 use Rattle.cases_test.proofs.line.numbers.Statement.{statement}
