@@ -11,7 +11,7 @@ use Rattle.semantics.specs.Bytes.{read}
 use Rattle.semantics.specs.Editions.{edition1}
 use Rattle.semantics.specs.Refusals.{accepted}
 use Rattle.semantics.specs.Sections.{Variable, Mode, Selector}
-use Rattle.semantics.specs.Plant.{Plant, selectors, noMode, allDeclared, judgePlant}
+use Rattle.semantics.specs.Plant.{Plant, selectors, noMode, ratesOf, allDeclared, judgePlant}
 use Rattle.semantics.specs.Starts.{Start, isOk, modesFit, startFits}
 use Rattle.semantics.proofs.Facts.{none-not-some, some-is, at-below, at-exists, and-right}
 use Rattle.codec.specs.Padding.{pad}

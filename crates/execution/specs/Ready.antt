@@ -9,7 +9,7 @@ use lib.IntN.{ℤ, pos}
 use lib.ListN.{length, getD, getElem?}
 use Rattle.semantics.specs.Bytes.{every}
 use Rattle.semantics.specs.Sections.{Variable, Selector}
-use Rattle.semantics.specs.Plant.{Plant, equationNamed, drivenOnce, selectors, modeExists, noMode, rateAmong}
+use Rattle.semantics.specs.Plant.{Plant, equationNamed, drivenOnce, selectors, modeExists, noMode, ratesOf, rateAmong}
 use Rattle.semantics.specs.Starts.{modesFit}
 use Rattle.semantics.specs.Run.{Action, test, wait, assign, switch, stop}
 use Rattle.semantics.specs.TableFile.{actionKind, actionOfKind}
