@@ -24,7 +24,8 @@ shared-slice-read-size : tie.Need-shared-slice-read-size Inv-loop μ-loop
 shared-slice-read-size c = c .before .before .before .before .before .pre .operands .each (c .before .before .before .before .loop .n) (c .before .before .before .loop-test .taken) .in-ends
 
 shared-slice-read-size-2 : tie.Need-shared-slice-read-size-2 Inv-loop μ-loop
-shared-slice-read-size-2 c = c .before .before .before .before .before .before .pre .operands .each (c .before .before .before .before .before .loop .n) (c .before .before .before .before .loop-test .taken) .in-starts
+shared-slice-read-size-2 c =
+    c .before .before .before .before .before .before .pre .operands .each (c .before .before .before .before .before .loop .n) (c .before .before .before .before .loop-test .taken) .in-starts
 
 sub-size : tie.Need-sub-size Inv-loop μ-loop
 sub-size c = c .before .before .before .before .before .before .pre .operands .each (c .before .before .before .before .before .loop .n) (c .before .before .before .before .loop-test .taken) .ordered
@@ -33,7 +34,10 @@ add-size : tie.Need-add-size Inv-loop μ-loop
 add-size c = omega (arith, listed-short (c .before .before .before .before .before .before .pre) (c .before .before .before .before .loop-test .taken) (c .before .before .if1 .taken))
 
 add-size-2 : tie.Need-add-size-2 Inv-loop μ-loop
-add-size-2 c = omega (arith, listed-short (c .before .before .before .before .before .before .pre) (c .before .before .before .before .loop-test .taken) (c .before .before .if1 .taken), c .before .before .before .before .before .before .pre .operands .few, c .before .before .before .before .before .loop .inv .1 .short)
+add-size-2 c =
+    let p = c .before .before .before .before .before .before .pre in
+    let l = listed-short p (c .before .before .before .before .loop-test .taken) (c .before .before .if1 .taken) in
+    omega (arith, l, p .operands .few, c .before .before .before .before .before .loop .inv .1 .short)
 
 loop-less : tie.Need-loop-less Inv-loop μ-loop
 loop-less c = omega (arith, c .before .before .loop-test .taken)

@@ -25,7 +25,9 @@ put-row-requires c κs =
 
 returns-2 : tie.Need-returns-2
 unfolding operandAt
-returns-2 c = let s = c .before .before .before .before .before .before .before .before .before .before .before .before .before .before in put-as (row-some (s .args .n) (s .pre .0 .0 .coded (c .before .before .before .before .before .before .before .if1 .left))) (c .before .before .put-row .ensures)
+returns-2 c =
+    let s = c .before .before .before .before .before .before .before .before .before .before .before .before .before .before in
+    put-as (row-some (s .args .n) (s .pre .0 .0 .coded (c .before .before .before .before .before .before .before .if1 .left))) (c .before .before .put-row .ensures)
 
 pub row-spec : {M : Type 1} → statement M
 row-spec =
