@@ -11,9 +11,11 @@ measured-requires c κs =
     listed (c9 .pre .found) (c .before .before .before .kinds3 .ensures)
 
 returns : tie.Need-returns
-returns c =
-    (refl, λ f g. plan-made _ g (c .before .before .before .before .before .before .kinds3 .ensures) (c .before .before .measured .ensures) refl (c .before .row-bytes .ensures .0)
-        (c .table-length .ensures))
+returns c = (
+  refl,
+  λ f g. plan-made _ g (c .before .before .before .before .before .before .kinds3 .ensures) (c .before .before .measured .ensures) refl (c .before .row-bytes .ensures .0)
+      (c .table-length .ensures),
+)
 
 pub made-spec : {M : Type 1} → statement M
 made-spec =

@@ -21,16 +21,21 @@ of-requires c κs =
 returns-2 : tie.Need-returns-2
 returns-2 c =
     let d = c .before .before .before .before .before .before .before .before .before in
-    let e = c .no-plan2 .ensures in
-    (told-refused (λ z. omega arith) (measure-over (indexed (d .before .before .before .args .file .now) (d .before .index .ensures) (d .if1 .left)) (c .before .before .of .ensures)
-        (c .before .if2 .taken)) e, λ z. absurd (omega (arith, e .0)))
+    let e = c .no-plan2 .ensures in (
+      told-refused (λ z. omega arith) (measure-over (indexed (d .before .before .before .args .file .now) (d .before .index .ensures) (d .if1 .left)) (c .before .before .of .ensures)
+          (c .before .if2 .taken)) e,
+      λ z. absurd (omega (arith, e .0)),
+    )
 
 made-requires : tie.Need-made-requires
 made-requires c κs =
     let d = c .before .before .before .before .before .before .before .before in
     let k = d .before .before .shared-slice-known .given in
-    record { file = d .before .before .before .args .file .now; found = found (indexed (d .before .before .before .args .file .now) (d .before .index .ensures) (d .if1 .left))
-        (c .before .of .ensures) (c .if2 .left) (omega (arith, k 1)) (omega (arith, k 2)) }
+    record {
+      file = d .before .before .before .args .file .now;
+      found = found (indexed (d .before .before .before .args .file .now) (d .before .index .ensures) (d .if1 .left))
+          (c .before .of .ensures) (c .if2 .left) (omega (arith, k 1)) (omega (arith, k 2));
+    }
 
 returns-3 : tie.Need-returns-3
 returns-3 c =
@@ -38,7 +43,7 @@ returns-3 c =
     let k = d .before .before .shared-slice-known .given in
     let m = c .made .ensures in
     let p = m .1 _ (found (indexed (d .before .before .before .args .file .now) (d .before .index .ensures) (d .if1 .left)) (c .before .before .of .ensures) (c .before .if2 .left)
-        (omega (arith, k 1)) (omega (arith, k 2))) in
+    (omega (arith, k 1)) (omega (arith, k 2))) in
     (told-planned (m .0) p, λ z. p)
 
 pub planned-spec : {M : Type 1} → statement M

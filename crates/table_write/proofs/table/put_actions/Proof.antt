@@ -20,7 +20,7 @@ returns c =
     let s = c11 .before .before .before .before .before .before .before .before in
     let p = c11 .put2 .ensures in
     actions-put (s .pre .0 .0) (s .pre .0 .1) (omega (arith, s .pre .1)) p (c .before .before .before .before .before .before .before .byte .ensures)
-        (c .before .before .before .before .before .before .put1 .ensures) (c .before .before .write .ensures)
+    (c .before .before .before .before .before .before .put1 .ensures) (c .before .before .write .ensures)
 
 pub put-actions-spec : {M : Type 1} → statement M
 put-actions-spec =
