@@ -84,7 +84,8 @@ zero-beyond (x ∷ l) k (suc n) h = zero-beyond l k n (omega arith)
 
 numbers-beyond : (kinds : List ℕ) (count n : ℕ) → count ≤ length kinds → count ≤ n → getD (actionNumbers kinds count) n 0 ≡ 0
 unfolding actionNumbers pad
-numbers-beyond kinds count n f h = zero-beyond (map (λ k. actionNumber (kindOf k)) (take count kinds)) (64 - length (map (λ k. actionNumber (kindOf k)) (take count kinds))) n (omega (arith, length-map (take count kinds) (λ k. actionNumber (kindOf k)), length-take-le count kinds f))
+numbers-beyond kinds count n f h = zero-beyond (map (λ k. actionNumber (kindOf k)) (take count kinds)) (64 - length (map (λ k. actionNumber (kindOf k)) (take count kinds))) n
+    (omega (arith, length-map (take count kinds) (λ k. actionNumber (kindOf k)), length-take-le count kinds f))
 
 -- ---- the actions of more nodes
 actions-append : (m : ℕ) (l k : List Node) → actionsFrom m (l ++ k) ≡ actionsFrom m l ++ actionsFrom (m + length l) k
@@ -92,14 +93,16 @@ unfolding actionsFrom listed
 actions-append m [] k = let e : m + 0 ≡ m = omega arith in rw e refl
 actions-append m (x ∷ l) k = go (actionOf x) (actions-append (suc m) l k ∙ (let e : suc m + length l ≡ m + suc (length l) = omega arith in ap (λ (i : ℕ). actionsFrom (suc m) l ++ actionsFrom i k) e))
   where
-    go : (o : Option Action) → actionsFrom (suc m) (l ++ k) ≡ actionsFrom (suc m) l ++ actionsFrom (m + suc (length l)) k → listed m o (actionsFrom (suc m) (l ++ k)) ≡ listed m o (actionsFrom (suc m) l) ++ actionsFrom (m + suc (length l)) k
+    go : (o : Option Action) → actionsFrom (suc m) (l ++ k) ≡ actionsFrom (suc m) l ++ actionsFrom (m + suc (length l)) k →
+        listed m o (actionsFrom (suc m) (l ++ k)) ≡ listed m o (actionsFrom (suc m) l) ++ actionsFrom (m + suc (length l)) k
     go none e = e
     go (some y) e = ap (λ (z : List NodeAction). record { node = m; action = y } ∷ z) e
 
 actions-next : (ns : List Node) (n : ℕ) {x : Node} → getElem? ns n ≡ some x → n ≤ length ns → actionsOf (take (suc n) ns) ≡ actionsOf (take n ns) ++ listed n (actionOf x) []
 unfolding actionsOf actionsFrom
 actions-next ns n {x} e h =
-    ap (actionsFrom 0) (take-next ns n e) ∙ actions-append 0 (take n ns) (x ∷ []) ∙ ap (λ (i : ℕ). actionsFrom 0 (take n ns) ++ listed i (actionOf x) []) (zero-add (length (take n ns)) ∙ length-take-le n ns h)
+    ap (actionsFrom 0) (take-next ns n e) ∙ actions-append 0 (take n ns) (x ∷ [])
+    ∙ ap (λ (i : ℕ). actionsFrom 0 (take n ns) ++ listed i (actionOf x) []) (zero-add (length (take n ns)) ∙ length-take-le n ns h)
 
 module _ {s kinds starts ends : List ℕ} {count : ℕ} {ns : List Node} (d : NodesAt s kinds starts ends count ns) where
   abbrev acts : List ℕ
@@ -149,7 +152,9 @@ module _ {s kinds starts ends : List ℕ} {count : ℕ} {ns : List Node} (d : No
   tests-are = fun-ext (λ n. go n (decLt n count))
     where
       go : (n : ℕ) → Dec (n < count) → eqb (getD acts n 0) 1 ≡ isTest (elim (actionAt (actionsOf ns) n) [ none ↦ stop | some a ↦ a ])
-      go n (yes h) = let x = stood n h in formed-test (x .form) ∙ ap (λ (o : Option Action). isTest (elim o [ none ↦ stop | some a ↦ a ])) (sym (action-of-node ns n ∙ ap (λ o. bind o actionOf) (x .is)))
+      go n (yes h) =
+          let x = stood n h in
+          formed-test (x .form) ∙ ap (λ (o : Option Action). isTest (elim o [ none ↦ stop | some a ↦ a ])) (sym (action-of-node ns n ∙ ap (λ o. bind o actionOf) (x .is)))
       go n (no h) =
           let z = numbers-beyond kinds count n (omega (arith, d .few, d .kinds-full)) (omega arith) in
           rw (z, action-beyond d n (omega arith)) refl

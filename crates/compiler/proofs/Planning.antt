@@ -145,7 +145,8 @@ module _ {f : List ℕ} {ix : ScheduleIndex} {m : Sizes} (g : Found f ix m) {act
   }
 
   -- the table's length, by its parts
-  plan-long : {n bytes : ℕ} → Measured acts (ix .nodes .starts) (ix .nodes .ends) (ix .nodes .count) n bytes → copied (ix .parts) + bytes + (m .locations + m .entries * 5) + 18 ≡ length (tableOf edition1 t)
+  plan-long : {n bytes : ℕ} → Measured acts (ix .nodes .starts) (ix .nodes .ends) (ix .nodes .count) n bytes →
+      copied (ix .parts) + bytes + (m .locations + m .entries * 5) + 18 ≡ length (tableOf edition1 t)
   unfolding tableLength widthOf writeActions out
   plan-long l =
       let b = l .sizes (t .sections .schedule) (acts-operands .each) in
@@ -153,7 +154,8 @@ module _ {f : List ℕ} {ix : ScheduleIndex} {m : Sizes} (g : Found f ix m) {act
       omega (arith, table-of-length edition1 t tree-read few, slice-length (g .promise .variables), slice-length (g .promise .equations), b, w, g .locations, g .entries)
 
 pub plan-made : {f : List ℕ} {m : Sizes} (p : Plan) (g : Found f (p .index) m) → p .acts ≡ actionNumbers (p .index .nodes .kinds) (p .index .nodes .count) →
-    Measured (p .acts) (p .index .nodes .starts) (p .index .nodes .ends) (p .index .nodes .count) (p .list .count) (p .list .at) → p .rows .count ≡ m .locations → p .rows .at ≡ m .locations + m .entries * 5 →
+    Measured (p .acts) (p .index .nodes .starts) (p .index .nodes .ends) (p .index .nodes .count) (p .list .count) (p .list .at) →
+    p .rows .count ≡ m .locations → p .rows .at ≡ m .locations + m .entries * 5 →
     (p .length ≡ copied (p .index .parts) + p .list .at + p .rows .at + 18) × (p .length < 4294967296) → Planned f p
 plan-made p g e l n b k = record {
   schedule = g .schedule;

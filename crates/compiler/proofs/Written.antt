@@ -66,7 +66,8 @@ module _ {f : List ℕ} {p : Plan} (g : Planned f p) where
   list-long = actions-long operands (g .list)
 
   -- all of them
-  table-is : (front (p .length) vs es ++ actionSection sch (p .acts) (p .index .nodes .starts) (p .index .nodes .ends) (p .index .nodes .count)) ++ locationSection (testsIn (p .acts)) (g .schedule .root) ≡
+  table-is : (front (p .length) vs es ++ actionSection sch (p .acts) (p .index .nodes .starts) (p .index .nodes .ends) (p .index .nodes .count))
+      ++ locationSection (testsIn (p .acts)) (g .schedule .root) ≡
       tableOf edition1 (g .schedule)
   unfolding tableOf tableBytes tableBody scheduleLocations
   table-is = rw (g .promise .variables .is, g .promise .equations .is, g .promise .schedule .is, g .actions, g .tests, g .whole ∙ table-length edition1 _ _ _ _) (regroup (1 ∷ out4 _) _ _ _ _)

@@ -65,5 +65,6 @@ module _ {ks es acts : List ℕ} {n size : ℕ} where
       LocationsPut ks es acts n size d i d′ r
   unfolding out4 out2
   locations-put h p q z = record {
-    of = λ t x. put-as (locations-joined x) (put-then (put-then (record { ends = p .0; writes = p .1 }) (record { ends = q .0; writes = q .1 }) h) (record { ends = z .ends t (x .lies); writes = z .writes t (x .lies) }) h);
+    of = λ t x. put-as (locations-joined x) (put-then (put-then (record { ends = p .0; writes = p .1 }) (record { ends = q .0; writes = q .1 }) h)
+        (record { ends = z .ends t (x .lies); writes = z .writes t (x .lies) }) h);
   }

@@ -7,19 +7,10 @@ use borrow.Author.Needs.{needs}
 use Rattle.compiler.proofs.call.compile.Statement.{statement}
 use Rattle.compiler.proofs.call.compile.Tie as tie
 
-planned-requires : tie.Need-planned-requires
-planned-requires c κs = search needs
-
-refused-requires : tie.Need-refused-requires
-refused-requires c κs = search needs
-
 returns : tie.Need-returns
 returns c =
     let a = c .before .before .before .before .before .args in
     compile-refused (a .file .now) (a .table .now) (refused-too edition1 (a .file .now) (a .table .now) (c .before .before .planned .ensures .0 .refuses (c .before .if1 .taken))) (c .refused .ensures)
-
-refused-requires-2 : tie.Need-refused-requires-2
-refused-requires-2 c κs = search needs
 
 returns-2 : tie.Need-returns-2
 returns-2 c =
@@ -30,12 +21,10 @@ returns-2 c =
 write-requires : tie.Need-write-requires
 write-requires c κs = (c .before .before .before .before .planned .ensures .1 (c .before .before .before .if1 .left), c .before .if2 .left)
 
-same-length : tie.Need-same-length
-same-length c = search needs
-
 returns-3 : tie.Need-returns-3
 returns-3 c =
-    let a = c .before .before .before .before .before .before .before .before .before .before .args in
+    let c10 = c .before .before .before .before .before .before .before .before .before .before in
+    let a = c10 .args in
     let g = c .before .before .before .before .before .before .before .planned .ensures .1 (c .before .before .before .before .before .before .if1 .left) in
     let j = long-enough edition1 (a .file .now) (a .table .now) (g .judged) (omega (arith, g .whole, c .before .before .before .before .if2 .left)) in
     compile-done (a .file .now) (a .table .now) j (c .before .before .write .ensures _ (g .judged))
@@ -44,11 +33,11 @@ pub compile-spec : {M : Type 1} → statement M
 compile-spec =
     tie.close
     (tie.spec
-    planned-requires
-    refused-requires
+    (λ c κs. search needs)
+    (λ c κs. search needs)
     returns
-    refused-requires-2
+    (λ c κs. search needs)
     returns-2
     write-requires
-    same-length
+    (λ c. search needs)
     returns-3)

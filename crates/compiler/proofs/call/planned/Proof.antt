@@ -7,63 +7,56 @@ use borrow.Author.Needs.{needs}
 use Rattle.compiler.proofs.call.planned.Statement.{statement}
 use Rattle.compiler.proofs.call.planned.Tie as tie
 
-index-requires : tie.Need-index-requires
-index-requires c κs = search needs
-
-no-plan-requires : tie.Need-no-plan-requires
-no-plan-requires c κs = search needs
-
 returns : tie.Need-returns
 returns c =
     let d = c .before .if1 .taken in
     let e = c .no-plan .ensures in
     (told-refused d (measure-refused (c .before .before .before .before .args .file .now) (c .before .before .index .ensures) d) e, λ z. absurd (d (sym (e .0) ∙ z)))
 
-slice-aggregate-of : tie.Need-slice-aggregate-of
-slice-aggregate-of c = search needs
-
-slice-aggregate-of-2 : tie.Need-slice-aggregate-of-2
-slice-aggregate-of-2 c = search needs
-
 of-requires : tie.Need-of-requires
 of-requires c κs =
     let d = c .before .before .before .before .before .before in
     planted (indexed (d .before .before .before .args .file .now) (d .before .index .ensures) (d .if1 .left))
 
-no-plan-requires-2 : tie.Need-no-plan-requires-2
-no-plan-requires-2 c κs = search needs
-
 returns-2 : tie.Need-returns-2
 returns-2 c =
     let d = c .before .before .before .before .before .before .before .before .before in
-    let e = c .no-plan2 .ensures in
-    (told-refused (λ z. omega arith) (measure-over (indexed (d .before .before .before .args .file .now) (d .before .index .ensures) (d .if1 .left)) (c .before .before .of .ensures) (c .before .if2 .taken)) e, λ z. absurd (omega (arith, e .0)))
+    let e = c .no-plan2 .ensures in (
+      told-refused (λ z. omega arith) (measure-over (indexed (d .before .before .before .args .file .now) (d .before .index .ensures) (d .if1 .left)) (c .before .before .of .ensures)
+          (c .before .if2 .taken)) e,
+      λ z. absurd (omega (arith, e .0)),
+    )
 
 made-requires : tie.Need-made-requires
 made-requires c κs =
     let d = c .before .before .before .before .before .before .before .before in
     let k = d .before .before .shared-slice-known .given in
-    record { file = d .before .before .before .args .file .now; found = found (indexed (d .before .before .before .args .file .now) (d .before .index .ensures) (d .if1 .left)) (c .before .of .ensures) (c .if2 .left) (omega (arith, k 1)) (omega (arith, k 2)) }
+    record {
+      file = d .before .before .before .args .file .now;
+      found = found (indexed (d .before .before .before .args .file .now) (d .before .index .ensures) (d .if1 .left))
+          (c .before .of .ensures) (c .if2 .left) (omega (arith, k 1)) (omega (arith, k 2));
+    }
 
 returns-3 : tie.Need-returns-3
 returns-3 c =
     let d = c .before .before .before .before .before .before .before .before .before in
     let k = d .before .before .shared-slice-known .given in
     let m = c .made .ensures in
-    let p = m .1 _ (found (indexed (d .before .before .before .args .file .now) (d .before .index .ensures) (d .if1 .left)) (c .before .before .of .ensures) (c .before .if2 .left) (omega (arith, k 1)) (omega (arith, k 2))) in
+    let p = m .1 _ (found (indexed (d .before .before .before .args .file .now) (d .before .index .ensures) (d .if1 .left)) (c .before .before .of .ensures) (c .before .if2 .left)
+    (omega (arith, k 1)) (omega (arith, k 2))) in
     (told-planned (m .0) p, λ z. p)
 
 pub planned-spec : {M : Type 1} → statement M
 planned-spec =
     tie.close
     (tie.spec
-    index-requires
-    no-plan-requires
+    (λ c κs. search needs)
+    (λ c κs. search needs)
     returns
-    slice-aggregate-of
-    slice-aggregate-of-2
+    (λ c. search needs)
+    (λ c. search needs)
     of-requires
-    no-plan-requires-2
+    (λ c κs. search needs)
     returns-2
     made-requires
     returns-3)

@@ -1,20 +1,12 @@
+-- The index refuses, or the size of its tree is told.
 use borrow.Author.Needs.{needs}
 use Rattle.compiler.proofs.SizeStages.{size-refused, size-over, size-exact}
 use Rattle.compiler.proofs.Indexes.{indexed, planted}
 use Rattle.compiler.proofs.size.of.Statement.{statement}
 use Rattle.compiler.proofs.size.of.Tie as tie
 
-index-requires : tie.Need-index-requires
-index-requires c κs = search needs
-
 returns : tie.Need-returns
 returns c = size-refused (c .before .before .before .args .file .now) (c .before .index .ensures) (c .if1 .taken)
-
-slice-aggregate-of : tie.Need-slice-aggregate-of
-slice-aggregate-of c = search needs
-
-slice-aggregate-of-2 : tie.Need-slice-aggregate-of-2
-slice-aggregate-of-2 c = search needs
 
 of-requires : tie.Need-of-requires
 of-requires c κs =
@@ -35,10 +27,10 @@ pub of-spec : {M : Type 1} → statement M
 of-spec =
     tie.close
     (tie.spec
-    index-requires
+    (λ c κs. search needs)
     returns
-    slice-aggregate-of
-    slice-aggregate-of-2
+    (λ c. search needs)
+    (λ c. search needs)
     of-requires
     returns-2
     returns-3)

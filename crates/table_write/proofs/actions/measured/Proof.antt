@@ -20,20 +20,12 @@ loop-holds c = (omega arith, measured-none)
 shared-slice-read-if1 : tie.Need-shared-slice-read-if1 Inv-loop μ-loop
 shared-slice-read-if1 c = c .before .before .before .pre .operands .each (c .before .before .loop .n) (c .before .loop-test .taken) .in-acts
 
-add-c : tie.Need-add-c Inv-loop μ-loop
-add-c c = search needs
-
-mul-size : tie.Need-mul-size Inv-loop μ-loop
-mul-size c = search needs
-
 shared-slice-read-size : tie.Need-shared-slice-read-size Inv-loop μ-loop
 shared-slice-read-size c = c .before .before .before .before .before .pre .operands .each (c .before .before .before .before .loop .n) (c .before .before .before .loop-test .taken) .in-ends
 
-mul-size-2 : tie.Need-mul-size-2 Inv-loop μ-loop
-mul-size-2 c = search needs
-
 shared-slice-read-size-2 : tie.Need-shared-slice-read-size-2 Inv-loop μ-loop
-shared-slice-read-size-2 c = c .before .before .before .before .before .before .pre .operands .each (c .before .before .before .before .before .loop .n) (c .before .before .before .before .loop-test .taken) .in-starts
+shared-slice-read-size-2 c =
+    c .before .before .before .before .before .before .pre .operands .each (c .before .before .before .before .before .loop .n) (c .before .before .before .before .loop-test .taken) .in-starts
 
 sub-size : tie.Need-sub-size Inv-loop μ-loop
 sub-size c = c .before .before .before .before .before .before .pre .operands .each (c .before .before .before .before .before .loop .n) (c .before .before .before .before .loop-test .taken) .ordered
@@ -42,10 +34,10 @@ add-size : tie.Need-add-size Inv-loop μ-loop
 add-size c = omega (arith, listed-short (c .before .before .before .before .before .before .pre) (c .before .before .before .before .loop-test .taken) (c .before .before .if1 .taken))
 
 add-size-2 : tie.Need-add-size-2 Inv-loop μ-loop
-add-size-2 c = omega (arith, listed-short (c .before .before .before .before .before .before .pre) (c .before .before .before .before .loop-test .taken) (c .before .before .if1 .taken), c .before .before .before .before .before .before .pre .operands .few, c .before .before .before .before .before .loop .inv .1 .short)
-
-add-n : tie.Need-add-n Inv-loop μ-loop
-add-n c = search needs
+add-size-2 c =
+    let p = c .before .before .before .before .before .before .pre in
+    let l = listed-short p (c .before .before .before .before .loop-test .taken) (c .before .before .if1 .taken) in
+    omega (arith, l, p .operands .few, c .before .before .before .before .before .loop .inv .1 .short)
 
 loop-less : tie.Need-loop-less Inv-loop μ-loop
 loop-less c = omega (arith, c .before .before .loop-test .taken)
@@ -68,15 +60,15 @@ measured-spec =
     μ-loop
     loop-holds
     shared-slice-read-if1
-    add-c
-    mul-size
+    (λ c. search needs)
+    (λ c. search needs)
     shared-slice-read-size
-    mul-size-2
+    (λ c. search needs)
     shared-slice-read-size-2
     sub-size
     add-size
     add-size-2
-    add-n
+    (λ c. search needs)
     loop-less
     loop-again
     returns)

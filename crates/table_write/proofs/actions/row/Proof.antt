@@ -12,33 +12,9 @@ use borrow.Author.Needs.{needs}
 use Rattle.table_write.proofs.actions.row.Statement.{statement}
 use Rattle.table_write.proofs.actions.row.Tie as tie
 
-shared-slice-read-k : tie.Need-shared-slice-read-k
-shared-slice-read-k c = search needs
-
 returns : tie.Need-returns
 unfolding flatMap
 returns c = put-as (ap (flatMap (writeAction edition1)) (sym (here-none (c .before .before .before .before .before .before .before .args .n) _ (c .if1 .taken)))) (put-none _ _)
-
-mul-a : tie.Need-mul-a
-mul-a c = search needs
-
-shared-slice-read-a : tie.Need-shared-slice-read-a
-shared-slice-read-a c = search needs
-
-mul-e : tie.Need-mul-e
-mul-e c = search needs
-
-shared-slice-read-e : tie.Need-shared-slice-read-e
-shared-slice-read-e c = search needs
-
-sub-put-row : tie.Need-sub-put-row
-sub-put-row c = search needs
-
-part-put-row-start : tie.Need-part-put-row-start
-part-put-row-start c = search needs
-
-part-put-row-end : tie.Need-part-put-row-end
-part-put-row-end c = search needs
 
 put-row-requires : tie.Need-put-row-requires
 put-row-requires c κs =
@@ -47,26 +23,25 @@ put-row-requires c κs =
     let d = h .coded (c .before .before .before .before .if1 .left) in
     (s .pre .0 .1, omega (arith, d .short, operand-long h), omega (arith, ap length (row-some (s .args .n) d), operand-long h, s .pre .1))
 
-same-length : tie.Need-same-length
-same-length c = search needs
-
 returns-2 : tie.Need-returns-2
 unfolding operandAt
-returns-2 c = let s = c .before .before .before .before .before .before .before .before .before .before .before .before .before .before in put-as (row-some (s .args .n) (s .pre .0 .0 .coded (c .before .before .before .before .before .before .before .if1 .left))) (c .before .before .put-row .ensures)
+returns-2 c =
+    let s = c .before .before .before .before .before .before .before .before .before .before .before .before .before .before in
+    put-as (row-some (s .args .n) (s .pre .0 .0 .coded (c .before .before .before .before .before .before .before .if1 .left))) (c .before .before .put-row .ensures)
 
 pub row-spec : {M : Type 1} → statement M
 row-spec =
     tie.close
     (tie.spec
-    shared-slice-read-k
+    (λ c. search needs)
     returns
-    mul-a
-    shared-slice-read-a
-    mul-e
-    shared-slice-read-e
-    sub-put-row
-    part-put-row-start
-    part-put-row-end
+    (λ c. search needs)
+    (λ c. search needs)
+    (λ c. search needs)
+    (λ c. search needs)
+    (λ c. search needs)
+    (λ c. search needs)
+    (λ c. search needs)
     put-row-requires
-    same-length
+    (λ c. search needs)
     returns-2)

@@ -40,8 +40,12 @@ loop-again c =
     let s = c .before .before .before .before .before .before .before .before .before .before .before in
     let a = s .args in
     let l = c .before .before .before .before .before .loop in
-    let r = c .before .before .row in
-    (omega (arith, c .before .before .before .before .loop-test .taken), r .kept .1 .1 .1 .1 .1 .0 ∙ l .inv .1, put-as (rows-next (a .s .now) (a .acts .now) (a .starts .now) (a .ends .now) (l .n)) (put-then (l .inv .2) (r .ensures) (omega (arith, s .pre .1))))
+    let r = c .before .before .row in (
+      omega (arith, c .before .before .before .before .loop-test .taken),
+      r .kept .1 .1 .1 .1 .1 .0 ∙ l .inv .1,
+      put-as
+          (rows-next (a .s .now) (a .acts .now) (a .starts .now) (a .ends .now) (l .n)) (put-then (l .inv .2) (r .ensures) (omega (arith, s .pre .1))),
+    )
 
 same-length : tie.Need-same-length Inv-loop μ-loop
 same-length c = c .before .loop .inv .1

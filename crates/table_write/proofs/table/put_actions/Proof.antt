@@ -5,43 +5,31 @@ use borrow.Author.Needs.{needs}
 use Rattle.table_write.proofs.table.put_actions.Statement.{statement}
 use Rattle.table_write.proofs.table.put_actions.Tie as tie
 
-add-put2 : tie.Need-add-put2
-add-put2 c = search needs
-
-put2-requires : tie.Need-put2-requires
-put2-requires c κs = search needs
-
-byte-requires : tie.Need-byte-requires
-byte-requires c κs = search needs
-
-put1-requires : tie.Need-put1-requires
-put1-requires c κs = search needs
-
 write-requires : tie.Need-write-requires
 write-requires c κs =
-    let s = c .before .before .before .before .before .before .before .before .before .before .before .before .before .before .before .before in
-    let p = c .before .before .before .before .before .before .before .before .put2 in
+    let c8 = c .before .before .before .before .before .before .before .before in
+    let s = c8 .before .before .before .before .before .before .before .before in
+    let p = c8 .put2 in
     let q = c .before .before .before .put1 in
     let l = s .pre .0 .1 .sizes (s .args .s .now) (s .pre .0 .0 .each) in
     (s .pre .0 .0, omega (arith, s .pre .1, l, p .ensures .0, q .ensures .0, p .kept .0, q .kept .0))
 
-same-length : tie.Need-same-length
-same-length c = search needs
-
 returns : tie.Need-returns
 returns c =
-    let s = c .before .before .before .before .before .before .before .before .before .before .before .before .before .before .before .before .before .before .before in
-    let p = c .before .before .before .before .before .before .before .before .before .before .before .put2 .ensures in
-    actions-put (s .pre .0 .0) (s .pre .0 .1) (omega (arith, s .pre .1)) p (c .before .before .before .before .before .before .before .byte .ensures) (c .before .before .before .before .before .before .put1 .ensures) (c .before .before .write .ensures)
+    let c11 = c .before .before .before .before .before .before .before .before .before .before .before in
+    let s = c11 .before .before .before .before .before .before .before .before in
+    let p = c11 .put2 .ensures in
+    actions-put (s .pre .0 .0) (s .pre .0 .1) (omega (arith, s .pre .1)) p (c .before .before .before .before .before .before .before .byte .ensures)
+    (c .before .before .before .before .before .before .put1 .ensures) (c .before .before .write .ensures)
 
 pub put-actions-spec : {M : Type 1} → statement M
 put-actions-spec =
     tie.close
     (tie.spec
-    add-put2
-    put2-requires
-    byte-requires
-    put1-requires
+    (λ c. search needs)
+    (λ c κs. search needs)
+    (λ c κs. search needs)
+    (λ c κs. search needs)
     write-requires
-    same-length
+    (λ c. search needs)
     returns)

@@ -7,29 +7,20 @@ use borrow.Author.Needs.{needs}
 use Rattle.table_write.proofs.table.put_front.Statement.{statement}
 use Rattle.table_write.proofs.table.put_front.Tie as tie
 
-put1-requires : tie.Need-put1-requires
-put1-requires c κs = search needs
-
-put4-requires : tie.Need-put4-requires
-put4-requires c κs = search needs
-
-put-section-requires : tie.Need-put-section-requires
-put-section-requires c κs = search needs
-
 put-section-requires-2 : tie.Need-put-section-requires-2
 put-section-requires-2 c κs =
-    let s = c .before .before .before .before .before .before .before .before .before .before .before .before .before .before .before .before in
+    let c11 = c .before .before .before .before .before .before .before .before .before .before .before in
+    let s = c11 .before .before .before .before .before in
     let q = c .before .before .before .before .before .before .before .put4 .ensures .0 in
-    (omega (arith, s .pre .1, q, c .before .before .before .before .before .before .before .before .before .before .before .put1 .ensures .0, c .before .before .before .put-section .ensures .ends, section2-length (s .args .vs .now)), s .pre .0 .1)
-
-same-length : tie.Need-same-length
-same-length c = search needs
+    (omega (arith, s .pre .1, q, c11 .put1 .ensures .0, c .before .before .before .put-section .ensures .ends, section2-length (s .args .vs .now)), s .pre .0 .1)
 
 returns : tie.Need-returns
 unfolding out4
 returns c =
-    let p = c .before .before .before .before .before .before .before .before .before .before .before .before .before .before .put1 .ensures in
-    let q = c .before .before .before .before .before .before .before .before .before .before .put4 .ensures in
+    let c10 = c .before .before .before .before .before .before .before .before .before .before in
+    let c14 = c10 .before .before .before .before in
+    let p = c14 .put1 .ensures in
+    let q = c10 .put4 .ensures in
     let h = put-then (record { ends = p .0; writes = p .1 }) (record { ends = q .0; writes = q .1 }) (omega arith) in
     put-then (put-then h (c .before .before .before .before .before .before .put-section .ensures) (omega arith)) (c .before .before .put-section2 .ensures) (omega arith)
 
@@ -37,9 +28,9 @@ pub put-front-spec : {M : Type 1} → statement M
 put-front-spec =
     tie.close
     (tie.spec
-    put1-requires
-    put4-requires
-    put-section-requires
+    (λ c κs. search needs)
+    (λ c κs. search needs)
+    (λ c κs. search needs)
     put-section-requires-2
-    same-length
+    (λ c. search needs)
     returns)

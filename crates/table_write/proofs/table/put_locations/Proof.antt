@@ -5,15 +5,6 @@ use borrow.Author.Needs.{needs}
 use Rattle.table_write.proofs.table.put_locations.Statement.{statement}
 use Rattle.table_write.proofs.table.put_locations.Tie as tie
 
-add-put4 : tie.Need-add-put4
-add-put4 c = search needs
-
-put4-requires : tie.Need-put4-requires
-put4-requires c κs = search needs
-
-put2-requires : tie.Need-put2-requires
-put2-requires c κs = search needs
-
 number-requires : tie.Need-number-requires
 number-requires c κs =
     let s = c .before .before .before .before .before .before .before .before .before .before .before .before .before .before in
@@ -21,20 +12,19 @@ number-requires c κs =
     let q = c .before .before .before .put2 in
     (fitting (s .pre .0) (omega (arith, s .pre .2, p .ensures .0, q .ensures .0, p .kept .0, q .kept .0)), s .pre .1)
 
-same-length : tie.Need-same-length
-same-length c = search needs
-
 returns : tie.Need-returns
 returns c =
-    locations-put (omega (arith, c .before .before .before .before .before .before .before .before .before .before .before .before .before .before .before .before .before .pre .2)) (c .before .before .before .before .before .before .before .before .before .before .put4 .ensures) (c .before .before .before .before .before .before .put2 .ensures) (c .before .before .number .ensures)
+    let c10 = c .before .before .before .before .before .before .before .before .before .before in
+    let c17 = c10 .before .before .before .before .before .before .before in
+    locations-put (omega (arith, c17 .pre .2)) (c10 .put4 .ensures) (c .before .before .before .before .before .before .put2 .ensures) (c .before .before .number .ensures)
 
 pub put-locations-spec : {M : Type 1} → statement M
 put-locations-spec =
     tie.close
     (tie.spec
-    add-put4
-    put4-requires
-    put2-requires
+    (λ c. search needs)
+    (λ c κs. search needs)
+    (λ c κs. search needs)
     number-requires
-    same-length
+    (λ c. search needs)
     returns)

@@ -7,21 +7,19 @@ use borrow.Author.Needs.{needs}
 use Rattle.table_write.proofs.table.put_section.Statement.{statement}
 use Rattle.table_write.proofs.table.put_section.Tie as tie
 
-put2-requires : tie.Need-put2-requires
-put2-requires c κs = search needs
-
-put-slice-requires : tie.Need-put-slice-requires
-put-slice-requires c κs = search needs
-
-same-length : tie.Need-same-length
-same-length c = search needs
-
 returns : tie.Need-returns
 unfolding inSection2 out2
 returns c =
+    let c10 = c .before .before .before .before .before .before .before .before .before .before in
     let p = c .before .before .before .before .before .before .put2 .ensures in
     let q = c .before .before .put-slice .ensures in
-    put-then (record { ends = p .0; writes = p .1 }) (record { ends = q .0; writes = q .1 }) (omega (arith, c .before .before .before .before .before .before .before .before .before .before .pre .0))
+    put-then (record { ends = p .0; writes = p .1 }) (record { ends = q .0; writes = q .1 }) (omega (arith, c10 .pre .0))
 
 pub put-section-spec : {M : Type 1} → statement M
-put-section-spec = tie.close (tie.spec put2-requires put-slice-requires same-length returns)
+put-section-spec =
+    tie.close
+    (tie.spec
+    (λ c κs. search needs)
+    (λ c κs. search needs)
+    (λ c. search needs)
+    returns)
