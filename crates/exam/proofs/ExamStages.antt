@@ -11,7 +11,7 @@ use Rattle.semantics.specs.Editions.{Edition, edition1}
 use Rattle.semantics.specs.Refusals.{Judged, refused, accepted, _>>=_, _>>_, ensure, refusalOf}
 use Rattle.semantics.specs.Plant.{Plant}
 use Rattle.semantics.specs.Starts.{Start}
-use Rattle.semantics.specs.Calls.{Program, Outcome, Ran, judgeAdmission, judgeRun, tableRun, eventCount, recordSize, roomForRecords}
+use Rattle.semantics.specs.Calls.{Program, Outcome, Ran, runFrom, outcomeOf, judgeAdmission, judgeRun, tableRun, eventCount, recordSize, roomForRecords}
 use Rattle.semantics.specs.Conditions.{Condition}
 use Rattle.semantics.proofs.Facts.{All, all-append}
 use Rattle.semantics.proofs.Judging as Judging
@@ -61,12 +61,17 @@ run-admits ed g start events buffer h =
     (a .0, admission-passed ed (g .plant) start events buffer (a .1))
 
 -- a run into another buffer: only 22 is left to judge
+another-buffer : (ed : Edition) (p : Plant) (start events buffer other : List ℕ) {st : Start} → Admits ed p start events buffer st → judgeAdmission ed p start events other ≡ (ensure 22 (roomForRecords ed p events other) >> accepted st)
+unfolding judgeAdmission
+another-buffer ed p start events buffer other b = Judging.go-then _ (start-judged p start (b .starts)) ∙ Judging.go-ensure 21 _ (b .whole)
+
 other-buffer : {S A : Type 0} (ed : Edition) (g : Program S) (start events buffer other : List ℕ) {o : Outcome} (a : A) → judgeRun ed (accepted g) start events buffer ≡ accepted o →
     refusalOf (judgeRun ed (accepted g) start events other) ≡ refusalOf (ensure 22 (roomForRecords ed (g .plant) events other) >> accepted a)
-unfolding judgeRun judgeAdmission
+unfolding judgeRun
 other-buffer ed g start events buffer other a h =
-    let b = run-admits ed g start events buffer h .1 in
-    ap refusalOf (Judging.go-then _ refl ∙ ap (λ j. j >>= _) (Judging.go-then _ (start-judged (g .plant) start (b .starts)) ∙ Judging.go-ensure 21 _ (b .whole))) ∙ tested-last 22 (roomForRecords ed (g .plant) events other) _ _ a
+    let b = run-admits ed g start events buffer h in
+    ap refusalOf (Judging.go-then _ refl ∙ ap (λ (j : Judged Start). j >>= λ st. accepted (outcomeOf ed (g .control) (runFrom ed g st events))) (another-buffer ed (g .plant) start events buffer other (b .1)))
+    ∙ tested-last 22 (roomForRecords ed (g .plant) events other) (b .0) (λ st. outcomeOf ed (g .control) (runFrom ed g st events)) a
 
 module _ (ed : Edition) (file start events table records others : List ℕ) where
   -- 1 to 13

@@ -1,5 +1,5 @@
 -- Conditions 20 to 22: the judged start of a run in the code's arrays.
-use mathlib.Core.List.{List, []}
+use mathlib.Core.List.{[]}
 use Prim.Native.Nat.{ℕ}
 use lib.IntN.{pos}
 use Rattle.semantics.specs.Refusals.{Judged, refused, accepted}

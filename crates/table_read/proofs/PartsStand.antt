@@ -20,7 +20,7 @@ use Rattle.codec.proofs.Reading.{drop-past, drop-some, nat4At}
 use Rattle.codec.proofs.Sections.{Cut, cuts2, cuts4}
 use Rattle.table_read.specs.Ends.{anything}
 use Rattle.table_read.specs.declared.parts.Parts.{Parts}
-use Rattle.table_read.specs.TableParts.{noParts, partsAt, sectionsAt, partsIn, partsRead, partsOf}
+use Rattle.table_read.specs.TableParts.{Apart, noParts, partsAt, sectionsAt, partsIn, partsRead, partsOf}
 
 -- from place p to place q
 place-cut : (w p q : ℕ) (t : List ℕ) {x : List ℕ} → p ≤ length t → q ≤ length t → Cut w (drop p t) x (drop q t) → q ≡ p + w + length x
@@ -35,15 +35,12 @@ end2-is {t} {p} {q} h k = place-cut 2 p q t h (k .inside) (cuts2 .cut (drop p t)
 pub end4-is : {t : List ℕ} {p q : ℕ} → p ≤ length t → (k : Took section4 anything t p q tt) → q ≡ p + 4 + length (k .value)
 end4-is {t} {p} {q} h k = place-cut 4 p q t h (k .inside) (cuts4 .cut (drop p t) (k .got))
 
-pub ends-inside : {t : List ℕ} {v e a l : ℕ} → Took section2 anything t v e tt → Took section2 anything t e a tt → Took section4 anything t a l tt → v ≤ length t → (v + 2 ≤ length t) × (e + 2 ≤ length t) × (a + 4 ≤ length t)
-ends-inside es acts ls h =
+pub ends-apart : {t : List ℕ} {v e a l : ℕ} → v ≤ length t → Took section2 anything t v e tt → Took section2 anything t e a tt → Took section4 anything t a l tt → Apart v e a l
+ends-apart h es acts ls =
     let ee = end2-is h es in
     let ae = end2-is (es .inside) acts in
     let le = end4-is (acts .inside) ls in
-    let i = es .inside in
-    let j = acts .inside in
-    let k = ls .inside in
-    (omega arith, omega arith, omega arith)
+    record { equations = omega arith; actions = omega arith; locations = omega arith }
 
 -- ---- the header
 module _ (t : List ℕ) where

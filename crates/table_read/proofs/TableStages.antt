@@ -1,18 +1,18 @@
 -- A table judged in order: what the answers about its parts make of the whole.
 use mathlib.Core.Path.{_≡_, refl, sym, ap, subst, _∙_}
 use mathlib.Core.Bool.{Bool, true, false, _&&_}
-use mathlib.Core.List.{List, map}
+use mathlib.Core.List.{List}
 use mathlib.Core.Option.{Option, none, some}
 use Prim.Native.Nat.{ℕ, _-_, _≤_}
 use native.Mathlib.Omega.{arith}
-use lib.ListN.{length, take, drop, length-map}
+use lib.ListN.{length, take, drop}
 use Rattle.semantics.specs.Bytes.{every}
 use Rattle.semantics.specs.Editions.{edition1}
 use Rattle.semantics.specs.Refusals.{Judged, refused, accepted, oneNumber, need, ensure, _>>=_, _>>_}
-use Rattle.semantics.specs.Sections.{Selector, Equation, equationsIn}
-use Rattle.semantics.specs.Plant.{Plant, judgePlant, switchesRead, equationReads, selectorsOf, selectors}
+use Rattle.semantics.specs.Sections.{Equation, equationsIn}
+use Rattle.semantics.specs.Plant.{Plant, judgePlant, switchesRead, equationReads, selectors}
 use Rattle.semantics.specs.TableFile.{NodeAction, Entry, TableSections, tableSectionsIn, actionsIn, locationsIn}
-use Rattle.semantics.specs.Tables.{Table, tableHeader, operandFits, actionsFit, locationsFit, judgeSections, judgeTable, operandsFit, actionsNumbered}
+use Rattle.semantics.specs.Tables.{Table, tableHeader, actionsFit, locationsFit, judgeSections, judgeTable, operandsFit, actionsNumbered}
 use Rattle.semantics.proofs.Judging.{go-then, go-need, go-ensure, go-only}
 use Rattle.plant.specs.ModeCounts.{ModesAt}
 use Rattle.plant.specs.Sound.{There}

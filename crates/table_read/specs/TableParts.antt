@@ -2,7 +2,7 @@
 use mathlib.Core.Bool.{cond}
 use mathlib.Core.List.{List}
 use mathlib.Core.Option.{Option, none, some}
-use Prim.Native.Nat.{ℕ, _+_, _-_}
+use Prim.Native.Nat.{ℕ, _+_, _-_, _≤_}
 use lib.ListN.{length, take, drop}
 use Rattle.semantics.specs.Editions.{edition1}
 use Rattle.semantics.specs.TableFile.{TableSections, tableSectionsIn}
@@ -36,6 +36,12 @@ partsAt v e a l = record {
   locations = a + 4;
   «locations_end» = l;
 }
+
+-- each ends after the length of the next
+pub record Apart (v e a l : ℕ) : Type 0 where
+  pub equations : v + 2 ≤ e
+  pub actions : e + 2 ≤ a
+  pub locations : a + 4 ≤ l
 
 unfoldable pub partsIn : TableSections → Parts
 partsIn s =

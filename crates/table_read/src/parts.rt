@@ -2,7 +2,7 @@
 ghost use mathlib.Core.Path.{_≡_};
 ghost use Rattle.semantics.specs.Editions.{edition1};
 ghost use Rattle.semantics.specs.Tables.{tableHeader};
-ghost use Rattle.table_read.specs.TableParts.{partsOf, noParts};
+ghost use Rattle.table_read.specs.TableParts.{partsOf, noParts, partsAt, Apart};
 
 // 0, or the number of the first condition that is broken; each section from its start to its end
 pub struct Parts {
@@ -45,6 +45,24 @@ fn header(t: &[u8]) -> bool
     codec::nat4(t, 1) == t.len()
 }
 
+// the sections that end there
+fn found(v: usize, e: usize, a: usize, l: usize) -> Parts
+    requires { ⌜ Apart v e a l ⌝ }
+    ensures { λ r. ⌜ r ≡ partsAt v e a l ⌝ }
+{
+    Parts {
+        refusal: 0,
+        variables: 7,
+        variables_end: v,
+        equations: v + 2,
+        equations_end: e,
+        actions: e + 2,
+        actions_end: a,
+        locations: a + 4,
+        locations_end: l,
+    }
+}
+
 pub fn read(t: &[u8]) -> Parts
     ensures { λ r. ⌜ r ≡ partsOf (now (t .entry)) ⌝ }
 {
@@ -70,15 +88,5 @@ pub fn read(t: &[u8]) -> Parts
     if l < t.len() {
         return refused(16);
     }
-    Parts {
-        refusal: 0,
-        variables: 7,
-        variables_end: v,
-        equations: v + 2,
-        equations_end: e,
-        actions: e + 2,
-        actions_end: a,
-        locations: a + 4,
-        locations_end: l,
-    }
+    found(v, e, a, l)
 }

@@ -1,6 +1,5 @@
 use mathlib.Core.Path.{refl}
 use native.Mathlib.Omega.{arith}
-use borrow.Author.Needs.{needs}
 use Prim.Native.Nat.{_-_, _≤_}
 use Rattle.codec.specs.Padding.{pad}
 use Rattle.start_read.proofs.StartTurns.{Moded, modes-start, modes-next, modes-stop, modes-end}

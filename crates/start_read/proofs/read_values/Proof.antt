@@ -47,8 +47,7 @@ inside-requires c κs = search needs
 returns : tie.Need-returns Inv-loop μ-loop
 returns c =
     let b = c .before .before .before .before .before .before in
-    let a = b .before .before .args in
-    let l = b .loop in
+    let a = b .before .before .args in let l = b .loop in
     let z = c .before .before .before .before .int4 in
     let f : SFits w32 (z .result) = record { sfits = z .ok } in
     let t = inside-held (getD (a .lows .now) (l .i) (pos 0)) (getD (a .highs .now) (l .i) (pos 0)) (record { sfits = c .before .before .before .inside-arg .given }) (record { sfits = c .before .before .inside-arg2 .given }) f (z .ensures) (c .before .inside .ensures) in
@@ -69,8 +68,7 @@ loop-less c = omega arith
 loop-again : tie.Need-loop-again Inv-loop μ-loop
 loop-again c =
     let b = c .before .before .before .before .before .before in
-    let a = b .before .before .args in
-    let l = b .loop in
+    let a = b .before .before .args in let l = b .loop in
     let z = c .before .before .before .before .int4 in
     let f : SFits w32 (z .result) = record { sfits = z .ok } in
     let t = inside-held (getD (a .lows .now) (l .i) (pos 0)) (getD (a .highs .now) (l .i) (pos 0)) (record { sfits = c .before .before .before .inside-arg .given }) (record { sfits = c .before .before .inside-arg2 .given }) f (z .ensures) (c .before .inside .ensures) in

@@ -101,22 +101,5 @@ returns-6 c =
 pub sections-spec : {M : Type 1} → statement M
 sections-spec =
     tie.close
-    (tie.spec
-    read-requires
-    refused-requires
-    returns
-    read-requires-2
-    refused-requires-2
-    returns-2
-    read-requires-3
-    refused-requires-3
-    returns-3
-    slice-aggregate-read
-    read-requires-4
-    refused-requires-4
-    returns-4
-    slice-aggregate-read-2
-    read-requires-5
-    refused-requires-5
-    returns-5
-    returns-6)
+    (tie.spec read-requires refused-requires returns read-requires-2 refused-requires-2 returns-2 read-requires-3 refused-requires-3 returns-3 slice-aggregate-read read-requires-4
+    refused-requires-4 returns-4 slice-aggregate-read-2 read-requires-5 refused-requires-5 returns-5 returns-6)

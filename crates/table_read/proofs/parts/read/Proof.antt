@@ -3,7 +3,7 @@ use mathlib.Core.Path.{sym, _∙_}
 use native.Mathlib.Omega.{arith}
 use borrow.Author.Tests.{not-true, not-false}
 use Rattle.table_read.proofs.Ended.{ends2, ends4, ended, not-ended}
-use Rattle.table_read.proofs.PartsStand.{header-room, refused-15, refused-16, no-variables, no-equations, no-actions, no-locations, left-over, parts-found, ends-inside}
+use Rattle.table_read.proofs.PartsStand.{header-room, refused-15, refused-16, no-variables, no-equations, no-actions, no-locations, left-over, parts-found, ends-apart}
 use borrow.Author.Needs.{needs}
 use Rattle.table_read.proofs.parts.read.Statement.{statement}
 use Rattle.table_read.proofs.parts.read.Tie as tie
@@ -61,11 +61,10 @@ returns-5 c =
     let w = c .before .before .before .before in
     let y = w .before .before in
     let x = y .before .before in
-    let z = sym (x .before .before .header .ensures) ∙ not-false _ (x .before .if1 .left) in
+    let h = sym (x .before .before .header .ensures) ∙ not-false _ (x .before .if1 .left) in
     let vs = ended (ends2 (x .end2 .ensures)) (y .before .if2 .left) in
-    let es = ended (ends2 (y .end22 .ensures)) (w .before .if3 .left) in
     let acts = ended (ends2 (w .end23 .ensures)) (c .before .before .before .if4 .left) in
-    c .refused5 .ensures ∙ sym (refused-16 _ z (no-locations _ vs es acts (not-ended (ends4 (c .before .before .end4 .ensures)) (c .before .if5 .taken))))
+    c .refused5 .ensures ∙ sym (refused-16 _ h (no-locations _ vs (ended (ends2 (y .end22 .ensures)) (w .before .if3 .left)) acts (not-ended (ends4 (c .before .before .end4 .ensures)) (c .before .if5 .taken))))
 
 refused-requires-6 : tie.Need-refused-requires-6
 refused-requires-6 c κs = search needs
@@ -82,44 +81,24 @@ returns-6 c =
     let acts = ended (ends2 (w .end23 .ensures)) (u .before .if4 .left) in
     c .refused6 .ensures ∙ sym (refused-16 _ z (left-over _ vs es acts (ended (ends4 (u .end4 .ensures)) (c .before .before .if5 .left)) (c .before .if6 .taken)))
 
-add-t8 : tie.Need-add-t8
-add-t8 c =
+found-requires : tie.Need-found-requires
+found-requires c κs =
     let u = c .before .before in
     let w = u .before .before in
     let y = w .before .before in
     let vs = ended (ends2 (y .before .before .end2 .ensures)) (y .before .if2 .left) in
-    let es = ended (ends2 (y .end22 .ensures)) (w .before .if3 .left) in
-    omega (arith, ends-inside es (ended (ends2 (w .end23 .ensures)) (u .before .if4 .left)) (ended (ends4 (u .end4 .ensures)) (c .before .if5 .left)) (vs .inside))
-
-add-t9 : tie.Need-add-t9
-add-t9 c =
-    let u = c .before .before in
-    let w = u .before .before in
-    let y = w .before .before in
-    let vs = ended (ends2 (y .before .before .end2 .ensures)) (y .before .if2 .left) in
-    let es = ended (ends2 (y .end22 .ensures)) (w .before .if3 .left) in
-    omega (arith, ends-inside es (ended (ends2 (w .end23 .ensures)) (u .before .if4 .left)) (ended (ends4 (u .end4 .ensures)) (c .before .if5 .left)) (vs .inside))
-
-add-t10 : tie.Need-add-t10
-add-t10 c =
-    let u = c .before .before in
-    let w = u .before .before in
-    let y = w .before .before in
-    let vs = ended (ends2 (y .before .before .end2 .ensures)) (y .before .if2 .left) in
-    let es = ended (ends2 (y .end22 .ensures)) (w .before .if3 .left) in
-    omega (arith, ends-inside es (ended (ends2 (w .end23 .ensures)) (u .before .if4 .left)) (ended (ends4 (u .end4 .ensures)) (c .before .if5 .left)) (vs .inside))
+    ends-apart (vs .inside) (ended (ends2 (y .end22 .ensures)) (w .before .if3 .left)) (ended (ends2 (w .end23 .ensures)) (u .before .if4 .left)) (ended (ends4 (u .end4 .ensures)) (c .before .if5 .left))
 
 returns-7 : tie.Need-returns-7
 returns-7 c =
-    let u = c .before .before in
+    let u = c .before .before .before in
     let w = u .before .before in
     let y = w .before .before in
     let x = y .before .before in
-    let z = sym (x .before .before .header .ensures) ∙ not-false _ (x .before .if1 .left) in
+    let h = sym (x .before .before .header .ensures) ∙ not-false _ (x .before .if1 .left) in
     let vs = ended (ends2 (x .end2 .ensures)) (y .before .if2 .left) in
-    let es = ended (ends2 (y .end22 .ensures)) (w .before .if3 .left) in
-    let acts = ended (ends2 (w .end23 .ensures)) (u .before .if4 .left) in
-    parts-found _ vs es acts (ended (ends4 (u .end4 .ensures)) (c .before .if5 .left)) (header-room _ z) z (c .if6 .left)
+    c .found .ensures ∙ parts-found _ vs (ended (ends2 (y .end22 .ensures)) (w .before .if3 .left)) (ended (ends2 (w .end23 .ensures)) (u .before .if4 .left)) (ended (ends4 (u .end4 .ensures)) (c .before .before .if5 .left))
+    (header-room _ h) h (c .before .if6 .left)
 
 pub read-spec : {M : Type 1} → statement M
 read-spec =
@@ -142,7 +121,5 @@ read-spec =
     returns-5
     refused-requires-6
     returns-6
-    add-t8
-    add-t9
-    add-t10
+    found-requires
     returns-7)
