@@ -11,7 +11,7 @@ use denote.Enum.Declared.{tagOf}
 use Rattle.semantics.specs.Bytes.{isSome}
 use Rattle.semantics.specs.Editions.{edition1}
 use Rattle.semantics.specs.Expressions as Forms
-use Rattle.semantics.specs.Expressions.{Value, ok, fault, above, below, valueOf, holds, numberIn, truthIn, numberValue, truthValue}
+use Rattle.semantics.specs.Expressions.{Value, ok, fault, above, below, valueOf, holds, numberIn, truthIn, numberValue}
 use Rattle.semantics.proofs.Facts.{true-not-false, none-not-some, some-is}
 use Rattle.expression.specs.Answers.{numberOf, truthOf, numberAnswer, truthAnswer}
 use Rattle.expression.specs.declared.Number.{Number}
@@ -53,59 +53,50 @@ pub record IsNumber (vs : List ℤ) (s : List ℕ) (v : Value ℤ) : Type 0 wher
   pub reads : isSome (numberIn edition1 (length vs) s) ≡ true
   pub value : numberValue edition1 vs s ≡ v
 
-pub record IsTruth (vs : List ℤ) (s : List ℕ) (v : Value Bool) : Type 0 where
-  pub reads : isSome (truthIn edition1 (length vs) s) ≡ true
-  pub value : truthValue edition1 vs s ≡ v
-
 none-of : {A : Type 0} (o : Option A) → isSome o ≡ false → o ≡ none
 unfolding isSome
 none-of none h = refl
 none-of (some x) h = true-not-false h
 
+-- ---- numbers and truths alike: answers R to what was read, E or nothing, that tell its value
+module _ {R E A : Type 0} (told : R → Option (Value A)) (answer : Option E → R) (value : E → Value A) (malformed : told (answer none) ≡ none) (tells : (x : E) → told (answer (some x)) ≡ some (value x)) where
+  -- none is told just where condition 12 turns the bytes away
+  judged : (o : Option E) {r : R} → r ≡ answer o → isSome (told r) ≡ isSome o
+  unfolding isSome
+  judged none e = ap (λ a. isSome (told a)) e ∙ ap isSome malformed
+  judged (some x) e = ap (λ a. isSome (told a)) e ∙ ap isSome (tells x)
+
+  -- the value that is told is the value
+  valued : (o : Option E) {r : R} → r ≡ answer o → {v : Value A} → told r ≡ some v → (isSome o ≡ true) × (elim o [ none ↦ fault above | some x ↦ value x ] ≡ v)
+  unfolding isSome
+  valued none e h = none-not-some (sym malformed ∙ sym (ap told e) ∙ h)
+  valued (some x) e h = (refl, some-is (sym (tells x) ∙ sym (ap told e) ∙ h))
+
 module _ (vs : List ℤ) (s : List ℕ) where
   module _ {r : Number} (r-is : r ≡ numberAnswer vs (numberIn edition1 (length vs) s)) where
-    -- the value that is told is the value
     pub number-valued : {v : Value ℤ} → numberTold r ≡ some v → IsNumber vs s v
-    unfolding numberValue numberAnswer isSome
-    number-valued {v} h = go (numberIn edition1 (length vs) s) refl (sym (ap numberTold r-is) ∙ h)
-      where
-        go : (o : Option Forms.Number) → numberIn edition1 (length vs) s ≡ o → numberTold (numberAnswer vs o) ≡ some v → IsNumber vs s v
-        go none e k = none-not-some k
-        go (some x) e k = record { reads = rw e refl; value = rw (e, numberValue) (some-is (sym (number-told (valueOf vs x)) ∙ k)) }
+    unfolding numberValue numberAnswer
+    number-valued h = let q = valued numberTold (numberAnswer vs) (valueOf vs) refl (λ x. number-told (valueOf vs x)) (numberIn edition1 (length vs) s) r-is h in record { reads = q .0; value = q .1 }
 
-    -- none is told just where condition 12 turns the bytes away
     pub number-judged : isSome (numberTold r) ≡ isSome (numberIn edition1 (length vs) s)
-    unfolding numberAnswer isSome
-    number-judged = ap (λ a. isSome (numberTold a)) r-is ∙ go (numberIn edition1 (length vs) s)
-      where
-        go : (o : Option Forms.Number) → isSome (numberTold (numberAnswer vs o)) ≡ isSome o
-        go none = refl
-        go (some x) = ap isSome (number-told (valueOf vs x))
+    unfolding numberAnswer
+    number-judged = judged numberTold (numberAnswer vs) (valueOf vs) refl (λ x. number-told (valueOf vs x)) (numberIn edition1 (length vs) s) r-is
 
     pub number-malformed : r ≡ Numbers.Malformed → numberIn edition1 (length vs) s ≡ none
     unfolding isSome
     number-malformed h = none-of (numberIn edition1 (length vs) s) (sym number-judged ∙ ap (λ a. isSome (numberTold a)) h)
 
+    -- the test of condition 12, where so many variables are declared
+    pub number-decides : {n : ℕ} → length vs ≡ n → {b : Bool} → isSome (numberTold r) ≡ b → b ≡ isSome (numberIn edition1 n s)
+    number-decides e h = sym h ∙ number-judged ∙ ap (λ n. isSome (numberIn edition1 n s)) e
+
   module _ {r : Truth} (r-is : r ≡ truthAnswer vs (truthIn edition1 (length vs) s)) where
-    pub truth-valued : {v : Value Bool} → truthTold r ≡ some v → IsTruth vs s v
-    unfolding truthValue truthAnswer isSome
-    truth-valued {v} h = go (truthIn edition1 (length vs) s) refl (sym (ap truthTold r-is) ∙ h)
-      where
-        go : (o : Option Forms.Truth) → truthIn edition1 (length vs) s ≡ o → truthTold (truthAnswer vs o) ≡ some v → IsTruth vs s v
-        go none e k = none-not-some k
-        go (some x) e k = record { reads = rw e refl; value = rw (e, truthValue) (some-is (sym (truth-told (holds vs x)) ∙ k)) }
+    truth-judged : isSome (truthTold r) ≡ isSome (truthIn edition1 (length vs) s)
+    unfolding truthAnswer
+    truth-judged = judged truthTold (truthAnswer vs) (holds vs) refl (λ x. truth-told (holds vs x)) (truthIn edition1 (length vs) s) r-is
 
-    pub truth-judged : isSome (truthTold r) ≡ isSome (truthIn edition1 (length vs) s)
-    unfolding truthAnswer isSome
-    truth-judged = ap (λ a. isSome (truthTold a)) r-is ∙ go (truthIn edition1 (length vs) s)
-      where
-        go : (o : Option Forms.Truth) → isSome (truthTold (truthAnswer vs o)) ≡ isSome o
-        go none = refl
-        go (some x) = ap isSome (truth-told (holds vs x))
-
-    pub truth-malformed : r ≡ Truths.Malformed → truthIn edition1 (length vs) s ≡ none
-    unfolding isSome
-    truth-malformed h = none-of (truthIn edition1 (length vs) s) (sym truth-judged ∙ ap (λ a. isSome (truthTold a)) h)
+    pub truth-decides : {n : ℕ} → length vs ≡ n → {b : Bool} → isSome (truthTold r) ≡ b → b ≡ isSome (truthIn edition1 n s)
+    truth-decides e h = sym h ∙ truth-judged ∙ ap (λ n. isSome (truthIn edition1 n s)) e
 
 -- ---- the arm of every answer but malformed
 pub number-tells : (r : Number) → OneOf (0 ∷ 1 ∷ 2 ∷ []) (tagOf number.the-type r) → isSome (numberTold r) ≡ true

@@ -8,7 +8,8 @@ use lib.Dec.{ltb, leb, eqb}
 use lib.IntN.{ℤ, pos, negℤ}
 use Rattle.semantics.specs.Bytes.{be4, signed, Read, broken, read}
 use Rattle.semantics.specs.Editions.{edition1}
-use Rattle.semantics.specs.Expressions.{Side, above, below, Value, ok, fault, result, Operation, sum, difference, product, Comparison, at-most, less, equal, unequal, Connective, both, either, applied, compared, connected, valueOf, holds, Expression, a-number, a-truth, readExpression}
+use Rattle.semantics.specs.Expressions.{Side, above, below, Value, ok, fault, result, valueOf, holds, Expression, a-number, a-truth, readExpression}
+use Rattle.semantics.specs.Expressions.{Operation, sum, difference, product, Comparison, at-most, less, equal, unequal, Connective, both, either, applied, compared, connected}
 use Rattle.expression.specs.PaperNumbers.{expressionNumber, paperFound}
 use Rattle.expression.specs.declared.Found.{Found}
 use Rattle.expression.specs.declared.Found.the-variants.{ANumber, NumberFault, ATruth, TruthFault, Broken}

@@ -7,7 +7,8 @@ ghost use Rattle.semantics.specs.Bytes.{be4, signed as signedOf, isSome};
 ghost use Rattle.semantics.specs.Editions.{edition1};
 ghost use Rattle.semantics.specs.Expressions.{ok, fault, applied, compared, connected, result, readExpression, numberIn, truthIn};
 ghost use Rattle.expression.specs.Answers.{numberOf, truthOf, truthAnswer, NumberSays, TruthSays};
-ghost use Rattle.expression.specs.Evaluation.{sideOf, found, FoundSays, wordAt, numberAt, nextOf, operationOf, comparisonOf, connectiveOf, constantAt, variableAt, leafAt, operated, related, joined, negated, opposed};
+ghost use Rattle.expression.specs.Evaluation.{sideOf, found, FoundSays, wordAt, numberAt, nextOf, constantAt, variableAt, leafAt};
+ghost use Rattle.expression.specs.Evaluation.{operationOf, comparisonOf, connectiveOf, operated, related, joined, negated, opposed};
 
 // "Depth is at most 16"
 const DEPTH: usize = 16;

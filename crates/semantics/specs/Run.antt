@@ -118,11 +118,11 @@ module _ (ed : Edition) where
     allow n (not b)
     walk n vs ts
 
-  -- of the current modes. 28: "The switch check of a pick or tick stops at a true switch."
+  -- the switch check on the current modes. 28: "The switch check of a pick or tick stops at a true switch."
   unfoldable pub checkModes : List Mode → List ℤ → Verdict (Unit {0})
   checkModes modes vs = walk 28 vs (currentTruths modes)
 
-  -- a number assigned to variable v
+  -- variable v becomes the number, or the number or its range faults
   unfoldable pub assigned : List Variable → List ℤ → ℕ → List ℕ → Value (List ℤ)
   assigned xs vs v e = thenValue (numberValue ed vs e) (stored xs vs v)
 
@@ -142,7 +142,7 @@ module _ (ed : Edition) where
   act xs vs ms n (switch s m) = pass (record { moved = mover n true; values = vs; modes = set ms s m })
   act xs vs ms n stop = pass (record { moved = mover n true; values = vs; modes = ms })
 
-  -- "Switch (no switch check): it exists, its truth holds, the mode changes." These are the current modes.
+  -- "Switch (no switch check): it exists, its truth holds, the mode changes." The first list is the current modes.
   unfoldable pub judgeSwitch : List Mode → List ℤ → List ℕ → ℕ → ℕ → Verdict Done
   judgeSwitch modes vs ms s k = do
     -- 26: "There is no such switch."

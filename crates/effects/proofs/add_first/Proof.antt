@@ -1,3 +1,4 @@
+-- The values up to v have their rates added, the others not (`firstSums`).
 use mathlib.Core.Path.{_≡_, refl, sym, ap, ap₂, _∙_}
 use mathlib.Core.List.{List}
 use Prim.Native.Nat.{_≤_, _<_, _-_}
@@ -46,21 +47,23 @@ mul-sum-4 c = omega arith
 shared-slice-copy-out-sum-3 : tie.Need-shared-slice-copy-out-sum-3 Inv-loop μ-loop
 shared-slice-copy-out-sum-3 c = omega arith
 
+-- the value whose turn it is has not changed
+old : (c : tie.In-loop Inv-loop μ-loop) → let l = c .before in getD (l .loop .values) (l .loop .v) (pos 0) ≡ getD (l .before .args .values .now) (l .loop .v) (pos 0)
+old c = let l = c .before in
+    let v = l .before .args .values .now in
+    let r = l .before .args .rates .now in
+    let h : l .loop .v < length v = omega arith in
+    ap (λ (x : List ℤ). getD x (l .loop .v) (pos 0)) (l .loop .inv .2) ∙ fill-here (added (rateIn r) 0 v) v (l .loop .v) (pos 0) (length-sums r v) h
+
 sum-requires : tie.Need-sum-requires Inv-loop μ-loop
-sum-requires c κs = let l = c .before .before .before .before .before in
+sum-requires c κs = let k = c .before .before .before .before in
+    let l = k .before in
     let b = l .before .args in
-    let v = b .values .now in
-    let r = b .rates .now in
     let i = l .loop .v in
-    let h : i < length v = omega arith in
-    let t = added (rateIn r) 0 v in
-    let here : getD (l .loop .values) i (pos 0) ≡ getD v i (pos 0) = ap (λ (x : List ℤ). getD x i (pos 0)) (l .loop .inv .2) ∙ fill-here t v i (pos 0) (length-sums r v) h in
     let lo = getD (b .lows .now) i (pos 0) in
     let hi = getD (b .highs .now) i (pos 0) in
-    let e : ranged (Held lo) (Held hi) (Held (getD (l .loop .values) i (pos 0)) +ℤ Held (getD r i (pos 0))) ≡ ranged lo hi (getD v i (pos 0) +ℤ getD r i (pos 0)) =
-    held-ranged lo hi (getD (l .loop .values) i (pos 0)) (getD r i (pos 0)) (c .before .before .before .sum-arg .given) (c .before .before .sum-arg2 .given) (c .before .sum-arg3 .given) (c .sum-arg4 .given)
-    ∙ ap (λ (z : ℤ). ranged lo hi (z +ℤ getD r i (pos 0))) here in
-    ap (λ x. goesOn (stepVerdict (valued x))) e ∙ l .before .pre .1 .each i (omega arith)
+    let e = held-ranged lo hi (getD (l .loop .values) i (pos 0)) (getD (b .rates .now) i (pos 0)) (c .before .before .before .sum-arg .given) (c .before .before .sum-arg2 .given) (c .before .sum-arg3 .given) (c .sum-arg4 .given) in
+    ap (λ x. goesOn (stepVerdict (valued x))) (e ∙ ap (λ (z : ℤ). ranged lo hi (z +ℤ getD (b .rates .now) i (pos 0))) (old k)) ∙ l .before .pre .1 .each i (omega arith)
 
 mul-t21 : tie.Need-mul-t21 Inv-loop μ-loop
 mul-t21 c = omega arith
@@ -75,16 +78,15 @@ loop-less : tie.Need-loop-less Inv-loop μ-loop
 loop-less c = omega arith
 
 loop-again : tie.Need-loop-again Inv-loop μ-loop
-loop-again c = let l = c .before .before .before .before .before .before in
-    let b = l .before .args in
-    let v = b .values .now in
-    let r = b .rates .now in
+loop-again c = let k = c .before .before .before .before .before in
+    let l = k .before in
+    let v = l .before .args .values .now in
+    let r = l .before .args .rates .now in
     let i = l .loop .v in
     let h : i < length v = omega arith in
     let t = added (rateIn r) 0 v in
-    let here : getD (l .loop .values) i (pos 0) ≡ getD v i (pos 0) = ap (λ (x : List ℤ). getD x i (pos 0)) (l .loop .inv .2) ∙ fill-here t v i (pos 0) (length-sums r v) h in
-    let new : Held (c .sum .result) ≡ getD t i (pos 0) =
-    held (c .sum .result) (c .sum .ok) ∙ c .sum .ensures ∙ held-sum (getD (l .loop .values) i (pos 0)) (getD r i (pos 0)) (c .before .before .sum-arg3 .given) (c .before .sum-arg4 .given) ∙ ap (λ (z : ℤ). z +ℤ getD r i (pos 0)) here ∙ sym (sums-at r v i h) in
+    let sum = held-sum (getD (l .loop .values) i (pos 0)) (getD r i (pos 0)) (c .before .before .sum-arg3 .given) (c .before .sum-arg4 .given) in
+    let new : Held (c .sum .result) ≡ getD t i (pos 0) = held (c .sum .result) (c .sum .ok) ∙ c .sum .ensures ∙ sum ∙ ap (λ (z : ℤ). z +ℤ getD r i (pos 0)) (old k) ∙ sym (sums-at r v i h) in
     (omega arith, length-set (l .loop .values) i (Held (c .sum .result)) ∙ l .loop .inv .1, ap₂ (λ (x : List ℤ) (z : ℤ). set x i z) (l .loop .inv .2) new ∙ fill-more t v i (pos 0) (length-sums r v) h)
 
 same-length : tie.Need-same-length Inv-loop μ-loop

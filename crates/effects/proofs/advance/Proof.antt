@@ -1,3 +1,4 @@
+-- Either all stay in their ranges, and all add, or the first that leaves its range is the answer.
 use Prim.Native.Nat.{_≤_, _<_}
 use lib.ListN.{length}
 use Rattle.effects.proofs.Adds.{one-leaves, all-stay}

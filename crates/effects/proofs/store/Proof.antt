@@ -1,3 +1,4 @@
+-- The answer of the range, by the numbers themselves, decides.
 use mathlib.Core.Path.{_≡_, sym, ap, _∙_}
 use Prim.Native.Nat.{_<_}
 use native.Mathlib.Omega.{arith}

@@ -1,13 +1,12 @@
-use mathlib.Core.Path.{sym, ap, _∙_}
+-- Whether the bytes are a number does not depend on the values: they are evaluated on zeros.
+use mathlib.Core.Path.{sym, ap}
 use mathlib.Core.List.{List}
 use lib.IntN.{ℤ, pos}
 use lib.ListN.{take, replicate}
 use lib.Seq.{length-take-le}
 use borrow.Author.Needs.{needs}
 use Rattle.semantics.specs.Bytes.{isSome}
-use Rattle.semantics.specs.Editions.{edition1}
-use Rattle.semantics.specs.Expressions.{numberIn}
-use Rattle.expression.proofs.Values.{numberTold, number-judged, number-tells}
+use Rattle.expression.proofs.Values.{numberTold, number-decides, number-tells}
 use Rattle.expression.proofs.number_reads.Statement.{statement}
 use Rattle.expression.proofs.number_reads.Tie as tie
 
@@ -30,18 +29,13 @@ returns : tie.Need-returns
 unfolding isSome
 returns c =
     let s = c .before .before .before .before .before in
-    let v = c .before .before .number-value in
-    let l = length-take-le (s .args .variables) zeros (s .pre) in
-    sym (ap (λ a. isSome (numberTold a)) (c .enum-told .given .1)) ∙ number-judged (take (s .args .variables) zeros) (s .args .s .now) (v .ensures .is)
-    ∙ ap (λ n. isSome (numberIn edition1 n (s .args .s .now))) l
+    number-decides (take (s .args .variables) zeros) (s .args .s .now) (c .before .before .number-value .ensures .is) (length-take-le (s .args .variables) zeros (s .pre)) (ap (λ a. isSome (numberTold a)) (c .enum-told .given .1))
 
 returns-2 : tie.Need-returns-2
 returns-2 c =
     let s = c .before .before .before .before in
     let v = c .before .number-value in
-    let l = length-take-le (s .args .variables) zeros (s .pre) in
-    sym (number-tells (v .result) (c .match .keys2)) ∙ number-judged (take (s .args .variables) zeros) (s .args .s .now) (v .ensures .is)
-    ∙ ap (λ n. isSome (numberIn edition1 n (s .args .s .now))) l
+    number-decides (take (s .args .variables) zeros) (s .args .s .now) (v .ensures .is) (length-take-le (s .args .variables) zeros (s .pre)) (number-tells (v .result) (c .match .keys2))
 
 pub number-reads-spec : {M : Type 1} → statement M
 number-reads-spec =

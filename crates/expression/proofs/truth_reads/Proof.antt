@@ -1,13 +1,12 @@
-use mathlib.Core.Path.{sym, ap, _∙_}
+-- Whether the bytes are a truth does not depend on the values: they are evaluated on zeros.
+use mathlib.Core.Path.{sym, ap}
 use mathlib.Core.List.{List}
 use lib.IntN.{ℤ, pos}
 use lib.ListN.{take, replicate}
 use lib.Seq.{length-take-le}
 use borrow.Author.Needs.{needs}
 use Rattle.semantics.specs.Bytes.{isSome}
-use Rattle.semantics.specs.Editions.{edition1}
-use Rattle.semantics.specs.Expressions.{truthIn}
-use Rattle.expression.proofs.Values.{truthTold, truth-judged, truth-tells}
+use Rattle.expression.proofs.Values.{truthTold, truth-decides, truth-tells}
 use Rattle.expression.proofs.truth_reads.Statement.{statement}
 use Rattle.expression.proofs.truth_reads.Tie as tie
 
@@ -30,18 +29,13 @@ returns : tie.Need-returns
 unfolding isSome
 returns c =
     let s = c .before .before .before .before .before in
-    let v = c .before .before .truth-value in
-    let l = length-take-le (s .args .variables) zeros (s .pre) in
-    sym (ap (λ a. isSome (truthTold a)) (c .enum-told .given .1)) ∙ truth-judged (take (s .args .variables) zeros) (s .args .s .now) (v .ensures .is)
-    ∙ ap (λ n. isSome (truthIn edition1 n (s .args .s .now))) l
+    truth-decides (take (s .args .variables) zeros) (s .args .s .now) (c .before .before .truth-value .ensures .is) (length-take-le (s .args .variables) zeros (s .pre)) (ap (λ a. isSome (truthTold a)) (c .enum-told .given .1))
 
 returns-2 : tie.Need-returns-2
 returns-2 c =
     let s = c .before .before .before .before in
     let v = c .before .truth-value in
-    let l = length-take-le (s .args .variables) zeros (s .pre) in
-    sym (truth-tells (v .result) (c .match .keys2)) ∙ truth-judged (take (s .args .variables) zeros) (s .args .s .now) (v .ensures .is)
-    ∙ ap (λ n. isSome (truthIn edition1 n (s .args .s .now))) l
+    truth-decides (take (s .args .variables) zeros) (s .args .s .now) (v .ensures .is) (length-take-le (s .args .variables) zeros (s .pre)) (truth-tells (v .result) (c .match .keys2))
 
 pub truth-reads-spec : {M : Type 1} → statement M
 truth-reads-spec =

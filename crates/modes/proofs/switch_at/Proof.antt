@@ -1,3 +1,4 @@
+-- The switches before it are passed over one by one (`Seeking`).
 use native.Mathlib.Omega.{arith}
 use Rattle.modes.specs.Modes.{modeAt}
 use Rattle.modes.proofs.Standing.{parts}
