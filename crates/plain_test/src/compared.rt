@@ -94,7 +94,8 @@ fn run_rules(
     let r = rule_run::call::run(file, start, events, &mut b[0..room]);
     line::text(b"; rules");
     show_run(p, a, start.len() + 9, events.len() / 3);
-    let numbers = equal_runs(p, r.refusal, r.taken, r.turned_away, r.faulted);
+    let c = r.counts;
+    let numbers = equal_runs(p, r.refusal, c.taken, c.turned_away, c.faulted);
     both(numbers, same(a, b, room))
 }
 
@@ -118,7 +119,8 @@ fn run_table(
     let r = table_run::call::run(table, start, events, &mut b[0..room]);
     line::text(b"; by table");
     show_run(p, a, start.len() + 9, shown);
-    let numbers = equal_runs(p, r.refusal, r.taken, r.turned_away, r.faulted);
+    let c = r.counts;
+    let numbers = equal_runs(p, r.refusal, c.taken, c.turned_away, c.faulted);
     both(numbers, same(a, b, room))
 }
 

@@ -34,12 +34,13 @@ use Rattle.start_read.proofs.PlantStart.{arrays-held, room-held}
 use Rattle.start_read.proofs.AdmissionLaws.{run-unread, run-refused, run-admitted}
 use Rattle.execution.specs.Ready.{Lent, lent}
 use Rattle.execution.specs.Runs.{RunDone}
+use Rattle.records.specs.Reported.{notRun, ranWith}
 use Rattle.records.specs.declared.Counts.{Counts}
+use Rattle.records.specs.declared.Ran.{Ran}
 use Rattle.execution.proofs.PlantReady.{fits-start}
 use Rattle.execution.proofs.Runs.{not-run, reported}
 use Rattle.rule_run.specs.Runs.{Asked, Asking, Whole}
-use Rattle.rule_run.specs.Called.{notRun, ranWith, Admits, Admitting}
-use Rattle.rule_run.specs.declared.call.Ran.{Ran}
+use Rattle.rule_run.specs.Called.{Admits, Admitting}
 use Rattle.rule_run.proofs.ScheduleReady.{LentFrom, schedule-lent}
 
 -- ---- the lengths of the arrays
@@ -226,7 +227,7 @@ module _ (f start events d : List ℕ) {ix : ScheduleIndex} (h : ix ≡ schedule
 
         pub by-events : {r : Ran} {cs : Counts} {d' : List ℕ} →
             ((s : Schedule) → Admits f asked events d s → Whole s (take (length (s .plant .variables)) (asked .values)) (take (length (selectors (s .plant))) (asked .modes)) events d cs d') →
-            r ≡ record { refusal = 0; taken = cs .taken; «turned_away» = cs .«turned_away»; faulted = cs .faulted } → ranWith r d' ≡ ruleRun edition1 f start events d
+            r ≡ record { refusal = 0; counts = cs } → ranWith r d' ≡ ruleRun edition1 f start events d
         unfolding ruleRun ranWith
         by-events {r} {cs} {d'} w k =
             let a = run-admitted (programOf schedule) start events d (sym (ap (λ (a : Admitted). a .refusal) asked-is) ∙ y) in

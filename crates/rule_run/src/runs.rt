@@ -34,11 +34,7 @@ pub fn all<'a>(
         over: false,
         acting: first,
     };
-    let mut counts = Counts {
-        taken: 0,
-        turned_away: 0,
-        faulted: 0,
-    };
+    let mut counts = records::none();
     let n = events.len() / 3;
     let mut i = 0;
     let mut k = 0;

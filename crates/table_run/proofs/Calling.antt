@@ -30,12 +30,13 @@ use Rattle.start_read.proofs.PlantStart.{arrays-held, room-held}
 use Rattle.start_read.proofs.AdmissionLaws.{run-unread, run-refused, run-admitted}
 use Rattle.execution.specs.Ready.{Lent, lent}
 use Rattle.execution.specs.Runs.{RunDone}
+use Rattle.records.specs.Reported.{notRun, ranWith}
 use Rattle.records.specs.declared.Counts.{Counts}
+use Rattle.records.specs.declared.Ran.{Ran}
 use Rattle.execution.proofs.PlantReady.{fits-start}
 use Rattle.execution.proofs.Runs.{not-run, reported}
 use Rattle.table_run.specs.Runs.{Asked, Asking, Whole}
-use Rattle.table_run.specs.Called.{notRun, ranWith, Admits, Admitting}
-use Rattle.table_run.specs.declared.call.Ran.{Ran}
+use Rattle.table_run.specs.Called.{Admits, Admitting}
 use Rattle.table_run.proofs.TableReady.{cutFrom, LentFrom, plant-is, plant-judged, equations-stand, actions-stand, locations-stand, kinds-full, starts-full, ends-full, locations-held, table-lent}
 
 -- ---- the lengths of the arrays
@@ -207,7 +208,7 @@ module _ (f start events d : List ℕ) {ix : TableIndex} (h : ix ≡ tableIndex 
 
         pub by-events : {r : Ran} {cs : Counts} {d' : List ℕ} →
             ((t : Table) → Admits f asked events d t → Whole t (take (length (t .plant .variables)) (asked .values)) (take (length (selectors (t .plant))) (asked .modes)) events d cs d') →
-            r ≡ record { refusal = 0; taken = cs .taken; «turned_away» = cs .«turned_away»; faulted = cs .faulted } → ranWith r d' ≡ tableRun edition1 f start events d
+            r ≡ record { refusal = 0; counts = cs } → ranWith r d' ≡ tableRun edition1 f start events d
         unfolding tableRun ranWith
         by-events {r} {cs} {d'} w k =
             let a = run-admitted (programOf table) start events d (sym (ap (λ (a : Admitted). a .refusal) asked-is) ∙ y) in
