@@ -10,6 +10,8 @@ use Rattle.semantics.specs.Calls.{recordSize}
 use Rattle.schedules.specs.Files.{Schedule, judgeFile}
 use Rattle.execution.specs.Ready.{Fits}
 use Rattle.start_read.specs.declared.admission.Admitted.{Admitted}
+use Rattle.records.specs.declared.Counts.{Counts}
+use Rattle.rule_run.specs.Runs.{Whole}
 
 -- the file is that of s, a run of it may start with these values and modes, and d has room for its records
 pub record Admits (f : List ℕ) (asked : Admitted) (events d : List ℕ) (s : Schedule) : Type 0 where
@@ -21,3 +23,8 @@ pub record Admits (f : List ℕ) (asked : Admitted) (events d : List ℕ) (s : S
 pub record Admitting (f : List ℕ) (asked : Admitted) (events d : List ℕ) : Type 0 where
   pub schedule : Schedule
   pub admits : Admits f asked events d schedule
+
+-- all events are answered, of every schedule that is admitted
+abbrev pub Carried : List ℕ → Admitted → (events d₀ : List ℕ) → Counts → List ℕ → Type 0
+Carried f asked events d₀ cs d =
+    (s : Schedule) → Admits f asked events d₀ s → Whole s (take (length (s .plant .variables)) (asked .values)) (take (length (selectors (s .plant))) (asked .modes)) events d₀ cs d

@@ -7,17 +7,14 @@ use start_read::admission::Admitted;
 ghost use mathlib.Core.Path.{_≡_};
 ghost use mathlib.Core.List.{List};
 ghost use Prim.Native.Nat.{ℕ};
-ghost use lib.ListN.{length, take};
+ghost use lib.ListN.{length};
 ghost use Rattle.semantics.specs.Editions.{edition1};
 ghost use Rattle.semantics.specs.Refusals.{refusalOf};
-ghost use Rattle.semantics.specs.Plant.{selectors};
 ghost use Rattle.semantics.specs.Calls.{judgeRun};
-ghost use Rattle.schedules.specs.Files.{Schedule};
 ghost use Rattle.schedules.specs.Calls.{ruleProgram, ruleRun};
 ghost use Rattle.schedule_read.specs.ScheduleFile.{scheduleIndex};
 ghost use Rattle.records.specs.Reported.{ranWith};
-ghost use Rattle.rule_run.specs.Runs.{Whole};
-ghost use Rattle.rule_run.specs.Called.{Admits, Admitting};
+ghost use Rattle.rule_run.specs.Called.{Admitting, Carried};
 
 // The events of an admitted run, over the arrays of the file's index.
 fn lend(
@@ -28,7 +25,7 @@ fn lend(
     records: &mut [u8],
 ) -> Counts
     requires { ⌜ (ix ≡ scheduleIndex (now file)) × Admitting (now file) asked (now events) (now records) ⌝ }
-    ensures { λ r. ⌜ ((s : Schedule) → Admits (now (file .entry)) asked (now (events .entry)) (now (records .entry)) s → Whole s (take (length (s .plant .variables)) (asked .values)) (take (length (selectors (s .plant))) (asked .modes)) (now (events .entry)) (now (records .entry)) r (now (records .exit))) ⌝ }
+    ensures { λ r. ⌜ Carried (now (file .entry)) asked (now (events .entry)) (now (records .entry)) r (now (records .exit)) ⌝ }
 {
     let parts = ix.parts;
     let a = parts.equations_from;
@@ -91,7 +88,8 @@ pub fn run(file: &[u8], start: &[u8], events: &[u8], records: &mut [u8]) -> Ran
 
 // 1 to 12 and 20 to 22 in order, or 0: of a run with so many event bytes and a record buffer of so many bytes
 pub fn check(file: &[u8], start: &[u8], events: usize, room: usize) -> u8
-    ensures { λ r. ⌜ ((es d : List ℕ) → length es ≡ events → length d ≡ room → r ≡ refusalOf (judgeRun edition1 (ruleProgram edition1 (now (file .entry))) (now (start .entry)) es d)) ⌝ }
+    ensures { λ r. ⌜ ((es d : List ℕ) → length es ≡ events → length d ≡ room
+        → r ≡ refusalOf (judgeRun edition1 (ruleProgram edition1 (now (file .entry))) (now (start .entry)) es d)) ⌝ }
 {
     let ix = schedule_read::call::index(file);
     let first = ix.refusal;

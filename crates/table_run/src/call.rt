@@ -5,20 +5,16 @@ use records::Ran;
 use start_read::admission::Admitted;
 use table_read::call::TableIndex;
 ghost use mathlib.Core.Path.{_≡_};
-ghost use lib.ListN.{length, take};
 ghost use Rattle.semantics.specs.Editions.{edition1};
-ghost use Rattle.semantics.specs.Plant.{selectors};
-ghost use Rattle.semantics.specs.Tables.{Table};
 ghost use Rattle.semantics.specs.Calls.{tableRun};
 ghost use Rattle.table_read.specs.TableIndex.{tableIndex};
 ghost use Rattle.records.specs.Reported.{ranWith};
-ghost use Rattle.table_run.specs.Runs.{Whole};
-ghost use Rattle.table_run.specs.Called.{Admits, Admitting};
+ghost use Rattle.table_run.specs.Called.{Admitting, Carried};
 
 // The events of an admitted run, over the arrays of the table's index.
 fn lend(ix: TableIndex, asked: Admitted, table: &[u8], events: &[u8], records: &mut [u8]) -> Counts
     requires { ⌜ (ix ≡ tableIndex (now table)) × Admitting (now table) asked (now events) (now records) ⌝ }
-    ensures { λ r. ⌜ ((t : Table) → Admits (now (table .entry)) asked (now (events .entry)) (now (records .entry)) t → Whole t (take (length (t .plant .variables)) (asked .values)) (take (length (selectors (t .plant))) (asked .modes)) (now (events .entry)) (now (records .entry)) r (now (records .exit))) ⌝ }
+    ensures { λ r. ⌜ Carried (now (table .entry)) asked (now (events .entry)) (now (records .entry)) r (now (records .exit)) ⌝ }
 {
     let parts = ix.parts;
     let a = parts.equations;

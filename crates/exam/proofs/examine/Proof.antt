@@ -1,3 +1,4 @@
+-- One law for each return: `none-told`, `all-told` (ExamStages).
 use mathlib.Core.Path.{refl, sym, _∙_}
 use borrow.Author.Needs.{needs}
 use Rattle.records.specs.Reported.{ranWith}

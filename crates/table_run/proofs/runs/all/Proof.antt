@@ -1,3 +1,4 @@
+-- The loop keeps `Going` for every table that is asked for; each need is one of its laws (Running).
 use mathlib.Core.Path.{_≡_, refl}
 use Prim.Native.Nat.{_-_, _/_, _^_, _≤_, _<_}
 use lib.ListN.{length}
