@@ -1,10 +1,11 @@
 // The six calls for C, each under its plain name: include/zimtleiter.h declares them.
 // A lent slice is a pointer and a length there, a `&mut u64` a pointer. No call asks anything of its bytes.
+use records::Ran;
 ghost use mathlib.Core.Path.{_≡_};
 ghost use Rattle.semantics.specs.Editions.{edition1};
 ghost use Rattle.semantics.specs.Calls.{readTable, tableRun};
 ghost use Rattle.schedules.specs.Calls.{readSchedule, size, compile, ruleRun};
-ghost use Rattle.capi.specs.Returned.{sized, compiled, ran};
+ghost use Rattle.capi.specs.Returned.{sized, compiled, ran, Behind};
 
 // 0, or the first of 1 to 12 that applies
 #[no_mangle]
@@ -45,6 +46,18 @@ pub extern "C" fn zimtleiter_compile(file: &[u8], table: &mut [u8], length: &mut
     x.refusal
 }
 
+// the counts of a run behind their pointers, and its number
+fn counted(r: Ran, taken: &mut u64, turned_away: &mut u64, faulted: &mut u64) -> u8
+    ensures { λ n. ⌜ n ≡ r .refusal ⌝ }
+    ensures { λ _. ⌜ Behind (r .counts) (now (taken .exit)) (now («turned_away» .exit)) (now (faulted .exit)) ⌝ }
+{
+    let counts = r.counts;
+    *taken = counts.taken as u64;
+    *turned_away = counts.turned_away as u64;
+    *faulted = counts.faulted as u64;
+    r.refusal
+}
+
 // 0, the records and their counts; or the first of 1 to 12 and 20 to 22 that applies, and counts 0
 #[no_mangle]
 pub extern "C" fn zimtleiter_rule_run(
@@ -56,13 +69,11 @@ pub extern "C" fn zimtleiter_rule_run(
     turned_away: &mut u64,
     faulted: &mut u64,
 ) -> u8
-    ensures { λ r. ⌜ ran r (now (taken .exit)) (now («turned_away» .exit)) (now (faulted .exit)) (now (records .exit)) ≡ ruleRun edition1 (now (file .entry)) (now (start .entry)) (now (events .entry)) (now (records .entry)) ⌝ }
+    ensures { λ r. ⌜ ran r (now (taken .exit)) (now («turned_away» .exit)) (now (faulted .exit)) (now (records .exit))
+        ≡ ruleRun edition1 (now (file .entry)) (now (start .entry)) (now (events .entry)) (now (records .entry)) ⌝ }
 {
     let by_rules = rule_run::call::run(file, start, events, records);
-    *taken = by_rules.taken as u64;
-    *turned_away = by_rules.turned_away as u64;
-    *faulted = by_rules.faulted as u64;
-    by_rules.refusal
+    counted(by_rules, taken, turned_away, faulted)
 }
 
 // 0, the records and their counts; or the first of 15 to 22 that applies, and counts 0
@@ -76,11 +87,9 @@ pub extern "C" fn zimtleiter_table_run(
     turned_away: &mut u64,
     faulted: &mut u64,
 ) -> u8
-    ensures { λ r. ⌜ ran r (now (taken .exit)) (now («turned_away» .exit)) (now (faulted .exit)) (now (records .exit)) ≡ tableRun edition1 (now (table .entry)) (now (start .entry)) (now (events .entry)) (now (records .entry)) ⌝ }
+    ensures { λ r. ⌜ ran r (now (taken .exit)) (now («turned_away» .exit)) (now (faulted .exit)) (now (records .exit))
+        ≡ tableRun edition1 (now (table .entry)) (now (start .entry)) (now (events .entry)) (now (records .entry)) ⌝ }
 {
     let by_table = table_run::call::run(table, start, events, records);
-    *taken = by_table.taken as u64;
-    *turned_away = by_table.turned_away as u64;
-    *faulted = by_table.faulted as u64;
-    by_table.refusal
+    counted(by_table, taken, turned_away, faulted)
 }

@@ -48,16 +48,21 @@ fn compile(file: &[u8], table: &mut [u8]) -> Answer {
     up_to_four(r.refusal, 1, r.length, 0, 0, 0)
 }
 
+fn ran(r: records::Ran) -> Answer {
+    let c = r.counts;
+    up_to_four(r.refusal, 3, c.taken, c.turned_away, c.faulted, 0)
+}
+
 fn rules(file: &[u8], start: &[u8], events: &[u8], records: &mut [u8]) -> Answer {
     line::text(b"rules");
     let r = rule_run::call::run(file, start, events, records);
-    up_to_four(r.refusal, 3, r.taken, r.turned_away, r.faulted, 0)
+    ran(r)
 }
 
 fn by_table(table: &[u8], start: &[u8], events: &[u8], records: &mut [u8]) -> Answer {
     line::text(b"by table");
     let r = table_run::call::run(table, start, events, records);
-    up_to_four(r.refusal, 3, r.taken, r.turned_away, r.faulted, 0)
+    ran(r)
 }
 
 fn examine(
@@ -70,17 +75,19 @@ fn examine(
 ) -> Answer {
     line::text(b"examine");
     let r = exam::examine(file, start, events, table, records, others);
+    let a = r.counts;
+    let b = r.table_counts;
     Answer {
         refusal: r.refusal as usize,
         count: 8,
         numbers: [
             r.length,
-            r.taken,
-            r.turned_away,
-            r.faulted,
-            r.table_taken,
-            r.table_turned_away,
-            r.table_faulted,
+            a.taken,
+            a.turned_away,
+            a.faulted,
+            b.taken,
+            b.turned_away,
+            b.faulted,
             r.agree as usize,
         ],
     }

@@ -19,7 +19,7 @@ use Rattle.semantics.specs.Expressions.{Number, Truth, Value, valueOf, holds, n
 use Rattle.semantics.specs.Evaluating.{Evaluates, Holds}
 use Rattle.semantics.specs.Plant.{Plant, selectors}
 use Rattle.semantics.specs.Events.{eventsIn}
-use Rattle.semantics.specs.Run.{Action, stop, possible, Next, halted, Control, Situation, Answered, at, step, recordOf, howMany, isTaken, isTurnedAway, isFaulted}
+use Rattle.semantics.specs.Run.{Action, stop, possible, Next, halted, Control, Situation, Answered, at, step, recordOf, noCounts, howMany, isTaken, isTurnedAway, isFaulted}
 use Rattle.semantics.specs.Rules.{Rule, Derives, Stopping, Standing, at-start, stands-at, Sound, Decides}
 use Rattle.semantics.specs.Records.{AtFront, Fits32, RecordIs, RecordsIn}
 use Rattle.semantics.specs.Counting.{Counted}
@@ -424,11 +424,11 @@ pub refused-compile : (ed : Edition) (file room : List ℕ) → ((compile ed fil
 refused-compile = FileCalls.refused-compile
 
 pub refused-rule-run : (ed : Edition) (file start events buffer : List ℕ) → ((ruleRun ed file start events buffer) .refusal ≡ 0 → ⊥) →
-    ruleRun ed file start events buffer ≡ record { refusal = (ruleRun ed file start events buffer) .refusal; taken = 0; turned-away = 0; faulted = 0; records = buffer }
+    ruleRun ed file start events buffer ≡ record { refusal = (ruleRun ed file start events buffer) .refusal; counts = noCounts; records = buffer }
 refused-rule-run = FileCalls.refused-rule-run
 
 pub refused-table-run : (ed : Edition) (table start events buffer : List ℕ) → ((tableRun ed table start events buffer) .refusal ≡ 0 → ⊥) →
-    tableRun ed table start events buffer ≡ record { refusal = (tableRun ed table start events buffer) .refusal; taken = 0; turned-away = 0; faulted = 0; records = buffer }
+    tableRun ed table start events buffer ≡ record { refusal = (tableRun ed table start events buffer) .refusal; counts = noCounts; records = buffer }
 refused-table-run = TableCalls.refused-table-run
 
 pub refused-read-schedule : (ed : Edition) (file : List ℕ) → ((readSchedule ed file) .refusal ≡ 0 → ⊥) →

@@ -37,18 +37,18 @@ pub K1 : compile edition1 k1-file (replicate 75 0 ++ (7 ∷ 8 ∷ [])) ≡ recor
 K1 = Schedules.K1
 
 -- K2: "K1 from 0: tick 27, pick 1 200, pick 2 29, tick 200, tick 200, tick 31, pick 2 201, tick 23; taken 4, turned away 4."
-pub K2 : (ruleRun edition1 k1-file (start-at 0) k2-events (replicate 104 0 ++ (7 ∷ 8 ∷ [])) ≡ record { refusal = 0; taken = 4; turned-away = 4; faulted = 0; records = k2-records (7 ∷ 8 ∷ []) })
-    × (tableRun edition1 k1-table (start-at 0) k2-events (replicate 104 0 ++ (7 ∷ 8 ∷ [])) ≡ record { refusal = 0; taken = 4; turned-away = 4; faulted = 0; records = k2-records (7 ∷ 8 ∷ []) })
+pub K2 : (ruleRun edition1 k1-file (start-at 0) k2-events (replicate 104 0 ++ (7 ∷ 8 ∷ [])) ≡ record { refusal = 0; counts = record { taken = 4; turned-away = 4; faulted = 0 }; records = k2-records (7 ∷ 8 ∷ []) })
+    × (tableRun edition1 k1-table (start-at 0) k2-events (replicate 104 0 ++ (7 ∷ 8 ∷ [])) ≡ record { refusal = 0; counts = record { taken = 4; turned-away = 4; faulted = 0 }; records = k2-records (7 ∷ 8 ∷ []) })
 K2 = (Schedules.K2-rules, Tables.K2-table)
 
 -- K3: "K1 from 10: pick 1 203, value 10; tick 23."
-pub K3 : (ruleRun edition1 k1-file (start-at 10) k3-events (replicate 26 0) ≡ record { refusal = 0; taken = 0; turned-away = 1; faulted = 1; records = k3-records [] })
-    × (tableRun edition1 k1-table (start-at 10) k3-events (replicate 26 0) ≡ record { refusal = 0; taken = 0; turned-away = 1; faulted = 1; records = k3-records [] })
+pub K3 : (ruleRun edition1 k1-file (start-at 10) k3-events (replicate 26 0) ≡ record { refusal = 0; counts = record { taken = 0; turned-away = 1; faulted = 1 }; records = k3-records [] })
+    × (tableRun edition1 k1-table (start-at 10) k3-events (replicate 26 0) ≡ record { refusal = 0; counts = record { taken = 0; turned-away = 1; faulted = 1 }; records = k3-records [] })
 K3 = (Schedules.K3-rules, Tables.K3-table)
 
 -- K4: "K1 from 9: pick 1 200, pick 2 201."
-pub K4 : (ruleRun edition1 k1-file (start-at 9) k4-events (replicate 26 0) ≡ record { refusal = 0; taken = 2; turned-away = 0; faulted = 0; records = k4-records [] })
-    × (tableRun edition1 k1-table (start-at 9) k4-events (replicate 26 0) ≡ record { refusal = 0; taken = 2; turned-away = 0; faulted = 0; records = k4-records [] })
+pub K4 : (ruleRun edition1 k1-file (start-at 9) k4-events (replicate 26 0) ≡ record { refusal = 0; counts = record { taken = 2; turned-away = 0; faulted = 0 }; records = k4-records [] })
+    × (tableRun edition1 k1-table (start-at 9) k4-events (replicate 26 0) ≡ record { refusal = 0; counts = record { taken = 2; turned-away = 0; faulted = 0 }; records = k4-records [] })
 K4 = (Schedules.K4-rules, Tables.K4-table)
 
 -- K5: "PARALLEL of two RESETs: 3 locations."
@@ -125,11 +125,11 @@ pub case-compiled : compile edition1 case-file (replicate 165 0) ≡ record { re
 case-compiled = CasePaper.case-compiled
 
 pub case-rules : ruleRun edition1 case-file (replicate 9 0) case-events (replicate 342 0)
-    ≡ record { refusal = 0; taken = 10; turned-away = 9; faulted = 0; records = case-records }
+    ≡ record { refusal = 0; counts = record { taken = 10; turned-away = 9; faulted = 0 }; records = case-records }
 case-rules = CasePaper.case-rules
 
 pub case-by-table : tableRun edition1 case-table (replicate 9 0) case-events (replicate 342 0)
-    ≡ record { refusal = 0; taken = 10; turned-away = 9; faulted = 0; records = case-records }
+    ≡ record { refusal = 0; counts = record { taken = 10; turned-away = 9; faulted = 0 }; records = case-records }
 case-by-table = CasePaper.case-by-table
 
 -- ---- sizes: the worked examples of docs/BORDER.md besides K8
@@ -148,26 +148,26 @@ reset-first-or-last = Border.reset-first-or-last
 -- ---- negative papers: for each trap that document 01 names a small run that tells the right rule from the wrong one
 -- "or" that skips its right side would answer 201: the pick of CONTINUE UNTIL (true or a fault) faults
 pub or-evaluates-both : ruleRun edition1 one-wait-file (start-at 0) (1 ∷ 0 ∷ 0 ∷ []) (replicate 13 9)
-    ≡ record { refusal = 0; taken = 0; turned-away = 0; faulted = 1; records = one-record 203 0 0 [] }
+    ≡ record { refusal = 0; counts = record { taken = 0; turned-away = 0; faulted = 1 }; records = one-record 203 0 0 [] }
 or-evaluates-both = Traps.or-evaluates-both
 
 -- a STOP that ends one branch would leave the CONTINUE to act: after the STOP no node acts, and the next pick is 23
 pub stop-ends-all : ruleRun edition1 stop-wait-file (start-at 0) (1 ∷ 1 ∷ 0 ∷ 1 ∷ 2 ∷ 0 ∷ []) (replicate 26 9)
-    ≡ record { refusal = 0; taken = 1; turned-away = 1; faulted = 0; records = one-record 202 0 0 (one-record 23 0 0 []) }
+    ≡ record { refusal = 0; counts = record { taken = 1; turned-away = 1; faulted = 0 }; records = one-record 202 0 0 (one-record 23 0 0 []) }
 stop-ends-all = Traps.stop-ends-all
 
 -- a tick that adds rates one variable at a time past a fault would leave 1 in the variable that stays in its range
 pub tick-adds-all-or-none : ruleRun edition1 two-rates-file (replicate 8 0) (0 ∷ 0 ∷ 0 ∷ []) (replicate 17 9)
-    ≡ record { refusal = 0; taken = 0; turned-away = 0; faulted = 1; records = one-record 203 0 0 (replicate 4 0) }
+    ≡ record { refusal = 0; counts = record { taken = 0; turned-away = 0; faulted = 1 }; records = one-record 203 0 0 (replicate 4 0) }
 tick-adds-all-or-none = Traps.tick-adds-all-or-none
 
 pub tick-adds-all-or-none-2 : ruleRun edition1 two-rates-file-2 (replicate 8 0) (0 ∷ 0 ∷ 0 ∷ []) (replicate 17 9)
-    ≡ record { refusal = 0; taken = 0; turned-away = 0; faulted = 1; records = one-record 203 0 0 (replicate 4 0) }
+    ≡ record { refusal = 0; counts = record { taken = 0; turned-away = 0; faulted = 1 }; records = one-record 203 0 0 (replicate 4 0) }
 tick-adds-all-or-none-2 = Traps.tick-adds-all-or-none-2
 
 -- a WHILE that starts its body's first move itself would set 7 at once: picking it makes the RESET act, and the RESET's own pick sets 7
 pub while-starts-nothing : ruleRun edition1 while-file (start-at 0) (1 ∷ 0 ∷ 0 ∷ 1 ∷ 1 ∷ 0 ∷ []) (replicate 26 9)
-    ≡ record { refusal = 0; taken = 2; turned-away = 0; faulted = 0; records = one-record 200 2 0 (one-record 200 1 7 []) }
+    ≡ record { refusal = 0; counts = record { taken = 2; turned-away = 0; faulted = 0 }; records = one-record 200 2 0 (one-record 200 1 7 []) }
 while-starts-nothing = Traps.while-starts-nothing
 
 -- "per node of kinds 3..9, reached or not": the RESET after a STOP has its action, and no location
@@ -176,26 +176,26 @@ unreached-action = Traps.unreached-action
 
 -- "a fault in the switch check is 203 before 29 or 31 is looked at": a pick of the CONTINUE that is false, and a tick while the other is true
 pub check-faults-before-29 : ruleRun edition1 faulty-check-file (replicate 5 0) (1 ∷ 1 ∷ 0 ∷ []) (replicate 14 9)
-    ≡ record { refusal = 0; taken = 0; turned-away = 0; faulted = 1; records = one-record 203 0 0 (0 ∷ []) }
+    ≡ record { refusal = 0; counts = record { taken = 0; turned-away = 0; faulted = 1 }; records = one-record 203 0 0 (0 ∷ []) }
 check-faults-before-29 = Traps.check-faults-before-29
 
 pub check-faults-before-31 : ruleRun edition1 faulty-check-file (replicate 5 0) (0 ∷ 0 ∷ 0 ∷ []) (replicate 14 9)
-    ≡ record { refusal = 0; taken = 0; turned-away = 0; faulted = 1; records = one-record 203 0 0 (0 ∷ []) }
+    ≡ record { refusal = 0; counts = record { taken = 0; turned-away = 0; faulted = 1 }; records = one-record 203 0 0 (0 ∷ []) }
 check-faults-before-31 = Traps.check-faults-before-31
 
 -- "selectors rising and each mode's as listed": a fault before a true switch is 203, after it 28
 pub lower-selector-faults : ruleRun edition1 fault-first-file (replicate 6 0) (1 ∷ 0 ∷ 0 ∷ 0 ∷ 0 ∷ 0 ∷ []) (replicate 30 9)
-    ≡ record { refusal = 0; taken = 0; turned-away = 1; faulted = 1; records = one-record 203 0 0 (0 ∷ 0 ∷ one-record 23 0 0 (0 ∷ 0 ∷ [])) }
+    ≡ record { refusal = 0; counts = record { taken = 0; turned-away = 1; faulted = 1 }; records = one-record 203 0 0 (0 ∷ 0 ∷ one-record 23 0 0 (0 ∷ 0 ∷ [])) }
 lower-selector-faults = Traps.lower-selector-faults
 
 pub lower-selector-true : ruleRun edition1 truth-first-file (replicate 6 0) (1 ∷ 0 ∷ 0 ∷ 0 ∷ 0 ∷ 0 ∷ []) (replicate 30 9)
-    ≡ record { refusal = 0; taken = 0; turned-away = 2; faulted = 0; records = one-record 28 1 0 (0 ∷ 0 ∷ one-record 28 1 0 (0 ∷ 0 ∷ [])) }
+    ≡ record { refusal = 0; counts = record { taken = 0; turned-away = 2; faulted = 0 }; records = one-record 28 1 0 (0 ∷ 0 ∷ one-record 28 1 0 (0 ∷ 0 ∷ [])) }
 lower-selector-true = Traps.lower-selector-true
 
 pub first-listed-true : ruleRun edition1 truth-listed-file (replicate 5 0) (1 ∷ 0 ∷ 0 ∷ 0 ∷ 0 ∷ 0 ∷ []) (replicate 28 9)
-    ≡ record { refusal = 0; taken = 0; turned-away = 2; faulted = 0; records = one-record 28 1 0 (0 ∷ one-record 28 1 0 (0 ∷ [])) }
+    ≡ record { refusal = 0; counts = record { taken = 0; turned-away = 2; faulted = 0 }; records = one-record 28 1 0 (0 ∷ one-record 28 1 0 (0 ∷ [])) }
 first-listed-true = Traps.first-listed-true
 
 pub first-listed-faults : ruleRun edition1 fault-listed-file (replicate 5 0) (1 ∷ 0 ∷ 0 ∷ 0 ∷ 0 ∷ 0 ∷ []) (replicate 28 9)
-    ≡ record { refusal = 0; taken = 0; turned-away = 1; faulted = 1; records = one-record 203 0 0 (0 ∷ one-record 23 0 0 (0 ∷ [])) }
+    ≡ record { refusal = 0; counts = record { taken = 0; turned-away = 1; faulted = 1 }; records = one-record 203 0 0 (0 ∷ one-record 23 0 0 (0 ∷ [])) }
 first-listed-faults = Traps.first-listed-faults

@@ -6,7 +6,7 @@ use Prim.Native.Nat.{ℕ}
 use borrow.Author.Tests.{eq-eqb, ne-eqb}
 use Rattle.semantics.specs.Calls.{Ran}
 use Rattle.semantics.proofs.Facts.{true-not-false}
-use Rattle.schedules.specs.Exam.{sameBytes, sameNumbers}
+use Rattle.schedules.specs.Exam.{sameBytes, sameCounts, sameNumbers}
 use Rattle.schedules.proofs.SameRuns.{same-true, same-refl}
 
 -- a test that tells whether two lists are the same
@@ -27,18 +27,10 @@ module _ (r t : Ran) (s : Bool) where
   unfolding sameNumbers
   refusals-differ h = rw (ne-eqb _ _ h) refl
 
-  pub taken-differ : r .refusal ≡ t .refusal → (r .taken ≡ t .taken → ⊥) → false ≡ (sameNumbers r t && s)
+  pub counts-differ : r .refusal ≡ t .refusal → sameCounts (r .counts) (t .counts) ≡ false → false ≡ (sameNumbers r t && s)
   unfolding sameNumbers
-  taken-differ a h = rw (eq-eqb _ _ a, ne-eqb _ _ h) refl
+  counts-differ a h = rw (eq-eqb _ _ a, h) refl
 
-  pub turned-away-differ : r .refusal ≡ t .refusal → r .taken ≡ t .taken → (r .turned-away ≡ t .turned-away → ⊥) → false ≡ (sameNumbers r t && s)
+  pub numbers-same : r .refusal ≡ t .refusal → sameCounts (r .counts) (t .counts) ≡ true → s ≡ (sameNumbers r t && s)
   unfolding sameNumbers
-  turned-away-differ a b h = rw (eq-eqb _ _ a, eq-eqb _ _ b, ne-eqb _ _ h) refl
-
-  pub faulted-differ : r .refusal ≡ t .refusal → r .taken ≡ t .taken → r .turned-away ≡ t .turned-away → (r .faulted ≡ t .faulted → ⊥) → false ≡ (sameNumbers r t && s)
-  unfolding sameNumbers
-  faulted-differ a b c h = rw (eq-eqb _ _ a, eq-eqb _ _ b, eq-eqb _ _ c, ne-eqb _ _ h) refl
-
-  pub numbers-same : r .refusal ≡ t .refusal → r .taken ≡ t .taken → r .turned-away ≡ t .turned-away → r .faulted ≡ t .faulted → s ≡ (sameNumbers r t && s)
-  unfolding sameNumbers
-  numbers-same a b c d = rw (eq-eqb _ _ a, eq-eqb _ _ b, eq-eqb _ _ c, eq-eqb _ _ d) refl
+  numbers-same a h = rw (eq-eqb _ _ a, h) refl

@@ -27,12 +27,10 @@ use Rattle.schedules.proofs.Agreement.{Taken, compile-taken}
 use Rattle.schedules.proofs.CallsHold.{rule-numbers}
 use Rattle.schedules.specs.Exam as Exam
 use Rattle.schedules.specs.Exam.{judgeExam, agreed, reported, refusedExam, examTable, examined, examOf}
-use Rattle.exam.specs.Examining.{numbers, noExam, Returned, Room}
+use Rattle.exam.specs.Examining.{noExam, examinedWith, Room}
 use Rattle.exam.specs.declared.Examined.{Examined}
-use Rattle.rule_run.specs.Called as ruled
-use Rattle.rule_run.specs.declared.call.Ran as R
-use Rattle.table_run.specs.Called as tabled
-use Rattle.table_run.specs.declared.call.Ran as T
+use Rattle.records.specs.Reported.{ranWith}
+use Rattle.records.specs.declared.Ran as R
 use Rattle.compiler.specs.Answers.{Told, returned}
 use Rattle.compiler.proofs.CallStages.{refused-too, too-short, long-enough}
 use Rattle.schedules.proofs.ExamHolds.{rule-program, exam-judged, exam-numbers, exam-length, exam-refusal, exam-agrees}
@@ -152,18 +150,8 @@ admitted ed file start events table records others z =
     }
 
 -- ---- what the code makes of the answers of its calls
-abbrev toldOf : ℕ → Ran → Ran → Bool → Examined
-toldOf n r t q = record {
-  refusal = 0;
-  length = n;
-  taken = r .taken;
-  «turned_away» = r .turned-away;
-  faulted = r .faulted;
-  «table_taken» = t .taken;
-  «table_turned_away» = t .turned-away;
-  «table_faulted» = t .faulted;
-  agree = q;
-}
+abbrev toldOf : ℕ → List ℕ → Ran → Ran → Bool → Exam.Examined
+toldOf n table r t q = record { refusal = 0; written = n; counts = r .counts; table-counts = t .counts; agree = q; table = table; records = r .records; others = t .records }
 
 -- what is written stands in the buffer
 long-after : (w b : List ℕ) {l : List ℕ} {n : ℕ} → l ≡ overwrite w b → length w ≡ n → n ≤ length l
@@ -202,13 +190,13 @@ module _ (file start events table records others : List ℕ) where
           let f = ap (λ (x : S.Compiled). length (x .table)) h in
           omega arith
 
-      module _ (r : R.Ran) (t : T.Ran) (rs os : List ℕ) (i : ruled.ranWith r rs ≡ Y) (j : tabled.ranWith t os ≡ Z) where
+      module _ (r t : R.Ran) (rs os : List ℕ) (i : ranWith r rs ≡ Y) (j : ranWith t os ≡ Z) where
         records-are : rs ≡ Y .records
-        unfolding ruled.ranWith
+        unfolding ranWith
         records-are = ap (λ (x : Ran). x .records) i
 
         others-are : os ≡ X .records
-        unfolding tabled.ranWith
+        unfolding ranWith
         others-are = ap (λ (x : Ran). x .records) (j ∙ ran-table)
 
         -- the record buffers hold the records that are compared
@@ -221,29 +209,24 @@ module _ (file start events table records others : List ℕ) where
             let b : n ≤ length os = long-after _ others (others-are ∙ k .runs .table-records) (k .runs .records-length) in
             (record { schedule = k .schedule; schedule-read = k .schedule-read; enough = a }, record { schedule = k .schedule; schedule-read = k .schedule-read; enough = b })
 
-        pub all-told : {q : Bool} → ((s : Schedule) → judgeFile edition1 file ≡ accepted s → q ≡ agreed (length events / 3 * recordSize edition1 (s .plant)) (ruled.ranWith r rs) (tabled.ranWith t os)) →
-            Returned (examOf edition1 file start events table records others) (toldOf l (ruled.ranWith r rs) (tabled.ranWith t os) q) tb rs os
-        unfolding examOf examined reported numbers eventCount
+        pub all-told : {q : Bool} → ((s : Schedule) → judgeFile edition1 file ≡ accepted s → q ≡ agreed (length events / 3 * recordSize edition1 (s .plant)) (ranWith r rs) (ranWith t os)) →
+            examinedWith (record { refusal = 0; length = l; counts = r .counts; «table_counts» = t .counts; agree = q }) tb rs os ≡ examOf edition1 file start events table records others
+        unfolding examOf examined reported eventCount examinedWith ranWith
         all-told {q} g =
             let a = admitted edition1 file start events table records others z in
             let n = length events / 3 * recordSize edition1 (a .schedule .plant) in
             let k = j ∙ ran-table in
-            let w : q ≡ agreed n Y X = g (a .schedule) (a .schedule-read) ∙ ap (λ x. agreed n x (tabled.ranWith t os)) i ∙ ap (agreed n Y) k in
+            let w : q ≡ agreed n Y X = g (a .schedule) (a .schedule-read) ∙ ap (λ x. agreed n x (ranWith t os)) i ∙ ap (agreed n Y) k in
             let x : examOf edition1 file start events table records others ≡ reported n (C .written) (C .table) Y X = ap (examined edition1 file start events table records others) (a .judged) in
-            record {
-              numbers-are = ap (λ (c : S.Compiled). toldOf (c .written) (ruled.ranWith r rs) (tabled.ranWith t os) q) h ∙ ap (λ y. toldOf (C .written) y (tabled.ranWith t os) q) i
-                  ∙ ap (λ y. toldOf (C .written) Y y q) k ∙ ap (toldOf (C .written) Y X) w ∙ sym (ap numbers x);
-              table-is = ap (λ (c : S.Compiled). c .table) h ∙ sym (ap (λ (x : Exam.Examined). x .table) x);
-              records-are = records-are ∙ sym (ap (λ (x : Exam.Examined). x .records) x);
-              others-are = others-are ∙ sym (ap (λ (x : Exam.Examined). x .others) x);
-            }
+            ap (λ q. toldOf l tb (ranWith r rs) (ranWith t os) q) w ∙ ap (λ (c : S.Compiled). toldOf (c .written) (c .table) (ranWith r rs) (ranWith t os) (agreed n Y X)) h
+            ∙ ap (λ y. toldOf (C .written) (C .table) y (ranWith t os) (agreed n Y X)) i ∙ ap (λ y. toldOf (C .written) (C .table) Y y (agreed n Y X)) k ∙ sym x
 
   -- a refusal, with the buffers as they were
   pub none-told : {n : ℕ} {r : Examined} → n ≡ refusalOf (judgeExam edition1 file start events table records others) → (n ≡ 0 → ⊥) → r ≡ noExam n →
-      Returned (examOf edition1 file start events table records others) r table records others
-  unfolding examOf refusalOf examined refusedExam numbers
+      examinedWith r table records others ≡ examOf edition1 file start events table records others
+  unfolding examOf refusalOf examined refusedExam examinedWith
   none-told {n} {r} e z h = go (judgeExam edition1 file start events table records others) e
     where
-      go : (j : Judged ℕ) → n ≡ refusalOf j → Returned (examined edition1 file start events table records others j) r table records others
-      go (refused m) e = record { numbers-are = h ∙ ap (λ n. noExam n) e; table-is = refl; records-are = refl; others-are = refl }
+      go : (j : Judged ℕ) → n ≡ refusalOf j → examinedWith r table records others ≡ examined edition1 file start events table records others j
+      go (refused m) e = ap (λ (r : Examined). examinedWith r table records others) (h ∙ ap (λ n. noExam n) e)
       go (accepted m) e = absurd (z e)

@@ -8,42 +8,25 @@ use Rattle.semantics.specs.Refusals.{accepted}
 use Rattle.semantics.specs.Calls.{recordSize}
 use Rattle.schedules.specs.Files.{Schedule, judgeFile}
 use Rattle.schedules.specs.Exam as Exam
+use Rattle.records.specs.Reported.{noCounts, told}
 use Rattle.exam.specs.declared.Examined.{Examined}
-
--- the nine numbers in the code's type
-unfoldable pub numbers : Exam.Examined → Examined
-numbers x = record {
-  refusal = x .refusal;
-  length = x .written;
-  taken = x .taken;
-  «turned_away» = x .turned-away;
-  faulted = x .faulted;
-  «table_taken» = x .table-taken;
-  «table_turned_away» = x .table-turned-away;
-  «table_faulted» = x .table-faulted;
-  agree = x .agree;
-}
 
 -- a refusal
 abbrev pub noExam : ℕ → Examined
-noExam n = record {
-  refusal = n;
-  length = 0;
-  taken = 0;
-  «turned_away» = 0;
-  faulted = 0;
-  «table_taken» = 0;
-  «table_turned_away» = 0;
-  «table_faulted» = 0;
-  agree = false;
-}
+noExam n = record { refusal = n; length = 0; counts = noCounts; «table_counts» = noCounts; agree = false }
 
--- the call returns x: its numbers, and the three buffers afterwards
-pub record Returned (x : Exam.Examined) (r : Examined) (table records others : List ℕ) : Type 0 where
-  pub numbers-are : r ≡ numbers x
-  pub table-is : table ≡ x .table
-  pub records-are : records ≡ x .records
-  pub others-are : others ≡ x .others
+-- all that the call gives: its numbers, and the three lent buffers afterwards
+unfoldable pub examinedWith : Examined → (table records others : List ℕ) → Exam.Examined
+examinedWith r table records others = record {
+  refusal = r .refusal;
+  written = r .length;
+  counts = told (r .counts);
+  table-counts = told (r .«table_counts»);
+  agree = r .agree;
+  table = table;
+  records = records;
+  others = others;
+}
 
 -- the file is a schedule, and there is room for the records of so many event bytes
 pub record Room (file : List ℕ) (events room : ℕ) : Type 0 where

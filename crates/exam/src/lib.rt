@@ -1,4 +1,6 @@
 // The call "examining": a schedule compiled, run by the rules and run by its table, and the two runs compared.
+use records::Counts;
+use records::Ran;
 ghost use mathlib.Core.Path.{_≡_};
 ghost use mathlib.Core.Bool.{_&&_};
 ghost use mathlib.Core.List.{List};
@@ -8,11 +10,10 @@ ghost use Rattle.semantics.specs.Editions.{edition1};
 ghost use Rattle.semantics.specs.Refusals.{refusalOf, accepted};
 ghost use Rattle.semantics.specs.Calls.{recordSize};
 ghost use Rattle.schedules.specs.Files.{Schedule, judgeFile};
-ghost use Rattle.rule_run.specs.Called as ruled;
-ghost use Rattle.table_run.specs.Called as tabled;
+ghost use Rattle.records.specs.Reported.{told, ranWith};
 ghost use Rattle.schedules.specs.Exam as Exam;
-ghost use Rattle.schedules.specs.Exam.{judgeExam, sameBytes, sameNumbers, examOf};
-ghost use Rattle.exam.specs.Examining.{noExam, Returned, Room};
+ghost use Rattle.schedules.specs.Exam.{judgeExam, sameBytes, sameCounts, sameNumbers, examOf};
+ghost use Rattle.exam.specs.Examining.{noExam, examinedWith, Room};
 
 // 0, or the number of the first condition that is broken; the other numbers are 0 then
 pub struct Examined {
@@ -20,28 +21,21 @@ pub struct Examined {
     // of the table
     pub length: usize,
     // by the rules
-    pub taken: usize,
-    pub turned_away: usize,
-    pub faulted: usize,
+    pub counts: Counts,
     // by the table
-    pub table_taken: usize,
-    pub table_turned_away: usize,
-    pub table_faulted: usize,
+    pub table_counts: Counts,
     pub agree: bool,
 }
 
 fn refused(n: u8) -> Examined
     ensures { λ r. ⌜ r ≡ noExam n ⌝ }
 {
+    let none = records::none();
     Examined {
         refusal: n,
         length: 0,
-        taken: 0,
-        turned_away: 0,
-        faulted: 0,
-        table_taken: 0,
-        table_turned_away: 0,
-        table_faulted: 0,
+        counts: none,
+        table_counts: none,
         agree: false,
     }
 }
@@ -55,7 +49,8 @@ fn judged(
     records: usize,
     others: usize,
 ) -> u8
-    ensures { λ r. ⌜ ((es ts rs os : List ℕ) → length es ≡ events → length ts ≡ table → length rs ≡ records → length os ≡ others → r ≡ refusalOf (judgeExam edition1 (now (file .entry)) (now (start .entry)) es ts rs os)) ⌝ }
+    ensures { λ r. ⌜ ((es ts rs os : List ℕ) → length es ≡ events → length ts ≡ table → length rs ≡ records → length os ≡ others
+        → r ≡ refusalOf (judgeExam edition1 (now (file .entry)) (now (start .entry)) es ts rs os)) ⌝ }
 {
     let m = compiler::call::measure(file);
     let first = m.refusal;
@@ -82,36 +77,32 @@ fn records_length(file: &[u8], events: usize, room: usize) -> usize
     events / 3 * (9 + 4 * s.variables + s.selectors)
 }
 
+fn same_counts(a: Counts, b: Counts) -> bool
+    ensures { λ q. ⌜ q ≡ sameCounts (told a) (told b) ⌝ }
+{
+    (a.taken == b.taken) & ((a.turned_away == b.turned_away) & (a.faulted == b.faulted))
+}
+
 // whether two runs, whose records are a and b, say the same
-fn agreed(r: rule_run::call::Ran, t: table_run::call::Ran, a: &[u8], b: &[u8]) -> bool
-    ensures { λ q. ⌜ q ≡ (sameNumbers (ruled.ranWith r (now (a .entry))) (tabled.ranWith t (now (b .entry))) && sameBytes (now (a .entry)) (now (b .entry))) ⌝ }
+fn agreed(r: Ran, t: Ran, a: &[u8], b: &[u8]) -> bool
+    ensures { λ q. ⌜ q ≡ (sameNumbers (ranWith r (now (a .entry))) (ranWith t (now (b .entry))) && sameBytes (now (a .entry)) (now (b .entry))) ⌝ }
 {
     if r.refusal != t.refusal {
         return false;
     }
-    if r.taken != t.taken {
-        return false;
-    }
-    if r.turned_away != t.turned_away {
-        return false;
-    }
-    if r.faulted != t.faulted {
+    let x = r.counts;
+    let y = t.counts;
+    if !same_counts(x, y) {
         return false;
     }
     check::same(a, b)
 }
 
 // the same of the whole record buffers
-fn compared(
-    file: &[u8],
-    events: usize,
-    r: rule_run::call::Ran,
-    t: table_run::call::Ran,
-    a: &[u8],
-    b: &[u8],
-) -> bool
+fn compared(file: &[u8], events: usize, r: Ran, t: Ran, a: &[u8], b: &[u8]) -> bool
     requires { ⌜ Room (now file) events (length (now a)) × Room (now file) events (length (now b)) ⌝ }
-    ensures { λ q. ⌜ ((s : Schedule) → judgeFile edition1 (now (file .entry)) ≡ accepted s → q ≡ Exam.agreed (events / 3 * recordSize edition1 (s .plant)) (ruled.ranWith r (now (a .entry))) (tabled.ranWith t (now (b .entry)))) ⌝ }
+    ensures { λ q. ⌜ ((s : Schedule) → judgeFile edition1 (now (file .entry)) ≡ accepted s
+        → q ≡ Exam.agreed (events / 3 * recordSize edition1 (s .plant)) (ranWith r (now (a .entry))) (ranWith t (now (b .entry)))) ⌝ }
 {
     let size = records_length(file, events, a.len());
     agreed(r, t, &a[..size], &b[..size])
@@ -125,7 +116,8 @@ pub fn examine(
     records: &mut [u8],
     others: &mut [u8],
 ) -> Examined
-    ensures { λ r. ⌜ Returned (examOf edition1 (now (file .entry)) (now (start .entry)) (now (events .entry)) (now (table .entry)) (now (records .entry)) (now (others .entry))) r (now (table .exit)) (now (records .exit)) (now (others .exit)) ⌝ }
+    ensures { λ r. ⌜ examinedWith r (now (table .exit)) (now (records .exit)) (now (others .exit))
+        ≡ examOf edition1 (now (file .entry)) (now (start .entry)) (now (events .entry)) (now (table .entry)) (now (records .entry)) (now (others .entry)) ⌝ }
 {
     let n = judged(
         file,
@@ -143,15 +135,13 @@ pub fn examine(
     let r = rule_run::call::run(file, start, events, records);
     let t = table_run::call::run(&table[..length], start, events, others);
     let same = compared(file, events.len(), r, t, records, others);
+    let counts = r.counts;
+    let table_counts = t.counts;
     Examined {
         refusal: 0,
         length: length,
-        taken: r.taken,
-        turned_away: r.turned_away,
-        faulted: r.faulted,
-        table_taken: t.taken,
-        table_turned_away: t.turned_away,
-        table_faulted: t.faulted,
+        counts: counts,
+        table_counts: table_counts,
         agree: same,
     }
 }

@@ -8,3 +8,4 @@ pub mod Outcomes
 pub mod PlantReady
 pub mod Stepping
 pub mod Runs
+pub mod Lengths

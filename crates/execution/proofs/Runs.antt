@@ -15,6 +15,7 @@ use Rattle.semantics.specs.Refusals.{refused, accepted}
 use Rattle.semantics.specs.Plant.{Plant, selectors}
 use Rattle.semantics.specs.Starts.{Start}
 use Rattle.semantics.specs.Events.{eventsIn}
+use Rattle.semantics.specs.Run as Run
 use Rattle.semantics.specs.Run.{Control, Situation, Answered, at, step, answers, setNumber, actingSet, recordBytes, recordOf}
 use Rattle.semantics.specs.Calls.{eventCount, recordSize, Program, runFrom, outcomeOf, report}
 use Rattle.semantics.proofs.RunCounts.{record-length}
@@ -23,6 +24,7 @@ use Rattle.codec.proofs.Reading.{drop-some}
 use Rattle.codec.proofs.Writing.{wrote-none, put-more, wrote-as, wrote-length, wrote-front}
 use Rattle.nodeset.specs.Sets.{members}
 use Rattle.records.specs.Booking.{bookedOf, countsOf, Room}
+use Rattle.records.specs.Reported.{noCounts, notRun, ranWith}
 use Rattle.execution.specs.Ready.{Fits}
 use Rattle.execution.specs.Runs.{answerBytes, RunSoFar, RunDone}
 use Rattle.records.specs.declared.Counts.{Counts}
@@ -86,7 +88,7 @@ answers-snoc {S} l o = map-snoc (λ (o : Answered S). o .answer) l o
 
 -- ---- a run
 module _ {S : Type 0} (p : Plant) (c : Control S) (st₀ : Situation S) (events : List ℕ) (n : ℕ) (d₀ : List ℕ) where
-  pub run-start : Fits p (st₀ .values) (st₀ .modes) → RunSoFar p c st₀ events n d₀ 0 0 st₀ (record { taken = 0; «turned_away» = 0; faulted = 0 }) d₀
+  pub run-start : Fits p (st₀ .values) (st₀ .modes) → RunSoFar p c st₀ events n d₀ 0 0 st₀ noCounts d₀
   unfolding answerBytes flatMap
   run-start f = record {
     said = [];
@@ -162,12 +164,12 @@ module _ {S : Type 0} (p : Plant) (c : Control S) (st₀ : Situation S) (events 
         none-left j e = ap (λ j. answers edition1 p c st (eventsIn 3 j (drop (3 * k) events))) e ∙ no-events p c st (drop (3 * k) events)
 
 -- ---- the call
-pub not-run : (d : List ℕ) (n : ℕ) → report d (refused n) ≡ record { refusal = n; taken = 0; turned-away = 0; faulted = 0; records = d }
-unfolding report
+pub not-run : (d : List ℕ) (n : ℕ) → report d (refused n) ≡ ranWith (notRun n) d
+unfolding report ranWith
 not-run d n = refl
 
-pub reported : {S : Type 0} (c : Control S) (l : List (Answered S)) (d₀ : List ℕ) {cs : Counts} {d : List ℕ} → RunDone c l d₀ cs d → report d₀ (accepted (outcomeOf edition1 c l)) ≡ record { refusal = 0; taken = cs .taken; turned-away = cs .«turned_away»; faulted = cs .faulted; records = d }
-unfolding report outcomeOf countsOf answerBytes
+pub reported : {S : Type 0} (c : Control S) (l : List (Answered S)) (d₀ : List ℕ) {cs : Counts} {d : List ℕ} → RunDone c l d₀ cs d → report d₀ (accepted (outcomeOf edition1 c l)) ≡ ranWith (record { refusal = 0; counts = cs }) d
+unfolding report outcomeOf Run.countsOf countsOf answerBytes ranWith
 reported c l d₀ r = rw (r .counted, r .wrote) refl
 
 module _ {S : Type 0} (g : Program S) (st : Start) (events : List ℕ) where
@@ -177,7 +179,7 @@ module _ {S : Type 0} (g : Program S) (st : Start) (events : List ℕ) where
 
   -- what the call reports once all events are answered
   pub run-reported : {n k i : ℕ} {d₀ : List ℕ} {left : Situation S} {cs : Counts} {d : List ℕ} → RunSoFar (g .plant) (g .control) (at (g .control .start) (st .values) (st .modes)) events n d₀ k i left cs d → n ≡ length events / 3 → k ≡ n
-      → report d₀ (accepted (outcomeOf edition1 (g .control) (runFrom edition1 g st events))) ≡ record { refusal = 0; taken = cs .taken; turned-away = cs .«turned_away»; faulted = cs .faulted; records = d }
+      → report d₀ (accepted (outcomeOf edition1 (g .control) (runFrom edition1 g st events))) ≡ ranWith (record { refusal = 0; counts = cs }) d
   run-reported {n} {d₀ = d₀} r e f =
       let from : Situation S = at (g .control .start) (st .values) (st .modes) in
       let all : runFrom edition1 g st events ≡ answers edition1 (g .plant) (g .control) from (eventsIn 3 n events) = run-from ∙ ap (λ m. answers edition1 (g .plant) (g .control) from (eventsIn 3 m events)) (sym e) in

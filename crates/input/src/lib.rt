@@ -1,4 +1,4 @@
-// A file whole, by the name in an argument of the program.
+// A file whole, by the name in an argument of the program or from standard input.
 ghost use Rattle.io.specs.Counts.{Counts};
 
 // how many bytes of the buffer the file has; not whole, and 0, where the file is missing, cannot be read or is longer than the buffer
@@ -61,7 +61,14 @@ fn read(fd: i32, program: &[u8], name: &[u8], buf: &mut [u8]) -> Loaded
     }
 }
 
-// the file that argument i names, read into the buffer; where it is not whole, a message on standard error under the program's name
+// standard input, read into the buffer; where it is not whole, a message on standard error under the program's name
+pub fn standard(program: &[u8], buf: &mut [u8]) -> Loaded
+    ensures { λ r. ⌜ Counts (r .length) (now (buf .exit)) ⌝ }
+{
+    read(0, program, b"standard input", buf)
+}
+
+// the file that argument i names, read into the buffer; a message likewise
 pub fn load(i: usize, program: &[u8], buf: &mut [u8]) -> Loaded
     ensures { λ r. ⌜ Counts (r .length) (now (buf .exit)) ⌝ }
 {

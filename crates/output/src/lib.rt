@@ -1,10 +1,18 @@
-// What the programs share: how much of a buffer to write.
+// What the programs share: how much of a buffer to write, and what is said where that fails.
 ghost use mathlib.Core.Path.{_≡_};
 ghost use mathlib.Core.Bool.{cond};
 ghost use lib.Dec.{leb};
 ghost use lib.ListN.{length};
 ghost use Rattle.io.specs.Counts.{Counts};
 ghost use Rattle.output.specs.Written.{recordsLength};
+
+// a message of the program where a write failed
+pub fn noticed(program: &[u8], is_written: bool) {
+    if !is_written {
+        io::write_all(2, program);
+        io::write_all(2, b": the output could not be written\n");
+    }
+}
 
 // n, or 0 where there are fewer bytes
 pub fn front(n: usize, bytes: &[u8]) -> usize

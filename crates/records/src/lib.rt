@@ -11,12 +11,38 @@ ghost use Rattle.semantics.specs.Run.{setNumber, valueBytes, recordBytes};
 ghost use Rattle.codec.specs.Writing.{Wrote};
 ghost use Rattle.nodeset.specs.Sets.{mem, members};
 ghost use Rattle.records.specs.Booking.{bumped, bookedOf, Room};
+ghost use Rattle.records.specs.Reported.{noCounts, notRun};
 
 // Of the answers of a run: taken 200..202, turned away 23..31, faulted 203.
 pub struct Counts {
     pub taken: usize,
     pub turned_away: usize,
     pub faulted: usize,
+}
+
+// What a run gives: 0, or the number of the first condition that is broken; all counts are 0 then.
+pub struct Ran {
+    pub refusal: u8,
+    pub counts: Counts,
+}
+
+// Before the first event.
+pub fn none() -> Counts
+    ensures { λ r. ⌜ r ≡ noCounts ⌝ }
+{
+    Counts {
+        taken: 0,
+        turned_away: 0,
+        faulted: 0,
+    }
+}
+
+// Of a run that does not start.
+pub fn refused(n: u8) -> Ran
+    ensures { λ r. ⌜ r ≡ notRun n ⌝ }
+{
+    let counts = none();
+    Ran { refusal: n, counts }
 }
 
 fn between(low: u8, high: u8, n: u8) -> bool

@@ -1,28 +1,20 @@
 -- The call of a run by the rules: what the index, the admission and the events make of it.
 use mathlib.Core.Path.{_≡_, refl, sym, ap, _∙_}
-use mathlib.Core.List.{List, [], _∷_}
-use mathlib.Core.Option.{some}
+use mathlib.Core.List.{List}
 use Prim.Native.Nat.{ℕ, zero, suc, _+_, _-_, _*_, _≤_}
 use native.Mathlib.Omega.{arith}
-use lib.ListN.{length, getElem?, take, drop, length-append}
+use lib.ListN.{length, take, drop}
 use Rattle.semantics.specs.Editions.{edition1}
 use Rattle.semantics.specs.Refusals.{Judged, refused, accepted, _>>=_, refusalOf}
-use Rattle.semantics.specs.Plant.{Plant, selectorsOf, selectors, judgePlant}
-use Rattle.semantics.specs.Sections.{Selector, Equation, steady, choice}
+use Rattle.semantics.specs.Plant.{Plant, selectors}
 use Rattle.semantics.specs.Starts.{Start}
 use Rattle.semantics.specs.Calls as Calls
 use Rattle.semantics.specs.Calls.{Program, Outcome, judgeAdmission, judgeRun, report, runFrom}
 use Rattle.schedules.specs.Residuals.{Residual}
 use Rattle.schedules.specs.Files.{Schedule, judgeFile, ruleControl}
 use Rattle.schedules.specs.Calls.{ruleProgram, ruleRun}
-use Rattle.codec.specs.Padding.{pad}
-use Rattle.plant.specs.PlantRead.{plantOf}
 use Rattle.plant.specs.declared.sections.PlantRead.{PlantRead}
-use Rattle.plant.specs.Equations.{modeSize, equationSize, startsFrom, modePlaces}
-use Rattle.codec.proofs.Padding.{length-pad}
-use Rattle.plant.proofs.EquationCases.{starts-length}
-use Rattle.plant.proofs.EquationLaws.{few-selectors, few-modes-each}
-use Rattle.plant.proofs.PlantLaws.{passed-all, variables-of, selectors-of, places-of}
+use Rattle.plant.proofs.PlantLaws.{variables-of, selectors-of}
 use Rattle.schedule_read.specs.Actions.{actionNumbers}
 use Rattle.schedule_read.specs.ScheduleFile.{scheduleIndex}
 use Rattle.schedule_read.specs.declared.call.ScheduleIndex.{ScheduleIndex}
@@ -35,35 +27,17 @@ use Rattle.start_read.proofs.PlantStart.{arrays-held, room-held}
 use Rattle.start_read.proofs.AdmissionLaws.{run-unread, run-refused, run-admitted}
 use Rattle.execution.specs.Ready.{Lent, lent}
 use Rattle.execution.specs.Runs.{RunDone}
+use Rattle.records.specs.Reported.{notRun, ranWith}
 use Rattle.records.specs.declared.Counts.{Counts}
+use Rattle.records.specs.declared.Ran.{Ran}
+use Rattle.execution.proofs.Lengths.{take-full, places-full}
 use Rattle.execution.proofs.PlantReady.{fits-start}
 use Rattle.execution.proofs.Runs.{not-run, reported}
 use Rattle.rule_run.specs.Runs.{Asked, Asking, Whole}
-use Rattle.rule_run.specs.Called.{notRun, ranWith, Admits, Admitting}
-use Rattle.rule_run.specs.declared.call.Ran.{Ran}
+use Rattle.rule_run.specs.Called.{Admits, Admitting, Carried}
 use Rattle.rule_run.proofs.ScheduleReady.{LentFrom, schedule-lent}
 
 -- ---- the lengths of the arrays
-take-full : {A : Type 0} (n : ℕ) (l : List A) → length (take n l) ≡ n → n ≤ length l
-take-full zero l h = omega arith
-take-full (suc n) [] h = absurd (omega arith)
-take-full (suc n) (x ∷ l) h = let i : length (take n l) ≡ n = omega arith in let k = take-full n l i in omega arith
-
--- eight places for each selector
-places-few : (at : ℕ) (qs : List Equation) → ((j : ℕ) (c : Selector) → getElem? (selectorsOf qs) j ≡ some c → length (c .modes) ≤ 8) → length (modePlaces at qs) ≡ 8 * length (selectorsOf qs)
-unfolding modePlaces selectorsOf
-places-few at [] h = refl
-places-few at (steady r ∷ qs) h = places-few _ qs h
-places-few at (choice c ∷ qs) h =
-    let row = startsFrom modeSize (at + 5) (c .modes) in
-    let e = length-pad 8 0 row (omega (arith, starts-length modeSize (at + 5) (c .modes), h 0 c refl)) in
-    omega (arith, length-append (pad 8 0 row) (modePlaces (at + equationSize (choice c)) qs), places-few (at + equationSize (choice c)) qs (λ j x k. h (suc j) x k))
-
-places-full : (vs es : List ℕ) {p : Plant} → judgePlant edition1 vs es ≡ accepted p → length (plantOf vs es .«mode_offsets») ≡ 128
-places-full vs es {p} h =
-    let e = passed-all vs es h .equations in
-    ap length (places-of vs es h) ∙ length-pad 128 0 (modePlaces 1 (p .equations)) (omega (arith, places-few 1 (p .equations) (λ j c g. few-modes-each es e j g), few-selectors es e))
-
 room-as : {x y : PlantRead} → x ≡ y → Room y → Room x
 room-as e a = rw e a
 
@@ -226,8 +200,8 @@ module _ (f start events d : List ℕ) {ix : ScheduleIndex} (h : ix ≡ schedule
         admitting = record { schedule = schedule; admits = admits }
 
         pub by-events : {r : Ran} {cs : Counts} {d' : List ℕ} →
-            ((s : Schedule) → Admits f asked events d s → Whole s (take (length (s .plant .variables)) (asked .values)) (take (length (selectors (s .plant))) (asked .modes)) events d cs d') →
-            r ≡ record { refusal = 0; taken = cs .taken; «turned_away» = cs .«turned_away»; faulted = cs .faulted } → ranWith r d' ≡ ruleRun edition1 f start events d
+            Carried f asked events d cs d' →
+            r ≡ record { refusal = 0; counts = cs } → ranWith r d' ≡ ruleRun edition1 f start events d
         unfolding ruleRun ranWith
         by-events {r} {cs} {d'} w k =
             let a = run-admitted (programOf schedule) start events d (sym (ap (λ (a : Admitted). a .refusal) asked-is) ∙ y) in

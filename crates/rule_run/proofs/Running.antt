@@ -24,6 +24,7 @@ use Rattle.codec.specs.Writing.{Wrote}
 use Rattle.codec.proofs.Writing.{wrote-length}
 use Rattle.records.specs.Booking.{bookedOf, Room}
 use Rattle.execution.specs.Ready.{Lent, Fits}
+use Rattle.records.specs.Reported.{noCounts}
 use Rattle.records.specs.declared.Counts.{Counts}
 use Rattle.execution.proofs.Runs.{eventAt, run-start, run-counts, run-room, run-next, run-end}
 use Rattle.execution.proofs.Stepping.{set-at, set-over}
@@ -49,13 +50,13 @@ module _ {l : Lent} {ks es : List ℕ} {vs₀ : List ℤ} {ms₀ events d₀ : L
   pub planted : Asking l ks es vs₀ ms₀ events d₀ → Planted ks es
   planted q = record { tree = q .schedule .root; lies = q .asked .tree }
 
-  pub going-start : {set : NodeSet} (s : Schedule) → Asked s l ks es vs₀ ms₀ events d₀ → Words (set .words) → members (set .words) ≡ acting (fresh (s .root)) →
-      Going s vs₀ ms₀ events d₀ 0 0 (record { over = false; acting = set }) (record { taken = 0; «turned_away» = 0; faulted = 0 }) vs₀ ms₀ d₀
+  pub going-start : {set : NodeSet} {cs : Counts} (s : Schedule) → cs ≡ noCounts → Asked s l ks es vs₀ ms₀ events d₀ → Words (set .words) → members (set .words) ≡ acting (fresh (s .root)) →
+      Going s vs₀ ms₀ events d₀ 0 0 (record { over = false; acting = set }) cs vs₀ ms₀ d₀
   unfolding ruleControl
-  going-start s a w b = record {
+  going-start s e a w b = record {
     place = some (fresh (s .root));
     stands = at-residual refl (of-fresh (s .root)) b w;
-    so-far = run-start (s .plant) (ruleControl s) (begins s vs₀ ms₀) events (length events / 3) d₀ (a .fits);
+    so-far = rw e (run-start (s .plant) (ruleControl s) (begins s vs₀ ms₀) events (length events / 3) d₀ (a .fits));
   }
 
   module _ {k i : ℕ} {x : Situation} {cs : Counts} {vs : List ℤ} {ms d : List ℕ} where

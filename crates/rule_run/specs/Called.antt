@@ -6,22 +6,13 @@ use lib.ListN.{length, take}
 use Rattle.semantics.specs.Editions.{edition1}
 use Rattle.semantics.specs.Refusals.{accepted}
 use Rattle.semantics.specs.Plant.{selectors}
-use Rattle.semantics.specs.Calls as Calls
 use Rattle.semantics.specs.Calls.{recordSize}
 use Rattle.schedules.specs.Files.{Schedule, judgeFile}
 use Rattle.execution.specs.Ready.{Fits}
 use Rattle.start_read.specs.declared.admission.Admitted.{Admitted}
-use Rattle.rule_run.specs.declared.call.Ran.{Ran}
+use Rattle.records.specs.declared.Counts.{Counts}
+use Rattle.rule_run.specs.Runs.{Whole}
 
--- a refusal
-abbrev pub notRun : ℕ → Ran
-notRun n = record { refusal = n; taken = 0; «turned_away» = 0; faulted = 0 }
-
--- all that the call gives: the four numbers, and the lent record buffer afterwards
-unfoldable pub ranWith : Ran → List ℕ → Calls.Ran
-ranWith r d = record { refusal = r .refusal; taken = r .taken; turned-away = r .«turned_away»; faulted = r .faulted; records = d }
-
--- ---- for the code's own contracts
 -- the file is that of s, a run of it may start with these values and modes, and d has room for its records
 pub record Admits (f : List ℕ) (asked : Admitted) (events d : List ℕ) (s : Schedule) : Type 0 where
   pub judged : judgeFile edition1 f ≡ accepted s
@@ -32,3 +23,8 @@ pub record Admits (f : List ℕ) (asked : Admitted) (events d : List ℕ) (s : S
 pub record Admitting (f : List ℕ) (asked : Admitted) (events d : List ℕ) : Type 0 where
   pub schedule : Schedule
   pub admits : Admits f asked events d schedule
+
+-- all events are answered, of every schedule that is admitted
+abbrev pub Carried : List ℕ → Admitted → (events d₀ : List ℕ) → Counts → List ℕ → Type 0
+Carried f asked events d₀ cs d =
+    (s : Schedule) → Admits f asked events d₀ s → Whole s (take (length (s .plant .variables)) (asked .values)) (take (length (selectors (s .plant))) (asked .modes)) events d₀ cs d

@@ -43,3 +43,7 @@ pub record Going (s : Schedule) (vs₀ : List ℤ) (ms₀ events d₀ : List ℕ
 -- all events are answered
 abbrev pub Whole : Schedule → List ℤ → List ℕ → List ℕ → List ℕ → Counts → List ℕ → Type 0
 Whole s vs ms events d₀ cs d = RunDone (ruleControl s) (answers edition1 (s .plant) (ruleControl s) (begins s vs ms) (eventsIn 3 (length events / 3) events)) d₀ cs d
+
+-- the same of every schedule that is asked for
+abbrev pub Completes : Lent → (ks es : List ℕ) → List ℤ → (ms events d₀ : List ℕ) → Counts → List ℕ → Type 0
+Completes l ks es vs ms events d₀ cs d = (s : Schedule) → Asked s l ks es vs ms events d₀ → Whole s vs ms events d₀ cs d

@@ -1,40 +1,20 @@
 // The call "running a schedule by the rules": 1 to 12, then 20 to 22, then its events.
 use super::runs;
 use records::Counts;
+use records::Ran;
 use schedule_read::call::ScheduleIndex;
 use start_read::admission::Admitted;
 ghost use mathlib.Core.Path.{_≡_};
 ghost use mathlib.Core.List.{List};
 ghost use Prim.Native.Nat.{ℕ};
-ghost use lib.ListN.{length, take};
+ghost use lib.ListN.{length};
 ghost use Rattle.semantics.specs.Editions.{edition1};
 ghost use Rattle.semantics.specs.Refusals.{refusalOf};
-ghost use Rattle.semantics.specs.Plant.{selectors};
 ghost use Rattle.semantics.specs.Calls.{judgeRun};
-ghost use Rattle.schedules.specs.Files.{Schedule};
 ghost use Rattle.schedules.specs.Calls.{ruleProgram, ruleRun};
 ghost use Rattle.schedule_read.specs.ScheduleFile.{scheduleIndex};
-ghost use Rattle.rule_run.specs.Runs.{Whole};
-ghost use Rattle.rule_run.specs.Called.{notRun, ranWith, Admits, Admitting};
-
-// 0, or the number of the first condition that is broken; all counts are 0 then
-pub struct Ran {
-    pub refusal: u8,
-    pub taken: usize,
-    pub turned_away: usize,
-    pub faulted: usize,
-}
-
-fn refused(n: u8) -> Ran
-    ensures { λ r. ⌜ r ≡ notRun n ⌝ }
-{
-    Ran {
-        refusal: n,
-        taken: 0,
-        turned_away: 0,
-        faulted: 0,
-    }
-}
+ghost use Rattle.records.specs.Reported.{ranWith};
+ghost use Rattle.rule_run.specs.Called.{Admitting, Carried};
 
 // The events of an admitted run, over the arrays of the file's index.
 fn lend(
@@ -45,7 +25,7 @@ fn lend(
     records: &mut [u8],
 ) -> Counts
     requires { ⌜ (ix ≡ scheduleIndex (now file)) × Admitting (now file) asked (now events) (now records) ⌝ }
-    ensures { λ r. ⌜ ((s : Schedule) → Admits (now (file .entry)) asked (now (events .entry)) (now (records .entry)) s → Whole s (take (length (s .plant .variables)) (asked .values)) (take (length (selectors (s .plant))) (asked .modes)) (now (events .entry)) (now (records .entry)) r (now (records .exit))) ⌝ }
+    ensures { λ r. ⌜ Carried (now (file .entry)) asked (now (events .entry)) (now (records .entry)) r (now (records .exit)) ⌝ }
 {
     let parts = ix.parts;
     let a = parts.equations_from;
@@ -94,26 +74,22 @@ pub fn run(file: &[u8], start: &[u8], events: &[u8], records: &mut [u8]) -> Ran
     let ix = schedule_read::call::index(file);
     let first = ix.refusal;
     if first != 0 {
-        return refused(first);
+        return records::refused(first);
     }
     let plant = ix.plant;
     let asked = start_read::admission::admit(plant, start, events.len(), records.len());
     let second = asked.refusal;
     if second != 0 {
-        return refused(second);
+        return records::refused(second);
     }
     let counts = lend(ix, asked, file, events, records);
-    Ran {
-        refusal: 0,
-        taken: counts.taken,
-        turned_away: counts.turned_away,
-        faulted: counts.faulted,
-    }
+    Ran { refusal: 0, counts }
 }
 
 // 1 to 12 and 20 to 22 in order, or 0: of a run with so many event bytes and a record buffer of so many bytes
 pub fn check(file: &[u8], start: &[u8], events: usize, room: usize) -> u8
-    ensures { λ r. ⌜ ((es d : List ℕ) → length es ≡ events → length d ≡ room → r ≡ refusalOf (judgeRun edition1 (ruleProgram edition1 (now (file .entry))) (now (start .entry)) es d)) ⌝ }
+    ensures { λ r. ⌜ ((es d : List ℕ) → length es ≡ events → length d ≡ room
+        → r ≡ refusalOf (judgeRun edition1 (ruleProgram edition1 (now (file .entry))) (now (start .entry)) es d)) ⌝ }
 {
     let ix = schedule_read::call::index(file);
     let first = ix.refusal;

@@ -2,9 +2,8 @@
 use records::Counts;
 use rule_step::steps;
 use rule_step::steps::Situation;
-ghost use Rattle.schedules.specs.Files.{Schedule};
 ghost use Rattle.execution.specs.Ready.{lent};
-ghost use Rattle.rule_run.specs.Runs.{Asked, Asking, Whole};
+ghost use Rattle.rule_run.specs.Runs.{Asking, Completes};
 
 // The record of each event goes to records, one after the other. Values and modes are those that the run starts with.
 pub fn all<'a>(
@@ -24,8 +23,11 @@ pub fn all<'a>(
     modes: &mut [u8],
     records: &mut [u8],
 ) -> Counts
-    requires { ⌜ Asking (lent (now es) (now places) steady (now lows) (now highs) (now ops) (now acts) (now starts) (now ends)) (now kinds) (now subtrees) (now values) (now modes) (now events) (now records) ⌝ }
-    ensures { λ r. ⌜ ((s : Schedule) → Asked s (lent (now (es .entry)) (now (places .entry)) steady (now (lows .entry)) (now (highs .entry)) (now (ops .entry)) (now (acts .entry)) (now (starts .entry)) (now (ends .entry))) (now (kinds .entry)) (now (subtrees .entry)) (now (values .entry)) (now (modes .entry)) (now (events .entry)) (now (records .entry)) → Whole s (now (values .entry)) (now (modes .entry)) (now (events .entry)) (now (records .entry)) r (now (records .exit))) ⌝ }
+    requires { ⌜ Asking (lent (now es) (now places) steady (now lows) (now highs) (now ops) (now acts) (now starts) (now ends))
+        (now kinds) (now subtrees) (now values) (now modes) (now events) (now records) ⌝ }
+    ensures { λ r. ⌜ Completes
+        (lent (now (es .entry)) (now (places .entry)) steady (now (lows .entry)) (now (highs .entry)) (now (ops .entry)) (now (acts .entry)) (now (starts .entry)) (now (ends .entry)))
+        (now (kinds .entry)) (now (subtrees .entry)) (now (values .entry)) (now (modes .entry)) (now (events .entry)) (now (records .entry)) r (now (records .exit)) ⌝ }
 {
     let leads = moves::leads::all(kinds, subtrees);
     let fresh = moves::fresh::all(kinds, subtrees);
@@ -34,11 +36,7 @@ pub fn all<'a>(
         over: false,
         acting: first,
     };
-    let mut counts = Counts {
-        taken: 0,
-        turned_away: 0,
-        faulted: 0,
-    };
+    let mut counts = records::none();
     let n = events.len() / 3;
     let mut i = 0;
     let mut k = 0;

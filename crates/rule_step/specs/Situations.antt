@@ -8,7 +8,8 @@ use lib.IntN.{ℤ}
 use Rattle.semantics.specs.Editions.{edition1}
 use Rattle.semantics.specs.Plant.{among}
 use Rattle.semantics.specs.Run as Run
-use Rattle.semantics.specs.Run.{Next, arrive, step}
+use Rattle.semantics.specs.Events.{eventIn}
+use Rattle.semantics.specs.Run.{Next, arrive, step, judge}
 use Rattle.schedules.specs.Nodes.{nodeAction}
 use Rattle.schedules.specs.Trees.{Tree}
 use Rattle.schedules.specs.Residuals.{Residual, acting}
@@ -18,6 +19,7 @@ use Rattle.nodeset.specs.Sets.{members, emptySet, Words}
 use Rattle.nodeset.specs.declared.NodeSet.{NodeSet}
 use Rattle.moves.specs.Contracts.{Charted, Standing}
 use Rattle.execution.specs.Ready.{Lent, PlantLent, NodeLent, Fits}
+use Rattle.effects.specs.Verdicts.{Left}
 use Rattle.effects.specs.declared.Verdict.{Verdict}
 use Rattle.effects.specs.declared.Verdict.the-variants.{Move}
 use Rattle.rule_step.specs.declared.steps.Situation.{Situation}
@@ -79,3 +81,15 @@ pub record Steps (s : Schedule) (o : Option Residual) (vs : List ℤ) (ms : List
   pub place : Option Residual
   pub is : step edition1 (s .plant) (ruleControl s) (record { place = o; values = vs; modes = ms }) e ≡ leaves (a .answer) place vs' ms'
   pub stands : StandsFor (s .root) (a .situation) place
+
+-- what is made of a judged event: for every schedule and residual that the arrays and the set are of
+abbrev pub Settled : (ls fs : List ℕ) → NodeSet → Verdict → Answered → Type 0
+Settled ls fs set v a =
+    (s : Schedule) (x : Residual) → Here ls fs (s .root) (set .words) x → (vs : List ℤ) (ms e : List ℕ) (vs' : List ℤ) (ms' : List ℕ)
+    → Left (judge edition1 (s .plant) (ruleControl s .action) (members (set .words)) vs ms (eventIn edition1 e)) vs ms v vs' ms' → Steps s (some x) vs ms e a vs' ms'
+
+-- what a step gives: for every schedule that the arrays hold and every place that the run stands at
+abbrev pub Stepped : Lent → (ls fs : List ℕ) → Situation → List ℤ → (ms e : List ℕ) → Answered → List ℤ → List ℕ → Type 0
+Stepped l ls fs at vs ms e a vs' ms' =
+    (s : Schedule) (o : Option Residual) → ScheduleLent s l → Charted ls fs (s .root) → StandsFor (s .root) at o → Fits (s .plant) vs ms
+    → Steps s o vs ms e a vs' ms' × Fits (s .plant) vs' ms'

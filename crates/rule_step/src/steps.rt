@@ -3,21 +3,12 @@ use effects::Verdict;
 use moves::How;
 use nodeset::NodeSet;
 ghost use mathlib.Core.Path.{_≡_};
-ghost use mathlib.Core.Option.{Option, some};
-ghost use mathlib.Core.List.{List, [], _∷_};
-ghost use Prim.Native.Nat.{ℕ};
-ghost use lib.IntN.{ℤ};
-ghost use Rattle.semantics.specs.Editions.{edition1};
-ghost use Rattle.semantics.specs.Events.{eventIn};
-ghost use Rattle.semantics.specs.Run.{judge};
+ghost use mathlib.Core.List.{[], _∷_};
 ghost use Rattle.schedules.specs.Trees.{Tree};
 ghost use Rattle.schedules.specs.Residuals.{Residual, move};
-ghost use Rattle.schedules.specs.Files.{Schedule, ruleControl};
-ghost use Rattle.nodeset.specs.Sets.{members};
-ghost use Rattle.moves.specs.Contracts.{Charted, Standing};
-ghost use Rattle.effects.specs.Verdicts.{Left};
-ghost use Rattle.execution.specs.Ready.{lent, Fits};
-ghost use Rattle.rule_step.specs.Situations.{goingOn, ended, Here, Arrives, Movable, StandsFor, ScheduleLent, Promised, Steps};
+ghost use Rattle.moves.specs.Contracts.{Standing};
+ghost use Rattle.execution.specs.Ready.{lent};
+ghost use Rattle.rule_step.specs.Situations.{goingOn, ended, Here, Arrives, Movable, Settled, Promised, Stepped};
 
 // Where a run stands: the nodes that act, none once it is over.
 pub struct Situation {
@@ -76,7 +67,7 @@ fn moved<'a>(leads: &'a [u16], fresh: &'a [u64], acting: NodeSet, n: usize, trut
 // What a judged event makes of the acting nodes.
 fn settled<'a>(leads: &'a [u16], fresh: &'a [u64], acting: NodeSet, v: Verdict) -> Answered
     requires { ⌜ Movable (now leads) (now fresh) (acting .words) v ⌝ }
-    ensures { λ r. ⌜ ((s : Schedule) (x : Residual) → Here (now (leads .entry)) (now (fresh .entry)) (s .root) (acting .words) x → (vs : List ℤ) (ms e : List ℕ) (vs' : List ℤ) (ms' : List ℕ) → Left (judge edition1 (s .plant) (ruleControl s .action) (members (acting .words)) vs ms (eventIn edition1 e)) vs ms v vs' ms' → Steps s (some x) vs ms e r vs' ms') ⌝ }
+    ensures { λ r. ⌜ Settled (now (leads .entry)) (now (fresh .entry)) acting v r ⌝ }
 {
     match v {
         Verdict::Away(n) => go_on(n, acting),
@@ -108,7 +99,9 @@ pub fn step<'a>(
     modes: &mut [u8],
 ) -> Answered
     requires { ⌜ Promised (lent (now es) (now places) steady (now lows) (now highs) (now ops) (now acts) (now starts) (now ends)) (now leads) (now fresh) at (now values) (now modes) ⌝ }
-    ensures { λ r. ⌜ ((s : Schedule) (o : Option Residual) → ScheduleLent s (lent (now (es .entry)) (now (places .entry)) steady (now (lows .entry)) (now (highs .entry)) (now (ops .entry)) (now (acts .entry)) (now (starts .entry)) (now (ends .entry))) → Charted (now (leads .entry)) (now (fresh .entry)) (s .root) → StandsFor (s .root) at o → Fits (s .plant) (now (values .entry)) (now (modes .entry)) → Steps s o (now (values .entry)) (now (modes .entry)) (a ∷ b ∷ c ∷ []) r (now (values .exit)) (now (modes .exit)) × Fits (s .plant) (now (values .exit)) (now (modes .exit))) ⌝ }
+    ensures { λ r. ⌜ Stepped
+        (lent (now (es .entry)) (now (places .entry)) steady (now (lows .entry)) (now (highs .entry)) (now (ops .entry)) (now (acts .entry)) (now (starts .entry)) (now (ends .entry)))
+        (now (leads .entry)) (now (fresh .entry)) at (now (values .entry)) (now (modes .entry)) (a ∷ b ∷ c ∷ []) r (now (values .exit)) (now (modes .exit)) ⌝ }
 {
     if at.over {
         return Answered {

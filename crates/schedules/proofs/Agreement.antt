@@ -15,7 +15,7 @@ use Rattle.semantics.specs.Refusals.{Judged, refused, accepted, _>>=_}
 use Rattle.semantics.specs.Events.{eventsIn}
 use Rattle.semantics.specs.Plant.{Plant, selectors}
 use Rattle.semantics.specs.Starts.{Start, startIn, startFits}
-use Rattle.semantics.specs.Run.{Action, possible, isTest, Control, Situation, Answered, at, answers}
+use Rattle.semantics.specs.Run.{Action, possible, isTest, Control, Situation, Answered, at, answers, countsOf}
 use Rattle.semantics.specs.TableFile.{locationLimit}
 use Rattle.semantics.specs.Tables.{judgeTable, tableControl, actionOrStop}
 use Rattle.semantics.specs.Calls.{Program, outcomeOf, runFrom, judgeAdmission, judgeRun, report, tableProgram, tableRun, tableCounts, readTable, wholeEvents, eventCount, recordSize, roomForRecords}
@@ -130,7 +130,7 @@ module _ (ed : Edition) (file : List ℕ) (s : Schedule) (h : judgeFile ed file 
     lengths = start-values (s .plant) start (b .is-read)
 
     both-agree : RunsAgree ed s st events by-rules by-table (ruleRun ed file start events by-rules) (tableRun ed (tableOf ed s) start events by-table)
-    unfolding report outcomeOf
+    unfolding report outcomeOf countsOf
     both-agree = rw (by-the-rules, by-the-table) (record {
       rules-taken-on = refl;
       table-taken-on = refl;
@@ -139,8 +139,8 @@ module _ (ed : Edition) (file : List ℕ) (s : Schedule) (h : judgeFile ed file 
       rules-records = refl;
       table-records = refl;
       records-length = written-length ed (s .plant) (ruleControl s) begin es (lengths .0) (lengths .1) ∙ ap (λ n. n * recordSize ed (s .plant)) (events-length (ed .event-bytes) (eventCount ed events) events);
-      rules-counts = (refl, refl, refl);
-      table-counts = (refl, refl, refl);
+      rules-counts = refl;
+      table-counts = refl;
       counts-add = counts-sum ed (s .plant) (ruleControl s) begin es ∙ events-length (ed .event-bytes) (eventCount ed events) events;
     })
 

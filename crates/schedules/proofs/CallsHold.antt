@@ -11,6 +11,7 @@ use Rattle.semantics.specs.Bytes.{overwrite}
 use Rattle.semantics.specs.Editions.{Edition}
 use Rattle.semantics.specs.Refusals.{Judged, refused, accepted}
 use Rattle.semantics.specs.Plant.{selectors}
+use Rattle.semantics.specs.Run.{noCounts}
 use Rattle.semantics.specs.Rules.{Sound}
 use Rattle.semantics.specs.Records.{AtFront}
 use Rattle.semantics.specs.Calls.{judgeRun}
@@ -45,7 +46,7 @@ unfolding compile
 refused-compile ed file room h = compile-nothing room (judgeCompile ed file room) h
 
 pub refused-rule-run : (ed : Edition) (file start events buffer : List ℕ) → ((ruleRun ed file start events buffer) .refusal ≡ 0 → ⊥) →
-    ruleRun ed file start events buffer ≡ record { refusal = (ruleRun ed file start events buffer) .refusal; taken = 0; turned-away = 0; faulted = 0; records = buffer }
+    ruleRun ed file start events buffer ≡ record { refusal = (ruleRun ed file start events buffer) .refusal; counts = noCounts; records = buffer }
 unfolding ruleRun
 refused-rule-run ed file start events buffer h = refused-run buffer (judgeRun ed (ruleProgram ed file) start events buffer) h
 

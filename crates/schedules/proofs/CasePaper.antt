@@ -14,11 +14,11 @@ unfolding schedules case-file case-table
 case-compiled = refl
 
 pub case-rules : ruleRun edition1 case-file (replicate 9 0) case-events (replicate 342 0)
-    ≡ record { refusal = 0; taken = 10; turned-away = 9; faulted = 0; records = case-records }
+    ≡ record { refusal = 0; counts = record { taken = 10; turned-away = 9; faulted = 0 }; records = case-records }
 unfolding schedules case-file case-events case-records
 case-rules = refl
 
 pub case-by-table : tableRun edition1 case-table (replicate 9 0) case-events (replicate 342 0)
-    ≡ record { refusal = 0; taken = 10; turned-away = 9; faulted = 0; records = case-records }
+    ≡ record { refusal = 0; counts = record { taken = 10; turned-away = 9; faulted = 0 }; records = case-records }
 unfolding schedules case-table case-events case-records
 case-by-table = refl

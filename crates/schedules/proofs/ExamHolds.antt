@@ -67,9 +67,7 @@ told : {ed : Edition} {s : Schedule} {st : Start} {events by-rules by-table : Li
     length (flatMap (recordOf ed (ruleControl s)) (a .said)) ≡ n → agreed n r t ≡ true
 told {ed} {s} {by-rules = by-rules} {by-table = by-table} {r = r} {t = t} n a e = agreed-true n r t (record {
   refusal = a .rules-taken-on ∙ sym (a .table-taken-on);
-  taken = sym (a .table-counts .0);
-  turned-away = sym (a .table-counts .1);
-  faulted = sym (a .table-counts .2);
+  counts = sym (a .table-counts);
   records = ap (take n) (a .rules-records) ∙ written-front _ by-rules n e ∙ sym (ap (take n) (a .table-records) ∙ written-front _ by-table n e);
 })
 

@@ -29,17 +29,17 @@ K1 = refl
 
 -- K2 to K4 by the rules
 pub K2-rules : ruleRun edition1 k1-file (start-at 0) k2-events (replicate 104 0 ++ (7 ∷ 8 ∷ []))
-    ≡ record { refusal = 0; taken = 4; turned-away = 4; faulted = 0; records = k2-records (7 ∷ 8 ∷ []) }
+    ≡ record { refusal = 0; counts = record { taken = 4; turned-away = 4; faulted = 0 }; records = k2-records (7 ∷ 8 ∷ []) }
 unfolding schedules k1-file k2-events k2-records
 K2-rules = refl
 
 pub K3-rules : ruleRun edition1 k1-file (start-at 10) k3-events (replicate 26 0)
-    ≡ record { refusal = 0; taken = 0; turned-away = 1; faulted = 1; records = k3-records [] }
+    ≡ record { refusal = 0; counts = record { taken = 0; turned-away = 1; faulted = 1 }; records = k3-records [] }
 unfolding schedules k1-file k3-events k3-records
 K3-rules = refl
 
 pub K4-rules : ruleRun edition1 k1-file (start-at 9) k4-events (replicate 26 0)
-    ≡ record { refusal = 0; taken = 2; turned-away = 0; faulted = 0; records = k4-records [] }
+    ≡ record { refusal = 0; counts = record { taken = 2; turned-away = 0; faulted = 0 }; records = k4-records [] }
 unfolding schedules k1-file k4-events k4-records
 K4-rules = refl
 

@@ -10,7 +10,7 @@ use Rattle.semantics.specs.Editions.{Edition}
 use Rattle.semantics.specs.Refusals.{accepted}
 use Rattle.semantics.specs.Events.{eventsIn}
 use Rattle.semantics.specs.Starts.{Start, startIn}
-use Rattle.semantics.specs.Run.{Answered, at, recordOf, howMany, isTaken, isTurnedAway, isFaulted}
+use Rattle.semantics.specs.Run.{Answered, at, recordOf, countsOf}
 use Rattle.semantics.specs.Rules.{Derives}
 use Rattle.semantics.specs.TableFile.{locationLimit, tableBytes}
 use Rattle.semantics.specs.Tables.{Table, judgeTable}
@@ -63,9 +63,9 @@ pub record RunsAgree (ed : Edition) (s : Schedule) (st : Start) (events : List �
   pub table-records : t .records ≡ overwrite (flatMap (recordOf ed (ruleControl s)) said) by-table
   pub records-length : length (flatMap (recordOf ed (ruleControl s)) said) ≡ eventCount ed events * recordSize ed (s .plant)
   -- each count is the number of such answers
-  pub rules-counts : (r .taken ≡ howMany isTaken (map (λ (o : Answered Residual). o .answer) said)) × (r .turned-away ≡ howMany isTurnedAway (map (λ (o : Answered Residual). o .answer) said)) × (r .faulted ≡ howMany isFaulted (map (λ (o : Answered Residual). o .answer) said))
-  pub table-counts : (t .taken ≡ r .taken) × (t .turned-away ≡ r .turned-away) × (t .faulted ≡ r .faulted)
-  pub counts-add : r .taken + r .turned-away + r .faulted ≡ eventCount ed events
+  pub rules-counts : r .counts ≡ countsOf (map (λ (o : Answered Residual). o .answer) said)
+  pub table-counts : t .counts ≡ r .counts
+  pub counts-add : r .counts .taken + r .counts .turned-away + r .counts .faulted ≡ eventCount ed events
 
 -- ---- the table of this file
 pub record Agrees (ed : Edition) (file table : List ℕ) : Type 0 where

@@ -10,6 +10,7 @@ use lib.Dec.{eqb}
 use Rattle.semantics.specs.Editions.{Edition}
 use Rattle.semantics.specs.Refusals.{Judged, refused, accepted, _>>=_, _>>_, ensure}
 use Rattle.semantics.specs.Starts.{Start, startIn}
+use Rattle.semantics.specs.Run.{Counts, noCounts}
 use Rattle.semantics.specs.Calls.{Ran, judgeRun, tableRun, eventCount, recordSize, roomForRecords}
 use Rattle.semantics.specs.Sentences.{Clause, _when_, Sentence22, runClauses}
 use Rattle.schedules.specs.Files.{Schedule, judgeFile}
@@ -35,9 +36,12 @@ sameBytes [] (y ∷ ys) = false
 sameBytes (x ∷ xs) [] = false
 sameBytes (x ∷ xs) (y ∷ ys) = eqb x y && sameBytes xs ys
 
+unfoldable pub sameCounts : Counts → Counts → Bool
+sameCounts a b = eqb (a .taken) (b .taken) && (eqb (a .turned-away) (b .turned-away) && eqb (a .faulted) (b .faulted))
+
 -- two runs compared: refusals and counts
 unfoldable pub sameNumbers : Ran → Ran → Bool
-sameNumbers r t = eqb (r .refusal) (t .refusal) && (eqb (r .taken) (t .taken) && (eqb (r .turned-away) (t .turned-away) && eqb (r .faulted) (t .faulted)))
+sameNumbers r t = eqb (r .refusal) (t .refusal) && sameCounts (r .counts) (t .counts)
 
 -- and the first n bytes of their record buffers
 unfoldable pub agreed : ℕ → Ran → Ran → Bool
@@ -49,13 +53,9 @@ pub record Examined : Type 0 where
   -- the table's length
   pub written : ℕ
   -- the counts of the run by the rules
-  pub taken : ℕ
-  pub turned-away : ℕ
-  pub faulted : ℕ
+  pub counts : Counts
   -- the counts of the run of the table
-  pub table-taken : ℕ
-  pub table-turned-away : ℕ
-  pub table-faulted : ℕ
+  pub table-counts : Counts
   -- whether the two runs agree
   pub agree : Bool
   -- the three lent buffers afterwards: table, records by the rules, records by the table
@@ -68,12 +68,8 @@ unfoldable pub refusedExam : ℕ → (table records others : List ℕ) → Exami
 refusedExam n table records others = record {
   refusal = n;
   written = 0;
-  taken = 0;
-  turned-away = 0;
-  faulted = 0;
-  table-taken = 0;
-  table-turned-away = 0;
-  table-faulted = 0;
+  counts = noCounts;
+  table-counts = noCounts;
   agree = false;
   table = table;
   records = records;
@@ -85,12 +81,8 @@ unfoldable pub reported : ℕ → ℕ → List ℕ → Ran → Ran → Examined
 reported n written table r t = record {
   refusal = 0;
   written = written;
-  taken = r .taken;
-  turned-away = r .turned-away;
-  faulted = r .faulted;
-  table-taken = t .taken;
-  table-turned-away = t .turned-away;
-  table-faulted = t .faulted;
+  counts = r .counts;
+  table-counts = t .counts;
   agree = agreed n r t;
   table = table;
   records = r .records;

@@ -15,7 +15,7 @@ use Rattle.semantics.specs.Events.{eventsIn}
 use Rattle.semantics.specs.Refusals.{Judged, refused, accepted, refusalOf}
 use Rattle.semantics.specs.Plant.{Plant, selectors}
 use Rattle.semantics.specs.Starts.{Start, startIn, readStart}
-use Rattle.semantics.specs.Run.{Action, test, wait, assign, switch, stop, possible, isTest, to, halted, Control, at, answers, recordOf}
+use Rattle.semantics.specs.Run.{Action, test, wait, assign, switch, stop, possible, isTest, to, halted, Control, at, answers, recordOf, countsOf, noCounts}
 use Rattle.semantics.specs.Rules.{at-start, stands-at, Sound}
 use Rattle.semantics.specs.TableFile.{NodeAction, Entry, FINISHED, HALTED, NONE, locationLimit, readLocation, readLocations, locationsIn}
 use Rattle.semantics.specs.Tables.{Table, judgeTable, operandFits, operandsFit, actionsNumbered, actionsFit, actionAt, actionOrStop, goesOn, targetsFit, entryFits, entryNodes, locationFits, locationsFit, risingFrom, actionNodes, goingTo, entryNext, entriesAt, tableControl}
@@ -230,7 +230,7 @@ run-passed ed j start events buffer h =
 module _ {S : Type 0} (ed : Edition) (p : Plant) (c : Control S) (sound : Sound p c) (start events buffer : List ℕ) where
   run-holds : (st : Start) → startIn p start ≡ some st → roomForRecords ed p events buffer ≡ true →
       RunHolds ed p c start events buffer (report buffer (accepted (outcomeOf ed c (runFrom ed (record { plant = p; control = c }) st events))))
-  unfolding report outcomeOf runFrom roomForRecords
+  unfolding report outcomeOf runFrom roomForRecords countsOf
   run-holds st h r =
       let begin = at (c .start) (st .values) (st .modes) in
       let es = eventsIn (ed .event-bytes) (eventCount ed events) events in
@@ -275,13 +275,13 @@ table-run-holds ed table start events buffer z =
 
 -- on a refusal: the number, and nothing written
 pub refused-run : (buffer : List ℕ) (j : Judged Outcome) → ((report buffer j) .refusal ≡ 0 → ⊥) →
-    report buffer j ≡ record { refusal = (report buffer j) .refusal; taken = 0; turned-away = 0; faulted = 0; records = buffer }
+    report buffer j ≡ record { refusal = (report buffer j) .refusal; counts = noCounts; records = buffer }
 unfolding report
 refused-run buffer (refused n) h = refl
 refused-run buffer (accepted o) h = absurd (h refl)
 
 pub refused-table-run : (ed : Edition) (table start events buffer : List ℕ) → ((tableRun ed table start events buffer) .refusal ≡ 0 → ⊥) →
-    tableRun ed table start events buffer ≡ record { refusal = (tableRun ed table start events buffer) .refusal; taken = 0; turned-away = 0; faulted = 0; records = buffer }
+    tableRun ed table start events buffer ≡ record { refusal = (tableRun ed table start events buffer) .refusal; counts = noCounts; records = buffer }
 unfolding tableRun
 refused-table-run ed table start events buffer h = refused-run buffer (judgeRun ed (tableProgram ed table) start events buffer) h
 

@@ -38,7 +38,7 @@ unfolding Events.eventKind Events.unused Events.readEventBody Events.readEvent E
 events = tt
 
 unfoldable pub run : Unit {0}
-unfolding Run.isTest Run.possible Run._>>=_ Run._>>_ Run.allow Run.find Run.valued Run.isWait Run.waitTruth Run.walk Run.checkModes Run.assigned Run.act Run.judgeSwitch Run.switchCheck Run.judgePick Run.judgeTick Run.judge Run.faultAnswer Run.turnedAway Run.arrive Run.follow Run.settle Run.step Run.answers Run.setNumber Run.actingSet Run.valueBytes Run.recordBytes Run.recordOf Run.isTaken Run.isTurnedAway Run.isFaulted Run.howMany
+unfolding Run.isTest Run.possible Run._>>=_ Run._>>_ Run.allow Run.find Run.valued Run.isWait Run.waitTruth Run.walk Run.checkModes Run.assigned Run.act Run.judgeSwitch Run.switchCheck Run.judgePick Run.judgeTick Run.judge Run.faultAnswer Run.turnedAway Run.arrive Run.follow Run.settle Run.step Run.answers Run.setNumber Run.actingSet Run.valueBytes Run.recordBytes Run.recordOf Run.isTaken Run.isTurnedAway Run.isFaulted Run.howMany Run.countsOf
 run = tt
 
 unfoldable pub tableFile : Unit {0}

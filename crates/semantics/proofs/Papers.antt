@@ -12,19 +12,19 @@ use Rattle.semantics.specs.K1.{k1-table, start-at, k2-events, k2-records
 
 -- K2 by the table: a buffer of just 8 records and 2 bytes more, which stay
 pub K2-table : tableRun edition1 k1-table (start-at 0) k2-events (replicate 104 0 ++ (7 ∷ 8 ∷ []))
-    ≡ record { refusal = 0; taken = 4; turned-away = 4; faulted = 0; records = k2-records (7 ∷ 8 ∷ []) }
+    ≡ record { refusal = 0; counts = record { taken = 4; turned-away = 4; faulted = 0 }; records = k2-records (7 ∷ 8 ∷ []) }
 unfolding semantics k1-table k2-events k2-records
 K2-table = refl
 
 -- K3 by the table
 pub K3-table : tableRun edition1 k1-table (start-at 10) k3-events (replicate 26 0)
-    ≡ record { refusal = 0; taken = 0; turned-away = 1; faulted = 1; records = k3-records [] }
+    ≡ record { refusal = 0; counts = record { taken = 0; turned-away = 1; faulted = 1 }; records = k3-records [] }
 unfolding semantics k1-table k3-events k3-records
 K3-table = refl
 
 -- K4 by the table
 pub K4-table : tableRun edition1 k1-table (start-at 9) k4-events (replicate 26 0)
-    ≡ record { refusal = 0; taken = 2; turned-away = 0; faulted = 0; records = k4-records [] }
+    ≡ record { refusal = 0; counts = record { taken = 2; turned-away = 0; faulted = 0 }; records = k4-records [] }
 unfolding semantics k1-table k4-events k4-records
 K4-table = refl
 

@@ -11,7 +11,7 @@ use Rattle.semantics.specs.Events.{eventsIn}
 use Rattle.semantics.specs.Refusals.{Judged, refused, accepted, _>>=_, _>>_, ensure, need}
 use Rattle.semantics.specs.Plant.{Plant, selectors}
 use Rattle.semantics.specs.Starts.{Start, startIn, startFits}
-use Rattle.semantics.specs.Run.{Control, Answered, at, answers, recordOf, isTaken, isTurnedAway, isFaulted, howMany}
+use Rattle.semantics.specs.Run.{Control, Answered, at, answers, recordOf, Counts, countsOf, noCounts}
 use Rattle.semantics.specs.Tables.{Table, judgeTable, tableControl}
 
 -- 21: "The event bytes are not a multiple of 3."
@@ -73,22 +73,13 @@ module _ {S : Type 0} (ed : Edition) where
 -- what a call that runs returns
 pub record Ran : Type 0 where
   pub refusal : ℕ
-  pub taken : ℕ
-  pub turned-away : ℕ
-  pub faulted : ℕ
+  pub counts : Counts
   -- the lent record buffer afterwards
   pub records : List ℕ
 
--- "returns these counts, each the number of the run's events with such an answer"
 unfoldable pub report : List ℕ → Judged Outcome → Ran
-report buffer (refused n) = record { refusal = n; taken = 0; turned-away = 0; faulted = 0; records = buffer }
-report buffer (accepted o) = record {
-  refusal = 0;
-  taken = howMany isTaken (o .said);
-  turned-away = howMany isTurnedAway (o .said);
-  faulted = howMany isFaulted (o .said);
-  records = overwrite (o .written) buffer;
-}
+report buffer (refused n) = record { refusal = n; counts = noCounts; records = buffer }
+report buffer (accepted o) = record { refusal = 0; counts = countsOf (o .said); records = overwrite (o .written) buffer }
 
 -- ---- the call "running a table": 15 to 22
 unfoldable pub tableProgram : Edition → List ℕ → Judged (Program ℕ)

@@ -280,3 +280,16 @@ isFaulted n = eqb n 203
 unfoldable pub howMany : {A : Type 0} → (A → Bool) → List A → ℕ
 howMany f [] = 0
 howMany f (a ∷ l) = elim (f a) [ true ↦ suc (howMany f l) | false ↦ howMany f l ]
+
+-- "returns these counts, each the number of the run's events with such an answer"
+pub record Counts : Type 0 where
+  pub taken : ℕ
+  pub turned-away : ℕ
+  pub faulted : ℕ
+
+unfoldable pub countsOf : List ℕ → Counts
+countsOf l = record { taken = howMany isTaken l; turned-away = howMany isTurnedAway l; faulted = howMany isFaulted l }
+
+-- of a refused run
+abbrev pub noCounts : Counts
+noCounts = record { taken = 0; turned-away = 0; faulted = 0 }

@@ -8,7 +8,7 @@ use Rattle.semantics.specs.Editions.{Edition}
 use Rattle.semantics.specs.Events.{eventsIn}
 use Rattle.semantics.specs.Plant.{Plant}
 use Rattle.semantics.specs.Starts.{Start, startIn}
-use Rattle.semantics.specs.Run.{Control, Answered, at, recordOf, howMany, isTaken, isTurnedAway, isFaulted}
+use Rattle.semantics.specs.Run.{Control, Answered, at, recordOf, countsOf}
 use Rattle.semantics.specs.Rules.{Derives}
 use Rattle.semantics.specs.Records.{AtFront}
 use Rattle.semantics.specs.Counting.{Counted}
@@ -22,11 +22,9 @@ pub record RunHolds {S : Type 0} (ed : Edition) (p : Plant) (c : Control S) (sta
   pub derived : Derives ed p c (at (c .start) (st .values) (st .modes)) (eventsIn (ed .event-bytes) (eventCount ed events) events) said
   pub result : r ≡ record {
     refusal = 0;
-    taken = howMany isTaken (map (λ (o : Answered S). o .answer) said);
-    turned-away = howMany isTurnedAway (map (λ (o : Answered S). o .answer) said);
-    faulted = howMany isFaulted (map (λ (o : Answered S). o .answer) said);
+    counts = countsOf (map (λ (o : Answered S). o .answer) said);
     records = overwrite (flatMap (recordOf ed c) said) buffer;
   }
   -- the same of the records and the counts without `overwrite`, `howMany` and their tests
   pub written : AtFront (flatMap (recordOf ed c) said) buffer (r .records)
-  pub counted : Counted (map (λ (o : Answered S). o .answer) said) (r .taken) (r .turned-away) (r .faulted)
+  pub counted : Counted (map (λ (o : Answered S). o .answer) said) (r .counts .taken) (r .counts .turned-away) (r .counts .faulted)

@@ -11,18 +11,16 @@ mod plant; // plant.rt: variables and equations
 ghost use mathlib.Core.Path.{_≡_};
 ghost use lib.ListN.{length};
 
-// one byte more than any accepted table has
-fn table_buffer() -> [u8; 407571]
-    ensures { λ r. ⌜ 407571 ≡ length r ⌝ }
+// no accepted table has more bytes
+fn table_buffer() -> [u8; 407570]
+    ensures { λ r. ⌜ 407570 ≡ length r ⌝ }
 {
-    [0; 407571]
+    [0; 407570]
 }
 
 // the last piece of the output
 fn end() {
-    if !io::write_all(1, b"\n") {
-        io::write_all(2, b"showtable: the output could not be written\n");
-    }
+    output::noticed(b"showtable", io::write_all(1, b"\n"));
 }
 
 fn heading(number: usize) {
@@ -110,10 +108,10 @@ fn main() {
         return;
     }
     let mut table = table_buffer();
-    let n = io::read_full(0, &mut table);
-    if n > 407570 {
-        io::write_all(2, b"showtable: longer than any table\n");
+    let a = input::standard(b"showtable", &mut table);
+    if !a.whole {
         return;
     }
+    let n = a.length;
     show_accepted(&table[..n]);
 }

@@ -1,26 +1,18 @@
 -- The call of a run of a table: what the index, the admission and the events make of it.
 use mathlib.Core.Path.{_≡_, refl, sym, ap, _∙_}
-use mathlib.Core.List.{List, [], _∷_}
-use mathlib.Core.Option.{some}
-use Prim.Native.Nat.{ℕ, zero, suc, _+_, _*_, _≤_}
+use mathlib.Core.List.{List}
+use Prim.Native.Nat.{ℕ, zero, suc, _+_, _-_, _*_, _≤_}
 use native.Mathlib.Omega.{arith}
-use lib.ListN.{length, getElem?, take, length-append}
+use lib.ListN.{length, take}
 use Rattle.semantics.specs.Editions.{edition1}
 use Rattle.semantics.specs.Refusals.{Judged, refused, accepted, _>>=_}
-use Rattle.semantics.specs.Plant.{Plant, selectorsOf, selectors, judgePlant}
-use Rattle.semantics.specs.Sections.{Selector, Equation, steady, choice}
+use Rattle.semantics.specs.Plant.{Plant, selectors}
 use Rattle.semantics.specs.Starts.{Start}
 use Rattle.semantics.specs.Tables.{Table, judgeTable, tableControl}
 use Rattle.semantics.specs.Calls as Calls
 use Rattle.semantics.specs.Calls.{Program, Outcome, judgeAdmission, judgeRun, report, runFrom, tableProgram, tableRun}
-use Rattle.codec.specs.Padding.{pad}
-use Rattle.plant.specs.PlantRead.{plantOf}
 use Rattle.plant.specs.declared.sections.PlantRead.{PlantRead}
-use Rattle.plant.specs.Equations.{modeSize, equationSize, startsFrom, modePlaces}
-use Rattle.codec.proofs.Padding.{length-pad}
-use Rattle.plant.proofs.EquationCases.{starts-length}
-use Rattle.plant.proofs.EquationLaws.{few-selectors, few-modes-each}
-use Rattle.plant.proofs.PlantLaws.{passed-all, variables-of, selectors-of, places-of}
+use Rattle.plant.proofs.PlantLaws.{variables-of, selectors-of}
 use Rattle.table_read.specs.TableIndex.{tableIndex}
 use Rattle.table_read.specs.declared.call.TableIndex.{TableIndex}
 use Rattle.table_read.proofs.Promises.{table-of, refused-table}
@@ -31,35 +23,17 @@ use Rattle.start_read.proofs.PlantStart.{arrays-held, room-held}
 use Rattle.start_read.proofs.AdmissionLaws.{run-unread, run-refused, run-admitted}
 use Rattle.execution.specs.Ready.{Lent, lent}
 use Rattle.execution.specs.Runs.{RunDone}
+use Rattle.records.specs.Reported.{notRun, ranWith}
 use Rattle.records.specs.declared.Counts.{Counts}
+use Rattle.records.specs.declared.Ran.{Ran}
+use Rattle.execution.proofs.Lengths.{take-full, places-full}
 use Rattle.execution.proofs.PlantReady.{fits-start}
 use Rattle.execution.proofs.Runs.{not-run, reported}
 use Rattle.table_run.specs.Runs.{Asked, Asking, Whole}
-use Rattle.table_run.specs.Called.{notRun, ranWith, Admits, Admitting}
-use Rattle.table_run.specs.declared.call.Ran.{Ran}
+use Rattle.table_run.specs.Called.{Admits, Admitting, Carried}
 use Rattle.table_run.proofs.TableReady.{cutFrom, LentFrom, plant-is, plant-judged, equations-stand, actions-stand, locations-stand, kinds-full, starts-full, ends-full, locations-held, table-lent}
 
 -- ---- the lengths of the arrays
-take-full : {A : Type 0} (n : ℕ) (l : List A) → length (take n l) ≡ n → n ≤ length l
-take-full zero l h = omega arith
-take-full (suc n) [] h = absurd (omega arith)
-take-full (suc n) (x ∷ l) h = let i : length (take n l) ≡ n = omega arith in let k = take-full n l i in omega arith
-
--- eight places for each selector
-places-few : (at : ℕ) (qs : List Equation) → ((j : ℕ) (c : Selector) → getElem? (selectorsOf qs) j ≡ some c → length (c .modes) ≤ 8) → length (modePlaces at qs) ≡ 8 * length (selectorsOf qs)
-unfolding modePlaces selectorsOf
-places-few at [] h = refl
-places-few at (steady r ∷ qs) h = places-few _ qs h
-places-few at (choice c ∷ qs) h =
-    let row = startsFrom modeSize (at + 5) (c .modes) in
-    let e = length-pad 8 0 row (omega (arith, starts-length modeSize (at + 5) (c .modes), h 0 c refl)) in
-    omega (arith, length-append (pad 8 0 row) (modePlaces (at + equationSize (choice c)) qs), places-few (at + equationSize (choice c)) qs (λ j x k. h (suc j) x k))
-
-rows-full : (vs es : List ℕ) {p : Plant} → judgePlant edition1 vs es ≡ accepted p → length (plantOf vs es .«mode_offsets») ≡ 128
-rows-full vs es {p} h =
-    let e = passed-all vs es h .equations in
-    ap length (places-of vs es h) ∙ length-pad 128 0 (modePlaces 1 (p .equations)) (omega (arith, places-few 1 (p .equations) (λ j c g. few-modes-each es e j g), few-selectors es e))
-
 room-as : {x y : PlantRead} → x ≡ y → Room y → Room x
 room-as e a = rw e a
 
@@ -129,7 +103,7 @@ module _ (f : List ℕ) {ix : TableIndex} (h : ix ≡ tableIndex f) {asked : Adm
         equations = record { ordered = x .ordered; inside = x .inside };
         actions = record { ordered = y .ordered; inside = y .inside };
         locations = record { ordered = z .ordered; inside = z .inside };
-        rows = ap (λ (x : PlantRead). length (x .«mode_offsets»)) (plant-is f h j) ∙ rows-full _ _ (plant-judged f h j);
+        rows = ap (λ (x : PlantRead). length (x .«mode_offsets»)) (plant-is f h j) ∙ places-full _ _ (plant-judged f h j);
         lows = r .lows-there;
         highs = r .highs-there;
         kinds = kinds-full f h j;
@@ -207,8 +181,8 @@ module _ (f start events d : List ℕ) {ix : TableIndex} (h : ix ≡ tableIndex 
         admitting = record { table = table; admits = admits }
 
         pub by-events : {r : Ran} {cs : Counts} {d' : List ℕ} →
-            ((t : Table) → Admits f asked events d t → Whole t (take (length (t .plant .variables)) (asked .values)) (take (length (selectors (t .plant))) (asked .modes)) events d cs d') →
-            r ≡ record { refusal = 0; taken = cs .taken; «turned_away» = cs .«turned_away»; faulted = cs .faulted } → ranWith r d' ≡ tableRun edition1 f start events d
+            Carried f asked events d cs d' →
+            r ≡ record { refusal = 0; counts = cs } → ranWith r d' ≡ tableRun edition1 f start events d
         unfolding tableRun ranWith
         by-events {r} {cs} {d'} w k =
             let a = run-admitted (programOf table) start events d (sym (ap (λ (a : Admitted). a .refusal) asked-is) ∙ y) in

@@ -21,6 +21,7 @@ use Rattle.codec.specs.Writing.{Wrote}
 use Rattle.codec.proofs.Writing.{wrote-length}
 use Rattle.records.specs.Booking.{bookedOf, Room}
 use Rattle.execution.specs.Ready.{Lent, Fits}
+use Rattle.records.specs.Reported.{noCounts}
 use Rattle.records.specs.declared.Counts.{Counts}
 use Rattle.execution.proofs.Runs.{eventAt, run-start, run-counts, run-room, run-next, run-end}
 use Rattle.execution.proofs.Stepping.{set-at, set-over}
@@ -52,13 +53,13 @@ module _ {l : Lent} {locs places : List ℕ} {vs₀ : List ℤ} {ms₀ events d�
   pub first-counted : Asking l locs places vs₀ ms₀ events d₀ → Counted locs (getD places 0 0)
   first-counted q = counted-of (q .asked .lent .locations .at 0 (q .asked .lent .some-location) .promised)
 
-  pub going-start : {set : NodeSet} (t : Table) → Asked t l locs places vs₀ ms₀ events d₀ → Gathered locs (getD places 0 0) (set .words) →
-      Going t vs₀ ms₀ events d₀ 0 0 (record { over = false; place = 0; acting = set }) (record { taken = 0; «turned_away» = 0; faulted = 0 }) vs₀ ms₀ d₀
+  pub going-start : {set : NodeSet} {cs : Counts} (t : Table) → cs ≡ noCounts → Asked t l locs places vs₀ ms₀ events d₀ → Gathered locs (getD places 0 0) (set .words) →
+      Going t vs₀ ms₀ events d₀ 0 0 (record { over = false; place = 0; acting = set }) cs vs₀ ms₀ d₀
   unfolding tableControl
-  going-start t a b = record {
+  going-start t e a b = record {
     place = some 0;
     stands = at-location refl refl (a .lent .some-location) (b .are (entriesAt t 0) (listed-of (a .lent .locations .at 0 (a .lent .some-location) .promised))) (b .words);
-    so-far = run-start (t .plant) (tableControl t) (begins t vs₀ ms₀) events (length events / 3) d₀ (a .fits);
+    so-far = rw e (run-start (t .plant) (tableControl t) (begins t vs₀ ms₀) events (length events / 3) d₀ (a .fits));
   }
 
   module _ {k i : ℕ} {x : Situation} {cs : Counts} {vs : List ℤ} {ms d : List ℕ} where

@@ -40,3 +40,7 @@ pub record Going (t : Table) (vs₀ : List ℤ) (ms₀ events d₀ : List ℕ) (
 -- all events are answered
 abbrev pub Whole : Table → List ℤ → List ℕ → List ℕ → List ℕ → Counts → List ℕ → Type 0
 Whole t vs ms events d₀ cs d = RunDone (tableControl t) (answers edition1 (t .plant) (tableControl t) (begins t vs ms) (eventsIn 3 (length events / 3) events)) d₀ cs d
+
+-- the same of every table that is asked for
+abbrev pub Completes : Lent → (locs places : List ℕ) → List ℤ → (ms events d₀ : List ℕ) → Counts → List ℕ → Type 0
+Completes l locs places vs ms events d₀ cs d = (t : Table) → Asked t l locs places vs ms events d₀ → Whole t vs ms events d₀ cs d

@@ -1,41 +1,20 @@
 // The call "running a table": 15 to 19, then 20 to 22, then its events.
 use super::runs;
 use records::Counts;
+use records::Ran;
 use start_read::admission::Admitted;
 use table_read::call::TableIndex;
 ghost use mathlib.Core.Path.{_≡_};
-ghost use lib.ListN.{length, take};
 ghost use Rattle.semantics.specs.Editions.{edition1};
-ghost use Rattle.semantics.specs.Plant.{selectors};
-ghost use Rattle.semantics.specs.Tables.{Table};
 ghost use Rattle.semantics.specs.Calls.{tableRun};
 ghost use Rattle.table_read.specs.TableIndex.{tableIndex};
-ghost use Rattle.table_run.specs.Runs.{Whole};
-ghost use Rattle.table_run.specs.Called.{notRun, ranWith, Admits, Admitting};
-
-// 0, or the number of the first condition that is broken; all counts are 0 then
-pub struct Ran {
-    pub refusal: u8,
-    pub taken: usize,
-    pub turned_away: usize,
-    pub faulted: usize,
-}
-
-fn refused(n: u8) -> Ran
-    ensures { λ r. ⌜ r ≡ notRun n ⌝ }
-{
-    Ran {
-        refusal: n,
-        taken: 0,
-        turned_away: 0,
-        faulted: 0,
-    }
-}
+ghost use Rattle.records.specs.Reported.{ranWith};
+ghost use Rattle.table_run.specs.Called.{Admitting, Carried};
 
 // The events of an admitted run, over the arrays of the table's index.
 fn lend(ix: TableIndex, asked: Admitted, table: &[u8], events: &[u8], records: &mut [u8]) -> Counts
     requires { ⌜ (ix ≡ tableIndex (now table)) × Admitting (now table) asked (now events) (now records) ⌝ }
-    ensures { λ r. ⌜ ((t : Table) → Admits (now (table .entry)) asked (now (events .entry)) (now (records .entry)) t → Whole t (take (length (t .plant .variables)) (asked .values)) (take (length (selectors (t .plant))) (asked .modes)) (now (events .entry)) (now (records .entry)) r (now (records .exit))) ⌝ }
+    ensures { λ r. ⌜ Carried (now (table .entry)) asked (now (events .entry)) (now (records .entry)) r (now (records .exit)) ⌝ }
 {
     let parts = ix.parts;
     let a = parts.equations;
@@ -84,19 +63,14 @@ pub fn run(table: &[u8], start: &[u8], events: &[u8], records: &mut [u8]) -> Ran
     let ix = table_read::call::index(table);
     let first = ix.refusal;
     if first != 0 {
-        return refused(first);
+        return records::refused(first);
     }
     let plant = ix.plant;
     let asked = start_read::admission::admit(plant, start, events.len(), records.len());
     let second = asked.refusal;
     if second != 0 {
-        return refused(second);
+        return records::refused(second);
     }
     let counts = lend(ix, asked, table, events, records);
-    Ran {
-        refusal: 0,
-        taken: counts.taken,
-        turned_away: counts.turned_away,
-        faulted: counts.faulted,
-    }
+    Ran { refusal: 0, counts }
 }

@@ -3,9 +3,8 @@ use records::Counts;
 use table_step::entries;
 use table_step::steps;
 use table_step::steps::Situation;
-ghost use Rattle.semantics.specs.Tables.{Table};
 ghost use Rattle.execution.specs.Ready.{lent};
-ghost use Rattle.table_run.specs.Runs.{Asked, Asking, Whole};
+ghost use Rattle.table_run.specs.Runs.{Asking, Completes};
 
 // The record of each event goes to records, one after the other. Values and modes are those that the run starts with.
 pub fn all(
@@ -25,8 +24,11 @@ pub fn all(
     modes: &mut [u8],
     records: &mut [u8],
 ) -> Counts
-    requires { ⌜ Asking (lent (now es) (now rows) steady (now lows) (now highs) (now ops) (now kinds) (now starts) (now ends)) (now locs) (now places) (now values) (now modes) (now events) (now records) ⌝ }
-    ensures { λ r. ⌜ ((t : Table) → Asked t (lent (now (es .entry)) (now (rows .entry)) steady (now (lows .entry)) (now (highs .entry)) (now (ops .entry)) (now (kinds .entry)) (now (starts .entry)) (now (ends .entry))) (now (locs .entry)) (now (places .entry)) (now (values .entry)) (now (modes .entry)) (now (events .entry)) (now (records .entry)) → Whole t (now (values .entry)) (now (modes .entry)) (now (events .entry)) (now (records .entry)) r (now (records .exit))) ⌝ }
+    requires { ⌜ Asking (lent (now es) (now rows) steady (now lows) (now highs) (now ops) (now kinds) (now starts) (now ends))
+        (now locs) (now places) (now values) (now modes) (now events) (now records) ⌝ }
+    ensures { λ r. ⌜ Completes
+        (lent (now (es .entry)) (now (rows .entry)) steady (now (lows .entry)) (now (highs .entry)) (now (ops .entry)) (now (kinds .entry)) (now (starts .entry)) (now (ends .entry)))
+        (now (locs .entry)) (now (places .entry)) (now (values .entry)) (now (modes .entry)) (now (events .entry)) (now (records .entry)) r (now (records .exit)) ⌝ }
 {
     let from = places[0];
     let first = entries::acting(locs, from);
@@ -35,11 +37,7 @@ pub fn all(
         place: 0,
         acting: first,
     };
-    let mut counts = Counts {
-        taken: 0,
-        turned_away: 0,
-        faulted: 0,
-    };
+    let mut counts = records::none();
     let n = events.len() / 3;
     let mut i = 0;
     let mut k = 0;

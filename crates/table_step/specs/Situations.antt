@@ -8,13 +8,15 @@ use lib.IntN.{ℤ}
 use lib.ListN.{length, getD}
 use Rattle.semantics.specs.Editions.{edition1}
 use Rattle.semantics.specs.Run as Run
-use Rattle.semantics.specs.Run.{Action, Next, arrive, step}
+use Rattle.semantics.specs.Events.{eventIn}
+use Rattle.semantics.specs.Run.{Action, Next, arrive, step, judge}
 use Rattle.semantics.specs.TableFile.{locationLimit}
 use Rattle.semantics.specs.Tables.{Table, actionAt, entryNodes, entriesAt, tableControl}
 use Rattle.nodeset.specs.Sets.{members, emptySet, Words}
 use Rattle.nodeset.specs.declared.NodeSet.{NodeSet}
 use Rattle.table_read.specs.Promised.{LocationPromised, Leads}
 use Rattle.execution.specs.Ready.{Lent, PlantLent, NodeLent, Fits}
+use Rattle.effects.specs.Verdicts.{Left}
 use Rattle.effects.specs.declared.Verdict.{Verdict}
 use Rattle.effects.specs.declared.Verdict.the-variants.{Move}
 use Rattle.table_step.specs.Entries.{targetOf}
@@ -33,7 +35,8 @@ ended n = record { answer = n; situation = record { over = true; place = 0; acti
 -- ---- where a run stands
 -- at a location, whose entries' nodes act, or the run is over and none do
 pub data StandsFor (t : Table) (x : Situation) : Option ℕ → Type 0 where
-  at-location : {y : ℕ} → x .over ≡ false → x .place ≡ y → y < length (t .locations) → members (x .acting .words) ≡ entryNodes (entriesAt t y) → Words (x .acting .words) → StandsFor t x (some y)
+  at-location : {y : ℕ} → x .over ≡ false → x .place ≡ y → y < length (t .locations)
+      → members (x .acting .words) ≡ entryNodes (entriesAt t y) → Words (x .acting .words) → StandsFor t x (some y)
   at-end : x .over ≡ true → x .place ≡ 0 → members (x .acting .words) ≡ [] → Words (x .acting .words) → StandsFor t x none
 
 -- ---- the location section
@@ -95,3 +98,14 @@ pub record Steps (t : Table) (o : Option ℕ) (vs : List ℤ) (ms : List ℕ) (e
   pub place : Option ℕ
   pub is : step edition1 (t .plant) (tableControl t) (record { place = o; values = vs; modes = ms }) e ≡ leaves (a .answer) place vs' ms'
   pub stands : StandsFor t (a .situation) place
+
+-- what is made of a judged event: for every table and location that the section and the set are of
+abbrev pub Settled : (locs places : List ℕ) → ℕ → NodeSet → Verdict → Answered → Type 0
+Settled locs places x set v a =
+    (t : Table) → Movable t locs places x v → Here t locs places x (set .words) → (vs : List ℤ) (ms e : List ℕ) (vs' : List ℤ) (ms' : List ℕ)
+    → Left (judge edition1 (t .plant) (tableControl t .action) (members (set .words)) vs ms (eventIn edition1 e)) vs ms v vs' ms' → Steps t (some x) vs ms e a vs' ms'
+
+-- what a step gives: for every table that the arrays hold and every place that the run stands at
+abbrev pub Stepped : Lent → (locs places : List ℕ) → Situation → List ℤ → (ms e : List ℕ) → Answered → List ℤ → List ℕ → Type 0
+Stepped l locs places at vs ms e a vs' ms' =
+    (t : Table) (o : Option ℕ) → TableLent t l locs places → StandsFor t at o → Fits (t .plant) vs ms → Steps t o vs ms e a vs' ms' × Fits (t .plant) vs' ms'

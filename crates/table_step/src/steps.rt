@@ -3,19 +3,11 @@ use super::entries;
 use effects::Verdict;
 use nodeset::NodeSet;
 ghost use mathlib.Core.Path.{_≡_};
-ghost use mathlib.Core.Option.{Option, some};
-ghost use mathlib.Core.List.{List, [], _∷_};
-ghost use Prim.Native.Nat.{ℕ};
-ghost use lib.IntN.{ℤ};
-ghost use Rattle.semantics.specs.Editions.{edition1};
-ghost use Rattle.semantics.specs.Events.{eventIn};
-ghost use Rattle.semantics.specs.Run.{judge};
+ghost use mathlib.Core.List.{[], _∷_};
 ghost use Rattle.semantics.specs.Tables.{Table, tableControl};
-ghost use Rattle.nodeset.specs.Sets.{members};
-ghost use Rattle.effects.specs.Verdicts.{Left};
-ghost use Rattle.execution.specs.Ready.{lent, Fits};
+ghost use Rattle.execution.specs.Ready.{lent};
 ghost use Rattle.effects.specs.declared.Verdict.the-variants.{Move};
-ghost use Rattle.table_step.specs.Situations.{goingOn, ended, Here, Movable, Moving, Arrives, StandsFor, TableLent, Promised, Steps};
+ghost use Rattle.table_step.specs.Situations.{goingOn, ended, Movable, Moving, Arrives, Settled, Promised, Stepped};
 
 // Where a run stands: its location and the nodes that act, or it is over and none do.
 pub struct Situation {
@@ -80,7 +72,7 @@ fn moved(locs: &[u8], places: &[usize], x: usize, n: usize, truth: bool) -> Answ
 // What a judged event makes of location x and its acting nodes.
 fn settled(locs: &[u8], places: &[usize], x: usize, acting: NodeSet, v: Verdict) -> Answered
     requires { ⌜ Moving (now locs) (now places) x v ⌝ }
-    ensures { λ r. ⌜ ((t : Table) → Movable t (now (locs .entry)) (now (places .entry)) x v → Here t (now (locs .entry)) (now (places .entry)) x (acting .words) → (vs : List ℤ) (ms e : List ℕ) (vs' : List ℤ) (ms' : List ℕ) → Left (judge edition1 (t .plant) (tableControl t .action) (members (acting .words)) vs ms (eventIn edition1 e)) vs ms v vs' ms' → Steps t (some x) vs ms e r vs' ms') ⌝ }
+    ensures { λ r. ⌜ Settled (now (locs .entry)) (now (places .entry)) x acting v r ⌝ }
 {
     match v {
         Verdict::Away(n) => go_on(n, x, acting),
@@ -112,7 +104,9 @@ pub fn step(
     modes: &mut [u8],
 ) -> Answered
     requires { ⌜ Promised (lent (now es) (now rows) steady (now lows) (now highs) (now ops) (now kinds) (now starts) (now ends)) (now locs) (now places) at (now values) (now modes) ⌝ }
-    ensures { λ r. ⌜ ((t : Table) (o : Option ℕ) → TableLent t (lent (now (es .entry)) (now (rows .entry)) steady (now (lows .entry)) (now (highs .entry)) (now (ops .entry)) (now (kinds .entry)) (now (starts .entry)) (now (ends .entry))) (now (locs .entry)) (now (places .entry)) → StandsFor t at o → Fits (t .plant) (now (values .entry)) (now (modes .entry)) → Steps t o (now (values .entry)) (now (modes .entry)) (a ∷ b ∷ c ∷ []) r (now (values .exit)) (now (modes .exit)) × Fits (t .plant) (now (values .exit)) (now (modes .exit))) ⌝ }
+    ensures { λ r. ⌜ Stepped
+        (lent (now (es .entry)) (now (rows .entry)) steady (now (lows .entry)) (now (highs .entry)) (now (ops .entry)) (now (kinds .entry)) (now (starts .entry)) (now (ends .entry)))
+        (now (locs .entry)) (now (places .entry)) at (now (values .entry)) (now (modes .entry)) (a ∷ b ∷ c ∷ []) r (now (values .exit)) (now (modes .exit)) ⌝ }
 {
     if at.over {
         return Answered {

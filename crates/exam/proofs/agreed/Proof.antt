@@ -1,34 +1,39 @@
-use mathlib.Core.Path.{_∙_}
+-- One law for each return: what the tests so far say of the two runs (Comparing).
+use mathlib.Core.Path.{sym, _∙_}
 use borrow.Author.Needs.{needs}
-use Rattle.rule_run.specs.Called as ruled
-use Rattle.table_run.specs.Called as tabled
+use borrow.Author.Tests.{not-true, not-false}
+use Rattle.records.specs.Reported.{ranWith}
 use Rattle.schedules.specs.Exam.{sameBytes}
-use Rattle.exam.proofs.Comparing.{refusals-differ, taken-differ, turned-away-differ, faulted-differ, numbers-same, same-is}
+use Rattle.exam.proofs.Comparing.{refusals-differ, counts-differ, numbers-same, same-is}
 use Rattle.exam.proofs.agreed.Statement.{statement}
 use Rattle.exam.proofs.agreed.Tie as tie
 
 returns : tie.Need-returns
-unfolding ruled.ranWith tabled.ranWith
-returns c = let a = c .before .before .before .before .before .args in refusals-differ (ruled.ranWith (a .r) (a .a .now)) (tabled.ranWith (a .t) (a .b .now)) (sameBytes (a .a .now) (a .b .now)) (c .if1 .taken)
+unfolding ranWith
+returns c =
+    let a = c .before .before .before .before .before .args in
+    refusals-differ (ranWith (a .r) (a .a .now)) (ranWith (a .t) (a .b .now)) (sameBytes (a .a .now) (a .b .now)) (c .if1 .taken)
+
+same-counts-requires : tie.Need-same-counts-requires
+same-counts-requires c κs = search needs
 
 returns-2 : tie.Need-returns-2
-unfolding ruled.ranWith tabled.ranWith
-returns-2 c = let a = c .before .before .before .before .before .before .before .before .args in taken-differ (ruled.ranWith (a .r) (a .a .now)) (tabled.ranWith (a .t) (a .b .now)) (sameBytes (a .a .now) (a .b .now)) (c .before .before .before .if1 .left) (c .if2 .taken)
-
-returns-3 : tie.Need-returns-3
-unfolding ruled.ranWith tabled.ranWith
-returns-3 c = let a = c .before .before .before .before .before .before .before .before .before .before .before .args in turned-away-differ (ruled.ranWith (a .r) (a .a .now)) (tabled.ranWith (a .t) (a .b .now)) (sameBytes (a .a .now) (a .b .now)) (c .before .before .before .before .before .before .if1 .left) (c .before .before .before .if2 .left) (c .if3 .taken)
-
-returns-4 : tie.Need-returns-4
-unfolding ruled.ranWith tabled.ranWith
-returns-4 c = let a = c .before .before .before .before .before .before .before .before .before .before .before .before .before .before .args in faulted-differ (ruled.ranWith (a .r) (a .a .now)) (tabled.ranWith (a .t) (a .b .now)) (sameBytes (a .a .now) (a .b .now)) (c .before .before .before .before .before .before .before .before .before .if1 .left) (c .before .before .before .before .before .before .if2 .left) (c .before .before .before .if3 .left) (c .if4 .taken)
+unfolding ranWith
+returns-2 c =
+    let passed = c .before .before .before .before in
+    let a = passed .before .before .before .before .before .args in
+    counts-differ (ranWith (a .r) (a .a .now)) (ranWith (a .t) (a .b .now)) (sameBytes (a .a .now) (a .b .now)) (passed .if1 .left) (sym (c .before .same-counts .ensures) ∙ not-true _ (c .if2 .taken))
 
 same-requires : tie.Need-same-requires
 same-requires c κs = search needs
 
-returns-5 : tie.Need-returns-5
-unfolding ruled.ranWith tabled.ranWith
-returns-5 c = let a = c .before .before .before .before .before .before .before .before .before .before .before .before .before .before .before .args in same-is (c .same .result) (a .a .now) (a .b .now) (c .same .ensures) ∙ numbers-same (ruled.ranWith (a .r) (a .a .now)) (tabled.ranWith (a .t) (a .b .now)) (sameBytes (a .a .now) (a .b .now)) (c .before .before .before .before .before .before .before .before .before .before .if1 .left) (c .before .before .before .before .before .before .before .if2 .left) (c .before .before .before .before .if3 .left) (c .before .if4 .left)
+returns-3 : tie.Need-returns-3
+unfolding ranWith
+returns-3 c =
+    let passed = c .before .before .before .before .before in
+    let a = passed .before .before .before .before .before .args in
+    same-is (c .same .result) (a .a .now) (a .b .now) (c .same .ensures)
+    ∙ numbers-same (ranWith (a .r) (a .a .now)) (ranWith (a .t) (a .b .now)) (sameBytes (a .a .now) (a .b .now)) (passed .if1 .left) (sym (c .before .before .same-counts .ensures) ∙ not-false _ (c .before .if2 .left))
 
 pub agreed-spec : {M : Type 1} → statement M
-agreed-spec = tie.close (tie.spec returns returns-2 returns-3 returns-4 same-requires returns-5)
+agreed-spec = tie.close (tie.spec returns same-counts-requires returns-2 same-requires returns-3)

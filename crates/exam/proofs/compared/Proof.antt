@@ -1,7 +1,6 @@
 use native.Mathlib.Omega.{arith}
 use borrow.Author.Needs.{needs}
-use Rattle.rule_run.specs.Called as ruled
-use Rattle.table_run.specs.Called as tabled
+use Rattle.records.specs.Reported.{ranWith}
 use Rattle.schedules.specs.Exam.{agreed, sameNumbers}
 use Rattle.exam.proofs.Sizes.{front-length}
 use Rattle.exam.proofs.compared.Statement.{statement}
@@ -20,7 +19,7 @@ agreed-requires : tie.Need-agreed-requires
 agreed-requires c κs = search needs
 
 returns : tie.Need-returns
-unfolding agreed sameNumbers ruled.ranWith tabled.ranWith
+unfolding agreed sameNumbers ranWith
 returns c = λ s h. rw (c .before .before .before .records-length .ensures s h) at (c .agreed .ensures)
 
 pub compared-spec : {M : Type 1} → statement M

@@ -6,7 +6,7 @@ use Rattle.showtable.proofs.table_buffer.Tie as tie
 
 -- by the law: the list is not computed
 returns : tie.Need-returns
-returns c = sym (length-replicate {A = ℕ} 407571 0)
+returns c = sym (length-replicate {A = ℕ} 407570 0)
 
 pub table-buffer-spec : {M : Type 1} → statement M
 table-buffer-spec = tie.close (tie.spec returns)

@@ -1,3 +1,4 @@
+-- The lengths are those of `Sized`; what the events ask and leave: `asking-of`, `whole-of` (Calling).
 use mathlib.Core.Path.{sym}
 use lib.Seq.{length-take-le}
 use Rattle.table_run.proofs.Calling.{sized, asked-of, asking-of, whole-of}
@@ -6,79 +7,191 @@ use Rattle.table_run.proofs.call.lend.Statement.{statement}
 use Rattle.table_run.proofs.call.lend.Tie as tie
 
 sub-all : tie.Need-sub-all
-sub-all c = sized (c .before .before .before .before .before .before .before .before .before .before .before .before .before .before .before .before .before .args .table .now) (c .before .before .before .before .before .before .before .before .before .before .before .before .before .before .before .before .before .pre .0) (c .before .before .before .before .before .before .before .before .before .before .before .before .before .before .before .before .before .pre .1) .equations .ordered
+sub-all c =
+    let c7 = c .before .before .before .before .before .before .before in
+    let c14 = c7 .before .before .before .before .before .before .before in
+    let start = c14 .before .before .before in
+    sized (start .args .table .now) (start .pre .0) (start .pre .1) .equations .ordered
 
 part-all-start : tie.Need-part-all-start
-part-all-start c = sized (c .before .before .before .before .before .before .before .before .before .before .before .before .before .before .before .before .before .args .table .now) (c .before .before .before .before .before .before .before .before .before .before .before .before .before .before .before .before .before .pre .0) (c .before .before .before .before .before .before .before .before .before .before .before .before .before .before .before .before .before .pre .1) .equations .ordered
+part-all-start c =
+    let c7 = c .before .before .before .before .before .before .before in
+    let c14 = c7 .before .before .before .before .before .before .before in
+    let start = c14 .before .before .before in
+    sized (start .args .table .now) (start .pre .0) (start .pre .1) .equations .ordered
 
 part-all-end : tie.Need-part-all-end
-part-all-end c = sized (c .before .before .before .before .before .before .before .before .before .before .before .before .before .before .before .before .before .args .table .now) (c .before .before .before .before .before .before .before .before .before .before .before .before .before .before .before .before .before .pre .0) (c .before .before .before .before .before .before .before .before .before .before .before .before .before .before .before .before .before .pre .1) .equations .inside
+part-all-end c =
+    let c7 = c .before .before .before .before .before .before .before in
+    let c14 = c7 .before .before .before .before .before .before .before in
+    let start = c14 .before .before .before in
+    sized (start .args .table .now) (start .pre .0) (start .pre .1) .equations .inside
 
 slice-aggregate-all : tie.Need-slice-aggregate-all
-slice-aggregate-all c = sym (sized (c .before .before .before .before .before .before .before .before .before .before .before .before .before .before .before .before .before .before .before .args .table .now) (c .before .before .before .before .before .before .before .before .before .before .before .before .before .before .before .before .before .before .before .pre .0) (c .before .before .before .before .before .before .before .before .before .before .before .before .before .before .before .before .before .before .before .pre .1) .rows)
+slice-aggregate-all c =
+    let c7 = c .before .before .before .before .before .before .before in
+    let c14 = c7 .before .before .before .before .before .before .before in
+    let start = c14 .before .before .before .before .before in
+    sym (sized (start .args .table .now) (start .pre .0) (start .pre .1) .rows)
 
 array-share-prefix-lows : tie.Need-array-share-prefix-lows
-array-share-prefix-lows c = sized (c .before .before .before .before .before .before .before .before .before .before .before .before .before .before .before .before .before .before .before .args .table .now) (c .before .before .before .before .before .before .before .before .before .before .before .before .before .before .before .before .before .before .before .pre .0) (c .before .before .before .before .before .before .before .before .before .before .before .before .before .before .before .before .before .before .before .pre .1) .lows
+array-share-prefix-lows c =
+    let c7 = c .before .before .before .before .before .before .before in
+    let c14 = c7 .before .before .before .before .before .before .before in
+    let start = c14 .before .before .before .before .before in
+    sized (start .args .table .now) (start .pre .0) (start .pre .1) .lows
 
 slice-aggregate-all-2 : tie.Need-slice-aggregate-all-2
-slice-aggregate-all-2 c = sym (length-take-le _ _ (sized (c .before .before .before .before .before .before .before .before .before .before .before .before .before .before .before .before .before .before .before .before .args .table .now) (c .before .before .before .before .before .before .before .before .before .before .before .before .before .before .before .before .before .before .before .before .pre .0) (c .before .before .before .before .before .before .before .before .before .before .before .before .before .before .before .before .before .before .before .before .pre .1) .lows))
+slice-aggregate-all-2 c =
+    let c7 = c .before .before .before .before .before .before .before in
+    let c14 = c7 .before .before .before .before .before .before .before in
+    let start = c14 .before .before .before .before .before .before in
+    sym (length-take-le _ _ (sized (start .args .table .now) (start .pre .0) (start .pre .1) .lows))
 
 array-share-prefix-highs : tie.Need-array-share-prefix-highs
-array-share-prefix-highs c = sized (c .before .before .before .before .before .before .before .before .before .before .before .before .before .before .before .before .before .before .before .before .args .table .now) (c .before .before .before .before .before .before .before .before .before .before .before .before .before .before .before .before .before .before .before .before .pre .0) (c .before .before .before .before .before .before .before .before .before .before .before .before .before .before .before .before .before .before .before .before .pre .1) .highs
+array-share-prefix-highs c =
+    let c7 = c .before .before .before .before .before .before .before in
+    let c14 = c7 .before .before .before .before .before .before .before in
+    let start = c14 .before .before .before .before .before .before in
+    sized (start .args .table .now) (start .pre .0) (start .pre .1) .highs
 
 slice-aggregate-all-3 : tie.Need-slice-aggregate-all-3
-slice-aggregate-all-3 c = sym (length-take-le _ _ (sized (c .before .before .before .before .before .before .before .before .before .before .before .before .before .before .before .before .before .before .before .before .before .args .table .now) (c .before .before .before .before .before .before .before .before .before .before .before .before .before .before .before .before .before .before .before .before .before .pre .0) (c .before .before .before .before .before .before .before .before .before .before .before .before .before .before .before .before .before .before .before .before .before .pre .1) .highs))
+slice-aggregate-all-3 c =
+    let c7 = c .before .before .before .before .before .before .before in
+    let c14 = c7 .before .before .before .before .before .before .before in
+    let start = c14 .before .before .before .before .before .before .before in
+    sym (length-take-le _ _ (sized (start .args .table .now) (start .pre .0) (start .pre .1) .highs))
 
 sub-all-2 : tie.Need-sub-all-2
-sub-all-2 c = sized (c .before .before .before .before .before .before .before .before .before .before .before .before .before .before .before .before .before .before .before .before .before .args .table .now) (c .before .before .before .before .before .before .before .before .before .before .before .before .before .before .before .before .before .before .before .before .before .pre .0) (c .before .before .before .before .before .before .before .before .before .before .before .before .before .before .before .before .before .before .before .before .before .pre .1) .actions .ordered
+sub-all-2 c =
+    let c7 = c .before .before .before .before .before .before .before in
+    let c14 = c7 .before .before .before .before .before .before .before in
+    let start = c14 .before .before .before .before .before .before .before in
+    sized (start .args .table .now) (start .pre .0) (start .pre .1) .actions .ordered
 
 part-all-start-2 : tie.Need-part-all-start-2
-part-all-start-2 c = sized (c .before .before .before .before .before .before .before .before .before .before .before .before .before .before .before .before .before .before .before .before .before .args .table .now) (c .before .before .before .before .before .before .before .before .before .before .before .before .before .before .before .before .before .before .before .before .before .pre .0) (c .before .before .before .before .before .before .before .before .before .before .before .before .before .before .before .before .before .before .before .before .before .pre .1) .actions .ordered
+part-all-start-2 c =
+    let c7 = c .before .before .before .before .before .before .before in
+    let c14 = c7 .before .before .before .before .before .before .before in
+    let start = c14 .before .before .before .before .before .before .before in
+    sized (start .args .table .now) (start .pre .0) (start .pre .1) .actions .ordered
 
 part-all-end-2 : tie.Need-part-all-end-2
-part-all-end-2 c = sized (c .before .before .before .before .before .before .before .before .before .before .before .before .before .before .before .before .before .before .before .before .before .args .table .now) (c .before .before .before .before .before .before .before .before .before .before .before .before .before .before .before .before .before .before .before .before .before .pre .0) (c .before .before .before .before .before .before .before .before .before .before .before .before .before .before .before .before .before .before .before .before .before .pre .1) .actions .inside
+part-all-end-2 c =
+    let c7 = c .before .before .before .before .before .before .before in
+    let c14 = c7 .before .before .before .before .before .before .before in
+    let start = c14 .before .before .before .before .before .before .before in
+    sized (start .args .table .now) (start .pre .0) (start .pre .1) .actions .inside
 
 slice-aggregate-all-4 : tie.Need-slice-aggregate-all-4
-slice-aggregate-all-4 c = sym (sized (c .before .before .before .before .before .before .before .before .before .before .before .before .before .before .before .before .before .before .before .before .before .before .before .args .table .now) (c .before .before .before .before .before .before .before .before .before .before .before .before .before .before .before .before .before .before .before .before .before .before .before .pre .0) (c .before .before .before .before .before .before .before .before .before .before .before .before .before .before .before .before .before .before .before .before .before .before .before .pre .1) .kinds)
+slice-aggregate-all-4 c =
+    let c7 = c .before .before .before .before .before .before .before in
+    let c14 = c7 .before .before .before .before .before .before .before in
+    let c21 = c14 .before .before .before .before .before .before .before in
+    let start = c21 .before .before in
+    sym (sized (start .args .table .now) (start .pre .0) (start .pre .1) .kinds)
 
 slice-aggregate-all-5 : tie.Need-slice-aggregate-all-5
-slice-aggregate-all-5 c = sym (sized (c .before .before .before .before .before .before .before .before .before .before .before .before .before .before .before .before .before .before .before .before .before .before .before .before .args .table .now) (c .before .before .before .before .before .before .before .before .before .before .before .before .before .before .before .before .before .before .before .before .before .before .before .before .pre .0) (c .before .before .before .before .before .before .before .before .before .before .before .before .before .before .before .before .before .before .before .before .before .before .before .before .pre .1) .starts)
+slice-aggregate-all-5 c =
+    let c7 = c .before .before .before .before .before .before .before in
+    let c14 = c7 .before .before .before .before .before .before .before in
+    let c21 = c14 .before .before .before .before .before .before .before in
+    let start = c21 .before .before .before in
+    sym (sized (start .args .table .now) (start .pre .0) (start .pre .1) .starts)
 
 slice-aggregate-all-6 : tie.Need-slice-aggregate-all-6
-slice-aggregate-all-6 c = sym (sized (c .before .before .before .before .before .before .before .before .before .before .before .before .before .before .before .before .before .before .before .before .before .before .before .before .before .args .table .now) (c .before .before .before .before .before .before .before .before .before .before .before .before .before .before .before .before .before .before .before .before .before .before .before .before .before .pre .0) (c .before .before .before .before .before .before .before .before .before .before .before .before .before .before .before .before .before .before .before .before .before .before .before .before .before .pre .1) .ends)
+slice-aggregate-all-6 c =
+    let c7 = c .before .before .before .before .before .before .before in
+    let c14 = c7 .before .before .before .before .before .before .before in
+    let c21 = c14 .before .before .before .before .before .before .before in
+    let start = c21 .before .before .before .before in
+    sym (sized (start .args .table .now) (start .pre .0) (start .pre .1) .ends)
 
 sub-all-3 : tie.Need-sub-all-3
-sub-all-3 c = sized (c .before .before .before .before .before .before .before .before .before .before .before .before .before .before .before .before .before .before .before .before .before .before .before .before .before .args .table .now) (c .before .before .before .before .before .before .before .before .before .before .before .before .before .before .before .before .before .before .before .before .before .before .before .before .before .pre .0) (c .before .before .before .before .before .before .before .before .before .before .before .before .before .before .before .before .before .before .before .before .before .before .before .before .before .pre .1) .locations .ordered
+sub-all-3 c =
+    let c7 = c .before .before .before .before .before .before .before in
+    let c14 = c7 .before .before .before .before .before .before .before in
+    let c21 = c14 .before .before .before .before .before .before .before in
+    let start = c21 .before .before .before .before in
+    sized (start .args .table .now) (start .pre .0) (start .pre .1) .locations .ordered
 
 part-all-start-3 : tie.Need-part-all-start-3
-part-all-start-3 c = sized (c .before .before .before .before .before .before .before .before .before .before .before .before .before .before .before .before .before .before .before .before .before .before .before .before .before .args .table .now) (c .before .before .before .before .before .before .before .before .before .before .before .before .before .before .before .before .before .before .before .before .before .before .before .before .before .pre .0) (c .before .before .before .before .before .before .before .before .before .before .before .before .before .before .before .before .before .before .before .before .before .before .before .before .before .pre .1) .locations .ordered
+part-all-start-3 c =
+    let c7 = c .before .before .before .before .before .before .before in
+    let c14 = c7 .before .before .before .before .before .before .before in
+    let c21 = c14 .before .before .before .before .before .before .before in
+    let start = c21 .before .before .before .before in
+    sized (start .args .table .now) (start .pre .0) (start .pre .1) .locations .ordered
 
 part-all-end-3 : tie.Need-part-all-end-3
-part-all-end-3 c = sized (c .before .before .before .before .before .before .before .before .before .before .before .before .before .before .before .before .before .before .before .before .before .before .before .before .before .args .table .now) (c .before .before .before .before .before .before .before .before .before .before .before .before .before .before .before .before .before .before .before .before .before .before .before .before .before .pre .0) (c .before .before .before .before .before .before .before .before .before .before .before .before .before .before .before .before .before .before .before .before .before .before .before .before .before .pre .1) .locations .inside
+part-all-end-3 c =
+    let c7 = c .before .before .before .before .before .before .before in
+    let c14 = c7 .before .before .before .before .before .before .before in
+    let c21 = c14 .before .before .before .before .before .before .before in
+    let start = c21 .before .before .before .before in
+    sized (start .args .table .now) (start .pre .0) (start .pre .1) .locations .inside
 
 slice-aggregate-all-7 : tie.Need-slice-aggregate-all-7
-slice-aggregate-all-7 c = sym (sized (c .before .before .before .before .before .before .before .before .before .before .before .before .before .before .before .before .before .before .before .before .before .before .before .before .before .before .before .args .table .now) (c .before .before .before .before .before .before .before .before .before .before .before .before .before .before .before .before .before .before .before .before .before .before .before .before .before .before .before .pre .0) (c .before .before .before .before .before .before .before .before .before .before .before .before .before .before .before .before .before .before .before .before .before .before .before .before .before .before .before .pre .1) .places)
+slice-aggregate-all-7 c =
+    let c7 = c .before .before .before .before .before .before .before in
+    let c14 = c7 .before .before .before .before .before .before .before in
+    let c21 = c14 .before .before .before .before .before .before .before in
+    let start = c21 .before .before .before .before .before .before in
+    sym (sized (start .args .table .now) (start .pre .0) (start .pre .1) .places)
 
 array-borrow-prefix-values : tie.Need-array-borrow-prefix-values
-array-borrow-prefix-values c = sized (c .before .before .before .before .before .before .before .before .before .before .before .before .before .before .before .before .before .before .before .before .before .before .before .before .before .before .before .args .table .now) (c .before .before .before .before .before .before .before .before .before .before .before .before .before .before .before .before .before .before .before .before .before .before .before .before .before .before .before .pre .0) (c .before .before .before .before .before .before .before .before .before .before .before .before .before .before .before .before .before .before .before .before .before .before .before .before .before .before .before .pre .1) .values
+array-borrow-prefix-values c =
+    let c7 = c .before .before .before .before .before .before .before in
+    let c14 = c7 .before .before .before .before .before .before .before in
+    let c21 = c14 .before .before .before .before .before .before .before in
+    let start = c21 .before .before .before .before .before .before in
+    sized (start .args .table .now) (start .pre .0) (start .pre .1) .values
 
 slice-aggregate-all-8 : tie.Need-slice-aggregate-all-8
-slice-aggregate-all-8 c = sym (length-take-le _ _ (sized (c .before .before .before .before .before .before .before .before .before .before .before .before .before .before .before .before .before .before .before .before .before .before .before .before .before .before .before .before .args .table .now) (c .before .before .before .before .before .before .before .before .before .before .before .before .before .before .before .before .before .before .before .before .before .before .before .before .before .before .before .before .pre .0) (c .before .before .before .before .before .before .before .before .before .before .before .before .before .before .before .before .before .before .before .before .before .before .before .before .before .before .before .before .pre .1) .values))
+slice-aggregate-all-8 c =
+    let c7 = c .before .before .before .before .before .before .before in
+    let c14 = c7 .before .before .before .before .before .before .before in
+    let c21 = c14 .before .before .before .before .before .before .before in
+    let start = c21 .before .before .before .before .before .before .before in
+    sym (length-take-le _ _ (sized (start .args .table .now) (start .pre .0) (start .pre .1) .values))
 
 array-borrow-prefix-modes : tie.Need-array-borrow-prefix-modes
-array-borrow-prefix-modes c = sized (c .before .before .before .before .before .before .before .before .before .before .before .before .before .before .before .before .before .before .before .before .before .before .before .before .before .before .before .before .args .table .now) (c .before .before .before .before .before .before .before .before .before .before .before .before .before .before .before .before .before .before .before .before .before .before .before .before .before .before .before .before .pre .0) (c .before .before .before .before .before .before .before .before .before .before .before .before .before .before .before .before .before .before .before .before .before .before .before .before .before .before .before .before .pre .1) .modes
+array-borrow-prefix-modes c =
+    let c7 = c .before .before .before .before .before .before .before in
+    let c14 = c7 .before .before .before .before .before .before .before in
+    let c21 = c14 .before .before .before .before .before .before .before in
+    let start = c21 .before .before .before .before .before .before .before in
+    sized (start .args .table .now) (start .pre .0) (start .pre .1) .modes
 
 slice-aggregate-all-9 : tie.Need-slice-aggregate-all-9
-slice-aggregate-all-9 c = sym (length-take-le _ _ (sized (c .before .before .before .before .before .before .before .before .before .before .before .before .before .before .before .before .before .before .before .before .before .before .before .before .before .before .before .before .before .args .table .now) (c .before .before .before .before .before .before .before .before .before .before .before .before .before .before .before .before .before .before .before .before .before .before .before .before .before .before .before .before .before .pre .0) (c .before .before .before .before .before .before .before .before .before .before .before .before .before .before .before .before .before .before .before .before .before .before .before .before .before .before .before .before .before .pre .1) .modes))
+slice-aggregate-all-9 c =
+    let c7 = c .before .before .before .before .before .before .before in
+    let c14 = c7 .before .before .before .before .before .before .before in
+    let c21 = c14 .before .before .before .before .before .before .before in
+    let c28 = c21 .before .before .before .before .before .before .before in
+    let start = c28 .before in
+    sym (length-take-le _ _ (sized (start .args .table .now) (start .pre .0) (start .pre .1) .modes))
 
 all-requires : tie.Need-all-requires
-all-requires c κs = asking-of (c .before .before .before .before .before .before .before .before .before .before .before .before .before .before .before .before .before .before .before .before .before .before .before .before .before .before .before .before .before .before .args .table .now) (c .before .before .before .before .before .before .before .before .before .before .before .before .before .before .before .before .before .before .before .before .before .before .before .before .before .before .before .before .before .before .pre .0) (c .before .before .before .before .before .before .before .before .before .before .before .before .before .before .before .before .before .before .before .before .before .before .before .before .before .before .before .before .before .before .pre .1)
+all-requires c κs =
+    let c7 = c .before .before .before .before .before .before .before in
+    let c14 = c7 .before .before .before .before .before .before .before in
+    let c21 = c14 .before .before .before .before .before .before .before in
+    let c28 = c21 .before .before .before .before .before .before .before in
+    let start = c28 .before .before in
+    asking-of (start .args .table .now) (start .pre .0) (start .pre .1)
 
 same-length : tie.Need-same-length
 same-length c = search needs
 
 returns : tie.Need-returns
-returns c = λ t a. whole-of (c .before .before .before .before .before .before .before .before .before .before .before .before .before .before .before .before .before .before .before .before .before .before .before .before .before .before .before .before .before .before .before .before .before .before .before .args .table .now) (c .before .before .before .before .before .before .before .before .before .before .before .before .before .before .before .before .before .before .before .before .before .before .before .before .before .before .before .before .before .before .before .before .before .before .before .pre .0) a ((c .before .before .before .before .all .ensures) t (asked-of (c .before .before .before .before .before .before .before .before .before .before .before .before .before .before .before .before .before .before .before .before .before .before .before .before .before .before .before .before .before .before .before .before .before .before .before .args .table .now) (c .before .before .before .before .before .before .before .before .before .before .before .before .before .before .before .before .before .before .before .before .before .before .before .before .before .before .before .before .before .before .before .before .before .before .before .pre .0) a))
+returns c =
+    let c7 = c .before .before .before .before .before .before .before in
+    let c14 = c7 .before .before .before .before .before .before .before in
+    let c21 = c14 .before .before .before .before .before .before .before in
+    let c28 = c21 .before .before .before .before .before .before .before in
+    let start = c28 .before .before .before .before .before .before .before in
+    λ t a. whole-of (start .args .table .now) (start .pre .0) a ((c .before .before .before .before .all .ensures) t (asked-of (start .args .table .now) (start .pre .0) a))
 
 pub lend-spec : {M : Type 1} → statement M
 lend-spec = tie.close (tie.spec sub-all part-all-start part-all-end slice-aggregate-all array-share-prefix-lows slice-aggregate-all-2 array-share-prefix-highs slice-aggregate-all-3 sub-all-2 part-all-start-2 part-all-end-2 slice-aggregate-all-4 slice-aggregate-all-5 slice-aggregate-all-6 sub-all-3 part-all-start-3 part-all-end-3 slice-aggregate-all-7 array-borrow-prefix-values slice-aggregate-all-8 array-borrow-prefix-modes slice-aggregate-all-9 all-requires same-length returns)

@@ -1,3 +1,4 @@
+-- One law for each return: `by-table`, `by-admission`, `by-events` (Calling).
 use mathlib.Core.Path.{refl}
 use Rattle.table_run.proofs.Calling.{by-table, room-of, by-admission, admitting, by-events}
 use borrow.Author.Needs.{needs}
@@ -20,16 +21,26 @@ refused-requires-2 : tie.Need-refused-requires-2
 refused-requires-2 c κs = search needs
 
 returns-2 : tie.Need-returns-2
-returns-2 c = by-admission (c .before .before .before .before .before .before .before .before .before .before .args .table .now) (c .before .before .before .before .before .before .before .before .before .before .args .start .now) (c .before .before .before .before .before .before .before .before .before .before .args .events .now) (c .before .before .before .before .before .before .before .before .before .before .args .records .now) (c .before .before .before .before .before .index .ensures) (c .before .before .before .before .if1 .left) (λ p k. c .before .before .admit .ensures p k _ _ refl refl) (c .before .if2 .taken) (c .refused2 .ensures)
+returns-2 c =
+    let c7 = c .before .before .before .before .before .before .before in
+    let start = c7 .before .before .before in
+    by-admission (start .args .table .now) (start .args .start .now) (start .args .events .now) (start .args .records .now) (c .before .before .before .before .before .index .ensures) (c .before .before .before .before .if1 .left) (λ p k. c .before .before .admit .ensures p k _ _ refl refl) (c .before .if2 .taken) (c .refused2 .ensures)
 
 lend-requires : tie.Need-lend-requires
-lend-requires c κs = ((c .before .before .before .before .before .index .ensures), admitting (c .before .before .before .before .before .before .before .before .before .before .args .table .now) (c .before .before .before .before .before .before .before .before .before .before .args .start .now) (c .before .before .before .before .before .before .before .before .before .before .args .events .now) (c .before .before .before .before .before .before .before .before .before .before .args .records .now) (c .before .before .before .before .before .index .ensures) (c .before .before .before .before .if1 .left) (λ p k. c .before .before .admit .ensures p k _ _ refl refl) (c .before .if2 .left))
+lend-requires c κs =
+    let c7 = c .before .before .before .before .before .before .before in
+    let start = c7 .before .before .before in
+    ((c .before .before .before .before .before .index .ensures), admitting (start .args .table .now) (start .args .start .now) (start .args .events .now) (start .args .records .now) (c .before .before .before .before .before .index .ensures) (c .before .before .before .before .if1 .left) (λ p k. c .before .before .admit .ensures p k _ _ refl refl) (c .before .if2 .left))
 
 same-length : tie.Need-same-length
 same-length c = search needs
 
 returns-3 : tie.Need-returns-3
-returns-3 c = by-events (c .before .before .before .before .before .before .before .before .before .before .before .before .before .args .table .now) (c .before .before .before .before .before .before .before .before .before .before .before .before .before .args .start .now) (c .before .before .before .before .before .before .before .before .before .before .before .before .before .args .events .now) (c .before .before .before .before .before .before .before .before .before .before .before .before .before .args .records .now) (c .before .before .before .before .before .before .before .before .index .ensures) (c .before .before .before .before .before .before .before .if1 .left) (λ p k. c .before .before .before .before .before .admit .ensures p k _ _ refl refl) (c .before .before .before .before .if2 .left) (c .before .before .lend .ensures) refl
+returns-3 c =
+    let c7 = c .before .before .before .before .before .before .before in
+    let index-then = c7 .before in
+    let start = index-then .before .before .before .before .before in
+    by-events (start .args .table .now) (start .args .start .now) (start .args .events .now) (start .args .records .now) (index-then .index .ensures) (c .before .before .before .before .before .before .before .if1 .left) (λ p k. c .before .before .before .before .before .admit .ensures p k _ _ refl refl) (c .before .before .before .before .if2 .left) (c .before .before .lend .ensures) refl
 
 pub run-spec : {M : Type 1} → statement M
 run-spec = tie.close (tie.spec index-requires refused-requires returns admit-requires refused-requires-2 returns-2 lend-requires same-length returns-3)

@@ -1,0 +1,78 @@
+// What runrules and runtable share: a run of the files that the arguments name.
+use initial_start::Start;
+use records::Counts;
+use records::Ran;
+ghost use mathlib.Core.Path.{_≡_};
+ghost use lib.ListN.{length};
+
+// whether two or three files are named; if not, the usage is told
+pub fn is_asked(usage: &[u8]) -> bool {
+    let words = os::arg_count();
+    if (words == 3) | (words == 4) {
+        return true;
+    }
+    io::write_all(2, usage);
+    false
+}
+
+// room for 10,000 events
+pub fn event_buffer() -> [u8; 30000]
+    ensures { λ r. ⌜ 30000 ≡ length r ⌝ }
+{
+    [0; 30000]
+}
+
+// for their records; a run whose records are longer is refused with 22
+pub fn record_buffer() -> [u8; 400000]
+    ensures { λ r. ⌜ 400000 ≡ length r ⌝ }
+{
+    [0; 400000]
+}
+
+// not whole where the third file could not be read
+pub struct Chosen {
+    pub whole: bool,
+    pub start: Start,
+}
+
+// the start in the third file, or where none is named the initial one
+pub fn start(program: &[u8], initial: Start) -> Chosen {
+    if os::arg_count() < 4 {
+        return Chosen {
+            whole: true,
+            start: initial,
+        };
+    }
+    let mut bytes = [0u8; 144];
+    let a = input::load(3, program, &mut bytes);
+    let start = Start {
+        length: a.length,
+        bytes,
+    };
+    Chosen {
+        whole: a.whole,
+        start,
+    }
+}
+
+fn report(counts: Counts) {
+    io::write_all(2, b"taken ");
+    io::print_decimal(2, counts.taken as u64);
+    io::write_all(2, b", turned away ");
+    io::print_decimal(2, counts.turned_away as u64);
+    io::write_all(2, b", faulted ");
+    io::print_decimal(2, counts.faulted as u64);
+    io::write_all(2, b"\n");
+}
+
+// the refusal as one byte; or the records, so many bytes, and the counts
+pub fn tell(program: &[u8], r: Ran, length: usize, records: &[u8]) {
+    if r.refusal != 0 {
+        let refusal = [r.refusal];
+        output::noticed(program, io::write_all(1, &refusal));
+        return;
+    }
+    let k = output::front(length, records);
+    output::noticed(program, io::write_all(1, &records[..k]));
+    report(r.counts);
+}
