@@ -6,7 +6,7 @@ use super::stored;
 pub struct Answer {
     pub refusal: usize,
     pub count: usize,
-    pub numbers: [usize; 8],
+    pub numbers: [usize; stored::NUMBERS],
 }
 
 fn up_to_four(refusal: u8, count: usize, a: usize, b: usize, c: usize, d: usize) -> Answer {
@@ -79,7 +79,7 @@ fn examine(
     let b = r.table_counts;
     Answer {
         refusal: r.refusal as usize,
-        count: 8,
+        count: stored::NUMBERS,
         numbers: [
             r.length,
             a.taken,

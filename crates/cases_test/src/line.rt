@@ -23,10 +23,14 @@ pub fn refusal(n: usize) {
 }
 
 // shows the first `count` of eight numbers; whether all eight are the stored ones
-pub fn numbers(got: [usize; 8], stored: [usize; 8], count: usize) -> bool {
+pub fn numbers(
+    got: [usize; stored::NUMBERS],
+    stored: [usize; stored::NUMBERS],
+    count: usize,
+) -> bool {
     let mut same = true;
     let mut i = 0;
-    while i < 8 {
+    while i < stored::NUMBERS {
         if i < count {
             number(got[i]);
         }

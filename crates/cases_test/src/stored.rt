@@ -6,6 +6,9 @@ pub const CUT: usize = 4294967296;
 // the length that stands for the string of the case before
 const AS_BEFORE: usize = 4294967295;
 
+// as many numbers as a call returns at most
+pub const NUMBERS: usize = 8;
+
 // how long a name and each string may be
 pub const NAME: usize = 255;
 
@@ -48,7 +51,7 @@ pub struct Case {
     pub other_room: usize,
     // what the call returns
     pub refusal: usize,
-    pub numbers: [usize; 8],
+    pub numbers: [usize; NUMBERS],
 }
 
 // before the first case: every string is empty
@@ -65,7 +68,7 @@ pub fn none() -> Case {
         record_room: 0,
         other_room: 0,
         refusal: 0,
-        numbers: [0; 8],
+        numbers: [0; NUMBERS],
     }
 }
 
@@ -109,7 +112,7 @@ fn string(before: usize, buf: &mut [u8]) -> usize {
     taken(n, buf)
 }
 
-fn numbers() -> [usize; 8] {
+fn numbers() -> [usize; NUMBERS] {
     [
         number(),
         number(),

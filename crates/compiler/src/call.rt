@@ -29,7 +29,7 @@ struct Plan {
     refusal: u8,
     length: usize,
     index: ScheduleIndex,
-    acts: [u8; 64],
+    acts: [u8; paper::NODES],
     list: Spot,
     rows: Spot,
 }
@@ -51,7 +51,7 @@ fn no_plan(n: u8, x: ScheduleIndex) -> Plan
         refusal: n,
         length: 0,
         index: x,
-        acts: [0; 64],
+        acts: [0; paper::NODES],
         list: Spot { count: 0, at: 0 },
         rows: Spot { count: 0, at: 0 },
     }

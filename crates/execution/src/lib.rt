@@ -24,7 +24,7 @@ fn all_wait(kinds: &[u8], acting: NodeSet) -> bool
     ensures { λ b. ⌜ b ≡ every (isWaitKind (now (kinds .entry))) (members (acting .words)) ⌝ }
 {
     let mut n = nodeset::next(acting, 0);
-    while n < 64 {
+    while n < paper::NODES {
         if kinds[n] != 2 {
             return false;
         }
@@ -55,7 +55,7 @@ fn all_still(
     ensures { λ r. ⌜ r ≡ stepVerdict (walk edition1 31 (now (values .entry)) (map (cutAt (now (ops .entry)) (now (starts .entry)) (now (ends .entry))) (members (acting .words)))) ⌝ }
 {
     let mut n = nodeset::next(acting, 0);
-    while n < 64 {
+    while n < paper::NODES {
         let r = still(ops, starts, ends, values, n);
         if !effects::goes_on(r) {
             return r;
@@ -69,7 +69,7 @@ fn all_still(
 fn tick(
     es: &[u8],
     places: &[usize],
-    steady: [i32; 32],
+    steady: [i32; paper::VARIABLES],
     lows: &[i32],
     highs: &[i32],
     ops: &[u8],
@@ -104,7 +104,7 @@ fn tick(
 fn pick(
     es: &[u8],
     places: &[usize],
-    steady: [i32; 32],
+    steady: [i32; paper::VARIABLES],
     lows: &[i32],
     highs: &[i32],
     ops: &[u8],
@@ -153,7 +153,7 @@ fn sensible(a: u8, b: u8, c: u8) -> bool
 pub fn judge(
     es: &[u8],
     places: &[usize],
-    steady: [i32; 32],
+    steady: [i32; paper::VARIABLES],
     lows: &[i32],
     highs: &[i32],
     ops: &[u8],

@@ -77,7 +77,7 @@ pub fn number_reads(s: &[u8], variables: usize) -> bool
     requires { ⌜ variables ≤ 32 ⌝ }
     ensures { λ r. ⌜ r ≡ isSome (numberIn edition1 variables (now (s .entry))) ⌝ }
 {
-    let zeros = [0i32; 32];
+    let zeros = [0i32; paper::VARIABLES];
     match number_value(s, &zeros[..variables]) {
         Number::Malformed => false,
         _ => true,
@@ -89,7 +89,7 @@ pub fn truth_reads(s: &[u8], variables: usize) -> bool
     requires { ⌜ variables ≤ 32 ⌝ }
     ensures { λ r. ⌜ r ≡ isSome (truthIn edition1 variables (now (s .entry))) ⌝ }
 {
-    let zeros = [0i32; 32];
+    let zeros = [0i32; paper::VARIABLES];
     match truth_value(s, &zeros[..variables]) {
         Truth::Malformed => false,
         _ => true,

@@ -33,7 +33,7 @@ fn put_modes(d: &mut [u8], i: usize, es: &[u8]) -> usize
 // a start's bytes at the front, and how many they are
 pub struct Start {
     pub length: usize,
-    pub bytes: [u8; 144],
+    pub bytes: [u8; paper::START_BYTES],
 }
 
 fn none() -> Start
@@ -41,7 +41,7 @@ fn none() -> Start
 {
     Start {
         length: 0,
-        bytes: [0; 144],
+        bytes: [0; paper::START_BYTES],
     }
 }
 
@@ -56,7 +56,7 @@ pub fn of(vs: &[u8], es: &[u8]) -> Start
     let v = plant::variables::read(vs);
     let n = v.count;
     let initials = v.initials;
-    let mut bytes = [0u8; 144];
+    let mut bytes = [0u8; paper::START_BYTES];
     let at = records::put_values(&mut bytes, 0, &initials[..n]);
     let length = put_modes(&mut bytes, at, es);
     Start { length, bytes }

@@ -56,7 +56,7 @@ fn place(places: &[usize], modes: &[u8], j: usize) -> usize
     requires { ⌜ (j < length (now modes)) × (8 * j + getD (now modes) j 0 < length (now places)) ⌝ }
     ensures { λ r. ⌜ r ≡ placeAt (now (places .entry)) (now (modes .entry)) j ⌝ }
 {
-    let row = 8 * j + (modes[j] as usize);
+    let row = paper::MODES * j + (modes[j] as usize);
     places[row]
 }
 
@@ -104,7 +104,12 @@ fn lay_all(es: &[u8], places: &[usize], modes: &[u8], rates: &mut [i32])
 }
 
 // The rates in force: those of kind 1, and the current modes' over them.
-pub fn rates_now(es: &[u8], places: &[usize], steady: [i32; 32], modes: &[u8]) -> [i32; 32]
+pub fn rates_now(
+    es: &[u8],
+    places: &[usize],
+    steady: [i32; paper::VARIABLES],
+    modes: &[u8],
+) -> [i32; paper::VARIABLES]
     requires { ⌜ Current (now es) (now places) (now modes) × Driving (now es) (now places) (now modes) 32 ⌝ }
     ensures { λ r. ⌜ InForce (now (es .entry)) (now (places .entry)) (now (modes .entry)) steady r ⌝ }
 {

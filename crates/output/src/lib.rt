@@ -32,10 +32,10 @@ pub fn records_length(events: usize, variables: usize, selectors: usize) -> usiz
     if events > 30000 {
         return 0;
     }
-    if variables > 32 {
+    if variables > paper::VARIABLES {
         return 0;
     }
-    if selectors > 16 {
+    if selectors > paper::EQUATIONS {
         return 0;
     }
     (events / 3) * (9 + 4 * variables + selectors)

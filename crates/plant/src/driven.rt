@@ -10,11 +10,17 @@ ghost use Rattle.semantics.specs.Plant.{drives, drivenOnce, ratesDrive, modeDri
 ghost use Rattle.plant.specs.Driven.{Named, Held, Few, ratesTest, modesTest, equationTest, Tried, TriedAt};
 
 // n rates from a place on: none of a variable marked before, no variable twice; their variables are marked
-fn rates(s: &[u8], at: usize, n: usize, before: &[bool; 32], seen: &mut [bool; 32]) -> bool
+fn rates(
+    s: &[u8],
+    at: usize,
+    n: usize,
+    before: &[bool; paper::VARIABLES],
+    seen: &mut [bool; paper::VARIABLES],
+) -> bool
     requires { ⌜ Held (times n readRate) ratesDrive (now s) at × (length (now seen) ≡ 32) ⌝ }
     ensures { λ r. ⌜ TriedAt (times n readRate) (ratesTest (now (before .entry))) ratesDrive (now (s .entry)) at (now (seen .entry)) r (now (seen .exit)) ⌝ }
 {
-    let mut mine = [false; 32];
+    let mut mine = [false; paper::VARIABLES];
     let mut p = at;
     let mut i = 0;
     while i < n {
@@ -34,7 +40,13 @@ fn rates(s: &[u8], at: usize, n: usize, before: &[bool; 32], seen: &mut [bool; 3
 }
 
 // n modes of a CASE: each as above
-fn modes(s: &[u8], at: usize, n: usize, before: &[bool; 32], seen: &mut [bool; 32]) -> bool
+fn modes(
+    s: &[u8],
+    at: usize,
+    n: usize,
+    before: &[bool; paper::VARIABLES],
+    seen: &mut [bool; paper::VARIABLES],
+) -> bool
     requires { ⌜ Held (times n readMode) (flatMap modeDrives) (now s) at × (length (now seen) ≡ 32) ⌝ }
     ensures { λ r. ⌜ TriedAt (times n readMode) (modesTest (now (before .entry))) (flatMap modeDrives) (now (s .entry)) at (now (seen .entry)) r (now (seen .exit)) ⌝ }
 {
@@ -53,7 +65,7 @@ fn modes(s: &[u8], at: usize, n: usize, before: &[bool; 32], seen: &mut [bool; 3
 }
 
 // an equation's bytes: the variables marked so far are those of the equations before it
-fn equation(s: &[u8], seen: &mut [bool; 32]) -> bool
+fn equation(s: &[u8], seen: &mut [bool; paper::VARIABLES]) -> bool
     requires { ⌜ Few (equationIn (now s)) drives × (length (now seen) ≡ 32) ⌝ }
     ensures { λ r. ⌜ ((q : Equation) → equationIn (now (s .entry)) ≡ some q → Tried (equationTest (now (seen .entry)) q) (now (seen .entry)) (drives q) r (now (seen .exit))) ⌝ }
 {
@@ -70,7 +82,7 @@ pub fn once(s: &[u8]) -> bool
     ensures { λ r. ⌜ ((es : List Equation) → equationsIn (now (s .entry)) ≡ some es → r ≡ drivenOnce [] es) ⌝ }
 {
     let n = s[0] as usize;
-    let mut seen = [false; 32];
+    let mut seen = [false; paper::VARIABLES];
     let mut p = 1;
     let mut i = 0;
     while i < n {

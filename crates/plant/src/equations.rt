@@ -12,20 +12,25 @@ ghost use Rattle.semantics.specs.Sections as sections;
 ghost use Rattle.semantics.specs.Plant as names;
 ghost use Rattle.plant.specs.Equations.{StepSays, SeenSays, Stands, SectionStands, sizes, switchSize, modeSize, startsFrom, putRates, CasesOf, equationsOf, refusedEquations};
 
+// The most modes of a CASE and the most equations, as their counts' bytes.
+const MODES: u8 = paper::MODES as u8;
+
+const EQUATIONS: u8 = paper::EQUATIONS as u8;
+
 // refusal 6, 7 or 0; of selector j its modes, and at entry 8 * j + m where mode m of it stands; of each variable its rate of kind 1
 pub struct Equations {
     pub refusal: u8,
     pub selectors: usize,
-    pub modes: [usize; 16],
-    pub mode_offsets: [usize; 128],
-    pub steady: [i32; 32],
+    pub modes: [usize; paper::EQUATIONS],
+    pub mode_offsets: [usize; paper::MODE_PLACES],
+    pub steady: [i32; paper::VARIABLES],
 }
 
 // the selectors: how many, of each its modes, and where these stand
 struct Cases {
     count: usize,
-    modes: [usize; 16],
-    mode_offsets: [usize; 128],
+    modes: [usize; paper::EQUATIONS],
+    mode_offsets: [usize; paper::MODE_PLACES],
 }
 
 // the place after what was read, and whether its names are there
@@ -184,7 +189,7 @@ fn choice(s: &[u8], at: usize, variables: usize) -> Step
     if n < 1 {
         return Step::Broken;
     }
-    if n > 8 {
+    if n > MODES {
         return Step::Broken;
     }
     let w = modes(s, at + 1 + 1, n, variables);
@@ -275,7 +280,7 @@ fn refusal(s: &[u8], variables: usize) -> u8
         return 6;
     }
     let n = s[0];
-    if n > 16 {
+    if n > EQUATIONS {
         return 6;
     }
     let w = some_equations(s, 1, n, variables);
@@ -314,7 +319,7 @@ fn mode_end(s: &[u8], at: usize) -> usize
 }
 
 // the places of n modes, noted from entry `from` on
-fn mode_places(s: &[u8], at: usize, n: u8, from: usize, places: &mut [usize; 128])
+fn mode_places(s: &[u8], at: usize, n: u8, from: usize, places: &mut [usize; paper::MODE_PLACES])
     requires { ⌜ (from + n ≤ 128) × Stands (times n sections.readMode) (now s) at ⌝ }
     ensures { λ _. ⌜ ((t : Stands (times n sections.readMode) (now (s .entry)) at) → now (places .exit) ≡ sets (now (places .entry)) from (startsFrom modeSize at (t .value))) ⌝ }
 {
@@ -335,8 +340,8 @@ fn selectors(s: &[u8]) -> Cases
     ensures { λ r. ⌜ ((t : SectionStands (now (s .entry))) → CasesOf (t .equations) r) ⌝ }
 {
     let mut count = 0;
-    let mut modes = [0usize; 16];
-    let mut places = [0usize; 128];
+    let mut modes = [0usize; paper::EQUATIONS];
+    let mut places = [0usize; paper::MODE_PLACES];
     let mut p = 1;
     let mut left = s[0];
     while 0 < left {
@@ -344,7 +349,7 @@ fn selectors(s: &[u8]) -> Cases
         if s[k] != 1 {
             let n = s[k + 2];
             modes[count] = n as usize;
-            mode_places(s, k + 3, n, 8 * count, &mut places);
+            mode_places(s, k + 3, n, paper::MODES * count, &mut places);
             count += 1;
         }
         p = k + codec::nat2(s, p);
@@ -367,7 +372,7 @@ fn put_rate(rates: &mut [i32], v: usize, z: i32)
 }
 
 // the rates with that of an equation of kind 1 put in
-fn with_steady(s: &[u8], at: usize, rates: [i32; 32]) -> [i32; 32]
+fn with_steady(s: &[u8], at: usize, rates: [i32; paper::VARIABLES]) -> [i32; paper::VARIABLES]
     requires { ⌜ Stands sections.readEquationBody (now s) at ⌝ }
     ensures { λ r. ⌜ ((t : Stands sections.readEquationBody (now (s .entry)) at) → r ≡ putRates (names.ratesOf (t .value ∷ []) []) rates) ⌝ }
 {
@@ -380,12 +385,12 @@ fn with_steady(s: &[u8], at: usize, rates: [i32; 32]) -> [i32; 32]
 }
 
 // the rates of the equations of kind 1 among n; of two for one variable the first stays
-fn steady_rates(s: &[u8], at: usize, n: u8) -> [i32; 32]
+fn steady_rates(s: &[u8], at: usize, n: u8) -> [i32; paper::VARIABLES]
     requires { ⌜ Stands (times n sections.readEquation) (now s) at ⌝ }
     ensures { λ r. ⌜ ((t : Stands (times n sections.readEquation) (now (s .entry)) at) → r ≡ putRates (names.ratesOf (t .value) []) (replicate 32 (pos 0))) ⌝ }
 {
     if n == 0 {
-        return [0i32; 32];
+        return [0i32; paper::VARIABLES];
     }
     let k = at + 2;
     let rates = steady_rates(s, k + codec::nat2(s, at), n - 1);
@@ -398,9 +403,9 @@ fn refused(number: u8) -> Equations
     Equations {
         refusal: number,
         selectors: 0,
-        modes: [0usize; 16],
-        mode_offsets: [0usize; 128],
-        steady: [0i32; 32],
+        modes: [0usize; paper::EQUATIONS],
+        mode_offsets: [0usize; paper::MODE_PLACES],
+        steady: [0i32; paper::VARIABLES],
     }
 }
 

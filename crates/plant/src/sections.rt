@@ -8,12 +8,12 @@ ghost use Rattle.plant.specs.PlantRead.{refusedPlant, plantOf};
 pub struct PlantRead {
     pub refusal: u8,
     pub variables: usize,
-    pub lows: [i32; 32],
-    pub highs: [i32; 32],
+    pub lows: [i32; paper::VARIABLES],
+    pub highs: [i32; paper::VARIABLES],
     pub selectors: usize,
-    pub modes: [usize; 16],
-    pub mode_offsets: [usize; 128],
-    pub steady: [i32; 32],
+    pub modes: [usize; paper::EQUATIONS],
+    pub mode_offsets: [usize; paper::MODE_PLACES],
+    pub steady: [i32; paper::VARIABLES],
 }
 
 // a plant that is refused, and all else empty
@@ -23,12 +23,12 @@ pub fn refused(n: u8) -> PlantRead
     PlantRead {
         refusal: n,
         variables: 0,
-        lows: [0; 32],
-        highs: [0; 32],
+        lows: [0; paper::VARIABLES],
+        highs: [0; paper::VARIABLES],
         selectors: 0,
-        modes: [0; 16],
-        mode_offsets: [0; 128],
-        steady: [0; 32],
+        modes: [0; paper::EQUATIONS],
+        mode_offsets: [0; paper::MODE_PLACES],
+        steady: [0; paper::VARIABLES],
     }
 }
 

@@ -5,9 +5,9 @@ ghost use Rattle.plant.specs.Variables.{refusedBy, variablesOf, Sized, C
 pub struct Variables {
     pub refusal: u8,
     pub count: usize,
-    pub lows: [i32; 32],
-    pub highs: [i32; 32],
-    pub initials: [i32; 32],
+    pub lows: [i32; paper::VARIABLES],
+    pub highs: [i32; paper::VARIABLES],
+    pub initials: [i32; paper::VARIABLES],
 }
 
 fn refused(n: u8) -> Variables
@@ -16,9 +16,9 @@ fn refused(n: u8) -> Variables
     Variables {
         refusal: n,
         count: 0,
-        lows: [0; 32],
-        highs: [0; 32],
-        initials: [0; 32],
+        lows: [0; paper::VARIABLES],
+        highs: [0; paper::VARIABLES],
+        initials: [0; paper::VARIABLES],
     }
 }
 
@@ -30,7 +30,7 @@ fn counted(s: &[u8]) -> usize
         return 0;
     }
     let n = s[0] as usize;
-    if n > 32 {
+    if n > paper::VARIABLES {
         return 0;
     }
     if s.len() != 1 + 12 * n {
@@ -44,9 +44,9 @@ fn values(s: &[u8], n: usize) -> Variables
     requires { ⌜ Sized (now s) n ⌝ }
     ensures { λ r. ⌜ r ≡ variablesOf (now (s .entry)) ⌝ }
 {
-    let mut lows = [0i32; 32];
-    let mut highs = [0i32; 32];
-    let mut initials = [0i32; 32];
+    let mut lows = [0i32; paper::VARIABLES];
+    let mut highs = [0i32; paper::VARIABLES];
+    let mut initials = [0i32; paper::VARIABLES];
     let mut p = 1;
     let mut i = 0;
     while i < n {

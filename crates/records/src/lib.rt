@@ -74,9 +74,19 @@ fn book(c: &mut Counts, answer: u8)
     requires { ⌜ Room (now c) ⌝ }
     ensures { λ _. ⌜ now (c .exit) ≡ bookedOf (now (c .entry)) answer ⌝ }
 {
-    c.taken = counted(c.taken, 200, 202, answer);
+    c.taken = counted(
+        c.taken,
+        paper::answers::TAKEN,
+        paper::answers::HALTED,
+        answer,
+    );
     c.turned_away = counted(c.turned_away, 23, 31, answer);
-    c.faulted = counted(c.faulted, 203, 203, answer);
+    c.faulted = counted(
+        c.faulted,
+        paper::answers::FAULT,
+        paper::answers::FAULT,
+        answer,
+    );
 }
 
 // The counts with one answer more.

@@ -9,7 +9,7 @@ ghost use Rattle.rule_run.specs.Runs.{Asking, Completes};
 pub fn all<'a>(
     es: &[u8],
     places: &[usize],
-    steady: [i32; 32],
+    steady: [i32; paper::VARIABLES],
     lows: &[i32],
     highs: &[i32],
     ops: &[u8],

@@ -58,9 +58,9 @@ fn moved<'a>(leads: &'a [u16], fresh: &'a [u64], acting: NodeSet, n: usize, trut
     let how = m.how;
     let set = m.set;
     match how {
-        How::To => go_on(200, set),
-        How::Finished => end(201),
-        How::Halted => end(202),
+        How::To => go_on(paper::answers::TAKEN, set),
+        How::Finished => end(paper::answers::FINISHED),
+        How::Halted => end(paper::answers::HALTED),
     }
 }
 
@@ -71,9 +71,9 @@ fn settled<'a>(leads: &'a [u16], fresh: &'a [u64], acting: NodeSet, v: Verdict) 
 {
     match v {
         Verdict::Away(n) => go_on(n, acting),
-        Verdict::Above => end(203),
-        Verdict::Below => end(203),
-        Verdict::Stay => go_on(200, acting),
+        Verdict::Above => end(paper::answers::FAULT),
+        Verdict::Below => end(paper::answers::FAULT),
+        Verdict::Stay => go_on(paper::answers::TAKEN, acting),
         Verdict::Move(n, truth) => moved(leads, fresh, acting, n, truth),
     }
 }
@@ -82,7 +82,7 @@ fn settled<'a>(leads: &'a [u16], fresh: &'a [u64], acting: NodeSet, v: Verdict) 
 pub fn step<'a>(
     es: &[u8],
     places: &[usize],
-    steady: [i32; 32],
+    steady: [i32; paper::VARIABLES],
     lows: &[i32],
     highs: &[i32],
     ops: &[u8],

@@ -43,7 +43,7 @@ pub fn start(program: &[u8], initial: Start) -> Chosen {
             start: initial,
         };
     }
-    let mut bytes = [0u8; 144];
+    let mut bytes = [0u8; paper::START_BYTES];
     let a = input::load(3, program, &mut bytes);
     let start = Start {
         length: a.length,

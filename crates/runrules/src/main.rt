@@ -5,10 +5,10 @@ ghost use mathlib.Core.Path.{_≡_};
 ghost use lib.ListN.{length};
 
 // no accepted schedule has more bytes
-fn schedule_buffer() -> [u8; 65535]
+fn schedule_buffer() -> [u8; paper::FILE_BYTES]
     ensures { λ r. ⌜ 65535 ≡ length r ⌝ }
 {
-    [0; 65535]
+    [0; paper::FILE_BYTES]
 }
 
 fn run(file: &[u8], events: &[u8], start: Start) {

@@ -21,11 +21,11 @@ fn kind(k: u8) -> u8
     }
 }
 
-pub fn kinds(kinds: &[u8], count: usize) -> [u8; 64]
+pub fn kinds(kinds: &[u8], count: usize) -> [u8; paper::NODES]
     requires { ⌜ (count ≤ 64) × (count ≤ length (now kinds)) ⌝ }
     ensures { λ r. ⌜ r ≡ actionNumbers (now (kinds .entry)) count ⌝ }
 {
-    let mut acts = [0u8; 64];
+    let mut acts = [0u8; paper::NODES];
     let mut i = 0;
     while i < count {
         acts[i] = kind(kinds[i]);

@@ -13,8 +13,8 @@ ghost use Rattle.start_read.specs.Admission.{notAdmitted, admitted};
 // 0, or the number of the first condition that is broken; all values and modes are 0 then
 pub struct Admitted {
     pub refusal: u8,
-    pub values: [i32; 32],
-    pub modes: [u8; 16],
+    pub values: [i32; paper::VARIABLES],
+    pub modes: [u8; paper::EQUATIONS],
 }
 
 pub fn refused(n: u8) -> Admitted
@@ -22,8 +22,8 @@ pub fn refused(n: u8) -> Admitted
 {
     Admitted {
         refusal: n,
-        values: [0; 32],
-        modes: [0; 16],
+        values: [0; paper::VARIABLES],
+        modes: [0; paper::EQUATIONS],
     }
 }
 

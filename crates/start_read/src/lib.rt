@@ -13,12 +13,12 @@ ghost use Rattle.start_read.specs.Admission.{admitted};
 
 struct Values {
     ok: bool,
-    values: [i32; 32],
+    values: [i32; paper::VARIABLES],
 }
 
 struct Modes {
     ok: bool,
-    modes: [u8; 16],
+    modes: [u8; paper::EQUATIONS],
 }
 
 fn inside(low: i32, high: i32, z: i32) -> bool
@@ -38,7 +38,7 @@ fn read_values(s: &[u8], n: usize, lows: &[i32], highs: &[i32]) -> Values
     requires { ⌜ RoomForValues (now s) n (now lows) (now highs) ⌝ }
     ensures { λ r. ⌜ ValuesOf (now (s .entry)) n (now (lows .entry)) (now (highs .entry)) r ⌝ }
 {
-    let mut values = [0i32; 32];
+    let mut values = [0i32; paper::VARIABLES];
     let mut i = 0;
     while i < n {
         let z = codec::int4(s, 4 * i);
@@ -56,7 +56,7 @@ fn read_modes(s: &[u8], n: usize, counts: &[usize]) -> Modes
     requires { ⌜ RoomForModes (now s) n (now counts) ⌝ }
     ensures { λ r. ⌜ ModesOf (now (s .entry)) n (now (counts .entry)) r ⌝ }
 {
-    let mut modes = [0u8; 16];
+    let mut modes = [0u8; paper::EQUATIONS];
     let mut i = 0;
     while i < n {
         let m = s[i];

@@ -9,21 +9,24 @@ ghost use Rattle.semantics.specs.TableFile.{actionKind, actionOfKind, readActio
 ghost use Rattle.table_read.specs.Ends.{Ends, EndsWith, follows};
 ghost use Rattle.table_read.specs.ActionIndex.{nodeOf, Counted, actionsOf, noActions};
 
+// The most actions, as their count's byte.
+const MOST: u8 = paper::NODES as u8;
+
 // 0 or 18; how many actions there are; by node, the kind of its action and where the operand starts and ends, or 0, 0 and 0
 pub struct Actions {
     pub refusal: u8,
     pub count: usize,
-    pub kinds: [u8; 64],
-    pub starts: [usize; 64],
-    pub ends: [usize; 64],
+    pub kinds: [u8; paper::NODES],
+    pub starts: [usize; paper::NODES],
+    pub ends: [usize; paper::NODES],
 }
 
 pub fn refused() -> Actions
     ensures { λ r. ⌜ r ≡ noActions ⌝ }
 {
-    let kinds = [0u8; 64];
-    let starts = [0usize; 64];
-    let ends = [0usize; 64];
+    let kinds = [0u8; paper::NODES];
+    let starts = [0usize; paper::NODES];
+    let ends = [0usize; paper::NODES];
     Actions {
         refusal: 18,
         count: 0,
@@ -59,7 +62,7 @@ fn end(s: &[u8], at: usize) -> usize
     if l < 2 {
         return 0;
     }
-    if l > 201 {
+    if l > paper::ACTION_BYTES {
         return 0;
     }
     if s.len() - at - 1 < l {
@@ -87,7 +90,7 @@ fn next(s: &[u8], at: usize, low: usize) -> usize
     if node < low {
         return 0;
     }
-    if node >= 64 {
+    if node >= paper::NODES {
         return 0;
     }
     q
@@ -100,7 +103,7 @@ fn count(s: &[u8]) -> usize
     if s.len() < 1 {
         return 0;
     }
-    if s[0] > 64 {
+    if s[0] > MOST {
         return 0;
     }
     s[0] as usize
@@ -113,9 +116,9 @@ pub fn read(s: &[u8]) -> Actions
     if n == 0 {
         return refused();
     }
-    let mut kinds = [0u8; 64];
-    let mut starts = [0usize; 64];
-    let mut ends = [0usize; 64];
+    let mut kinds = [0u8; paper::NODES];
+    let mut starts = [0usize; paper::NODES];
+    let mut ends = [0usize; paper::NODES];
     let mut low = 0;
     let mut p = 1;
     let mut i = 0;

@@ -13,13 +13,13 @@ ghost use Rattle.table_read.specs.LocationIndex.{entryNode, actionsLike,
 pub struct Locations {
     pub refusal: u8,
     pub count: usize,
-    pub places: [usize; 1024],
+    pub places: [usize; paper::LOCATIONS],
 }
 
 pub fn refused() -> Locations
     ensures { λ r. ⌜ r ≡ noLocations ⌝ }
 {
-    let places = [0usize; 1024];
+    let places = [0usize; paper::LOCATIONS];
     Locations {
         refusal: 19,
         count: 0,
@@ -43,7 +43,7 @@ fn goes_on(t: usize, n: usize) -> bool
     if t < n {
         return true;
     }
-    t == 65534
+    t == paper::targets::FINISHED
 }
 
 // whether the targets fit the kind
@@ -52,10 +52,10 @@ fn fits(k: u8, n: usize, t: usize, u: usize) -> bool
 {
     match k {
         1 => both(goes_on(t, n), goes_on(u, n)),
-        2 => both(goes_on(t, n), u == 65535),
-        3 => both(goes_on(t, n), u == 65535),
-        4 => both(goes_on(t, n), u == 65535),
-        5 => both(t == 65533, u == 65535),
+        2 => both(goes_on(t, n), u == paper::targets::NONE),
+        3 => both(goes_on(t, n), u == paper::targets::NONE),
+        4 => both(goes_on(t, n), u == paper::targets::NONE),
+        5 => both(t == paper::targets::HALTED, u == paper::targets::NONE),
         _ => false,
     }
 }
@@ -119,7 +119,7 @@ fn count(s: &[u8]) -> usize
         return 0;
     }
     let n = codec::nat2(s, 0);
-    if n > 1024 {
+    if n > paper::LOCATIONS {
         return 0;
     }
     n
@@ -133,7 +133,7 @@ pub fn read(s: &[u8], kinds: &[u8]) -> Locations
     if n == 0 {
         return refused();
     }
-    let mut places = [0usize; 1024];
+    let mut places = [0usize; paper::LOCATIONS];
     let mut p = 2;
     let mut i = 0;
     while i < n {

@@ -58,7 +58,7 @@ pub fn read(s: &[u8], acts: Actions, variables: usize, selectors: usize, modes: 
     let starts = acts.starts;
     let ends = acts.ends;
     let mut i = 0;
-    while i < 64 {
+    while i < paper::NODES {
         let b = starts[i];
         let e = ends[i];
         if !fits(kinds[i], &s[b..e], variables, selectors, modes) {

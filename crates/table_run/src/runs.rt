@@ -10,7 +10,7 @@ ghost use Rattle.table_run.specs.Runs.{Asking, Completes};
 pub fn all(
     es: &[u8],
     rows: &[usize],
-    steady: [i32; 32],
+    steady: [i32; paper::VARIABLES],
     lows: &[i32],
     highs: &[i32],
     ops: &[u8],

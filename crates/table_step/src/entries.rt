@@ -45,5 +45,5 @@ pub fn target(locs: &[u8], at: usize, n: usize, truth: bool) -> usize
         p += 5;
         j += 1;
     }
-    65535
+    paper::targets::NONE
 }

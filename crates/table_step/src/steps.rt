@@ -58,15 +58,15 @@ fn moved(locs: &[u8], places: &[usize], x: usize, n: usize, truth: bool) -> Answ
 {
     let from = places[x];
     let to = entries::target(locs, from, n, truth);
-    if to == 65534 {
-        return end(201);
+    if to == paper::targets::FINISHED {
+        return end(paper::answers::FINISHED);
     }
-    if to == 65533 {
-        return end(202);
+    if to == paper::targets::HALTED {
+        return end(paper::answers::HALTED);
     }
     let at = places[to];
     let acting = entries::acting(locs, at);
-    go_on(200, to, acting)
+    go_on(paper::answers::TAKEN, to, acting)
 }
 
 // What a judged event makes of location x and its acting nodes.
@@ -76,9 +76,9 @@ fn settled(locs: &[u8], places: &[usize], x: usize, acting: NodeSet, v: Verdict)
 {
     match v {
         Verdict::Away(n) => go_on(n, x, acting),
-        Verdict::Above => end(203),
-        Verdict::Below => end(203),
-        Verdict::Stay => go_on(200, x, acting),
+        Verdict::Above => end(paper::answers::FAULT),
+        Verdict::Below => end(paper::answers::FAULT),
+        Verdict::Stay => go_on(paper::answers::TAKEN, x, acting),
         Verdict::Move(n, truth) => moved(locs, places, x, n, truth),
     }
 }
@@ -87,7 +87,7 @@ fn settled(locs: &[u8], places: &[usize], x: usize, acting: NodeSet, v: Verdict)
 pub fn step(
     es: &[u8],
     rows: &[usize],
-    steady: [i32; 32],
+    steady: [i32; paper::VARIABLES],
     lows: &[i32],
     highs: &[i32],
     ops: &[u8],

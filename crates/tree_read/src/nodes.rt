@@ -9,16 +9,16 @@ ghost use Rattle.tree_read.specs.Index.{oneCount, isRead, notNodes, node
 pub struct Nodes {
     pub refusal: u8,
     pub count: usize,
-    pub kinds: [u8; 64],
-    pub starts: [usize; 64],
-    pub ends: [usize; 64],
+    pub kinds: [u8; paper::NODES],
+    pub starts: [usize; paper::NODES],
+    pub ends: [usize; paper::NODES],
 }
 
 pub fn refused() -> Nodes
     ensures { λ r. ⌜ r ≡ notNodes ⌝ }
 {
-    let kinds = [0u8; 64];
-    let places = [0usize; 64];
+    let kinds = [0u8; paper::NODES];
+    let places = [0usize; paper::NODES];
     Nodes {
         refusal: 9,
         count: 0,
@@ -65,7 +65,7 @@ fn node(s: &[u8], at: usize) -> bool
     if l < 1 {
         return false;
     }
-    if l > 200 {
+    if l > paper::NODE_BYTES {
         return false;
     }
     if s.len() - at - 1 < l {
@@ -86,12 +86,12 @@ pub fn read(s: &[u8]) -> Nodes
     if n < 1 {
         return refused();
     }
-    if n > 64 {
+    if n > paper::NODES {
         return refused();
     }
-    let mut kinds = [0u8; 64];
-    let mut starts = [0usize; 64];
-    let mut ends = [0usize; 64];
+    let mut kinds = [0u8; paper::NODES];
+    let mut starts = [0usize; paper::NODES];
+    let mut ends = [0usize; paper::NODES];
     let mut p = 1;
     let mut i = 0;
     while i < n {

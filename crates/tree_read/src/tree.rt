@@ -15,7 +15,7 @@ ghost use Rattle.tree_read.specs.Walks.{childrenOf, NodeWalked, NodesWal
 
 pub struct Subtrees {
     pub ok: bool,
-    pub ends: [usize; 64],
+    pub ends: [usize; paper::NODES],
 }
 
 enum Walk {
@@ -27,7 +27,7 @@ enum Walk {
 pub fn no_tree() -> Subtrees
     ensures { λ r. ⌜ r ≡ noTree ⌝ }
 {
-    let ends = [0usize; 64];
+    let ends = [0usize; paper::NODES];
     Subtrees {
         ok: false,
         ends: ends,
@@ -52,14 +52,14 @@ fn children_of(s: &[u8], k: u8, start: usize) -> u8
 }
 
 // the child counts of the nodes
-fn child_counts(s: &[u8], n: Nodes) -> [u8; 64]
+fn child_counts(s: &[u8], n: Nodes) -> [u8; paper::NODES]
     requires { ⌜ n ≡ nodesOf (now s) ⌝ }
     ensures { λ r. ⌜ ((ns : List Node) → nodesIn edition1 (now (s .entry)) ≡ some ns → r ≡ pad 64 0 (map children ns)) ⌝ }
 {
     let m = n.count;
     let kinds = n.kinds;
     let starts = n.starts;
-    let mut counts = [0u8; 64];
+    let mut counts = [0u8; paper::NODES];
     let mut i = 0;
     while i < m {
         counts[i] = children_of(s, kinds[i], starts[i]);
@@ -108,7 +108,7 @@ pub fn read(s: &[u8], n: Nodes) -> Subtrees
 {
     let m = n.count;
     let counts = child_counts(s, n);
-    let mut ends = [0usize; 64];
+    let mut ends = [0usize; paper::NODES];
     let w = node(&counts[..m], &mut ends, 0);
     match w {
         Walk::Next(e) => {

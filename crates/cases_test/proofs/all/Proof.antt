@@ -51,18 +51,5 @@ returns-2 c = tt
 pub all-spec : {M : Type 1} → statement M
 all-spec =
     tie.close
-    (tie.spec
-    Inv-loop
-    μ-loop
-    none-requires
-    loop-holds
-    read-requires
-    whole-requires
-    last-requires
-    returns
-    shown-requires
-    wrapping-add-u64-requires
-    add-cases
-    loop-less
-    loop-again
-    returns-2)
+    (tie.spec Inv-loop μ-loop none-requires loop-holds read-requires whole-requires last-requires returns shown-requires wrapping-add-u64-requires add-cases
+    loop-less loop-again returns-2)

@@ -34,13 +34,4 @@ returns-3 c = at2 _ _ (c .before .nat2 .ensures) (omega arith)
 pub end2-spec : {M : Type 1} → statement M
 end2-spec =
     tie.close
-    (tie.spec
-    sub-if1
-    returns
-    nat2-requires
-    sub-if2
-    sub-if2-2
-    returns-2
-    add-result
-    add-result-2
-    returns-3)
+    (tie.spec sub-if1 returns nat2-requires sub-if2 sub-if2-2 returns-2 add-result add-result-2 returns-3)

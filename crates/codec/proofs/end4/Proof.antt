@@ -34,13 +34,4 @@ returns-3 c = at4 _ _ (c .before .nat4 .ensures) (omega arith)
 pub end4-spec : {M : Type 1} → statement M
 end4-spec =
     tie.close
-    (tie.spec
-    sub-if1
-    returns
-    nat4-requires
-    sub-if2
-    sub-if2-2
-    returns-2
-    add-result
-    add-result-2
-    returns-3)
+    (tie.spec sub-if1 returns nat4-requires sub-if2 sub-if2-2 returns-2 add-result add-result-2 returns-3)

@@ -34,12 +34,4 @@ returns c = refl
 pub nat2-spec : {M : Type 1} → statement M
 nat2-spec =
     tie.close
-    (tie.spec
-    shared-slice-read-result
-    cast-result
-    mul-result
-    add-result
-    shared-slice-read-result-2
-    cast-result-2
-    add-result-2
-    returns)
+    (tie.spec shared-slice-read-result cast-result mul-result add-result shared-slice-read-result-2 cast-result-2 add-result-2 returns)

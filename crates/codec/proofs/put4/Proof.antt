@@ -52,14 +52,4 @@ returns c =
 pub put4-spec : {M : Type 1} → statement M
 put4-spec =
     tie.close
-    (tie.spec
-    low-requires
-    put1-requires
-    low-requires-2
-    put1-requires-2
-    low-requires-3
-    put1-requires-3
-    low-requires-4
-    put1-requires-4
-    same-length
-    returns)
+    (tie.spec low-requires put1-requires low-requires-2 put1-requires-2 low-requires-3 put1-requires-3 low-requires-4 put1-requires-4 same-length returns)

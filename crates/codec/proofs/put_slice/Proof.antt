@@ -54,14 +54,4 @@ returns c =
 pub put-slice-spec : {M : Type 1} → statement M
 put-slice-spec =
     tie.close
-    (tie.spec
-    Inv-loop
-    μ-loop
-    loop-holds
-    shared-slice-read-put1
-    put1-requires
-    add-j
-    loop-less
-    loop-again
-    same-length
-    returns)
+    (tie.spec Inv-loop μ-loop loop-holds shared-slice-read-put1 put1-requires add-j loop-less loop-again same-length returns)

@@ -64,22 +64,5 @@ returns c = refl
 pub word-spec : {M : Type 1} → statement M
 word-spec =
     tie.close
-    (tie.spec
-    shared-slice-read-a
-    cast-a
-    add-b
-    shared-slice-read-b
-    cast-b
-    add-c
-    shared-slice-read-c
-    cast-c
-    add-d
-    shared-slice-read-d
-    cast-d
-    mul-result
-    add-result
-    mul-result-2
-    add-result-2
-    mul-result-3
-    add-result-3
-    returns)
+    (tie.spec shared-slice-read-a cast-a add-b shared-slice-read-b cast-b add-c shared-slice-read-c cast-c add-d shared-slice-read-d cast-d mul-result
+    add-result mul-result-2 add-result-2 mul-result-3 add-result-3 returns)

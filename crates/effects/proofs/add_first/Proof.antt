@@ -101,23 +101,5 @@ returns c = let l = c .before in
 pub add-first-spec : {M : Type 1} → statement M
 add-first-spec =
     tie.close
-    (tie.spec
-    Inv-loop
-    μ-loop
-    loop-holds
-    mul-sum
-    shared-slice-copy-out-sum
-    mul-sum-2
-    shared-slice-copy-out-sum-2
-    mul-sum-3
-    slice-copy-out-sum
-    mul-sum-4
-    shared-slice-copy-out-sum-3
-    sum-requires
-    mul-t21
-    slice-set-from-values
-    add-v
-    loop-less
-    loop-again
-    same-length
-    returns)
+    (tie.spec Inv-loop μ-loop loop-holds mul-sum shared-slice-copy-out-sum mul-sum-2 shared-slice-copy-out-sum-2 mul-sum-3 slice-copy-out-sum mul-sum-4
+    shared-slice-copy-out-sum-3 sum-requires mul-t21 slice-set-from-values add-v loop-less loop-again same-length returns)

@@ -81,23 +81,5 @@ returns-4 c = record { gives = λ v e h. assigned-malformed _ _ _ _ _ e _ (asked
 pub assign-spec : {M : Type 1} → statement M
 assign-spec =
     tie.close
-    (tie.spec
-    shared-slice-read-v
-    cast-v
-    sub-number-value
-    part-number-value-start
-    part-number-value-end
-    number-value-requires
-    enum-known-z
-    store-requires
-    enum-told
-    enum-told-2
-    enum-told-3
-    same-length
-    returns
-    same-length-2
-    returns-2
-    same-length-3
-    returns-3
-    same-length-4
-    returns-4)
+    (tie.spec shared-slice-read-v cast-v sub-number-value part-number-value-start part-number-value-end number-value-requires enum-known-z store-requires
+    enum-told enum-told-2 enum-told-3 same-length returns same-length-2 returns-2 same-length-3 returns-3 same-length-4 returns-4)

@@ -56,20 +56,5 @@ returns-5 c = let r = c .match .rest in others _ _ _ _ _ _ (r .0 .0 .0 .1) (r .0
 pub effect-spec : {M : Type 1} → statement M
 effect-spec =
     tie.close
-    (tie.spec
-    ask-requires
-    ask-requires-2
-    assign-requires
-    shared-slice-read-s
-    cast-s
-    shared-slice-read-modes
-    slice-write-modes
-    same-length
-    returns
-    same-length-2
-    returns-2
-    same-length-3
-    returns-3
-    same-length-4
-    returns-4
-    returns-5)
+    (tie.spec ask-requires ask-requires-2 assign-requires shared-slice-read-s cast-s shared-slice-read-modes slice-write-modes same-length returns same-length-2
+    returns-2 same-length-3 returns-3 same-length-4 returns-4 returns-5)

@@ -49,15 +49,5 @@ returns-2 c = record { here = λ h. absurd (omega arith); beyond = λ h. refl }
 pub side-spec : {M : Type 1} → statement M
 side-spec =
     tie.close
-    (tie.spec
-    mul-stays
-    shared-slice-copy-out-stays
-    mul-stays-2
-    shared-slice-copy-out-stays-2
-    mul-stays-3
-    shared-slice-copy-out-stays-3
-    mul-stays-4
-    shared-slice-copy-out-stays-4
-    stays-requires
-    returns
-    returns-2)
+    (tie.spec mul-stays shared-slice-copy-out-stays mul-stays-2 shared-slice-copy-out-stays-2 mul-stays-3 shared-slice-copy-out-stays-3 mul-stays-4
+    shared-slice-copy-out-stays-4 stays-requires returns returns-2)

@@ -69,16 +69,5 @@ returns-2 c = let s = c .before .before .before .before .before in
 pub store-spec : {M : Type 1} → statement M
 store-spec =
     tie.close
-    (tie.spec
-    mul-ranged
-    shared-slice-copy-out-ranged
-    mul-ranged-2
-    shared-slice-copy-out-ranged-2
-    cast-ranged
-    ranged-requires
-    goes-on-requires
-    mul-z
-    slice-set-from-z
-    same-length
-    returns
-    returns-2)
+    (tie.spec mul-ranged shared-slice-copy-out-ranged mul-ranged-2 shared-slice-copy-out-ranged-2 cast-ranged ranged-requires goes-on-requires mul-z
+    slice-set-from-z same-length returns returns-2)

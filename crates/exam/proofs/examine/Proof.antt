@@ -77,17 +77,5 @@ returns-2 c =
 pub examine-spec : {M : Type 1} → statement M
 examine-spec =
     tie.close
-    (tie.spec
-    judged-requires
-    refused-requires
-    returns
-    compile-requires
-    run-requires
-    slice-reshare-prefix-run
-    slice-aggregate-run
-    run-requires-2
-    compared-requires
-    same-length
-    same-length-2
-    same-length-3
-    returns-2)
+    (tie.spec judged-requires refused-requires returns compile-requires run-requires slice-reshare-prefix-run slice-aggregate-run run-requires-2
+    compared-requires same-length same-length-2 same-length-3 returns-2)

@@ -31,11 +31,4 @@ returns-4 c = λ es ts rs os a b d e. by-others edition1 (c .before .before .bef
 pub judged-spec : {M : Type 1} → statement M
 judged-spec =
     tie.close
-    (tie.spec
-    measure-requires
-    returns
-    returns-2
-    check-requires
-    returns-3
-    check-requires-2
-    returns-4)
+    (tie.spec measure-requires returns returns-2 check-requires returns-3 check-requires-2 returns-4)

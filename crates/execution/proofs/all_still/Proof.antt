@@ -56,16 +56,4 @@ returns-2 c = let a = c .before .before .before .before .before .before .args in
 pub all-still-spec : {M : Type 1} → statement M
 all-still-spec =
     tie.close
-    (tie.spec
-    Inv-loop
-    μ-loop
-    next-requires
-    loop-holds
-    still-requires
-    goes-on-requires
-    returns
-    add-next
-    next-requires-2
-    loop-less
-    loop-again
-    returns-2)
+    (tie.spec Inv-loop μ-loop next-requires loop-holds still-requires goes-on-requires returns add-next next-requires-2 loop-less loop-again returns-2)

@@ -49,15 +49,4 @@ returns-2 c = sym (c .before .loop .inv .1 ∙ all-end (c .before .before .befor
 pub all-wait-spec : {M : Type 1} → statement M
 all-wait-spec =
     tie.close
-    (tie.spec
-    Inv-loop
-    μ-loop
-    next-requires
-    loop-holds
-    shared-slice-read-if1
-    returns
-    add-next
-    next-requires-2
-    loop-less
-    loop-again
-    returns-2)
+    (tie.spec Inv-loop μ-loop next-requires loop-holds shared-slice-read-if1 returns add-next next-requires-2 loop-less loop-again returns-2)

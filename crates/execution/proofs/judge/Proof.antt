@@ -57,18 +57,5 @@ returns-4 c = let k = c .before .before .before .before .before in λ p f q. eve
 pub judge-spec : {M : Type 1} → statement M
 judge-spec =
     tie.close
-    (tie.spec
-    sensible-requires
-    returns
-    tick-requires
-    same-length
-    same-length-2
-    returns-2
-    pick-requires
-    same-length-3
-    same-length-4
-    returns-3
-    take-switch-requires
-    same-length-5
-    same-length-6
-    returns-4)
+    (tie.spec sensible-requires returns tick-requires same-length same-length-2 returns-2 pick-requires same-length-3 same-length-4 returns-3
+    take-switch-requires same-length-5 same-length-6 returns-4)

@@ -89,23 +89,5 @@ returns-3 c = let e = c .before .before .before in
 pub pick-spec : {M : Type 1} → statement M
 pick-spec =
     tie.close
-    (tie.spec
-    contains-requires
-    returns
-    switch-check-requires
-    goes-on-requires
-    same-length
-    same-length-2
-    returns-2
-    mul-b
-    shared-slice-read-b
-    mul-e
-    shared-slice-read-e
-    shared-slice-read-effect
-    sub-effect
-    part-effect-start
-    part-effect-end
-    effect-requires
-    same-length-3
-    same-length-4
-    returns-3)
+    (tie.spec contains-requires returns switch-check-requires goes-on-requires same-length same-length-2 returns-2 mul-b shared-slice-read-b mul-e
+    shared-slice-read-e shared-slice-read-effect sub-effect part-effect-start part-effect-end effect-requires same-length-3 same-length-4 returns-3)

@@ -71,19 +71,5 @@ returns-4 c = let j = c .before .before .before .before .before in
 pub tick-spec : {M : Type 1} → statement M
 tick-spec =
     tie.close
-    (tie.spec
-    all-wait-requires
-    returns
-    switch-check-requires
-    goes-on-requires
-    same-length
-    returns-2
-    all-still-requires
-    goes-on-requires-2
-    same-length-2
-    returns-3
-    rates-now-requires
-    slice-aggregate-advance
-    advance-requires
-    same-length-3
-    returns-4)
+    (tie.spec all-wait-requires returns switch-check-requires goes-on-requires same-length returns-2 all-still-requires goes-on-requires-2 same-length-2
+    returns-3 rates-now-requires slice-aggregate-advance advance-requires same-length-3 returns-4)

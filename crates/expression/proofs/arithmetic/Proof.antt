@@ -56,15 +56,4 @@ returns-3 c = c .ranged3 .ensures ∙ done (c .before .before) product (rw (ne-e
 pub arithmetic-spec : {M : Type 1} → statement M
 arithmetic-spec =
     tie.close
-    (tie.spec
-    cast-x
-    cast-y
-    add-ranged
-    ranged-requires
-    sub-ranged
-    ranged-requires-2
-    mul-ranged
-    ranged-requires-3
-    returns
-    returns-2
-    returns-3)
+    (tie.spec cast-x cast-y add-ranged ranged-requires sub-ranged ranged-requires-2 mul-ranged ranged-requires-3 returns returns-2 returns-3)

@@ -39,14 +39,4 @@ returns-4 c =
 pub compared-at-spec : {M : Type 1} → statement M
 compared-at-spec =
     tie.close
-    (tie.spec
-    returns
-    shared-slice-read-code
-    returns-2
-    returns-3
-    add-leaf
-    leaf-requires
-    next-of-requires
-    leaf-requires-2
-    relate-requires
-    returns-4)
+    (tie.spec returns shared-slice-read-code returns-2 returns-3 add-leaf leaf-requires next-of-requires leaf-requires-2 relate-requires returns-4)

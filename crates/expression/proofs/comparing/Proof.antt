@@ -69,18 +69,5 @@ returns-7 c =
 pub comparing-spec : {M : Type 1} → statement M
 comparing-spec =
     tie.close
-    (tie.spec
-    returns
-    shared-slice-read-code
-    returns-2
-    returns-3
-    leaf-requires
-    enum-known-a
-    returns-4
-    leaf-requires-2
-    enum-known-b
-    returns-5
-    returns-6
-    comparison-requires
-    plain-truth-requires
-    returns-7)
+    (tie.spec returns shared-slice-read-code returns-2 returns-3 leaf-requires enum-known-a returns-4 leaf-requires-2 enum-known-b returns-5 returns-6
+    comparison-requires plain-truth-requires returns-7)

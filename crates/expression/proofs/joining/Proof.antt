@@ -62,18 +62,5 @@ returns-7 c =
 pub joining-spec : {M : Type 1} → statement M
 joining-spec =
     tie.close
-    (tie.spec
-    returns
-    shared-slice-read-code
-    returns-2
-    returns-3
-    compared-at-requires
-    enum-known-a
-    returns-4
-    compared-at-requires-2
-    enum-known-b
-    returns-5
-    returns-6
-    connective-requires
-    plain-truth-requires
-    returns-7)
+    (tie.spec returns shared-slice-read-code returns-2 returns-3 compared-at-requires enum-known-a returns-4 compared-at-requires-2 enum-known-b returns-5
+    returns-6 connective-requires plain-truth-requires returns-7)

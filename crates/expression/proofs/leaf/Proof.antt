@@ -34,13 +34,4 @@ returns-4 c = rw (lt-ltb _ _ (c .before .before .before .if1 .left), ne-eqb _ _ 
 pub leaf-spec : {M : Type 1} → statement M
 leaf-spec =
     tie.close
-    (tie.spec
-    returns
-    shared-slice-read-code
-    add-constant
-    constant-requires
-    returns-2
-    add-variable
-    variable-requires
-    returns-3
-    returns-4)
+    (tie.spec returns shared-slice-read-code add-constant constant-requires returns-2 add-variable variable-requires returns-3 returns-4)

@@ -86,19 +86,5 @@ returns-7 c =
 pub no-comparison-spec : {M : Type 1} → statement M
 no-comparison-spec =
     tie.close
-    (tie.spec
-    joining-requires
-    enum-told
-    returns
-    enum-told-2
-    returns-2
-    eval-requires
-    enum-known-b
-    plain-truth-requires
-    enum-known-above
-    truth-side-requires
-    returns-3
-    returns-4
-    returns-5
-    returns-6
-    returns-7)
+    (tie.spec joining-requires enum-told returns enum-told-2 returns-2 eval-requires enum-known-b plain-truth-requires enum-known-above truth-side-requires
+    returns-3 returns-4 returns-5 returns-6 returns-7)

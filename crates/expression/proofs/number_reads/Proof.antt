@@ -40,10 +40,4 @@ returns-2 c =
 pub number-reads-spec : {M : Type 1} → statement M
 number-reads-spec =
     tie.close
-    (tie.spec
-    array-share-prefix-zeros
-    slice-aggregate-number-value
-    number-value-requires
-    enum-told
-    returns
-    returns-2)
+    (tie.spec array-share-prefix-zeros slice-aggregate-number-value number-value-requires enum-told returns returns-2)

@@ -72,13 +72,4 @@ returns-5 c =
 pub number-value-spec : {M : Type 1} → statement M
 number-value-spec =
     tie.close
-    (tie.spec
-    whole-requires
-    enum-known-z
-    enum-known-above
-    number-side-requires
-    returns
-    returns-2
-    returns-3
-    returns-4
-    returns-5)
+    (tie.spec whole-requires enum-known-z enum-known-above number-side-requires returns returns-2 returns-3 returns-4 returns-5)

@@ -67,18 +67,5 @@ returns-7 c = let s = c .before in off-left _ _ (s .args .l) (s .args .r) (not-n
 pub operate-spec : {M : Type 1} → statement M
 operate-spec =
     tie.close
-    (tie.spec
-    enum-known-l
-    enum-known-r
-    arithmetic-requires
-    enum-known-r-2
-    enum-known-l-2
-    enum-known-r-3
-    enum-known-r-4
-    returns
-    returns-2
-    returns-3
-    returns-4
-    returns-5
-    returns-6
-    returns-7)
+    (tie.spec enum-known-l enum-known-r arithmetic-requires enum-known-r-2 enum-known-l-2 enum-known-r-3 enum-known-r-4 returns returns-2 returns-3 returns-4
+    returns-5 returns-6 returns-7)

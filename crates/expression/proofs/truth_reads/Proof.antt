@@ -40,10 +40,4 @@ returns-2 c =
 pub truth-reads-spec : {M : Type 1} → statement M
 truth-reads-spec =
     tie.close
-    (tie.spec
-    array-share-prefix-zeros
-    slice-aggregate-truth-value
-    truth-value-requires
-    enum-told
-    returns
-    returns-2)
+    (tie.spec array-share-prefix-zeros slice-aggregate-truth-value truth-value-requires enum-told returns returns-2)

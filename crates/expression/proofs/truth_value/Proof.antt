@@ -29,11 +29,4 @@ returns-3 c = search needs
 pub truth-value-spec : {M : Type 1} → statement M
 truth-value-spec =
     tie.close
-    (tie.spec
-    comparing-requires
-    enum-told
-    enum-told-2
-    no-comparison-requires
-    returns
-    returns-2
-    returns-3)
+    (tie.spec comparing-requires enum-told enum-told-2 no-comparison-requires returns returns-2 returns-3)

@@ -45,12 +45,4 @@ returns-3 c =
 pub variable-spec : {M : Type 1} → statement M
 variable-spec =
     tie.close
-    (tie.spec
-    returns
-    shared-slice-read-i
-    cast-i
-    returns-2
-    mul-t5
-    shared-slice-copy-out-t10
-    add-t11
-    returns-3)
+    (tie.spec returns shared-slice-read-i cast-i returns-2 mul-t5 shared-slice-copy-out-t10 add-t11 returns-3)

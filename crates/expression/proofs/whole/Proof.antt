@@ -70,18 +70,5 @@ returns-5 c = c .eval3 .ensures
 pub whole-spec : {M : Type 1} → statement M
 whole-spec =
     tie.close
-    (tie.spec
-    returns
-    shared-slice-read-code
-    leaf-requires
-    enum-known-a
-    eval-requires
-    returns-2
-    leaf-requires-2
-    enum-known-b
-    eval-requires-2
-    returns-3
-    arithmetic-requires
-    returns-4
-    eval-requires-3
-    returns-5)
+    (tie.spec returns shared-slice-read-code leaf-requires enum-known-a eval-requires returns-2 leaf-requires-2 enum-known-b eval-requires-2 returns-3
+    arithmetic-requires returns-4 eval-requires-3 returns-5)

@@ -54,15 +54,5 @@ returns-2 c =
 pub of-spec : {M : Type 1} → statement M
 of-spec =
     tie.close
-    (tie.spec
-    read-requires
-    none-requires
-    returns
-    read-requires-2
-    slice-aggregate-put-values
-    array-share-prefix-initials
-    slice-aggregate-put-values-2
-    put-values-requires
-    slice-aggregate-put-modes
-    put-modes-requires
-    returns-2)
+    (tie.spec read-requires none-requires returns read-requires-2 slice-aggregate-put-values array-share-prefix-initials slice-aggregate-put-values-2
+    put-values-requires slice-aggregate-put-modes put-modes-requires returns-2)

@@ -81,20 +81,5 @@ returns c = λ t. (let w = written-end (c .before .loop .inv .1 t) (omega arith)
 pub put-modes-spec : {M : Type 1} → statement M
 put-modes-spec =
     tie.close
-    (tie.spec
-    Inv-loop
-    μ-loop
-    shared-slice-read-left
-    loop-holds
-    add-k
-    shared-slice-read-if1
-    add-put1
-    shared-slice-read-put1
-    put1-requires
-    nat2-requires
-    add-p
-    sub-left
-    loop-less
-    loop-again
-    same-length
-    returns)
+    (tie.spec Inv-loop μ-loop shared-slice-read-left loop-holds add-k shared-slice-read-if1 add-put1 shared-slice-read-put1 put1-requires nat2-requires add-p
+    sub-left loop-less loop-again same-length returns)

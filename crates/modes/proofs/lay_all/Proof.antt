@@ -42,14 +42,4 @@ returns c = all-end (c .before .loop .inv) (c .loop-test .left)
 pub lay-all-spec : {M : Type 1} → statement M
 lay-all-spec =
     tie.close
-    (tie.spec
-    Inv-loop
-    μ-loop
-    loop-holds
-    place-requires
-    lay-rates-requires
-    add-j
-    loop-less
-    loop-again
-    same-length
-    returns)
+    (tie.spec Inv-loop μ-loop loop-holds place-requires lay-rates-requires add-j loop-less loop-again same-length returns)

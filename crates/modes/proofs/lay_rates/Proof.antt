@@ -66,22 +66,5 @@ returns c = lay-end (c .before .loop .inv) (omega arith)
 pub lay-rates-spec : {M : Type 1} → statement M
 lay-rates-spec =
     tie.close
-    (tie.spec
-    Inv-loop
-    μ-loop
-    shared-slice-read-left
-    cast-left
-    add-p
-    loop-holds
-    shared-slice-read-v
-    cast-v
-    add-int4
-    int4-requires
-    mul-t14
-    slice-set-from-rates
-    add-p-2
-    sub-left
-    loop-less
-    loop-again
-    same-length
-    returns)
+    (tie.spec Inv-loop μ-loop shared-slice-read-left cast-left add-p loop-holds shared-slice-read-v cast-v add-int4 int4-requires mul-t14 slice-set-from-rates
+    add-p-2 sub-left loop-less loop-again same-length returns)

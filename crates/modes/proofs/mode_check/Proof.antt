@@ -67,22 +67,5 @@ returns-2 c = walk-end (c .before .loop .inv) (omega arith) ∙ ap stepVerdict (
 pub mode-check-spec : {M : Type 1} → statement M
 mode-check-spec =
     tie.close
-    (tie.spec
-    Inv-loop
-    μ-loop
-    switches-at-requires
-    shared-slice-read-left
-    cast-left
-    add-p
-    loop-holds
-    truth-requires
-    goes-on-requires
-    returns
-    add-p-2
-    shared-slice-read-p
-    cast-p
-    add-p-3
-    sub-left
-    loop-less
-    loop-again
-    returns-2)
+    (tie.spec Inv-loop μ-loop switches-at-requires shared-slice-read-left cast-left add-p loop-holds truth-requires goes-on-requires returns add-p-2
+    shared-slice-read-p cast-p add-p-3 sub-left loop-less loop-again returns-2)

@@ -26,11 +26,4 @@ returns c = search needs
 pub place-spec : {M : Type 1} → statement M
 place-spec =
     tie.close
-    (tie.spec
-    mul-row
-    shared-slice-read-row
-    cast-row
-    add-row
-    mul-result
-    shared-slice-read-result
-    returns)
+    (tie.spec mul-row shared-slice-read-row cast-row add-row mul-result shared-slice-read-result returns)

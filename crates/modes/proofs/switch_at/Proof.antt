@@ -45,16 +45,4 @@ returns c = seek-end (c .before .loop .inv) (omega arith)
 pub switch-at-spec : {M : Type 1} → statement M
 switch-at-spec =
     tie.close
-    (tie.spec
-    Inv-loop
-    μ-loop
-    add-p
-    loop-holds
-    add-p-2
-    shared-slice-read-p
-    cast-p
-    add-p-3
-    sub-left
-    loop-less
-    loop-again
-    returns)
+    (tie.spec Inv-loop μ-loop add-p loop-holds add-p-2 shared-slice-read-p cast-p add-p-3 sub-left loop-less loop-again returns)

@@ -46,15 +46,4 @@ returns-2 c = check-end _ _ _ _ (c .before .loop .j) (c .loop-test .left) ∙ sy
 pub switch-check-spec : {M : Type 1} → statement M
 switch-check-spec =
     tie.close
-    (tie.spec
-    Inv-loop
-    μ-loop
-    loop-holds
-    place-requires
-    mode-check-requires
-    goes-on-requires
-    returns
-    add-j
-    loop-less
-    loop-again
-    returns-2)
+    (tie.spec Inv-loop μ-loop loop-holds place-requires mode-check-requires goes-on-requires returns add-j loop-less loop-again returns-2)

@@ -88,21 +88,5 @@ returns-4 c = let q = c .before .before .before in
 pub take-switch-spec : {M : Type 1} → statement M
 take-switch-spec =
     tie.close
-    (tie.spec
-    returns
-    place-requires
-    switches-at-requires
-    shared-slice-read-if2
-    cast-if2
-    same-length
-    returns-2
-    switch-at-requires
-    truth-requires
-    goes-on-requires
-    add-modes
-    shared-slice-read-modes
-    slice-write-modes
-    same-length-2
-    returns-3
-    same-length-3
-    returns-4)
+    (tie.spec returns place-requires switches-at-requires shared-slice-read-if2 cast-if2 same-length returns-2 switch-at-requires truth-requires
+    goes-on-requires add-modes shared-slice-read-modes slice-write-modes same-length-2 returns-3 same-length-3 returns-4)

@@ -38,14 +38,4 @@ returns c = asked-at (c .ask .ensures)
 pub truth-spec : {M : Type 1} → statement M
 truth-spec =
     tie.close
-    (tie.spec
-    add-b
-    add-e
-    shared-slice-read-e
-    cast-e
-    add-e-2
-    sub-ask
-    part-ask-start
-    part-ask-end
-    ask-requires
-    returns)
+    (tie.spec add-b add-e shared-slice-read-e cast-e add-e-2 sub-ask part-ask-start part-ask-end ask-requires returns)

@@ -31,12 +31,4 @@ returns-4 c = let a = c .before .before .before .args in records-are (a .events)
 pub records-length-spec : {M : Type 1} → statement M
 records-length-spec =
     tie.close
-    (tie.spec
-    returns
-    returns-2
-    returns-3
-    mul-result
-    add-result
-    add-result-2
-    mul-result-2
-    returns-4)
+    (tie.spec returns returns-2 returns-3 mul-result add-result add-result-2 mul-result-2 returns-4)

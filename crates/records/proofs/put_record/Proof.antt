@@ -53,10 +53,4 @@ returns c = let t' = c .before .before in
 pub put-record-spec : {M : Type 1} → statement M
 put-record-spec =
     tie.close
-    (tie.spec
-    put1-requires
-    put-set-requires
-    put-values-requires
-    put-slice-requires
-    same-length
-    returns)
+    (tie.spec put1-requires put-set-requires put-values-requires put-slice-requires same-length returns)

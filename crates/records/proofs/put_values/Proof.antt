@@ -67,15 +67,4 @@ returns c = let s = c .before .before .before in
 pub put-values-spec : {M : Type 1} → statement M
 put-values-spec =
     tie.close
-    (tie.spec
-    Inv-loop
-    μ-loop
-    loop-holds
-    mul-put-signed
-    shared-slice-copy-out-put-signed
-    put-signed-requires
-    add-j
-    loop-less
-    loop-again
-    same-length
-    returns)
+    (tie.spec Inv-loop μ-loop loop-holds mul-put-signed shared-slice-copy-out-put-signed put-signed-requires add-j loop-less loop-again same-length returns)

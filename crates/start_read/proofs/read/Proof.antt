@@ -72,21 +72,5 @@ returns-4 c p a =
 pub read-spec : {M : Type 1} → statement M
 read-spec =
     tie.close
-    (tie.spec
-    mul-place
-    add-if1
-    refused-requires
-    returns
-    slice-aggregate-read-values
-    slice-aggregate-read-values-2
-    read-values-requires
-    refused-requires-2
-    returns-2
-    sub-read-modes
-    part-read-modes-start
-    part-read-modes-end
-    slice-aggregate-read-modes
-    read-modes-requires
-    refused-requires-3
-    returns-3
-    returns-4)
+    (tie.spec mul-place add-if1 refused-requires returns slice-aggregate-read-values slice-aggregate-read-values-2 read-values-requires refused-requires-2
+    returns-2 sub-read-modes part-read-modes-start part-read-modes-end slice-aggregate-read-modes read-modes-requires refused-requires-3 returns-3 returns-4)

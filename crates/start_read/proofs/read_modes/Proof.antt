@@ -58,17 +58,5 @@ returns-2 c =
 pub read-modes-spec : {M : Type 1} → statement M
 read-modes-spec =
     tie.close
-    (tie.spec
-    Inv-loop
-    μ-loop
-    loop-holds
-    shared-slice-read-m
-    cast-if1
-    mul-if1
-    shared-slice-read-if1
-    returns
-    array-write-modes
-    add-i
-    loop-less
-    loop-again
+    (tie.spec Inv-loop μ-loop loop-holds shared-slice-read-m cast-if1 mul-if1 shared-slice-read-if1 returns array-write-modes add-i loop-less loop-again
     returns-2)

@@ -83,21 +83,5 @@ returns-2 c =
 pub read-values-spec : {M : Type 1} → statement M
 read-values-spec =
     tie.close
-    (tie.spec
-    Inv-loop
-    μ-loop
-    loop-holds
-    mul-int4
-    int4-requires
-    mul-inside
-    shared-slice-copy-out-inside
-    mul-inside-2
-    shared-slice-copy-out-inside-2
-    inside-requires
-    returns
-    mul-values
-    array-set-from-values
-    add-i
-    loop-less
-    loop-again
-    returns-2)
+    (tie.spec Inv-loop μ-loop loop-holds mul-int4 int4-requires mul-inside shared-slice-copy-out-inside mul-inside-2 shared-slice-copy-out-inside-2
+    inside-requires returns mul-values array-set-from-values add-i loop-less loop-again returns-2)

@@ -49,18 +49,5 @@ returns c = tt
 pub numbers-spec : {M : Type 1} → statement M
 numbers-spec =
     tie.close
-    (tie.spec
-    Inv-loop
-    μ-loop
-    loop-holds
-    mul-number
-    array-read-number
-    number-requires
-    mul-same
-    array-read-same
-    mul-same-2
-    array-read-same-2
-    add-i
-    loop-less
-    loop-again
-    returns)
+    (tie.spec Inv-loop μ-loop loop-holds mul-number array-read-number number-requires mul-same array-read-same mul-same-2 array-read-same-2 add-i loop-less
+    loop-again returns)

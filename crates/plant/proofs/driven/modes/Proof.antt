@@ -68,23 +68,5 @@ returns-2 c = modes-end (c .before .loop .inv .1) (omega arith)
 pub modes-spec : {M : Type 1} → statement M
 modes-spec =
     tie.close
-    (tie.spec
-    Inv-loop
-    μ-loop
-    loop-holds
-    shared-slice-read-k
-    cast-k
-    add-rates
-    rates-requires
-    returns
-    add-q
-    mul-q
-    add-q-2
-    add-past
-    shared-slice-read-past
-    cast-past
-    past-requires
-    add-i
-    loop-less
-    loop-again
-    returns-2)
+    (tie.spec Inv-loop μ-loop loop-holds shared-slice-read-k cast-k add-rates rates-requires returns add-q mul-q add-q-2 add-past shared-slice-read-past
+    cast-past past-requires add-i loop-less loop-again returns-2)

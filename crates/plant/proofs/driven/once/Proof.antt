@@ -60,21 +60,5 @@ returns-2 c = once-end (c .before .loop .inv .1) (omega arith)
 pub once-spec : {M : Type 1} → statement M
 once-spec =
     tie.close
-    (tie.spec
-    Inv-loop
-    μ-loop
-    shared-slice-read-n
-    cast-n
-    loop-holds
-    add-b
-    nat2-requires
-    add-e
-    sub-equation
-    part-equation-start
-    part-equation-end
-    equation-requires
-    returns
-    add-i
-    loop-less
-    loop-again
-    returns-2)
+    (tie.spec Inv-loop μ-loop shared-slice-read-n cast-n loop-holds add-b nat2-requires add-e sub-equation part-equation-start part-equation-end
+    equation-requires returns add-i loop-less loop-again returns-2)

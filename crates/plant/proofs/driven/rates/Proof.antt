@@ -58,21 +58,5 @@ returns-3 c = rates-end (c .before .loop .inv .1) (omega arith)
 pub rates-spec : {M : Type 1} → statement M
 rates-spec =
     tie.close
-    (tie.spec
-    Inv-loop
-    μ-loop
-    loop-holds
-    shared-slice-read-v
-    cast-v
-    element-copy-out-if1
-    returns
-    array-read-if2
-    returns-2
-    array-write-mine
-    element-write-seen
-    add-p
-    add-p-2
-    add-i
-    loop-less
-    loop-again
-    returns-3)
+    (tie.spec Inv-loop μ-loop loop-holds shared-slice-read-v cast-v element-copy-out-if1 returns array-read-if2 returns-2 array-write-mine element-write-seen
+    add-p add-p-2 add-i loop-less loop-again returns-3)

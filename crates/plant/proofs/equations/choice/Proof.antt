@@ -65,19 +65,5 @@ returns-5 c = step-says (then-byte _ (omega arith) (then-byte _ (omega arith) (t
 pub choice-spec : {M : Type 1} → statement M
 choice-spec =
     tie.close
-    (tie.spec
-    sub-if1
-    returns
-    shared-slice-read-first
-    add-n
-    shared-slice-read-n
-    returns-2
-    returns-3
-    add-modes
-    add-modes-2
-    modes-requires
-    enum-known-w
-    both-requires
-    enum-told
-    returns-4
-    returns-5)
+    (tie.spec sub-if1 returns shared-slice-read-first add-n shared-slice-read-n returns-2 returns-3 add-modes add-modes-2 modes-requires enum-known-w
+    both-requires enum-told returns-4 returns-5)

@@ -56,19 +56,5 @@ returns-4 c = step-says (equation-lost _ _ _ _ (c .before .before .before .befor
 pub equation-spec : {M : Type 1} → statement M
 equation-spec =
     tie.close
-    (tie.spec
-    sub-if1
-    returns
-    nat2-requires
-    add-b
-    sub-if2
-    returns-2
-    add-e
-    sub-equation-in
-    part-equation-in-start
-    part-equation-in-end
-    equation-in-requires
-    enum-known-w
-    enum-told
-    returns-3
-    returns-4)
+    (tie.spec sub-if1 returns nat2-requires add-b sub-if2 returns-2 add-e sub-equation-in part-equation-in-start part-equation-in-end equation-in-requires
+    enum-known-w enum-told returns-3 returns-4)

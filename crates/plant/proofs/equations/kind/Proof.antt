@@ -35,11 +35,4 @@ returns-4 c = step-says (then-byte _ (omega arith) (rw (ne-eqb _ _ (c .match .re
 pub kind-spec : {M : Type 1} → statement M
 kind-spec =
     tie.close
-    (tie.spec
-    returns
-    shared-slice-read-k
-    steady-requires
-    choice-requires
-    returns-2
-    returns-3
-    returns-4)
+    (tie.spec returns shared-slice-read-k steady-requires choice-requires returns-2 returns-3 returns-4)

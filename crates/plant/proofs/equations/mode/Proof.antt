@@ -66,20 +66,5 @@ returns-5 c = step-says (then-byte _ (omega arith) (broke _ (c .before .before .
 pub mode-spec : {M : Type 1} → statement M
 mode-spec =
     tie.close
-    (tie.spec
-    returns
-    add-rates
-    shared-slice-read-rates
-    rates-requires
-    enum-known-w
-    returns-2
-    add-switches
-    shared-slice-read-switches
-    switches-requires
-    enum-known-v
-    both-requires
-    enum-told
-    enum-told-2
-    returns-3
-    returns-4
-    returns-5)
+    (tie.spec returns add-rates shared-slice-read-rates rates-requires enum-known-w returns-2 add-switches shared-slice-read-switches switches-requires
+    enum-known-v both-requires enum-told enum-told-2 returns-3 returns-4 returns-5)

@@ -33,13 +33,4 @@ returns c = mode-ends (c .before .before .before .before .args .s .now) (c .befo
 pub mode-end-spec : {M : Type 1} → statement M
 mode-end-spec =
     tie.close
-    (tie.spec
-    add-k
-    shared-slice-read-k
-    cast-k
-    mul-k
-    add-k-2
-    add-switches-end
-    shared-slice-read-switches-end
-    switches-end-requires
-    returns)
+    (tie.spec add-k shared-slice-read-k cast-k mul-k add-k-2 add-switches-end shared-slice-read-switches-end switches-end-requires returns)

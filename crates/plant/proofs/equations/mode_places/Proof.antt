@@ -42,15 +42,4 @@ returns c = noting-end _ _ _ _ _ _ _ (c .before .loop .inv) (omega arith)
 pub mode-places-spec : {M : Type 1} → statement M
 mode-places-spec =
     tie.close
-    (tie.spec
-    Inv-loop
-    μ-loop
-    loop-holds
-    mul-places
-    element-write-places
-    mode-end-requires
-    add-i
-    sub-left
-    loop-less
-    loop-again
-    returns)
+    (tie.spec Inv-loop μ-loop loop-holds mul-places element-write-places mode-end-requires add-i sub-left loop-less loop-again returns)

@@ -50,16 +50,4 @@ returns-2 c = step-says (named-end _ _ _ _ (c .before .loop .inv .1) (omega arit
 pub modes-spec : {M : Type 1} → statement M
 modes-spec =
     tie.close
-    (tie.spec
-    Inv-loop
-    μ-loop
-    loop-holds
-    mode-requires
-    enum-known-w
-    both-requires
-    enum-told
-    returns
-    add-i
-    loop-less
-    loop-again
-    returns-2)
+    (tie.spec Inv-loop μ-loop loop-holds mode-requires enum-known-w both-requires enum-told returns add-i loop-less loop-again returns-2)

@@ -28,11 +28,4 @@ returns-2 c = answer-taken (c .before .before .before .before .before .before .b
 pub read-spec : {M : Type 1} → statement M
 read-spec =
     tie.close
-    (tie.spec
-    refusal-requires
-    refused-requires
-    returns
-    selectors-requires
-    shared-slice-read-steady-rates
-    steady-rates-requires
-    returns-2)
+    (tie.spec refusal-requires refused-requires returns selectors-requires shared-slice-read-steady-rates steady-rates-requires returns-2)

@@ -47,14 +47,4 @@ returns-6 c = broken-is-6 _ _ (none-kept (section-reads (omega arith) (omega ari
 pub refusal-spec : {M : Type 1} → statement M
 refusal-spec =
     tie.close
-    (tie.spec
-    returns
-    shared-slice-read-n
-    returns-2
-    some-equations-requires
-    enum-known-w
-    returns-3
-    enum-told
-    returns-4
-    returns-5
-    returns-6)
+    (tie.spec returns shared-slice-read-n returns-2 some-equations-requires enum-known-w returns-3 enum-told returns-4 returns-5 returns-6)

@@ -74,25 +74,5 @@ returns c = λ t. noted-end (c .before .loop .inv t) (omega arith)
 pub selectors-spec : {M : Type 1} → statement M
 selectors-spec =
     tie.close
-    (tie.spec
-    Inv-loop
-    μ-loop
-    shared-slice-read-left
-    loop-holds
-    add-k
-    shared-slice-read-if1
-    add-n
-    shared-slice-read-n
-    cast-modes
-    mul-modes
-    array-write-modes
-    add-mode-places
-    mul-mode-places
-    mode-places-requires
-    add-count
-    nat2-requires
-    add-p
-    sub-left
-    loop-less
-    loop-again
-    returns)
+    (tie.spec Inv-loop μ-loop shared-slice-read-left loop-holds add-k shared-slice-read-if1 add-n shared-slice-read-n cast-modes mul-modes array-write-modes
+    add-mode-places mul-mode-places mode-places-requires add-count nat2-requires add-p sub-left loop-less loop-again returns)

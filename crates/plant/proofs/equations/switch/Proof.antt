@@ -50,17 +50,4 @@ returns-4 c = step-says (switch-there _ _ _ (omega arith) (omega arith) (omega a
 pub switch-spec : {M : Type 1} → statement M
 switch-spec =
     tie.close
-    (tie.spec
-    returns
-    shared-slice-read-l
-    returns-2
-    sub-if3
-    sub-if3-2
-    cast-if3
-    returns-3
-    add-t5
-    cast-t9
-    add-t11
-    add-t10
-    shared-slice-read-t8
-    returns-4)
+    (tie.spec returns shared-slice-read-l returns-2 sub-if3 sub-if3-2 cast-if3 returns-3 add-t5 cast-t9 add-t11 add-t10 shared-slice-read-t8 returns-4)

@@ -41,15 +41,4 @@ returns c = ahead-end _ _ _ _ _ (c .before .loop .inv) (omega arith)
 pub switches-end-spec : {M : Type 1} → statement M
 switches-end-spec =
     tie.close
-    (tie.spec
-    Inv-loop
-    μ-loop
-    loop-holds
-    add-p
-    shared-slice-read-p
-    cast-p
-    add-p-2
-    sub-left
-    loop-less
-    loop-again
-    returns)
+    (tie.spec Inv-loop μ-loop loop-holds add-p shared-slice-read-p cast-p add-p-2 sub-left loop-less loop-again returns)

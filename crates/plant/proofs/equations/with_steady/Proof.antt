@@ -41,14 +41,5 @@ returns-2 c = λ t. c .before .put-rate .ensures ∙ with-one _ _ t _ (c .before
 pub with-steady-spec : {M : Type 1} → statement M
 with-steady-spec =
     tie.close
-    (tie.spec
-    shared-slice-read-if1
-    returns
-    slice-aggregate-put-rate
-    add-put-rate
-    shared-slice-read-put-rate
-    cast-put-rate
-    add-int4
-    int4-requires
-    put-rate-requires
-    returns-2)
+    (tie.spec shared-slice-read-if1 returns slice-aggregate-put-rate add-put-rate shared-slice-read-put-rate cast-put-rate add-int4 int4-requires
+    put-rate-requires returns-2)

@@ -43,15 +43,4 @@ returns c = turns-place (c .before .loop .inv .1) (omega arith)
 pub past-spec : {M : Type 1} → statement M
 past-spec =
     tie.close
-    (tie.spec
-    Inv-loop
-    μ-loop
-    loop-holds
-    add-p
-    shared-slice-read-p
-    cast-p
-    add-p-2
-    add-i
-    loop-less
-    loop-again
-    returns)
+    (tie.spec Inv-loop μ-loop loop-holds add-p shared-slice-read-p cast-p add-p-2 add-i loop-less loop-again returns)

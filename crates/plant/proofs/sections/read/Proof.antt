@@ -39,14 +39,4 @@ returns-4 c = passed (c .before .before .before .before .before .before .before 
 pub read-spec : {M : Type 1} → statement M
 read-spec =
     tie.close
-    (tie.spec
-    read-requires
-    refused-requires
-    returns
-    read-requires-2
-    refused-requires-2
-    returns-2
-    once-requires
-    refused-requires-3
-    returns-3
-    returns-4)
+    (tie.spec read-requires refused-requires returns read-requires-2 refused-requires-2 returns-2 once-requires refused-requires-3 returns-3 returns-4)

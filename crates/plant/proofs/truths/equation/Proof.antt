@@ -32,12 +32,4 @@ returns-2 c = choice-reads _ _ (c .before .before .if1 .left) (c .modes .ensures
 pub equation-spec : {M : Type 1} → statement M
 equation-spec =
     tie.close
-    (tie.spec
-    shared-slice-read-if1
-    returns
-    add-modes
-    add-modes-2
-    shared-slice-read-modes
-    cast-modes
-    modes-requires
-    returns-2)
+    (tie.spec shared-slice-read-if1 returns add-modes add-modes-2 shared-slice-read-modes cast-modes modes-requires returns-2)

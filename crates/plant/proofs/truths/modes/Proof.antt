@@ -71,23 +71,5 @@ returns-2 c = turns-true (c .before .loop .inv .1) (omega arith)
 pub modes-spec : {M : Type 1} → statement M
 modes-spec =
     tie.close
-    (tie.spec
-    Inv-loop
-    μ-loop
-    loop-holds
-    add-q
-    shared-slice-read-q
-    cast-q
-    mul-q
-    add-q-2
-    shared-slice-read-k
-    cast-k
-    add-switches
-    switches-requires
-    returns
-    add-past
-    past-requires
-    add-i
-    loop-less
-    loop-again
-    returns-2)
+    (tie.spec Inv-loop μ-loop loop-holds add-q shared-slice-read-q cast-q mul-q add-q-2 shared-slice-read-k cast-k add-switches switches-requires returns
+    add-past past-requires add-i loop-less loop-again returns-2)

@@ -66,21 +66,5 @@ returns-2 c = λ es h. turns-true (c .before .loop .inv .1) (omega arith) es [] 
 pub read-spec : {M : Type 1} → statement M
 read-spec =
     tie.close
-    (tie.spec
-    Inv-loop
-    μ-loop
-    shared-slice-read-n
-    cast-n
-    loop-holds
-    add-b
-    nat2-requires
-    add-e
-    sub-equation
-    part-equation-start
-    part-equation-end
-    equation-requires
-    returns
-    add-i
-    loop-less
-    loop-again
-    returns-2)
+    (tie.spec Inv-loop μ-loop shared-slice-read-n cast-n loop-holds add-b nat2-requires add-e sub-equation part-equation-start part-equation-end
+    equation-requires returns add-i loop-less loop-again returns-2)

@@ -67,22 +67,5 @@ returns-2 c = turns-true (c .before .loop .inv .1) (omega arith)
 pub switches-spec : {M : Type 1} → statement M
 switches-spec =
     tie.close
-    (tie.spec
-    Inv-loop
-    μ-loop
-    loop-holds
-    add-b
-    add-b-2
-    add-e
-    shared-slice-read-e
-    cast-e
-    add-e-2
-    sub-truth-reads
-    part-truth-reads-start
-    part-truth-reads-end
-    truth-reads-requires
-    returns
-    add-i
-    loop-less
-    loop-again
-    returns-2)
+    (tie.spec Inv-loop μ-loop loop-holds add-b add-b-2 add-e shared-slice-read-e cast-e add-e-2 sub-truth-reads part-truth-reads-start part-truth-reads-end
+    truth-reads-requires returns add-i loop-less loop-again returns-2)

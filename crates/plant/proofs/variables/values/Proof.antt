@@ -112,30 +112,6 @@ returns-3 c =
 pub values-spec : {M : Type 1} → statement M
 values-spec =
     tie.close
-    (tie.spec
-    Inv-loop
-    μ-loop
-    loop-holds
-    int4-requires
-    add-int4
-    int4-requires-2
-    add-int4-2
-    add-int4-3
-    int4-requires-3
-    refused-requires
-    returns
-    refused-requires-2
-    returns-2
-    mul-lows
-    array-set-from-lows
-    mul-highs
-    array-set-from-highs
-    mul-initials
-    array-set-from-initials
-    add-p
-    add-p-2
-    add-p-3
-    add-i
-    loop-less
-    loop-again
-    returns-3)
+    (tie.spec Inv-loop μ-loop loop-holds int4-requires add-int4 int4-requires-2 add-int4-2 add-int4-3 int4-requires-3 refused-requires returns
+    refused-requires-2 returns-2 mul-lows array-set-from-lows mul-highs array-set-from-highs mul-initials array-set-from-initials add-p add-p-2 add-p-3 add-i
+    loop-less loop-again returns-3)

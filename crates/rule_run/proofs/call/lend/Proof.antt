@@ -202,29 +202,7 @@ returns c =
 pub lend-spec : {M : Type 1} → statement M
 lend-spec =
     tie.close
-    (tie.spec
-    slice-aggregate-kinds
-    kinds-requires
-    sub-all
-    part-all-start
-    part-all-end
-    slice-aggregate-all
-    array-share-prefix-lows
-    slice-aggregate-all-2
-    array-share-prefix-highs
-    slice-aggregate-all-3
-    sub-all-2
-    part-all-start-2
-    part-all-end-2
-    slice-aggregate-all-4
-    slice-aggregate-all-5
-    slice-aggregate-all-6
-    slice-aggregate-all-7
-    slice-aggregate-all-8
-    array-borrow-prefix-values
-    slice-aggregate-all-9
-    array-borrow-prefix-modes
-    slice-aggregate-all-10
-    all-requires
-    same-length
-    returns)
+    (tie.spec slice-aggregate-kinds kinds-requires sub-all part-all-start part-all-end slice-aggregate-all array-share-prefix-lows slice-aggregate-all-2
+    array-share-prefix-highs slice-aggregate-all-3 sub-all-2 part-all-start-2 part-all-end-2 slice-aggregate-all-4 slice-aggregate-all-5 slice-aggregate-all-6
+    slice-aggregate-all-7 slice-aggregate-all-8 array-borrow-prefix-values slice-aggregate-all-9 array-borrow-prefix-modes slice-aggregate-all-10 all-requires
+    same-length returns)

@@ -45,13 +45,4 @@ returns-3 c =
 pub run-spec : {M : Type 1} → statement M
 run-spec =
     tie.close
-    (tie.spec
-    index-requires
-    refused-requires
-    returns
-    admit-requires
-    refused-requires-2
-    returns-2
-    lend-requires
-    same-length
-    returns-3)
+    (tie.spec index-requires refused-requires returns admit-requires refused-requires-2 returns-2 lend-requires same-length returns-3)

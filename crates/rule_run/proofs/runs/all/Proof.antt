@@ -177,32 +177,6 @@ returns c = λ s a. going-end s (c .before .loop .inv .3 s a) (omega (arith, c .
 pub all-spec : {M : Type 1} → statement M
 all-spec =
     tie.close
-    (tie.spec
-    Inv-loop
-    μ-loop
-    all-requires
-    all-requires-2
-    slice-aggregate-at
-    at-requires
-    none-requires
-    loop-holds
-    slice-aggregate-step
-    slice-aggregate-step-2
-    mul-step
-    shared-slice-read-step
-    mul-step-2
-    add-step
-    shared-slice-read-step-2
-    mul-step-3
-    add-step-2
-    shared-slice-read-step-3
-    step-requires
-    put-record-requires
-    booked-requires
-    add-k
-    loop-less
-    loop-again
-    same-length
-    same-length-2
-    same-length-3
-    returns)
+    (tie.spec Inv-loop μ-loop all-requires all-requires-2 slice-aggregate-at at-requires none-requires loop-holds slice-aggregate-step slice-aggregate-step-2
+    mul-step shared-slice-read-step mul-step-2 add-step shared-slice-read-step-2 mul-step-3 add-step-2 shared-slice-read-step-3 step-requires
+    put-record-requires booked-requires add-k loop-less loop-again same-length same-length-2 same-length-3 returns)

@@ -36,14 +36,4 @@ returns-3 c = λ t x h. moved-to-halt (c .before .before .before .before .advanc
 pub moved-spec : {M : Type 1} → statement M
 moved-spec =
     tie.close
-    (tie.spec
-    advance-requires
-    enum-told
-    go-on-requires
-    enum-told-2
-    end-requires
-    enum-told-3
-    end-requires-2
-    returns
-    returns-2
-    returns-3)
+    (tie.spec advance-requires enum-told go-on-requires enum-told-2 end-requires enum-told-3 end-requires-2 returns returns-2 returns-3)

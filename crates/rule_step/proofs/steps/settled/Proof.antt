@@ -51,19 +51,5 @@ returns-5 c = λ s x h vs ms e vs' ms' l. settled-move s x h vs ms e vs' ms' l (
 pub settled-spec : {M : Type 1} → statement M
 settled-spec =
     tie.close
-    (tie.spec
-    enum-known-v
-    go-on-requires
-    enum-told
-    end-requires
-    enum-told-2
-    end-requires-2
-    enum-told-3
-    go-on-requires-2
-    enum-known-v-2
-    moved-requires
-    returns
-    returns-2
-    returns-3
-    returns-4
-    returns-5)
+    (tie.spec enum-known-v go-on-requires enum-told end-requires enum-told-2 end-requires-2 enum-told-3 go-on-requires-2 enum-known-v-2 moved-requires returns
+    returns-2 returns-3 returns-4 returns-5)

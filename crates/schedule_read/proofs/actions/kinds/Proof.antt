@@ -44,14 +44,4 @@ returns c = numbers-end _ (c .before .loop .i) _ (omega arith) (c .before .loop 
 pub kinds-spec : {M : Type 1} → statement M
 kinds-spec =
     tie.close
-    (tie.spec
-    Inv-loop
-    μ-loop
-    loop-holds
-    shared-slice-read-kind
-    kind-requires
-    array-write-acts
-    add-i
-    loop-less
-    loop-again
-    returns)
+    (tie.spec Inv-loop μ-loop loop-holds shared-slice-read-kind kind-requires array-write-acts add-i loop-less loop-again returns)

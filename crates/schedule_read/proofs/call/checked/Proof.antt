@@ -134,28 +134,5 @@ returns-3 c =
 pub checked-spec : {M : Type 1} → statement M
 checked-spec =
     tie.close
-    (tie.spec
-    Inv-loop
-    μ-loop
-    read-requires
-    loop-holds
-    shared-slice-read-k
-    mul-b
-    shared-slice-read-b
-    mul-e
-    shared-slice-read-e
-    sub-one
-    part-one-start
-    part-one-end
-    one-requires
-    returns
-    sub-one-2
-    part-one-start-2
-    part-one-end-2
-    one-requires-2
-    both-requires
-    add-i
-    loop-less
-    loop-again
-    returns-2
-    returns-3)
+    (tie.spec Inv-loop μ-loop read-requires loop-holds shared-slice-read-k mul-b shared-slice-read-b mul-e shared-slice-read-e sub-one part-one-start
+    part-one-end one-requires returns sub-one-2 part-one-start-2 part-one-end-2 one-requires-2 both-requires add-i loop-less loop-again returns-2 returns-3)

@@ -49,18 +49,5 @@ returns-2 c = c .sections .ensures ∙ by-sections (c .before .before .before .b
 pub index-spec : {M : Type 1} → statement M
 index-spec =
     tie.close
-    (tie.spec
-    read-requires
-    refused-requires
-    returns
-    sub-sections
-    part-sections-start
-    part-sections-end
-    sub-sections-2
-    part-sections-start-2
-    part-sections-end-2
-    sub-sections-3
-    part-sections-start-3
-    part-sections-end-3
-    sections-requires
-    returns-2)
+    (tie.spec read-requires refused-requires returns sub-sections part-sections-start part-sections-end sub-sections-2 part-sections-start-2 part-sections-end-2
+    sub-sections-3 part-sections-start-3 part-sections-end-3 sections-requires returns-2)

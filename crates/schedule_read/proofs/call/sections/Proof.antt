@@ -95,21 +95,6 @@ returns-5 c =
 pub sections-spec : {M : Type 1} → statement M
 sections-spec =
     tie.close
-    (tie.spec
-    read-requires
-    refused-requires
-    returns
-    read-requires-2
-    refused-requires-2
-    returns-2
-    read-requires-3
-    refused-requires-3
-    returns-3
-    slice-aggregate-checked
-    slice-aggregate-checked-2
-    slice-aggregate-checked-3
-    slice-aggregate-checked-4
-    checked-requires
-    refused-requires-4
-    returns-4
+    (tie.spec read-requires refused-requires returns read-requires-2 refused-requires-2 returns-2 read-requires-3 refused-requires-3 returns-3
+    slice-aggregate-checked slice-aggregate-checked-2 slice-aggregate-checked-3 slice-aggregate-checked-4 checked-requires refused-requires-4 returns-4
     returns-5)

@@ -51,17 +51,5 @@ returns-4 c = λ cs d. names-nothing _ _ (c .match .rest .0 .0 .1) (c .match .re
 pub one-spec : {M : Type 1} → statement M
 one-spec =
     tie.close
-    (tie.spec
-    shared-slice-read-result
-    cast-result
-    shared-slice-read-result-2
-    cast-result-2
-    shared-slice-read-mode-exists
-    cast-mode-exists
-    shared-slice-read-mode-exists-2
-    cast-mode-exists-2
-    mode-exists-requires
-    returns
-    returns-2
-    returns-3
-    returns-4)
+    (tie.spec shared-slice-read-result cast-result shared-slice-read-result-2 cast-result-2 shared-slice-read-mode-exists cast-mode-exists
+    shared-slice-read-mode-exists-2 cast-mode-exists-2 mode-exists-requires returns returns-2 returns-3 returns-4)

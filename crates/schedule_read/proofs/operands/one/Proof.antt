@@ -71,21 +71,6 @@ returns-6 c = reads-nothing _ (c .match .rest .0 .0 .0 .0 .1) (c .match .rest .0
 pub one-spec : {M : Type 1} → statement M
 one-spec =
     tie.close
-    (tie.spec
-    truth-reads-requires
-    truth-reads-requires-2
-    truth-reads-requires-3
-    sub-number-reads
-    part-number-reads-start
-    part-number-reads-end
-    number-reads-requires
-    sub-number-reads-2
-    part-number-reads-start-2
-    part-number-reads-end-2
-    number-reads-requires-2
-    returns
-    returns-2
-    returns-3
-    returns-4
-    returns-5
-    returns-6)
+    (tie.spec truth-reads-requires truth-reads-requires-2 truth-reads-requires-3 sub-number-reads part-number-reads-start part-number-reads-end
+    number-reads-requires sub-number-reads-2 part-number-reads-start-2 part-number-reads-end-2 number-reads-requires-2 returns returns-2 returns-3 returns-4
+    returns-5 returns-6)

@@ -88,19 +88,5 @@ returns-5 c =
 pub read-spec : {M : Type 1} → statement M
 read-spec =
     tie.close
-    (tie.spec
-    header-requires
-    refused-requires
-    returns
-    length-field-requires
-    refused-requires-2
-    returns-2
-    ends-requires
-    refused-requires-3
-    returns-3
-    sub-if4
-    refused-requires-4
-    returns-4
-    add-t8
-    add-t9
-    returns-5)
+    (tie.spec header-requires refused-requires returns length-field-requires refused-requires-2 returns-2 ends-requires refused-requires-3 returns-3 sub-if4
+    refused-requires-4 returns-4 add-t8 add-t9 returns-5)

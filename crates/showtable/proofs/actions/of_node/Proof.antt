@@ -47,18 +47,5 @@ returns-2 c = tt
 pub of-node-spec : {M : Type 1} → statement M
 of-node-spec =
     tie.close
-    (tie.spec
-    Inv-loop
-    μ-loop
-    on-requires
-    at-requires
-    loop-holds
-    on-requires-2
-    at-requires-2
-    returns
-    at-requires-3
-    on-requires-3
-    sub-left
-    loop-less
-    loop-again
+    (tie.spec Inv-loop μ-loop on-requires at-requires loop-holds on-requires-2 at-requires-2 returns at-requires-3 on-requires-3 sub-left loop-less loop-again
     returns-2)

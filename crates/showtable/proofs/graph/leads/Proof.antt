@@ -53,20 +53,5 @@ returns-2 c = tt
 pub leads-spec : {M : Type 1} → statement M
 leads-spec =
     tie.close
-    (tie.spec
-    Inv-loop
-    μ-loop
-    on-requires
-    loop-holds
-    sub-steps
-    at-requires
-    on-requires-2
-    loop-less
-    loop-again
-    is-to-requires
-    returns
-    on-requires-3
-    sub-left
-    loop-less-2
-    loop-again-2
-    returns-2)
+    (tie.spec Inv-loop μ-loop on-requires loop-holds sub-steps at-requires on-requires-2 loop-less loop-again is-to-requires returns on-requires-3 sub-left
+    loop-less-2 loop-again-2 returns-2)

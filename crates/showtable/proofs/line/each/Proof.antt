@@ -36,14 +36,4 @@ returns c = tt
 pub each-spec : {M : Type 1} → statement M
 each-spec =
     tie.close
-    (tie.spec
-    Inv-loop
-    μ-loop
-    at-requires
-    on-requires
-    loop-holds
-    show-requires
-    add-n
-    loop-less
-    loop-again
-    returns)
+    (tie.spec Inv-loop μ-loop at-requires on-requires loop-holds show-requires add-n loop-less loop-again returns)

@@ -64,23 +64,5 @@ returns c = tt
 pub show-spec : {M : Type 1} → statement M
 show-spec =
     tie.close
-    (tie.spec
-    Inv-loop
-    μ-loop
-    loop-holds
-    shared-slice-read-c
-    add-i
-    on-requires
-    loop-less
-    loop-again
-    at-requires
-    on-requires-2
-    loop-less-2
-    loop-again-2
-    is-shown-requires
-    field-requires
-    loop-less-3
-    loop-again-3
-    loop-less-4
-    loop-again-4
-    returns)
+    (tie.spec Inv-loop μ-loop loop-holds shared-slice-read-c add-i on-requires loop-less loop-again at-requires on-requires-2 loop-less-2 loop-again-2
+    is-shown-requires field-requires loop-less-3 loop-again-3 loop-less-4 loop-again-4 returns)

@@ -41,16 +41,4 @@ returns c = tt
 pub location-spec : {M : Type 1} → statement M
 location-spec =
     tie.close
-    (tie.spec
-    Inv-loop
-    μ-loop
-    heading-requires
-    on-requires
-    at-requires
-    loop-holds
-    entry-requires
-    on-requires-2
-    sub-left
-    loop-less
-    loop-again
-    returns)
+    (tie.spec Inv-loop μ-loop heading-requires on-requires at-requires loop-holds entry-requires on-requires-2 sub-left loop-less loop-again returns)

@@ -36,14 +36,4 @@ returns c = tt
 pub show-spec : {M : Type 1} → statement M
 show-spec =
     tie.close
-    (tie.spec
-    Inv-loop
-    μ-loop
-    two-requires
-    on-requires
-    loop-holds
-    location-requires
-    add-n
-    loop-less
-    loop-again
-    returns)
+    (tie.spec Inv-loop μ-loop two-requires on-requires loop-holds location-requires add-n loop-less loop-again returns)

@@ -34,13 +34,4 @@ returns c = tt
 pub text-spec : {M : Type 1} → statement M
 text-spec =
     tie.close
-    (tie.spec
-    Inv-loop
-    μ-loop
-    loop-holds
-    shared-slice-read-letter
-    letter-requires
-    add-i
-    loop-less
-    loop-again
-    returns)
+    (tie.spec Inv-loop μ-loop loop-holds shared-slice-read-letter letter-requires add-i loop-less loop-again returns)

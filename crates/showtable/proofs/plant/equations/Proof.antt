@@ -44,17 +44,5 @@ returns c = tt
 pub equations-spec : {M : Type 1} → statement M
 equations-spec =
     tie.close
-    (tie.spec
-    Inv-loop
-    μ-loop
-    on-requires
-    at-requires
-    loop-holds
-    on-requires-2
-    equation-requires
-    two-requires
-    on-requires-3
-    sub-left
-    loop-less
-    loop-again
+    (tie.spec Inv-loop μ-loop on-requires at-requires loop-holds on-requires-2 equation-requires two-requires on-requires-3 sub-left loop-less loop-again
     returns)

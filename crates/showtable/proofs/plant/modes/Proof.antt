@@ -36,14 +36,4 @@ returns c = tt
 pub modes-spec : {M : Type 1} → statement M
 modes-spec =
     tie.close
-    (tie.spec
-    Inv-loop
-    μ-loop
-    at-requires
-    on-requires
-    loop-holds
-    mode-requires
-    add-n
-    loop-less
-    loop-again
-    returns)
+    (tie.spec Inv-loop μ-loop at-requires on-requires loop-holds mode-requires add-n loop-less loop-again returns)

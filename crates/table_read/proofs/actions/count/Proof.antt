@@ -25,10 +25,4 @@ returns-3 c = count-is _ (omega arith) (omega arith)
 pub count-spec : {M : Type 1} → statement M
 count-spec =
     tie.close
-    (tie.spec
-    returns
-    shared-slice-read-if2
-    returns-2
-    shared-slice-read-result
-    cast-result
-    returns-3)
+    (tie.spec returns shared-slice-read-if2 returns-2 shared-slice-read-result cast-result returns-3)

@@ -70,25 +70,5 @@ returns-6 c = action-bad _ _ (omega arith) (omega arith) (omega arith) (omega ar
 pub end-spec : {M : Type 1} → statement M
 end-spec =
     tie.close
-    (tie.spec
-    returns
-    shared-slice-read-l
-    cast-l
-    returns-2
-    returns-3
-    sub-if4
-    sub-if4-2
-    returns-4
-    add-b
-    add-b-2
-    add-b-3
-    add-e
-    add-operand
-    add-operand-2
-    shared-slice-read-operand
-    sub-operand
-    part-operand-start
-    part-operand-end
-    operand-requires
-    returns-5
-    returns-6)
+    (tie.spec returns shared-slice-read-l cast-l returns-2 returns-3 sub-if4 sub-if4-2 returns-4 add-b add-b-2 add-b-3 add-e add-operand add-operand-2
+    shared-slice-read-operand sub-operand part-operand-start part-operand-end operand-requires returns-5 returns-6)

@@ -33,12 +33,4 @@ returns-4 c = next-found _ (c .before .before .before .if1 .left) (ended (c .bef
 pub next-spec : {M : Type 1} → statement M
 next-spec =
     tie.close
-    (tie.spec
-    end-requires
-    returns
-    add-node
-    shared-slice-read-node
-    cast-node
-    returns-2
-    returns-3
-    returns-4)
+    (tie.spec end-requires returns add-node shared-slice-read-node cast-node returns-2 returns-3 returns-4)

@@ -100,34 +100,6 @@ returns-4 c = index-end (c .before .before .loop .inv .1) (count-of (c .before .
 pub read-spec : {M : Type 1} → statement M
 read-spec =
     tie.close
-    (tie.spec
-    Inv-loop
-    μ-loop
-    count-requires
-    refused-requires
-    returns
-    loop-holds
-    next-requires
-    refused-requires-2
-    returns-2
-    add-node
-    shared-slice-read-node
-    cast-node
-    add-kinds
-    add-kinds-2
-    shared-slice-read-kinds
-    array-write-kinds
-    add-starts
-    add-starts-2
-    add-starts-3
-    mul-starts
-    array-write-starts
-    mul-ends
-    array-write-ends
-    add-low
-    add-i
-    loop-less
-    loop-again
-    refused-requires-3
-    returns-3
-    returns-4)
+    (tie.spec Inv-loop μ-loop count-requires refused-requires returns loop-holds next-requires refused-requires-2 returns-2 add-node shared-slice-read-node
+    cast-node add-kinds add-kinds-2 shared-slice-read-kinds array-write-kinds add-starts add-starts-2 add-starts-3 mul-starts array-write-starts mul-ends
+    array-write-ends add-low add-i loop-less loop-again refused-requires-3 returns-3 returns-4)

@@ -61,22 +61,5 @@ returns-5 c = entry-bad _ _ _ _ _ (c .before .fits2 .ensures) (c .before .before
 pub entry-spec : {M : Type 1} → statement M
 entry-spec =
     tie.close
-    (tie.spec
-    sub-if1
-    returns
-    shared-slice-read-node
-    cast-node
-    returns-2
-    returns-3
-    add-nat2
-    nat2-requires
-    add-nat2-2
-    add-nat2-3
-    nat2-requires-2
-    shared-slice-read-fits
-    fits-requires
-    add-result
-    add-result-2
-    add-result-3
-    returns-4
-    returns-5)
+    (tie.spec sub-if1 returns shared-slice-read-node cast-node returns-2 returns-3 add-nat2 nat2-requires add-nat2-2 add-nat2-3 nat2-requires-2
+    shared-slice-read-fits fits-requires add-result add-result-2 add-result-3 returns-4 returns-5)

@@ -56,20 +56,5 @@ returns-6 c = unknown-fits _ _ _ _ (c .match .rest .0 .0 .0 .0 .1) (c .match .re
 pub fits-spec : {M : Type 1} → statement M
 fits-spec =
     tie.close
-    (tie.spec
-    goes-on-requires
-    goes-on-requires-2
-    both-requires
-    goes-on-requires-3
-    both-requires-2
-    goes-on-requires-4
-    both-requires-3
-    goes-on-requires-5
-    both-requires-4
-    both-requires-5
-    returns
-    returns-2
-    returns-3
-    returns-4
-    returns-5
-    returns-6)
+    (tie.spec goes-on-requires goes-on-requires-2 both-requires goes-on-requires-3 both-requires-2 goes-on-requires-4 both-requires-3 goes-on-requires-5
+    both-requires-4 both-requires-5 returns returns-2 returns-3 returns-4 returns-5 returns-6)

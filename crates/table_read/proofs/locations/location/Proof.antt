@@ -62,21 +62,5 @@ returns-4 c = location-ok _ _ _ _ (omega arith) (c .before .loop .inv .2) (c .be
 pub location-spec : {M : Type 1} → statement M
 location-spec =
     tie.close
-    (tie.spec
-    Inv-loop
-    μ-loop
-    returns
-    shared-slice-read-c
-    cast-c
-    returns-2
-    add-p
-    loop-holds
-    entry-requires
-    returns-3
-    shared-slice-read-low
-    cast-low
-    add-low
-    add-i
-    loop-less
-    loop-again
-    returns-4)
+    (tie.spec Inv-loop μ-loop returns shared-slice-read-c cast-c returns-2 add-p loop-holds entry-requires returns-3 shared-slice-read-low cast-low add-low
+    add-i loop-less loop-again returns-4)

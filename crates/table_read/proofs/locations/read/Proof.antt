@@ -62,21 +62,5 @@ returns-4 c = located-end _ (c .before .before .loop .inv .1) (count-of (c .befo
 pub read-spec : {M : Type 1} → statement M
 read-spec =
     tie.close
-    (tie.spec
-    Inv-loop
-    μ-loop
-    count-requires
-    refused-requires
-    returns
-    loop-holds
-    location-requires
-    refused-requires-2
-    returns-2
-    mul-places
-    array-write-places
-    add-i
-    loop-less
-    loop-again
-    refused-requires-3
-    returns-3
-    returns-4)
+    (tie.spec Inv-loop μ-loop count-requires refused-requires returns loop-holds location-requires refused-requires-2 returns-2 mul-places array-write-places
+    add-i loop-less loop-again refused-requires-3 returns-3 returns-4)

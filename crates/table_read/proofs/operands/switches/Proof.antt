@@ -28,11 +28,4 @@ returns-2 c = λ cs d v. switches-to v cs _ (c .before .before .before .if1 .lef
 pub switches-spec : {M : Type 1} → statement M
 switches-spec =
     tie.close
-    (tie.spec
-    returns
-    shared-slice-read-mode-exists
-    cast-mode-exists
-    shared-slice-read-mode-exists-2
-    cast-mode-exists-2
-    mode-exists-requires
-    returns-2)
+    (tie.spec returns shared-slice-read-mode-exists cast-mode-exists shared-slice-read-mode-exists-2 cast-mode-exists-2 mode-exists-requires returns-2)

@@ -103,23 +103,5 @@ returns-7 c =
 pub read-spec : {M : Type 1} → statement M
 read-spec =
     tie.close
-    (tie.spec
-    header-requires
-    refused-requires
-    returns
-    end2-requires
-    refused-requires-2
-    returns-2
-    end2-requires-2
-    refused-requires-3
-    returns-3
-    end2-requires-3
-    refused-requires-4
-    returns-4
-    end4-requires
-    refused-requires-5
-    returns-5
-    refused-requires-6
-    returns-6
-    found-requires
-    returns-7)
+    (tie.spec header-requires refused-requires returns end2-requires refused-requires-2 returns-2 end2-requires-2 refused-requires-3 returns-3 end2-requires-3
+    refused-requires-4 returns-4 end4-requires refused-requires-5 returns-5 refused-requires-6 returns-6 found-requires returns-7)

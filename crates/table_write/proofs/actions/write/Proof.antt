@@ -56,13 +56,4 @@ returns c = let l = c .before .loop in rows-end _ _ _ _ (omega (arith, l .inv .0
 pub write-spec : {M : Type 1} → statement M
 write-spec =
     tie.close
-    (tie.spec
-    Inv-loop
-    μ-loop
-    loop-holds
-    row-requires
-    add-n
-    loop-less
-    loop-again
-    same-length
-    returns)
+    (tie.spec Inv-loop μ-loop loop-holds row-requires add-n loop-less loop-again same-length returns)

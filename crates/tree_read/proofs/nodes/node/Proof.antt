@@ -61,22 +61,5 @@ returns-5 c = has-payload (c .before .before .before .before .before .before .be
 pub node-spec : {M : Type 1} → statement M
 node-spec =
     tie.close
-    (tie.spec
-    returns
-    shared-slice-read-l
-    cast-l
-    returns-2
-    returns-3
-    sub-if4
-    sub-if4-2
-    returns-4
-    add-b
-    add-e
-    add-e-2
-    add-payload
-    shared-slice-read-payload
-    sub-payload
-    part-payload-start
-    part-payload-end
-    payload-requires
-    returns-5)
+    (tie.spec returns shared-slice-read-l cast-l returns-2 returns-3 sub-if4 sub-if4-2 returns-4 add-b add-e add-e-2 add-payload shared-slice-read-payload
+    sub-payload part-payload-start part-payload-end payload-requires returns-5)

@@ -56,16 +56,4 @@ returns-10 c = rw (ne-eqb _ _ (c .match .rest .0 .0 .0 .0 .0 .0 .0 .0 .1), ne-eq
 pub payload-spec : {M : Type 1} → statement M
 payload-spec =
     tie.close
-    (tie.spec
-    one-count-requires
-    one-count-requires-2
-    returns
-    returns-2
-    returns-3
-    returns-4
-    returns-5
-    returns-6
-    returns-7
-    returns-8
-    returns-9
-    returns-10)
+    (tie.spec one-count-requires one-count-requires-2 returns returns-2 returns-3 returns-4 returns-5 returns-6 returns-7 returns-8 returns-9 returns-10)

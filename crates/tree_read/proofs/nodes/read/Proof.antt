@@ -106,36 +106,6 @@ returns-6 c = fill-end _ _ _ _ _ _ (c .before .before .loop .inv .1) (omega arit
 pub read-spec : {M : Type 1} → statement M
 read-spec =
     tie.close
-    (tie.spec
-    Inv-loop
-    μ-loop
-    refused-requires
-    returns
-    shared-slice-read-n
-    cast-n
-    refused-requires-2
-    returns-2
-    refused-requires-3
-    returns-3
-    loop-holds
-    node-requires
-    refused-requires-4
-    returns-4
-    add-e
-    shared-slice-read-e
-    cast-e
-    add-e-2
-    add-kinds
-    shared-slice-read-kinds
-    array-write-kinds
-    add-starts
-    mul-starts
-    array-write-starts
-    mul-ends
-    array-write-ends
-    add-i
-    loop-less
-    loop-again
-    refused-requires-5
-    returns-5
-    returns-6)
+    (tie.spec Inv-loop μ-loop refused-requires returns shared-slice-read-n cast-n refused-requires-2 returns-2 refused-requires-3 returns-3 loop-holds
+    node-requires refused-requires-4 returns-4 add-e shared-slice-read-e cast-e add-e-2 add-kinds shared-slice-read-kinds array-write-kinds add-starts
+    mul-starts array-write-starts mul-ends array-write-ends add-i loop-less loop-again refused-requires-5 returns-5 returns-6)

@@ -51,16 +51,5 @@ returns c = λ ns h. counts-end _ _ (c .before .before .before .before .before .
 pub child-counts-spec : {M : Type 1} → statement M
 child-counts-spec =
     tie.close
-    (tie.spec
-    Inv-loop
-    μ-loop
-    loop-holds
-    array-read-children-of
-    mul-children-of
-    array-read-children-of-2
-    children-of-requires
-    array-write-counts
-    add-i
-    loop-less
-    loop-again
-    returns)
+    (tie.spec Inv-loop μ-loop loop-holds array-read-children-of mul-children-of array-read-children-of-2 children-of-requires array-write-counts add-i loop-less
+    loop-again returns)

@@ -48,16 +48,5 @@ returns-3 c = c .no-tree2 .ensures ∙ sym (tree-lost _ _ _ _ (c .before .before
 pub read-spec : {M : Type 1} → statement M
 read-spec =
     tie.close
-    (tie.spec
-    child-counts-requires
-    array-share-prefix-counts
-    slice-aggregate-node
-    slice-aggregate-node-2
-    node-requires
-    enum-known-w
-    no-tree-requires
-    enum-told
-    no-tree-requires-2
-    returns
-    returns-2
-    returns-3)
+    (tie.spec child-counts-requires array-share-prefix-counts slice-aggregate-node slice-aggregate-node-2 node-requires enum-known-w no-tree-requires enum-told
+    no-tree-requires-2 returns returns-2 returns-3)
