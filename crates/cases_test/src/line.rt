@@ -1,4 +1,5 @@
 // Words and numbers of a line.
+use super::stored;
 
 pub fn text(s: &[u8]) {
     io::write_all(1, s);

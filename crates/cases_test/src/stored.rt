@@ -1,5 +1,4 @@
 // A case as it is stored: the call, a name, five strings, what is lent, what the call returns.
-ghost use Prim.Native.Nat.{_<_};
 
 // in place of a byte or a number that the input does not have, and of the length of a string that is cut or too long
 pub const CUT: usize = 4294967296;
@@ -72,18 +71,12 @@ pub fn none() -> Case {
     }
 }
 
-fn wide(b: u8) -> usize
-    ensures { λ r. ⌜ r < 256 ⌝ }
-{
-    b as usize
-}
-
 fn byte() -> usize {
     let mut b = [0u8; 1];
     if io::read_full(0, &mut b) < 1 {
         return CUT;
     }
-    wide(b[0])
+    codec::wide(b[0])
 }
 
 fn number() -> usize {
@@ -91,7 +84,7 @@ fn number() -> usize {
     if io::read_full(0, &mut b) < 4 {
         return CUT;
     }
-    wide(b[0]) * 16777216 + wide(b[1]) * 65536 + wide(b[2]) * 256 + wide(b[3])
+    codec::nat4(&b, 0)
 }
 
 // the next n bytes, to the front of the buffer; their length

@@ -7,6 +7,13 @@ ghost use Rattle.semantics.specs.Bytes as bytes;
 ghost use Rattle.codec.specs.Ends.{endOf};
 ghost use Rattle.codec.specs.Writing.{Wrote};
 
+// a byte as a number
+pub fn wide(x: u8) -> usize
+    ensures { λ r. ⌜ r ≡ x ⌝ }
+{
+    x as usize
+}
+
 // the two bytes at a place
 pub fn nat2(s: &[u8], at: usize) -> usize
     requires { ⌜ at + 2 ≤ length (now s) ⌝ }

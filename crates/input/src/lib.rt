@@ -68,6 +68,22 @@ pub fn standard(program: &[u8], buf: &mut [u8]) -> Loaded
     read(0, program, b"standard input", buf)
 }
 
+// standard input as far as the buffer goes; where it cannot be read, a message on standard error under the program's name
+pub fn standard_front(program: &[u8], buf: &mut [u8]) -> Loaded
+    ensures { λ r. ⌜ Counts (r .length) (now (buf .exit)) ⌝ }
+{
+    let length = io::read_full(0, buf);
+    let mut more = [0u8; 1];
+    if libc::read(0, &mut more) < 0 {
+        failed(program, b"standard input");
+        return nothing(buf);
+    }
+    Loaded {
+        whole: true,
+        length,
+    }
+}
+
 // the file that argument i names, read into the buffer; a message likewise
 pub fn load(i: usize, program: &[u8], buf: &mut [u8]) -> Loaded
     ensures { λ r. ⌜ Counts (r .length) (now (buf .exit)) ⌝ }

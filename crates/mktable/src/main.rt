@@ -1,8 +1,9 @@
 // K1's program: a schedule on standard input, its table on standard output, or the refusal as one byte.
+// Of an input that is longer than any schedule the front part tells the refusal: its length field has two bytes, so that either gives 1 or 2.
 
 fn main() {
     let mut file = io::large_buffer();
-    let a = input::standard(b"mktable", &mut file);
+    let a = input::standard_front(b"mktable", &mut file);
     if !a.whole {
         return;
     }

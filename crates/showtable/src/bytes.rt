@@ -1,12 +1,8 @@
 // The table's bytes by place. A place past the end has 0: an accepted table is not looked at there.
 
-fn wide(x: u8) -> usize {
-    x as usize
-}
-
 pub fn at(t: &[u8], p: usize) -> usize {
     if p < t.len() {
-        return wide(t[p]);
+        return codec::wide(t[p]);
     }
     0
 }

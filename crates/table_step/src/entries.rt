@@ -1,26 +1,19 @@
 // The entries of a location: its acting nodes, and where their moves lead.
 use nodeset::NodeSet;
-ghost use mathlib.Core.Path.{_≡_};
 ghost use Prim.Native.Nat.{_+_, _<_};
 ghost use Rattle.table_step.specs.Entries.{Counted, Gathered, Found};
-
-fn wide(x: u8) -> usize
-    ensures { λ r. ⌜ r ≡ x ⌝ }
-{
-    x as usize
-}
 
 // the nodes of the location at a place
 pub fn acting(locs: &[u8], at: usize) -> NodeSet
     requires { ⌜ Counted (now locs) at ⌝ }
     ensures { λ r. ⌜ Gathered (now (locs .entry)) at (r .words) ⌝ }
 {
-    let count = wide(locs[at]);
+    let count = codec::wide(locs[at]);
     let mut set = nodeset::empty();
     let mut p = at + 1;
     let mut j = 0;
     while j < count {
-        set = nodeset::with(set, wide(locs[p]));
+        set = nodeset::with(set, codec::wide(locs[p]));
         p += 5;
         j += 1;
     }
@@ -32,11 +25,11 @@ pub fn target(locs: &[u8], at: usize, n: usize, truth: bool) -> usize
     requires { ⌜ Counted (now locs) at ⌝ }
     ensures { λ r. ⌜ Found (now (locs .entry)) at n truth r ⌝ }
 {
-    let count = wide(locs[at]);
+    let count = codec::wide(locs[at]);
     let mut p = at + 1;
     let mut j = 0;
     while j < count {
-        if wide(locs[p]) == n {
+        if codec::wide(locs[p]) == n {
             if truth {
                 return codec::nat2(locs, p + 1);
             }
