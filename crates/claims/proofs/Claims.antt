@@ -19,7 +19,7 @@ use Rattle.semantics.specs.Expressions.{Number, Truth, Value, valueOf, holds, n
 use Rattle.semantics.specs.Evaluating.{Evaluates, Holds}
 use Rattle.semantics.specs.Plant.{Plant, selectors}
 use Rattle.semantics.specs.Events.{eventsIn}
-use Rattle.semantics.specs.Run.{Action, stop, possible, Next, halted, Control, Situation, Answered, at, step, recordOf, noCounts, howMany, isTaken, isTurnedAway, isFaulted}
+use Rattle.semantics.specs.Run.{Action, stop, possible, Next, halted, Control, Situation, Answered, at, step, recordOf, noCounts, countsOf}
 use Rattle.semantics.specs.Rules.{Rule, Derives, Stopping, Standing, at-start, stands-at, Sound, Decides}
 use Rattle.semantics.specs.Records.{AtFront, Fits32, RecordIs, RecordsIn}
 use Rattle.semantics.specs.Counting.{Counted}
@@ -375,9 +375,9 @@ pub table-at-front : (ed : Edition) (file room : List ℕ) → (compile ed file 
     (s : Schedule) × (fileSchedule ed file ≡ some s) × ((compile ed file room) .written ≡ length (tableOf ed s)) × AtFront (tableOf ed s) room ((compile ed file room) .table)
 table-at-front = FileCalls.table-at-front
 
--- "taken (200..202), turned away (23..31) and faulted (203)": the counts by these numbers alone. `RunHolds` says of a run's answers that they are counted so; in `RunsAgree` this reads `howMany`.
+-- "taken (200..202), turned away (23..31) and faulted (203)": the counts by these numbers alone. `RunHolds` says of a run's answers that they are counted so; in `RunsAgree` this reads `countsOf`.
 -- Ruled out: a run that counts 202 as turned away; one that counts an answer twice, or 24 to 31 and not 23.
-pub counts-told : {l : List ℕ} {taken away faulted : ℕ} → Counted l taken away faulted → (howMany isTaken l ≡ taken) × (howMany isTurnedAway l ≡ away) × (howMany isFaulted l ≡ faulted)
+pub counts-told : {l : List ℕ} {taken away faulted : ℕ} → Counted l taken away faulted → countsOf l ≡ record { taken = taken; turned-away = away; faulted = faulted }
 counts-told k = RunCounts.counts-told k
 
 -- "The record of an event: answer byte, set of acting nodes (8 bytes, bit n for node n, 0 once the run is over), values (4 bytes each), modes (1 byte each).": in this order and of these lengths,

@@ -16,7 +16,7 @@ use Rattle.semantics.proofs.Judging.{refused-not-accepted, refused-is, go-then,
 use Rattle.schedules.specs.FileSections.{FileSections, fileSectionsIn}
 use Rattle.schedules.specs.Nodes.{Node, nodesIn, nodeNamed, nodeReads}
 use Rattle.schedules.specs.Trees.{Tree, treeOf}
-use Rattle.schedules.specs.Files.{Schedule, fileHeader, fileLength, judgeFile, judgeSections, judgeNodes}
+use Rattle.schedules.specs.Files.{Schedule, fileHeader, fileLength, judgeFile, judgeFileSections, judgeNodes}
 use Rattle.schedules.specs.Calls.{scheduleCounts, readSchedule}
 use Rattle.schedules.proofs.FirstNumber as FirstNumber
 use Rattle.plant.specs.ModeCounts.{ModesAt}
@@ -48,7 +48,7 @@ pub nothing-else : (r : ℕ) {q : Parts} {p : PlantRead} {n : Nodes} {t : Subtre
 nothing-else r e f g h = cc
 
 -- ---- 1 to 3
-after-3 : (f : List ℕ) {parts : FileSections} → Opened f → fileSectionsIn (drop 3 f) ≡ some parts → judgeFile edition1 f ≡ judgeSections edition1 parts
+after-3 : (f : List ℕ) {parts : FileSections} → Opened f → fileSectionsIn (drop 3 f) ≡ some parts → judgeFile edition1 f ≡ judgeFileSections edition1 parts
 unfolding judgeFile
 after-3 f o e = go-ensure 1 _ (o .header) ∙ go-ensure 2 _ (o .length-field) ∙ go-need 3 _ e
 
@@ -138,7 +138,7 @@ module _ (at-parts : Parts) (vs es s : List ℕ) {p : PlantRead} (h : p ≡ plan
   sections = record { variables = vs; equations = es; schedule = s }
 
   pub by-plant : (p .refusal ≡ 0 → ⊥) → noSchedule (p .refusal) ≡ sectionsIndex at-parts vs es s
-  unfolding sectionsIndex judgeSections plantOf plantAnswer refusedPlant acceptedPlant _>>=_
+  unfolding sectionsIndex judgeFileSections plantOf plantAnswer refusedPlant acceptedPlant _>>=_
   by-plant z = go (judgePlant edition1 vs es) refl
     where
       go : (j : Judged Plant) → judgePlant edition1 vs es ≡ j → noSchedule (p .refusal) ≡ sectionsIndex at-parts vs es s
@@ -173,7 +173,7 @@ module _ (at-parts : Parts) (vs es s : List ℕ) {p : PlantRead} (h : p ≡ plan
     -- ---- 9
     module _ {n : Nodes} (k : n ≡ nodesOf s) where
       pub by-nodes : (n .refusal ≡ 0 → ⊥) → noSchedule 9 ≡ sectionsIndex at-parts vs es s
-      unfolding sectionsIndex judgeSections need _>>=_
+      unfolding sectionsIndex judgeFileSections need _>>=_
       by-nodes y = answer-refused at-parts (go-then _ plant-is ∙ rw (nodes-refused s (λ i. y (ap (λ (n : Nodes). n .refusal) k ∙ i))) refl)
 
       module _ (y : n .refusal ≡ 0) where
@@ -196,7 +196,7 @@ module _ (at-parts : Parts) (vs es s : List ℕ) {p : PlantRead} (h : p ≡ plan
           tree-answer = w ∙ of-nodes s nodes-are
 
           pub by-tree : t .ok ≡ false → noSchedule 10 ≡ sectionsIndex at-parts vs es s
-          unfolding sectionsIndex judgeSections subtreesOf need _>>=_
+          unfolding sectionsIndex judgeFileSections subtreesOf need _>>=_
           by-tree x = go (treeOf ns) refl
             where
               go : (o : Option Tree) → treeOf ns ≡ o → noSchedule 10 ≡ sectionsIndex at-parts vs es s
@@ -208,11 +208,11 @@ module _ (at-parts : Parts) (vs es s : List ℕ) {p : PlantRead} (h : p ≡ plan
             last : r ≡ refusalOf (judgeNodes edition1 plant ns)
             last = q ns at plant plant-at
 
-            after-10 : (u : Tree) × (judgeSections edition1 sections ≡ (judgeNodes edition1 plant ns >> accepted (record { sections = sections; plant = plant; nodes = ns; root = u })))
-            unfolding judgeSections subtreesOf sections
+            after-10 : (u : Tree) × (judgeFileSections edition1 sections ≡ (judgeNodes edition1 plant ns >> accepted (record { sections = sections; plant = plant; nodes = ns; root = u })))
+            unfolding judgeFileSections subtreesOf sections
             after-10 = go (treeOf ns) refl
               where
-                go : (o : Option Tree) → treeOf ns ≡ o → (u : Tree) × (judgeSections edition1 sections ≡ (judgeNodes edition1 plant ns >> accepted (record { sections = sections; plant = plant; nodes = ns; root = u })))
+                go : (o : Option Tree) → treeOf ns ≡ o → (u : Tree) × (judgeFileSections edition1 sections ≡ (judgeNodes edition1 plant ns >> accepted (record { sections = sections; plant = plant; nodes = ns; root = u })))
                 go none e = true-not-false (sym x ∙ ap (λ (t : Subtrees). t .ok) (tree-answer ∙ ap subtreesOf e))
                 go (some u) e = (u, go-then _ plant-is ∙ go-need 9 _ nodes-are ∙ go-need 10 _ e)
 

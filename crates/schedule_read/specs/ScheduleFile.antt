@@ -9,7 +9,7 @@ use Rattle.semantics.specs.Refusals.{Judged, refused, accepted, refusalOf}
 use Rattle.semantics.specs.Sections.{equationsIn}
 use Rattle.semantics.specs.Plant.{Plant, selectors}
 use Rattle.schedules.specs.Nodes.{Node}
-use Rattle.schedules.specs.Files.{Schedule, judgeFile, judgeSections, judgeNodes}
+use Rattle.schedules.specs.Files.{Schedule, judgeFile, judgeFileSections, judgeNodes}
 use Rattle.schedules.specs.Calls.{ScheduleRead}
 use Rattle.plant.specs.ModeCounts.{ModesAt}
 use Rattle.plant.specs.PlantRead.{refusedPlant, plantOf}
@@ -47,7 +47,7 @@ scheduleIndex f = indexAt (partsOf f) (judgeFile edition1 f)
 -- ---- for the code's own contracts
 -- 4 to 12, of the sections that stand there
 unfoldable pub sectionsIndex : Parts → List ℕ → List ℕ → List ℕ → ScheduleIndex
-sectionsIndex p vs es s = indexAt p (judgeSections edition1 (record { variables = vs; equations = es; schedule = s }))
+sectionsIndex p vs es s = indexAt p (judgeFileSections edition1 (record { variables = vs; equations = es; schedule = s }))
 
 -- p is a plant of v variables and c selectors with these equations and mode counts
 pub record PlantAt (es : List ℕ) (v c : ℕ) (modes : List ℕ) (p : Plant) : Type 0 where

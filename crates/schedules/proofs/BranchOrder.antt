@@ -19,7 +19,7 @@ use Rattle.semantics.proofs.WrittenTables.{out-length}
 use Rattle.schedules.specs.Nodes.{Node, nodeNamed, nodeReads, actionOf, listed, actionsFrom, actionsOf}
 use Rattle.schedules.specs.Trees.{Tree, treeOf}
 use Rattle.schedules.specs.Numbering.{locations}
-use Rattle.schedules.specs.Files.{Schedule, judgeSections, judgeFile, fileHeader, fileLength}
+use Rattle.schedules.specs.Files.{Schedule, judgeFileSections, judgeFile, fileHeader, fileLength}
 use Rattle.schedules.specs.Compiling.{scheduleLocations, tableOf, judgeCompile}
 use Rattle.schedules.specs.Calls.{scheduleCounts, readSchedule, sizeTold, sizeCounts, size, compile, compiledInto}
 use Rattle.schedules.specs.Sizes.{Size, sizeOf}
@@ -137,7 +137,7 @@ as-judged e f a = rw (e, f) a
 
 module _ (ed : Edition) (file other : List ℕ) (s : SameButOrder ed file other) where
   judged-alike : Alike (AsLarge ed) (judgeFile ed file) (judgeFile ed other)
-  unfolding judgeFile judgeSections
+  unfolding judgeFile judgeFileSections
   judged-alike =
       alike-ensure 1 (fileHeader ed file) (s .same-header) (λ h1.
       alike-ensure 2 (fileLength file) (s .same-length) (λ h2.

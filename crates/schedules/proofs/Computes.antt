@@ -35,7 +35,7 @@ unfolding Numbering.numberOf Numbering.meet Numbering.numberFrom Numbering.resid
 numbering = tt
 
 unfoldable pub files : Unit {0}
-unfolding Files.fileHeader Files.fileLength Files.judgeNodes Files.judgeSections Files.judgeFile Files.ruleControl
+unfolding Files.fileHeader Files.fileLength Files.judgeNodes Files.judgeFileSections Files.judgeFile Files.ruleControl
 files = tt
 
 unfoldable pub compiling : Unit {0}

@@ -29,7 +29,7 @@ use Rattle.schedules.specs.FileSections.{FileSections, fileSectionsIn}
 use Rattle.schedules.specs.Nodes.{Node, nodesIn, nodeNamed, nodeReads}
 use Rattle.schedules.specs.Trees.{Tree, treeOf}
 use Rattle.schedules.specs.Residuals.{Residual}
-use Rattle.schedules.specs.Files.{Schedule, fileHeader, fileLength, judgeSections, judgeFile}
+use Rattle.schedules.specs.Files.{Schedule, fileHeader, fileLength, judgeFileSections, judgeFile}
 use Rattle.schedules.specs.Compiling.{scheduleLocations, tableOf, judgeCompile}
 use Rattle.schedules.specs.Calls.{ruleProgram, ruleRun, readSchedule, compile}
 use Rattle.schedules.specs.Writing.{writeSections, SectionsLimits, writeNodes, NodesLimits}
@@ -122,7 +122,7 @@ as-judged : {A : Type 0} {i j : Judged A} {l : List Clause} → i ≡ j → Answ
 as-judged {l = l} e k = subst (λ i. Answers i l) (sym e) k
 
 pub file-answers : (ed : Edition) (file : List ℕ) → AllBytes file → Answers (judgeFile ed file) (fileClauses ed file)
-unfolding judgeFile judgeSections
+unfolding judgeFile judgeFileSections
 file-answers ed file z =
     by-ensure 1 (fileHeader ed file) (λ e h i v. true-not-false (sym (head-here ed i v) ∙ e)) (λ e f. (let k = head-there ed file e in f (k .0) (k .1) (k .2))) (λ h1.
     let head = head-there ed file h1 in

@@ -23,7 +23,7 @@ use Rattle.semantics.proofs.PlantPassed.{plant-passed, plant-accepted}
 use Rattle.semantics.proofs.TablesProper.{tail-bytes}
 use Rattle.semantics.proofs.StartForms as StartForms
 use Rattle.schedules.specs.Nodes.{Node, sequence, parallel, while-do, if-else, continue-until, reset, reinitial, switch-to, stop-all, nodeReads, nodeNamed}
-use Rattle.schedules.specs.Files.{Schedule, judgeSections, judgeFile}
+use Rattle.schedules.specs.Files.{Schedule, judgeFileSections, judgeFile}
 use Rattle.schedules.specs.Writing.{nodeBytes, NodeLimits}
 use Rattle.schedules.specs.Proper.{NamedNode, ReadNode, ScheduleWritten}
 use Rattle.schedules.proofs.FirstNumber.{nodes-in-order, passed}
@@ -129,7 +129,7 @@ module _ (ed : Edition) (file : List ℕ) (s : Schedule) where
       }
 
   accepted-here : ScheduleWritten ed file s → AllBytes file × (judgeFile ed file ≡ accepted s)
-  unfolding judgeFile judgeSections
+  unfolding judgeFile judgeFileSections
   accepted-here h =
       let p = s .plant in
       let v = length (p .variables) in

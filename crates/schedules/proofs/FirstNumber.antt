@@ -19,7 +19,7 @@ use Rattle.schedules.specs.FileSections.{FileSections, fileSectionsIn}
 use Rattle.schedules.specs.Nodes.{Node, nodesIn, nodeNamed, nodeReads}
 use Rattle.schedules.specs.Trees.{treeOf}
 use Rattle.schedules.specs.Residuals.{Residual}
-use Rattle.schedules.specs.Files.{Schedule, judgeNodes, judgeSections, judgeFile, fileHeader, fileLength}
+use Rattle.schedules.specs.Files.{Schedule, judgeNodes, judgeFileSections, judgeFile, fileHeader, fileLength}
 use Rattle.schedules.specs.Compiling.{scheduleLocations, tableOf, judgeCompile, judgeMeasure}
 use Rattle.schedules.specs.Calls.{ruleProgram, scheduleCounts, compiledInto}
 use Rattle.schedules.specs.Conditions.{fileParts, filePlant, fileNodes, fileTree, fileSchedule, is1, is2, is3, ofPlant, is9, is10, is11, is12, is13, is14, fileConditions, compileConditions, ruleRunConditions}
@@ -46,7 +46,7 @@ module _ (ed : Edition) (file : List ℕ) where
   of-plant e f = rw (of-parts e is4, of-parts e is5, of-parts e is6, of-parts e is7, of-parts e is8) f
 
   pub file-first : Firsts (judgeFile ed file) (fileConditions ed file)
-  unfolding judgeFile judgeSections fileConditions is1 is2 is3 is9 is10 is11 is12 fileNodes filePlant fileParts
+  unfolding judgeFile judgeFileSections fileConditions is1 is2 is3 is9 is10 is11 is12 fileNodes filePlant fileParts
   file-first =
       by-ensure 1 (fileHeader ed file) refl (λ h1.
       by-ensure 2 (fileLength file) refl (λ h2.
@@ -72,7 +72,7 @@ pub record Passed (ed : Edition) (file : List ℕ) (s : Schedule) : Type 0 where
   pub reads : (every (nodeReads ed (length (s .plant .variables))) (s .nodes) && switchesRead ed (s .plant)) ≡ true
 
 pub passed : (ed : Edition) (file : List ℕ) (s : Schedule) → judgeFile ed file ≡ accepted s → Passed ed file s
-unfolding judgeFile judgeSections
+unfolding judgeFile judgeFileSections
 passed ed file s h =
     let a = Judging.passed-ensure 1 _ _ h in
     let b = Judging.passed-ensure 2 _ _ (a .1) in

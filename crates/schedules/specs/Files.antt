@@ -28,15 +28,15 @@ fileHeader ed f = leb 3 (length f) && eqb (getD f 0 0) (ed .version)
 unfoldable pub fileLength : List ℕ → Bool
 fileLength f = eqb (be2 (getD f 1 0) (getD f 2 0)) (length f)
 
--- 11 and 12, of the nodes that drive a plant
+-- 11 of the nodes; 12 of the nodes and of the plant's switches
 unfoldable pub judgeNodes : Edition → Plant → List Node → Judged (Unit {0})
 judgeNodes ed p ns = do
   ensure 11 (every (nodeNamed (length (p .variables)) (selectors p)) ns)
   ensure 12 (every (nodeReads ed (length (p .variables))) ns && switchesRead ed p)
 
 -- 4 to 12, of the three sections
-unfoldable pub judgeSections : Edition → FileSections → Judged Schedule
-judgeSections ed parts = do
+unfoldable pub judgeFileSections : Edition → FileSections → Judged Schedule
+judgeFileSections ed parts = do
   -- 4 to 8
   p ← judgePlant ed (parts .variables) (parts .equations)
   ns ← need 9 (nodesIn ed (parts .schedule))
@@ -49,7 +49,7 @@ judgeFile ed f = do
   ensure 1 (fileHeader ed f)
   ensure 2 (fileLength f)
   parts ← need 3 (fileSectionsIn (drop 3 f))
-  judgeSections ed parts
+  judgeFileSections ed parts
 
 -- "A run starts at the fresh root"
 unfoldable pub ruleControl : Schedule → Control Residual

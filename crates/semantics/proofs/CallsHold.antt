@@ -18,7 +18,7 @@ use Rattle.semantics.specs.Starts.{Start, startIn, readStart}
 use Rattle.semantics.specs.Run.{Action, test, wait, assign, switch, stop, possible, isTest, to, halted, Control, at, answers, recordOf, countsOf, noCounts}
 use Rattle.semantics.specs.Rules.{at-start, stands-at, Sound}
 use Rattle.semantics.specs.TableFile.{NodeAction, Entry, FINISHED, HALTED, NONE, locationLimit, readLocation, readLocations, locationsIn}
-use Rattle.semantics.specs.Tables.{Table, judgeTable, operandFits, operandsFit, actionsNumbered, actionsFit, actionAt, actionOrStop, goesOn, targetsFit, entryFits, entryNodes, locationFits, locationsFit, risingFrom, actionNodes, goingTo, entryNext, entriesAt, tableControl}
+use Rattle.semantics.specs.Tables.{Table, judgeTable, operandFits, operandsFit, actionsNumbered, actionsFit, actionAt, actionOrStop, goesOn, targetsFit, entryFits, entryNodes, locationFits, locationsFit, risingFrom, goingTo, entryNext, entriesAt, tableControl}
 use Rattle.semantics.specs.Calls.{Program, Outcome, outcomeOf, runFrom, judgeAdmission, judgeRun, report, eventCount, recordSize, roomForRecords, tableProgram, tableRun, tableCounts, readTable}
 use Rattle.semantics.specs.Conditions.{Condition, First, here, further, Firsts, refuses, accepts, tableConditions, runConditions, tableRunConditions}
 use Rattle.semantics.specs.Statements.{RunHolds}

@@ -46,7 +46,7 @@ unfolding TableFile.FINISHED TableFile.HALTED TableFile.NONE TableFile.actionKin
 tableFile = tt
 
 unfoldable pub tables : Unit {0}
-unfolding Tables.tableHeader Tables.risingFrom Tables.operandFits Tables.operandsFit Tables.nodeExists Tables.actionNodes Tables.actionsNumbered Tables.actionsFit Tables.actionAt Tables.goesOn Tables.targetsFit Tables.entryFits Tables.entryNodes Tables.locationFits Tables.locationsFit Tables.judgeSections Tables.judgeTable Tables.goingTo Tables.entryNext Tables.entriesAt Tables.actionOrStop Tables.tableControl
+unfolding Tables.tableHeader Tables.risingFrom Tables.operandFits Tables.operandsFit Tables.nodeExists Tables.actionNodes Tables.actionsNumbered Tables.actionsFit Tables.actionAt Tables.goesOn Tables.targetsFit Tables.entryFits Tables.entryNodes Tables.locationFits Tables.locationsFit Tables.judgeTableSections Tables.judgeTable Tables.goingTo Tables.entryNext Tables.entriesAt Tables.actionOrStop Tables.tableControl
 tables = tt
 
 unfoldable pub starts : Unit {0}

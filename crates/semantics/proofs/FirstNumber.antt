@@ -11,7 +11,7 @@ use Rattle.semantics.specs.Refusals.{Judged, refused, accepted, _>>=_, _
 use Rattle.semantics.specs.Sections.{Variable, variablesIn, equationsIn}
 use Rattle.semantics.specs.Plant.{Plant, judgeVariables, judgeEquations, judgePlant, switchesRead, ordered, equationNamed, drivenOnce}
 use Rattle.semantics.specs.TableFile.{tableSectionsIn, actionsIn, locationsIn}
-use Rattle.semantics.specs.Tables.{Table, judgeSections, judgeTable, tableHeader, actionsFit, locationsFit}
+use Rattle.semantics.specs.Tables.{Table, judgeTableSections, judgeTable, tableHeader, actionsFit, locationsFit}
 use Rattle.semantics.specs.Starts.{startIn, startFits}
 use Rattle.semantics.specs.Calls.{Program, Outcome, report, tableCounts, judgeStart, judgeAdmission, judgeRun, tableProgram, wholeEvents, roomForRecords}
 use Rattle.semantics.specs.Conditions.{Condition, _if_, anyApplies, given, is4, is5, is6, is7, is8, is12Switches, plantConditions, plantIn, tableParts, tablePlant, is15, is16, is17, is18, is19, tableConditions, is20, is21, is22, runConditions, tableRunConditions}
@@ -144,7 +144,7 @@ by-read n (some a) t e f = by-ensure n (t a) e (f a refl)
 -- ---- 15 to 19
 module _ (ed : Edition) (table : List ℕ) where
   pub table-first : Firsts (judgeTable ed table) (tableConditions ed table)
-  unfolding judgeTable judgeSections tableConditions is15 is16 is17 is18 is19 tableParts tablePlant
+  unfolding judgeTable judgeTableSections tableConditions is15 is16 is17 is18 is19 tableParts tablePlant
   table-first =
       by-ensure 15 (tableHeader ed table) refl (λ h15.
       by-need 16 (tableSectionsIn (drop 5 table)) refl (λ parts e.

@@ -14,7 +14,7 @@ use Rattle.semantics.specs.Editions.{Edition}
 use Rattle.semantics.specs.Expressions.{Side, above, below}
 use Rattle.semantics.specs.Plant.{Plant, selectors}
 use Rattle.semantics.specs.Events.{eventIn}
-use Rattle.semantics.specs.Run.{Next, to, finished, halted, idle, Control, Verdict, Moved, nobody, mover, Done, judge, Situation, Answered, faultAnswer, turnedAway, arrive, follow, settle, step, answers, actingSet, valueBytes, recordBytes, recordOf, isTaken, isTurnedAway, isFaulted, howMany}
+use Rattle.semantics.specs.Run.{Next, to, finished, halted, idle, Control, Verdict, Moved, nobody, mover, Done, judge, Situation, Answered, faultAnswer, turnedAway, arrive, follow, settle, step, answers, actingSet, valueBytes, recordBytes, recordOf, isTaken, isTurnedAway, isFaulted, howMany, countsOf}
 use Rattle.semantics.specs.Counting.{Counted, no-answer, one-taken, one-away, one-faulted}
 use Rattle.semantics.specs.Calls.{recordSize, outcomeOf}
 use Rattle.semantics.proofs.Facts.{within-low, within-high, within-both}
@@ -76,18 +76,22 @@ module _ (n : ℕ) where
   unfolding isFaulted
   no-fault h = ne-eqb n 203 (λ e. omega arith)
 
-pub counts-told : {l : List ℕ} {taken away faulted : ℕ} → Counted l taken away faulted → (howMany isTaken l ≡ taken) × (howMany isTurnedAway l ≡ away) × (howMany isFaulted l ≡ faulted)
+each-told : {l : List ℕ} {taken away faulted : ℕ} → Counted l taken away faulted → (howMany isTaken l ≡ taken) × (howMany isTurnedAway l ≡ away) × (howMany isFaulted l ≡ faulted)
 unfolding isTaken isTurnedAway isFaulted within howMany
-counts-told no-answer = (refl, refl, refl)
-counts-told (one-taken {a = n} {l = l} i j k) =
-    let q = counts-told k in
+each-told no-answer = (refl, refl, refl)
+each-told (one-taken {a = n} {l = l} i j k) =
+    let q = each-told k in
     (counted isTaken n l (within-both 200 202 n i j) ∙ ap suc (q .0), uncounted isTurnedAway n l (no-away n (omega arith)) ∙ q .1, uncounted isFaulted n l (no-fault n (omega arith)) ∙ q .2)
-counts-told (one-away {a = n} {l = l} i j k) =
-    let q = counts-told k in
+each-told (one-away {a = n} {l = l} i j k) =
+    let q = each-told k in
     (uncounted isTaken n l (rw (lt-leb 200 n (omega arith)) refl) ∙ q .0, counted isTurnedAway n l (within-both 23 31 n i j) ∙ ap suc (q .1), uncounted isFaulted n l (no-fault n (omega arith)) ∙ q .2)
-counts-told (one-faulted {a = n} {l = l} e k) =
-    let q = counts-told k in
+each-told (one-faulted {a = n} {l = l} e k) =
+    let q = each-told k in
     (uncounted isTaken n l (rw e refl) ∙ q .0, uncounted isTurnedAway n l (no-away n (omega arith)) ∙ q .1, counted isFaulted n l (eq-eqb n 203 e) ∙ ap suc (q .2))
+
+pub counts-told : {l : List ℕ} {taken away faulted : ℕ} → Counted l taken away faulted → countsOf l ≡ record { taken = taken; turned-away = away; faulted = faulted }
+unfolding countsOf
+counts-told k = let q = each-told k in rw (q .0, q .1, q .2) refl
 
 -- ---- the bytes of a record
 pub set-length : (k n : ℕ) → length (bigEndian k n) ≡ k

@@ -9,7 +9,7 @@ use Rattle.semantics.specs.Editions.{Edition}
 use Rattle.semantics.specs.Refusals.{accepted, oneNumber}
 use Rattle.semantics.specs.Plant.{judgePlant, switchesRead}
 use Rattle.semantics.specs.TableFile.{TableSections, tableSectionsIn, actionsIn, locationsIn}
-use Rattle.semantics.specs.Tables.{Table, judgeSections, judgeTable, tableHeader, actionsFit, locationsFit}
+use Rattle.semantics.specs.Tables.{Table, judgeTableSections, judgeTable, tableHeader, actionsFit, locationsFit}
 use Rattle.semantics.proofs.Judging.{accepted-is, passed-need, passed-ensure, passed-then, passed-only}
 
 pub record TablePassed (ed : Edition) (table : List ℕ) (t : Table) : Type 0 where
@@ -24,7 +24,7 @@ pub record TablePassed (ed : Edition) (table : List ℕ) (t : Table) : Type 0 wh
   pub locs-fit : locationsFit (t .actions) (t .locations) ≡ true
 
 pub table-passed : (ed : Edition) (table : List ℕ) {t : Table} → judgeTable ed table ≡ accepted t → TablePassed ed table t
-unfolding judgeTable judgeSections
+unfolding judgeTable judgeTableSections
 table-passed ed table h =
     let a = passed-ensure 15 _ _ h in
     let b = passed-need 16 (tableSectionsIn (drop 5 table)) _ (a .1) in

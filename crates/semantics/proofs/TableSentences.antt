@@ -16,7 +16,7 @@ use Rattle.semantics.specs.Refusals.{Judged, accepted, _>>=_, _>>_, oneN
 use Rattle.semantics.specs.Sections.{Variable, Equation, variablesIn, equationsIn}
 use Rattle.semantics.specs.Plant.{Plant, judgeVariables, judgeEquations, judgePlant, switchesRead, ordered, equationNamed, drivenOnce}
 use Rattle.semantics.specs.TableFile.{NodeAction, Entry, TableSections, tableSectionsIn, actionsIn, locationsIn}
-use Rattle.semantics.specs.Tables.{Table, judgeSections, judgeTable, tableHeader, actionsFit, locationsFit}
+use Rattle.semantics.specs.Tables.{Table, judgeTableSections, judgeTable, tableHeader, actionsFit, locationsFit}
 use Rattle.semantics.specs.Starts.{Start, startIn, startFits}
 use Rattle.semantics.specs.Calls.{Program, judgeStart, judgeAdmission, judgeRun, tableProgram, wholeEvents, roomForRecords, readTable, tableRun}
 use Rattle.semantics.specs.Writing.{AllBytes, writeVariables, VariablesLimits, writeEquations, EquationsLimits, writeTableSections, TableSectionsLimits, PlantLimits, startBytes, StartLimits}
@@ -185,7 +185,7 @@ abbrev last : Edition → List ℕ → List Clause
 last ed table = (12 when SwitchSentence12 (PlantSectionsOfTable table) ed) ∷ []
 
 pub table-answers : (ed : Edition) (table : List ℕ) → AllBytes table → Answers (judgeTable ed table) (tableClauses ed table)
-unfolding judgeTable judgeSections
+unfolding judgeTable judgeTableSections
 table-answers ed table z =
     by-ensure 15 (tableHeader ed table) (λ e h p. true-not-false (sym (head-here ed table h p) ∙ e)) (λ e f. (let k = head-there ed table e in f (k .0) (k .1))) (λ h15.
     let head = head-there ed table h15 in

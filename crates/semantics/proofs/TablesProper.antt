@@ -16,12 +16,12 @@ use Rattle.semantics.specs.Expressions.{numberIn}
 use Rattle.semantics.specs.Plant.{Plant, selectors}
 use Rattle.semantics.specs.Run.{Action, test, wait, assign, switch, stop}
 use Rattle.semantics.specs.TableFile.{NodeAction, Entry, FINISHED, HALTED, NONE, actionBytes}
-use Rattle.semantics.specs.Tables.{Table, risingFrom, operandFits, operandsFit, nodeExists, actionsNumbered, actionNodes, actionsFit, actionAt, goesOn, targetsFit, entryFits, entryNodes, locationFits, locationsFit, judgeSections, judgeTable}
+use Rattle.semantics.specs.Tables.{Table, risingFrom, operandFits, operandsFit, nodeExists, actionsNumbered, actionNodes, actionsFit, actionAt, goesOn, targetsFit, entryFits, entryNodes, locationFits, locationsFit, judgeTableSections, judgeTable}
 use Rattle.semantics.specs.Starts.{Start, startIn, startFits}
 use Rattle.semantics.specs.Conditions.{is20}
 use Rattle.semantics.specs.Writing.{AllBytes, ActionLimits, startBytes, StartLimits}
 use Rattle.semantics.specs.Proper.{ProperAction, proper-test, proper-wait, proper-assign, proper-switch, proper-stop, Rising, rising-nil, rising-one, rising-more, GoesOn, FitTargets, fit-test, fit-wait, fit-assign, fit-switch, fit-stop, ProperEntry, ProperRow, ProperActions, ProperLocations, TableWritten}
-use Rattle.semantics.proofs.Facts.{true-not-false, and-left, and-right, and-both, All, all-nil, all-cons, all-map}
+use Rattle.semantics.proofs.Facts.{true-not-false, and-left, and-right, and-both, All, all-cons}
 use Rattle.semantics.proofs.Judging.{go-need, go-ensure, go-then, go-only}
 use Rattle.semantics.proofs.PlantPassed.{plant-passed, plant-accepted}
 use Rattle.semantics.proofs.TablePassed.{table-passed}
@@ -223,7 +223,7 @@ module _ (ed : Edition) where
       }
 
   accepted-here : (table : List ℕ) (t : Table) → TableWritten ed table t → AllBytes table × (judgeTable ed table ≡ accepted t)
-  unfolding judgeTable judgeSections
+  unfolding judgeTable judgeTableSections
   accepted-here table t k =
       let l = k .limits in
       let h = k .proper in

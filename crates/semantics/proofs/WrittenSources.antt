@@ -24,7 +24,7 @@ use Rattle.semantics.specs.Calls.{Program, Outcome, runFrom, outcomeOf, 
 use Rattle.semantics.proofs.Facts.{all-mem, none-not-some, some-is, All, all-nil, all-cons, all-append}
 use Rattle.semantics.proofs.TablePassed.{table-passed}
 use Rattle.semantics.proofs.PlantPassed.{plant-passed}
-use Rattle.semantics.proofs.Judging.{accepted-is, passed-then, passed-need, passed-ensure}
+use Rattle.semantics.proofs.Judging.{accepted-is, passed-then}
 use Rattle.semantics.proofs.Admission.{admission-passed}
 use Rattle.semantics.proofs.Readers.{broken-not-read, split, given, given-rest, guarded, from-some, byte-read, bytes-read, whole-read}
 use Rattle.semantics.proofs.WrittenRecords.{records-bytes, Byte, Bits32, VariableBytes, TargetByte, ModeBytes, SelectorBytes, PlantBytes, ActionByte, ActionsBytes, StateBytes}

@@ -14,6 +14,13 @@ use Rattle.semantics.specs.Starts.{Start, startIn, startFits}
 use Rattle.semantics.specs.Run.{Control, Answered, at, answers, recordOf, Counts, countsOf, noCounts}
 use Rattle.semantics.specs.Tables.{Table, judgeTable, tableControl}
 
+-- 20: "The starting values (4 bytes each, then modes) have a wrong length, value or mode."
+unfoldable pub judgeStart : Plant → List ℕ → Judged Start
+judgeStart p start = do
+  st ← need 20 (startIn p start)
+  ensure 20 (startFits p st)
+  accepted st
+
 -- 21: "The event bytes are not a multiple of 3."
 unfoldable pub wholeEvents : ℕ → List ℕ → Bool
 wholeEvents width events = eqb (length events % width) 0
@@ -28,13 +35,6 @@ recordSize ed p = 1 + (ed .set-bytes + (4 * length (p .variables) + length (sele
 -- 22: "The record buffer is too short."
 unfoldable pub roomForRecords : Edition → Plant → List ℕ → List ℕ → Bool
 roomForRecords ed p events buffer = leb (eventCount ed events * recordSize ed p) (length buffer)
-
--- 20: "The starting values (4 bytes each, then modes) have a wrong length, value or mode."
-unfoldable pub judgeStart : Plant → List ℕ → Judged Start
-judgeStart p start = do
-  st ← need 20 (startIn p start)
-  ensure 20 (startFits p st)
-  accepted st
 
 -- 20 to 22 of a run of this plant: the start that it is admitted with
 unfoldable pub judgeAdmission : Edition → Plant → List ℕ → List ℕ → List ℕ → Judged Start
@@ -77,6 +77,7 @@ pub record Ran : Type 0 where
   -- the lent record buffer afterwards
   pub records : List ℕ
 
+-- a refused run counts nothing and leaves its buffer; any other writes its records at the front of it
 unfoldable pub report : List ℕ → Judged Outcome → Ran
 report buffer (refused n) = record { refusal = n; counts = noCounts; records = buffer }
 report buffer (accepted o) = record { refusal = 0; counts = countsOf (o .said); records = overwrite (o .written) buffer }

@@ -49,6 +49,7 @@ unfoldable pub onceAfter : List ℕ → List ℕ → Bool
 onceAfter seen [] = true
 onceAfter seen (n ∷ l) = elim (among n seen) [ true ↦ false | false ↦ onceAfter (n ∷ seen) l ]
 
+-- the variables that rates, a mode, an equation drive
 unfoldable pub ratesDrive : List Rate → List ℕ
 ratesDrive rs = map (λ (r : Rate). r .driven) rs
 
@@ -162,7 +163,7 @@ declared x z = ranged (x .minimum) (x .maximum) z
 unfoldable pub declaredAt : List Variable → ℕ → ℤ → Value ℤ
 declaredAt xs v z = elim (getElem? xs v) [ none ↦ fault above | some x ↦ declared x z ]
 
--- variable v becomes z where its range allows it
+-- "A value outside its declared range faults.": variable v becomes z, or faults
 unfoldable pub stored : List Variable → List ℤ → ℕ → ℤ → Value (List ℤ)
 stored xs vs v z = thenValue (declaredAt xs v z) (λ y. ok (set vs v y))
 

@@ -118,11 +118,11 @@ module _ (ed : Edition) where
     allow n (not b)
     walk n vs ts
 
-  -- the switch check on the current modes. 28: "The switch check of a pick or tick stops at a true switch."
+  -- the switch check over the current modes. 28: "The switch check of a pick or tick stops at a true switch."
   unfoldable pub checkModes : List Mode → List ℤ → Verdict (Unit {0})
   checkModes modes vs = walk 28 vs (currentTruths modes)
 
-  -- variable v becomes the number, or the number or its range faults
+  -- "Kinds 6 and 7 both assign.": variable v becomes the number, or the number or its range faults
   unfoldable pub assigned : List Variable → List ℤ → ℕ → List ℕ → Value (List ℤ)
   assigned xs vs v e = thenValue (numberValue ed vs e) (stored xs vs v)
 
@@ -142,6 +142,18 @@ module _ (ed : Edition) where
   act xs vs ms n (switch s m) = pass (record { moved = mover n true; values = vs; modes = set ms s m })
   act xs vs ms n stop = pass (record { moved = mover n true; values = vs; modes = ms })
 
+  -- "The switch check evaluates the switches of all current modes"
+  unfoldable pub switchCheck : Plant → List ℤ → List ℕ → Verdict (Unit {0})
+  switchCheck p vs ms = checkModes (currentModes p ms) vs
+
+  -- "Pick: acting, switch check, then the node's truth or assignment."
+  unfoldable pub judgePick : Plant → (ℕ → Action) → List ℕ → List ℤ → List ℕ → ℕ → Verdict Done
+  judgePick p action acting vs ms n = do
+    -- 25: "The picked node is not acting."
+    allow 25 (among n acting)
+    switchCheck p vs ms
+    act (p .variables) vs ms n (action n)
+
   -- "Switch (no switch check): it exists, its truth holds, the mode changes." The first list is the current modes.
   unfoldable pub judgeSwitch : List Mode → List ℤ → List ℕ → ℕ → ℕ → Verdict Done
   judgeSwitch modes vs ms s k = do
@@ -153,36 +165,24 @@ module _ (ed : Edition) where
     allow 30 b
     pass (record { moved = nobody; values = vs; modes = set ms s (w .target) })
 
-  module _ (p : Plant) where
-    unfoldable pub switchCheck : List ℤ → List ℕ → Verdict (Unit {0})
-    switchCheck vs ms = checkModes (currentModes p ms) vs
+  -- "Tick: all acting nodes are CONTINUE, switch check, their truths in node order up to the first that is true or faults,
+  -- then each driven variable adds its current rate"
+  unfoldable pub judgeTick : Plant → (ℕ → Action) → List ℕ → List ℤ → List ℕ → Verdict Done
+  judgeTick p action acting vs ms = do
+    -- 27: "A tick while some acting node is no CONTINUE."
+    allow 27 (every (λ n. isWait (action n)) acting)
+    switchCheck p vs ms
+    -- 31: "A tick whose walk over the CONTINUE truths stops at a true one."
+    walk 31 vs (map (λ n. waitTruth (action n)) acting)
+    ys ← valued (advance (p .variables) (rateOf p ms) vs)
+    pass (record { moved = nobody; values = ys; modes = ms })
 
-    -- "Pick: acting, switch check, then the node's truth or assignment."
-    unfoldable pub judgePick : (ℕ → Action) → List ℕ → List ℤ → List ℕ → ℕ → Verdict Done
-    judgePick action acting vs ms n = do
-      -- 25: "The picked node is not acting."
-      allow 25 (among n acting)
-      switchCheck vs ms
-      act (p .variables) vs ms n (action n)
-
-    -- "Tick: all acting nodes are CONTINUE, switch check, their truths in node order up to the first that is true or faults,
-    -- then each driven variable adds its current rate"
-    unfoldable pub judgeTick : (ℕ → Action) → List ℕ → List ℤ → List ℕ → Verdict Done
-    judgeTick action acting vs ms = do
-      -- 27: "A tick while some acting node is no CONTINUE."
-      allow 27 (every (λ n. isWait (action n)) acting)
-      switchCheck vs ms
-      -- 31: "A tick whose walk over the CONTINUE truths stops at a true one."
-      walk 31 vs (map (λ n. waitTruth (action n)) acting)
-      ys ← valued (advance (p .variables) (rateOf p ms) vs)
-      pass (record { moved = nobody; values = ys; modes = ms })
-
-    unfoldable pub judge : (ℕ → Action) → List ℕ → List ℤ → List ℕ → Event → Verdict Done
-    judge action acting vs ms tick = judgeTick action acting vs ms
-    judge action acting vs ms (pick n) = judgePick action acting vs ms n
-    judge action acting vs ms (take-switch s k) = judgeSwitch (currentModes p ms) vs ms s k
-    -- 24: "The event's kind is unknown or an unused byte is not 0."
-    judge action acting vs ms senseless = away 24
+  unfoldable pub judge : Plant → (ℕ → Action) → List ℕ → List ℤ → List ℕ → Event → Verdict Done
+  judge p action acting vs ms tick = judgeTick p action acting vs ms
+  judge p action acting vs ms (pick n) = judgePick p action acting vs ms n
+  judge p action acting vs ms (take-switch s k) = judgeSwitch (currentModes p ms) vs ms s k
+  -- 24: "The event's kind is unknown or an unused byte is not 0."
+  judge p action acting vs ms senseless = away 24
 
 -- ---- situations
 -- "the residual, values and modes that the one before it left, and .. whether the run is over"
@@ -262,7 +262,7 @@ valueBytes z = out4 (unsigned z)
 
 -- "The record of an event: answer byte, set of acting nodes (..), values (4 bytes each), modes (1 byte each)."
 unfoldable pub recordBytes : Edition → ℕ → ℕ → List ℤ → List ℕ → List ℕ
-recordBytes ed answer acting vs ms = answer ∷ bigEndian (ed .set-bytes) acting ++ (flatMap valueBytes vs ++ ms)
+recordBytes ed answer set vs ms = answer ∷ bigEndian (ed .set-bytes) set ++ (flatMap valueBytes vs ++ ms)
 
 unfoldable pub recordOf : {S : Type 0} → Edition → Control S → Answered S → List ℕ
 recordOf ed c o = let s = o .left in recordBytes ed (o .answer) (actingSet c (s .place)) (s .values) (s .modes)
@@ -281,12 +281,13 @@ unfoldable pub howMany : {A : Type 0} → (A → Bool) → List A → ℕ
 howMany f [] = 0
 howMany f (a ∷ l) = elim (f a) [ true ↦ suc (howMany f l) | false ↦ howMany f l ]
 
--- "returns these counts, each the number of the run's events with such an answer"
+-- "The run keeps one short record of taken (200..202), turned away (23..31) and faulted (203)"
 pub record Counts : Type 0 where
   pub taken : ℕ
   pub turned-away : ℕ
   pub faulted : ℕ
 
+-- "and returns these counts, each the number of the run's events with such an answer": of these answers
 unfoldable pub countsOf : List ℕ → Counts
 countsOf l = record { taken = howMany isTaken l; turned-away = howMany isTurnedAway l; faulted = howMany isFaulted l }
 

@@ -25,6 +25,6 @@ pub record RunHolds {S : Type 0} (ed : Edition) (p : Plant) (c : Control S) (sta
     counts = countsOf (map (λ (o : Answered S). o .answer) said);
     records = overwrite (flatMap (recordOf ed c) said) buffer;
   }
-  -- the same of the records and the counts without `overwrite`, `howMany` and their tests
+  -- the same of the records and the counts without `overwrite`, `countsOf` and their tests
   pub written : AtFront (flatMap (recordOf ed c) said) buffer (r .records)
   pub counted : Counted (map (λ (o : Answered S). o .answer) said) (r .counts .taken) (r .counts .turned-away) (r .counts .faulted)

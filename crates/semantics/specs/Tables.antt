@@ -28,18 +28,7 @@ unfoldable pub risingFrom : ℕ → List ℕ → Bool
 risingFrom low [] = true
 risingFrom low (n ∷ l) = elim (leb low n) [ true ↦ risingFrom (suc n) l | false ↦ false ]
 
--- 18: "or operand wrong (.. 11 and 12 judge operands)"
-unfoldable pub operandFits : Edition → ℕ → List Selector → Action → Bool
-operandFits ed variables cs (test t) = isSome (truthIn ed variables t)
-operandFits ed variables cs (wait t) = isSome (truthIn ed variables t)
-operandFits ed variables cs (assign v e) = ltb v variables && isSome (numberIn ed variables e)
-operandFits ed variables cs (switch s m) = modeExists cs s m
-operandFits ed variables cs stop = true
-
-unfoldable pub operandsFit : Edition → Plant → List NodeAction → Bool
-operandsFit ed p l = every (λ (a : NodeAction). operandFits ed (length (p .variables)) (selectors p) (a .action)) l
-
--- 18: "a node number above 63"
+-- a node number that is not "above 63"
 unfoldable pub nodeExists : Edition → NodeAction → Bool
 nodeExists ed a = ltb (a .node) (ed .nodes)
 
@@ -50,7 +39,19 @@ actionNodes l = map (λ (a : NodeAction). a .node) l
 unfoldable pub actionsNumbered : Edition → List NodeAction → Bool
 actionsNumbered ed l = risingFrom 0 (actionNodes l) && every (nodeExists ed) l
 
--- 18, but for the kinds, lengths and missing bytes, which are the layout's
+-- 18: "or operand wrong (.. 11 and 12 judge operands)"
+unfoldable pub operandFits : Edition → ℕ → List Selector → Action → Bool
+operandFits ed variables cs (test t) = isSome (truthIn ed variables t)
+operandFits ed variables cs (wait t) = isSome (truthIn ed variables t)
+operandFits ed variables cs (assign v e) = ltb v variables && isSome (numberIn ed variables e)
+operandFits ed variables cs (switch s m) = modeExists cs s m
+operandFits ed variables cs stop = true
+
+-- those of all actions
+unfoldable pub operandsFit : Edition → Plant → List NodeAction → Bool
+operandsFit ed p l = every (λ (a : NodeAction). operandFits ed (length (p .variables)) (selectors p) (a .action)) l
+
+-- 18, but for the count, kinds, lengths and bytes missing or left over, which are the layout's
 unfoldable pub actionsFit : Edition → Plant → List NodeAction → Bool
 actionsFit ed p l = actionsNumbered ed l && operandsFit ed p l
 
@@ -85,8 +86,8 @@ unfoldable pub locationsFit : List NodeAction → List (List Entry) → Bool
 locationsFit l locations = every (locationFits (length locations) l) locations
 
 -- 17 to 19 of the four sections
-unfoldable pub judgeSections : Edition → TableSections → Judged Table
-judgeSections ed parts = do
+unfoldable pub judgeTableSections : Edition → TableSections → Judged Table
+judgeTableSections ed parts = do
   -- 17: "Its first two sections break 4..8 or 12."
   p ← oneNumber 17 (judgePlant ed (parts .variables) (parts .equations))
   ensure 17 (switchesRead ed p)
@@ -100,7 +101,7 @@ unfoldable pub judgeTable : Edition → List ℕ → Judged Table
 judgeTable ed t = do
   ensure 15 (tableHeader ed t)
   parts ← need 16 (tableSectionsIn (drop 5 t))
-  judgeSections ed parts
+  judgeTableSections ed parts
 
 -- ---- "A run of a table starts at location 0 .. The acting nodes are the location's entries, their actions hold the truths and assignments,
 -- a wait stands for CONTINUE .. A taken pick goes to its entry's target, a false test to the second one."

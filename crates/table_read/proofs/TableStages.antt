@@ -12,7 +12,7 @@ use Rattle.semantics.specs.Refusals.{Judged, refused, accepted, oneNumber, need
 use Rattle.semantics.specs.Sections.{Equation, equationsIn}
 use Rattle.semantics.specs.Plant.{Plant, judgePlant, switchesRead, equationReads, selectors}
 use Rattle.semantics.specs.TableFile.{NodeAction, Entry, TableSections, tableSectionsIn, actionsIn, locationsIn}
-use Rattle.semantics.specs.Tables.{Table, tableHeader, actionsFit, locationsFit, judgeSections, judgeTable, operandsFit, actionsNumbered}
+use Rattle.semantics.specs.Tables.{Table, tableHeader, actionsFit, locationsFit, judgeTableSections, judgeTable, operandsFit, actionsNumbered}
 use Rattle.semantics.proofs.Judging.{go-then, go-need, go-ensure, go-only}
 use Rattle.plant.specs.ModeCounts.{ModesAt}
 use Rattle.plant.specs.Sound.{There}
@@ -63,13 +63,13 @@ module _ (t : List ℕ) {p : Parts} (h : p ≡ partsOf t) where
     pub parts-stand : (s : TableSections) × AllStand t p s
     parts-stand = let a = accepted-parts t not-refused in (a .0, subst (λ p. AllStand t p (a .0)) (sym h) (a .3))
 
-    after-16 : judgeTable edition1 t ≡ judgeSections edition1 (sectionsAt t (partsOf t))
+    after-16 : judgeTable edition1 t ≡ judgeTableSections edition1 (sectionsAt t (partsOf t))
     unfolding judgeTable
     after-16 = go-ensure 15 _ (accepted-parts t not-refused .1) ∙ go-need 16 _ (parts-are t not-refused)
 
     pub by-sections : sectionsIndex p (take (p .«variables_end» - p .variables) (drop (p .variables) t)) (take (p .«equations_end» - p .equations) (drop (p .equations) t)) (take (p .«actions_end» - p .actions) (drop (p .actions) t)) (take (p .«locations_end» - p .locations) (drop (p .locations) t)) ≡ tableIndex t
     unfolding sectionsIndex tableIndex sectionsAt
-    by-sections = ap (λ (p : Parts). indexOf p (sectionsAt t p) (judgeSections edition1 (sectionsAt t p))) h ∙ ap (indexOf (partsOf t) (sectionsAt t (partsOf t))) (sym after-16)
+    by-sections = ap (λ (p : Parts). indexOf p (sectionsAt t p) (judgeTableSections edition1 (sectionsAt t p))) h ∙ ap (indexOf (partsOf t) (sectionsAt t (partsOf t))) (sym after-16)
 
 -- ---- 17
 module _ (vs es : List ℕ) {q : PlantRead} (h : q ≡ plantOf vs es) (z : q .refusal ≡ 0) where
@@ -102,12 +102,12 @@ pub found : {p : Parts} {q q' : PlantRead} {a a' : Actions} {l l' : Locations} �
 found e f g = cc
 
 module _ (p : Parts) (vs es ops locs : List ℕ) {q : PlantRead} (h : q ≡ plantOf vs es) where
-  refuses : {n : ℕ} → judgeSections edition1 (sectionsFrom vs es ops locs) ≡ refused n → noTable n ≡ sectionsIndex p vs es ops locs
+  refuses : {n : ℕ} → judgeTableSections edition1 (sectionsFrom vs es ops locs) ≡ refused n → noTable n ≡ sectionsIndex p vs es ops locs
   unfolding sectionsIndex
   refuses e = index-refused p (sectionsFrom vs es ops locs) e
 
   pub by-plant : (q .refusal ≡ 0 → ⊥) → noTable 17 ≡ sectionsIndex p vs es ops locs
-  unfolding judgeSections plantOf plantAnswer acceptedPlant oneNumber _>>=_
+  unfolding judgeTableSections plantOf plantAnswer acceptedPlant oneNumber _>>=_
   by-plant z = go (judgePlant edition1 vs es) refl
     where
       go : (j : Judged Plant) → judgePlant edition1 vs es ≡ j → noTable 17 ≡ sectionsIndex p vs es ops locs
@@ -127,7 +127,7 @@ module _ (p : Parts) (vs es ops locs : List ℕ) {q : PlantRead} (h : q ≡ plan
       switches-are = k (own .equations) (passed-all vs es passed-plant .equations) ∙ ap (λ n. every (equationReads edition1 n) (own .equations)) (variables-are vs es h z)
 
       pub by-switches : b ≡ false → noTable 17 ≡ sectionsIndex p vs es ops locs
-      unfolding judgeSections ensure _>>_
+      unfolding judgeTableSections ensure _>>_
       by-switches e = refuses (go-then _ (go-only 17 passed-plant) ∙ rw (sym switches-are ∙ e) refl)
 
       -- ---- 18
@@ -137,7 +137,7 @@ module _ (p : Parts) (vs es ops locs : List ℕ) {q : PlantRead} (h : q ≡ plan
 
         module _ {a : Actions} (i : a ≡ actionsOf ops) where
           pub by-actions : (a .refusal ≡ 0 → ⊥) → noTable 18 ≡ sectionsIndex p vs es ops locs
-          unfolding judgeSections actionsFit need ensure _>>=_ _>>_
+          unfolding judgeTableSections actionsFit need ensure _>>=_ _>>_
           by-actions y = go (actionsIn edition1 ops) refl
             where
               unfit : (l : List NodeAction) → actionsIn edition1 ops ≡ some l → actionsFit edition1 own l ≡ false
@@ -171,7 +171,7 @@ module _ (p : Parts) (vs es ops locs : List ℕ) {q : PlantRead} (h : q ≡ plan
               fit-is = ap (λ b. b && operandsFit edition1 own acts) acts-laid ∙ sym operands-are
 
               pub by-operands : r ≡ false → noTable 18 ≡ sectionsIndex p vs es ops locs
-              unfolding judgeSections ensure _>>_
+              unfolding judgeTableSections ensure _>>_
               by-operands f = refuses (go-then _ (go-only 17 passed-plant) ∙ go-ensure 17 _ passed-17 ∙ go-need 18 _ acts-are ∙ rw (fit-is ∙ f) refl)
 
               -- ---- 19
@@ -183,7 +183,7 @@ module _ (p : Parts) (vs es ops locs : List ℕ) {q : PlantRead} (h : q ≡ plan
                 locations-are = w ∙ by-kinds
 
                 pub by-locations : (l .refusal ≡ 0 → ⊥) → noTable 19 ≡ sectionsIndex p vs es ops locs
-                unfolding judgeSections need ensure _>>=_ _>>_
+                unfolding judgeTableSections need ensure _>>=_ _>>_
                 by-locations x = go (locationsIn edition1 locs) refl
                   where
                     unfit : (ls : List (List Entry)) → locationsIn edition1 locs ≡ some ls → locationsFit acts ls ≡ false
@@ -194,7 +194,7 @@ module _ (p : Parts) (vs es ops locs : List ℕ) {q : PlantRead} (h : q ≡ plan
                     go (some ls) g = refuses (go-then _ (go-only 17 passed-plant) ∙ go-ensure 17 _ passed-17 ∙ go-need 18 _ acts-are ∙ go-ensure 18 _ (fit-is ∙ f) ∙ go-need 19 _ g ∙ rw (unfit ls g) refl)
 
                 pub all-passed : l .refusal ≡ 0 → record { refusal = 0; parts = p; plant = q; actions = a; locations = l } ≡ sectionsIndex p vs es ops locs
-                unfolding sectionsIndex indexOf judgeSections
+                unfolding sectionsIndex indexOf judgeTableSections
                 all-passed x =
                     let g = accepted-locations acts locs (sym (ap (λ (l : Locations). l .refusal) locations-are) ∙ x) in
                     found h i locations-are ∙ sym (ap (indexOf p (sectionsFrom vs es ops locs)) (go-then _ (go-only 17 passed-plant) ∙ go-ensure 17 _ passed-17 ∙ go-need 18 _ acts-are ∙ go-ensure 18 _ (fit-is ∙ f) ∙ go-need 19 _ (g .1) ∙ go-ensure 19 _ (g .2)))

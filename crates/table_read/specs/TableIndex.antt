@@ -4,7 +4,7 @@ use Prim.Native.Nat.{ℕ}
 use Rattle.semantics.specs.Editions.{edition1}
 use Rattle.semantics.specs.Refusals.{Judged, refused, accepted}
 use Rattle.semantics.specs.TableFile.{TableSections}
-use Rattle.semantics.specs.Tables.{Table, judgeSections, judgeTable}
+use Rattle.semantics.specs.Tables.{Table, judgeTableSections, judgeTable}
 use Rattle.semantics.specs.Calls as Calls
 use Rattle.plant.specs.PlantRead.{refusedPlant, plantOf}
 use Rattle.table_read.specs.declared.parts.Parts.{Parts}
@@ -43,4 +43,4 @@ sectionsFrom vs es ops locs = record { variables = vs; equations = es; actions =
 
 -- 17 to 19 of the four sections
 unfoldable pub sectionsIndex : Parts → List ℕ → List ℕ → List ℕ → List ℕ → TableIndex
-sectionsIndex p vs es ops locs = indexOf p (sectionsFrom vs es ops locs) (judgeSections edition1 (sectionsFrom vs es ops locs))
+sectionsIndex p vs es ops locs = indexOf p (sectionsFrom vs es ops locs) (judgeTableSections edition1 (sectionsFrom vs es ops locs))
