@@ -317,6 +317,13 @@ of_schedule("K8: one RESET before it", tree(sequence(LEAF, parallel(*RESETS))), 
 tight("K8: one RESET before it", tree(sequence(LEAF, parallel(*RESETS))), Z, "p1 p3 p12 p3", "3 1 0", 26760, 52)
 of_schedule("K8: two RESETs before it", tree(sequence(LEAF, LEAF, parallel(*RESETS))), Z, "p1 p2 p4",
     "read 0, 1 0 14; size 0, 1025 0; rules 0, 3 0 0: 200 x3; compile 13, 0; " + unexamined(13), table_room=65536)
+# the most entries that 64 nodes give: 53 STOPs act at each of 1,024 locations, one for each set of RESETs that are left.
+# 11 + 53 nodes; 18 + 13 + 1 + 10 * 9 + 53 * 3 + 1,024 + 5 * (53 * 1,024 + 5,120) bytes
+WIDEST = tree(parallel(*RESETS, *[STOP] * 53))
+of_schedule("the widest table", WIDEST, Z, "p1 p10 p1 p11",
+    "read 0, 1 0 64; size 0, 1024 59392; rules 0, 3 1 0: 200 x2 25 202; compile 0, 298265; read table 0, 1 0 63 1024; by table 0, 3 1 0",
+    table_room=298265)
+of_schedule("the widest table, a byte too few", WIDEST, Z, "p1", "compile 14, 0; " + unexamined(14), table_room=298264)
 W = variables((LOWEST, HIGHEST, 0))
 of_schedule("K9: negating the lowest", tree(reset(0, neg(var(0))), vs=W), start([LOWEST]), "p0 p0", "rules 0, 0 1 1: 203 23")
 of_schedule("K9: negating the next", tree(reset(0, neg(var(0))), vs=W), start([LOWEST + 1]), "p0", "rules 0, 1 0 0: 201")
