@@ -118,4 +118,5 @@ module _ (ed : Edition) (file start events table records others : List ℕ) wher
     -- both runs come to what the rules derive
     pub runs : RunsAgree ed schedule st events records others (ruleRun ed file start events records) examTable
     -- and that is what is returned
-    pub result : examOf ≡ reported (eventCount ed events * recordSize ed (schedule .plant)) ((compile ed file table) .written) ((compile ed file table) .table) (ruleRun ed file start events records) examTable
+    pub result : examOf ≡ reported (eventCount ed events * recordSize ed (schedule .plant)) ((compile ed file table) .written) ((compile ed file table) .table)
+        (ruleRun ed file start events records) examTable

@@ -7,7 +7,8 @@ use Prim.Native.Nat.{ℕ}
 use lib.ListN.{getElem?}
 use lib.IntN.{ℤ, pos, negℤ, _+ℤ_, _-ℤ_, _*ℤ_}
 use lib.Signed.{leZ, ltZ}
-use Rattle.semantics.specs.Expressions.{Operation, sum, difference, product, Comparison, at-most, less, equal, unequal, Connective, both, either, Number, constant, variable, operate, negation, Truth, compare, connect, opposite, always, Side, above, below, Value, ok, fault}
+use Rattle.semantics.specs.Expressions.{Operation, sum, difference, product, Comparison, at-most, less, equal, unequal, Connective, both, either, Number, constant, variable, operate}
+use Rattle.semantics.specs.Expressions.{negation, Truth, compare, connect, opposite, always, Side, above, below, Value, ok, fault}
 
 -- "Every result must lie in −2147483648..2147483647, or evaluation faults."
 pub data Results (z : ℤ) : Value ℤ → Type 0 where

@@ -9,7 +9,8 @@ use lib.ListN.{length, getElem?}
 use Rattle.semantics.specs.Bytes.{All}
 use Rattle.semantics.specs.Editions.{Edition}
 use lib.IntN.{ℤ}
-use Rattle.semantics.specs.Expressions.{Number, constant, variable, operate, negation, Truth, compare, connect, opposite, always, Operation, Comparison, Connective, numberBytes, truthBytes, numberDepth, truthDepth, fits32}
+use Rattle.semantics.specs.Expressions.{Number, constant, variable, operate, negation, Truth, compare, connect, opposite, always, Operation, Comparison, Connective, numberBytes}
+use Rattle.semantics.specs.Expressions.{truthBytes, numberDepth, truthDepth, fits32}
 use Rattle.semantics.specs.Sections.{Variable, Rate, Switch, Mode, Selector, Equation, steady, choice}
 use Rattle.semantics.specs.Plant.{Plant, selectors}
 use Rattle.semantics.specs.Run.{Action, test, wait, assign, switch, stop}

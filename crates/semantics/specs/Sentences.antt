@@ -13,7 +13,8 @@ use Rattle.semantics.specs.Plant.{Plant}
 use Rattle.semantics.specs.TableFile.{NodeAction, Entry, TableSections, writeActions, writeLocations}
 use Rattle.semantics.specs.Tables.{Table}
 use Rattle.semantics.specs.Starts.{Start}
-use Rattle.semantics.specs.Writing.{writeVariables, VariablesLimits, writeEquations, EquationsLimits, writeTableSections, TableSectionsLimits, ActionsLimits, LocationsLimits, startBytes, InRange, StartLimits}
+use Rattle.semantics.specs.Writing.{writeVariables, VariablesLimits, writeEquations, EquationsLimits, writeTableSections, TableSectionsLimits, ActionsLimits, LocationsLimits}
+use Rattle.semantics.specs.Writing.{startBytes, InRange, StartLimits}
 use Rattle.semantics.specs.Proper.{Named, DrivenOnce, Truths, ProperActions, ProperLocations, TableWritten}
 use Rattle.semantics.specs.Calls.{recordSize}
 
