@@ -26,7 +26,9 @@ check-requires-2 : tie.Need-check-requires-2
 check-requires-2 c κs = search needs
 
 returns-4 : tie.Need-returns-4
-returns-4 c = λ es ts rs os a b d e. by-others edition1 (c .before .before .before .before .before .before .before .before .args .file .now) (c .before .before .before .before .before .before .before .before .args .start .now) es ts rs os (c .before .before .before .before .before .measure .ensures) (c .before .before .before .before .if1 .left) (let l : c .before .before .before .before .before .measure .result .length ≤ length ts = omega arith in l) (c .before .before .check .ensures es rs a d) (c .before .if3 .left) (c .check2 .ensures es os a e)
+returns-4 c =
+    let c7 = c .before .before .before .before .before .before .before in
+    λ es ts rs os a b d e. by-others edition1 (c7 .before .args .file .now) (c7 .before .args .start .now) es ts rs os (c .before .before .before .before .before .measure .ensures) (c .before .before .before .before .if1 .left) (let l : c .before .before .before .before .before .measure .result .length ≤ length ts = omega arith in l) (c .before .before .check .ensures es rs a d) (c .before .if3 .left) (c .check2 .ensures es os a e)
 
 pub judged-spec : {M : Type 1} → statement M
 judged-spec =

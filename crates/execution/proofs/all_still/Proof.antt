@@ -33,7 +33,9 @@ goes-on-requires : tie.Need-goes-on-requires Inv-loop μ-loop
 goes-on-requires c κs = search needs
 
 returns : tie.Need-returns Inv-loop μ-loop
-returns c = let a = c .before .before .before .before .before .before .before .before .before .args in let i = c .before .before .before .before .loop .inv in still-out (a .values .now) (cutAt (a .ops .now) (a .starts .now) (a .ends .now)) (a .acting .words) (c .before .before .before .before .loop .n) (c .before .before .before .loop-test .taken) (i .0) _ (c .before .before .still .ensures) (sym (c .before .goes-on .ensures) ∙ not-true _ (c .if1 .taken)) ∙ sym (ap stepVerdict (i .1))
+returns c =
+    let c7 = c .before .before .before .before .before .before .before in
+    let a = c7 .before .before .args in let i = c .before .before .before .before .loop .inv in still-out (a .values .now) (cutAt (a .ops .now) (a .starts .now) (a .ends .now)) (a .acting .words) (c .before .before .before .before .loop .n) (c .before .before .before .loop-test .taken) (i .0) _ (c .before .before .still .ensures) (sym (c .before .goes-on .ensures) ∙ not-true _ (c .if1 .taken)) ∙ sym (ap stepVerdict (i .1))
 
 add-next : tie.Need-add-next Inv-loop μ-loop
 add-next c = omega (arith, c .before .before .before .loop-test .taken)
@@ -42,7 +44,9 @@ next-requires-2 : tie.Need-next-requires-2 Inv-loop μ-loop
 next-requires-2 c κs = omega (arith, c .before .before .before .loop-test .taken)
 
 loop-less : tie.Need-loop-less Inv-loop μ-loop
-loop-less c = let h = first-on (c .before .before .before .before .before .before .before .before .before .before .args .acting .words) (c .before .before .before .before .before .loop .n + 1) _ (c .next2 .ensures) in omega (arith, c .before .before .before .before .loop-test .taken)
+loop-less c =
+    let c7 = c .before .before .before .before .before .before .before in
+    let h = first-on (c7 .before .before .before .args .acting .words) (c .before .before .before .before .before .loop .n + 1) _ (c .next2 .ensures) in omega (arith, c .before .before .before .before .loop-test .taken)
 
 loop-again : tie.Need-loop-again Inv-loop μ-loop
 loop-again c =

@@ -80,31 +80,41 @@ eval-next-of-requires : (t : ℕ) → eval-lts.Need-next-of-requires (calls t) (
 eval-next-of-requires t c κs = search needs
 
 eval-eval-requires-4 : (t : ℕ) → eval-lts.Need-eval-requires-4 (calls t) (eval-at t) eval.Post
-eval-eval-requires-4 t c κs = omega (arith, c .before .before .before .before .before .before .before .before .before .pre .0, c .before .before .before .before .before .before .before .if1 .left)
+eval-eval-requires-4 t c κs =
+    let c7 = c .before .before .before .before .before .before .before in
+    omega (arith, c7 .before .before .pre .0, c .before .before .before .before .before .before .before .if1 .left)
 
 eval-operate-requires : (t : ℕ) → eval-lts.Need-operate-requires (calls t) (eval-at t) eval.Post
 eval-operate-requires t c κs = search needs
 
 eval-eval-requires-5 : (t : ℕ) → eval-lts.Need-eval-requires-5 (calls t) (eval-at t) eval.Post
-eval-eval-requires-5 t c κs = omega (arith, c .before .before .before .before .before .before .before .before .before .pre .0, c .before .before .before .before .before .before .before .if1 .left)
+eval-eval-requires-5 t c κs =
+    let c7 = c .before .before .before .before .before .before .before in
+    omega (arith, c7 .before .before .pre .0, c .before .before .before .before .before .before .before .if1 .left)
 
 eval-next-of-requires-2 : (t : ℕ) → eval-lts.Need-next-of-requires-2 (calls t) (eval-at t) eval.Post
 eval-next-of-requires-2 t c κs = search needs
 
 eval-eval-requires-6 : (t : ℕ) → eval-lts.Need-eval-requires-6 (calls t) (eval-at t) eval.Post
-eval-eval-requires-6 t c κs = omega (arith, c .before .before .before .before .before .before .before .before .before .before .before .pre .0, c .before .before .before .before .before .before .before .before .before .if1 .left)
+eval-eval-requires-6 t c κs =
+    let c7 = c .before .before .before .before .before .before .before in
+    omega (arith, c7 .before .before .before .before .pre .0, c7 .before .before .if1 .left)
 
 eval-relate-requires : (t : ℕ) → eval-lts.Need-relate-requires (calls t) (eval-at t) eval.Post
 eval-relate-requires t c κs = search needs
 
 eval-eval-requires-7 : (t : ℕ) → eval-lts.Need-eval-requires-7 (calls t) (eval-at t) eval.Post
-eval-eval-requires-7 t c κs = omega (arith, c .before .before .before .before .before .before .before .before .before .before .before .pre .0, c .before .before .before .before .before .before .before .before .before .if1 .left)
+eval-eval-requires-7 t c κs =
+    let c7 = c .before .before .before .before .before .before .before in
+    omega (arith, c7 .before .before .before .before .pre .0, c7 .before .before .if1 .left)
 
 eval-next-of-requires-3 : (t : ℕ) → eval-lts.Need-next-of-requires-3 (calls t) (eval-at t) eval.Post
 eval-next-of-requires-3 t c κs = search needs
 
 eval-eval-requires-8 : (t : ℕ) → eval-lts.Need-eval-requires-8 (calls t) (eval-at t) eval.Post
-eval-eval-requires-8 t c κs = omega (arith, c .before .before .before .before .before .before .before .before .before .before .before .before .before .pre .0, c .before .before .before .before .before .before .before .before .before .before .before .if1 .left)
+eval-eval-requires-8 t c κs =
+    let c7 = c .before .before .before .before .before .before .before in
+    omega (arith, c7 .before .before .before .before .before .before .pre .0, c7 .before .before .before .before .if1 .left)
 
 eval-join-requires : (t : ℕ) → eval-lts.Need-join-requires (calls t) (eval-at t) eval.Post
 eval-join-requires t c κs = search needs

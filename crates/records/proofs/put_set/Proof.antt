@@ -23,7 +23,9 @@ same-length c = search needs
 
 returns : tie.Need-returns
 unfolding out4
-returns c = let s = c .before .before .before .before .before .before .before .before .before .before in
+returns c =
+    let c7 = c .before .before .before .before .before .before .before in
+    let s = c7 .before .before .before in
     let p = c .before .before .before .before .before .before .put4 in
     let q = c .before .before .put42 in
     let w = owned (s .args .acting .words) _ (s .good .1 .1 .0 .1 .1 .0) in

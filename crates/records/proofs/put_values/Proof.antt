@@ -41,7 +41,9 @@ loop-less : tie.Need-loop-less Inv-loop μ-loop
 loop-less c = omega arith
 
 loop-again : tie.Need-loop-again Inv-loop μ-loop
-loop-again c = let s = c .before .before .before .before .before .before .before .before in
+loop-again c =
+    let c7 = c .before .before .before .before .before .before .before in
+    let s = c7 .before in
     let l = c .before .before .before .before .before .before .loop in
     let vs = s .args .values .now in
     let p = c .before .before .put-signed in

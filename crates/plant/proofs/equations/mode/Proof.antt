@@ -53,11 +53,15 @@ enum-told-2 c = search needs
 
 returns-3 : tie.Need-returns-3
 unfolding readMode modeNamed
-returns-3 c = step-says (then-byte _ (omega arith) (then _ (c .before .before .before .before .before .before .before .before .before .before .rates .ensures .reads) (ap view (c .before .before .before .before .before .before .before .before .w .given .1)) (λ t. then-byte _ (omega arith) (then _ (c .before .before .before .before .switches .ensures .reads) (ap view (c .before .before .v .given .1)) (λ u. gives _ (u .inside) (c .both .ensures ∙ ap₂ _&&_ (t .means) (u .means)))))))
+returns-3 c =
+    let c7 = c .before .before .before .before .before .before .before in
+    step-says (then-byte _ (omega arith) (then _ (c7 .before .before .before .rates .ensures .reads) (ap view (c7 .before .w .given .1)) (λ t. then-byte _ (omega arith) (then _ (c .before .before .before .before .switches .ensures .reads) (ap view (c .before .before .v .given .1)) (λ u. gives _ (u .inside) (c .both .ensures ∙ ap₂ _&&_ (t .means) (u .means)))))))
 
 returns-4 : tie.Need-returns-4
 unfolding readMode
-returns-4 c = step-says (then-byte _ (omega arith) (then _ (c .before .before .before .before .before .before .before .before .rates .ensures .reads) (ap view (c .before .before .before .before .before .before .w .given .1)) (λ t. then-byte _ (omega arith) (broke _ (c .before .before .switches .ensures .reads) (ap view (c .enum-told .given .1))))))
+returns-4 c =
+    let c7 = c .before .before .before .before .before .before .before in
+    step-says (then-byte _ (omega arith) (then _ (c7 .before .rates .ensures .reads) (ap view (c .before .before .before .before .before .before .w .given .1)) (λ t. then-byte _ (omega arith) (broke _ (c .before .before .switches .ensures .reads) (ap view (c .enum-told .given .1))))))
 
 returns-5 : tie.Need-returns-5
 unfolding readMode

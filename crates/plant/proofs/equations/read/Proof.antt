@@ -23,7 +23,9 @@ steady-rates-requires : tie.Need-steady-rates-requires
 steady-rates-requires c κs = all-stand _ _ (taken-0 (c .before .before .before .before .before .before .before .args .s .now) (c .before .before .before .before .before .before .before .args .variables) (sym (c .before .before .before .before .if1 .left) ∙ c .before .before .before .before .before .refusal .ensures))
 
 returns-2 : tie.Need-returns-2
-returns-2 c = answer-taken (c .before .before .before .before .before .before .before .before .args .s .now) (c .before .before .before .before .before .before .before .before .args .variables) (taken-0 (c .before .before .before .before .before .before .before .before .args .s .now) (c .before .before .before .before .before .before .before .before .args .variables) (sym (c .before .before .before .before .before .if1 .left) ∙ c .before .before .before .before .before .before .refusal .ensures)) (c .before .before .before .before .selectors .ensures) (c .steady-rates .ensures)
+returns-2 c =
+    let c7 = c .before .before .before .before .before .before .before in
+    answer-taken (c7 .before .args .s .now) (c7 .before .args .variables) (taken-0 (c7 .before .args .s .now) (c7 .before .args .variables) (sym (c .before .before .before .before .before .if1 .left) ∙ c .before .before .before .before .before .before .refusal .ensures)) (c .before .before .before .before .selectors .ensures) (c .steady-rates .ensures)
 
 pub read-spec : {M : Type 1} → statement M
 read-spec =

@@ -34,11 +34,15 @@ enum-told c = search needs
 
 returns-4 : tie.Need-returns-4
 unfolding equationsIn
-returns-4 c = let t = taken (section-reads {s = c .before .before .before .before .before .before .before .before .before .before .args .s .now} (omega arith) (omega arith) (c .before .before .before .before .before .some-equations .ensures .reads)) (ap view (c .before .before .before .w .given .1)) in named-is-0 _ _ (kept t (omega arith)) (t .means) (c .if4 .taken)
+returns-4 c =
+    let c7 = c .before .before .before .before .before .before .before in
+    let t = taken (section-reads {s = c7 .before .before .before .args .s .now} (omega arith) (omega arith) (c .before .before .before .before .before .some-equations .ensures .reads)) (ap view (c .before .before .before .w .given .1)) in named-is-0 _ _ (kept t (omega arith)) (t .means) (c .if4 .taken)
 
 returns-5 : tie.Need-returns-5
 unfolding equationsIn
-returns-5 c = let t = taken (section-reads {s = c .before .before .before .before .before .before .before .before .before .before .args .s .now} (omega arith) (omega arith) (c .before .before .before .before .before .some-equations .ensures .reads)) (ap view (c .before .before .before .w .given .1)) in unnamed-is-7 _ _ (kept t (omega arith)) (t .means) (c .if4 .left)
+returns-5 c =
+    let c7 = c .before .before .before .before .before .before .before in
+    let t = taken (section-reads {s = c7 .before .before .before .args .s .now} (omega arith) (omega arith) (c .before .before .before .before .before .some-equations .ensures .reads)) (ap view (c .before .before .before .w .given .1)) in unnamed-is-7 _ _ (kept t (omega arith)) (t .means) (c .if4 .left)
 
 returns-6 : tie.Need-returns-6
 unfolding equationsIn

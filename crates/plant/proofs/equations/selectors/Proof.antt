@@ -45,10 +45,14 @@ mul-mode-places : tie.Need-mul-mode-places Inv-loop μ-loop
 mul-mode-places c = omega (arith, count-fits (c .before .before .before .before .loop .inv (c .before .before .before .before .before .before .before .pre)) (c .before .before .before .loop-test .taken))
 
 mode-places-requires : tie.Need-mode-places-requires Inv-loop μ-loop
-mode-places-requires c κs = (places-fit (c .before .before .before .before .before .loop .inv (c .before .before .before .before .before .before .before .before .pre)) (c .before .before .before .before .loop-test .taken) (c .before .before .if1 .taken), modes-stand (c .before .before .before .before .before .loop .inv (c .before .before .before .before .before .before .before .before .pre)) (c .before .before .before .before .loop-test .taken) (c .before .before .if1 .taken))
+mode-places-requires c κs =
+    let c7 = c .before .before .before .before .before .before .before in
+    (places-fit (c .before .before .before .before .before .loop .inv (c7 .before .pre)) (c .before .before .before .before .loop-test .taken) (c .before .before .if1 .taken), modes-stand (c .before .before .before .before .before .loop .inv (c7 .before .pre)) (c .before .before .before .before .loop-test .taken) (c .before .before .if1 .taken))
 
 add-count : tie.Need-add-count Inv-loop μ-loop
-add-count c = omega (arith, count-fits (c .before .before .before .before .before .before .loop .inv (c .before .before .before .before .before .before .before .before .before .pre)) (c .before .before .before .before .before .loop-test .taken))
+add-count c =
+    let c7 = c .before .before .before .before .before .before .before in
+    omega (arith, count-fits (c .before .before .before .before .before .before .loop .inv (c7 .before .before .pre)) (c .before .before .before .before .before .loop-test .taken))
 
 nat2-requires : tie.Need-nat2-requires Inv-loop μ-loop
 nat2-requires c κs = omega (arith, here-fits (c .before .before .before .loop .inv (c .before .before .before .before .before .before .pre)) (c .before .before .loop-test .taken))

@@ -31,10 +31,14 @@ refused-requires-3 : tie.Need-refused-requires-3
 refused-requires-3 c κs = search needs
 
 returns-3 : tie.Need-returns-3
-returns-3 c = c .refused3 .ensures ∙ by-8 (c .before .before .before .before .before .before .before .before .before .args .vs .now) (c .before .before .before .before .before .before .before .before .before .args .es .now) (c .before .before .before .before .before .before .read .ensures) (c .before .before .before .before .before .if1 .left) (c .before .before .before .before .read2 .ensures) (c .before .before .before .if2 .left) (c .before .before .once .ensures) (not-true _ (c .before .if3 .taken))
+returns-3 c =
+    let c7 = c .before .before .before .before .before .before .before in
+    c .refused3 .ensures ∙ by-8 (c7 .before .before .args .vs .now) (c7 .before .before .args .es .now) (c .before .before .before .before .before .before .read .ensures) (c .before .before .before .before .before .if1 .left) (c .before .before .before .before .read2 .ensures) (c .before .before .before .if2 .left) (c .before .before .once .ensures) (not-true _ (c .before .if3 .taken))
 
 returns-4 : tie.Need-returns-4
-returns-4 c = passed (c .before .before .before .before .before .before .before .before .before .before .before .before .before .args .vs .now) (c .before .before .before .before .before .before .before .before .before .before .before .before .before .args .es .now) (c .before .before .before .before .before .before .before .before .before .before .read .ensures) (c .before .before .before .before .before .before .before .before .before .if1 .left) (c .before .before .before .before .before .before .before .before .read2 .ensures) (c .before .before .before .before .before .before .before .if2 .left) (c .before .before .before .before .before .before .once .ensures) (not-false _ (c .before .before .before .before .before .if3 .left))
+returns-4 c =
+    let c7 = c .before .before .before .before .before .before .before in
+    passed (c7 .before .before .before .before .before .before .args .vs .now) (c7 .before .before .before .before .before .before .args .es .now) (c7 .before .before .before .read .ensures) (c7 .before .before .if1 .left) (c7 .before .read2 .ensures) (c .before .before .before .before .before .before .before .if2 .left) (c .before .before .before .before .before .before .once .ensures) (not-false _ (c .before .before .before .before .before .if3 .left))
 
 pub read-spec : {M : Type 1} → statement M
 read-spec =

@@ -9,7 +9,9 @@ returns : tie.Need-returns
 returns c = λ s o d i g f. step-over s o d i g f _ (c .if1 .taken) refl
 
 judge-requires : tie.Need-judge-requires
-judge-requires c κs = judging (c .before .before .before .before .before .before .before .before .before .before .before .before .before .pre) (c .before .before .before .if1 .left)
+judge-requires c κs =
+    let c7 = c .before .before .before .before .before .before .before in
+    judging (c7 .before .before .before .before .before .before .pre) (c .before .before .before .if1 .left)
 
 settled-requires : tie.Need-settled-requires
 settled-requires c κs =
@@ -24,7 +26,9 @@ same-length-2 : tie.Need-same-length-2
 same-length-2 c = search needs
 
 returns-2 : tie.Need-returns-2
-returns-2 c = λ s o d i g f. step-at s o d i g f _ (c .before .before .before .before .before .before .before .before .if1 .left) (c .before .before .before .before .judge .ensures) (c .settled .ensures)
+returns-2 c =
+    let c7 = c .before .before .before .before .before .before .before in
+    λ s o d i g f. step-at s o d i g f _ (c7 .before .if1 .left) (c .before .before .before .before .judge .ensures) (c .settled .ensures)
 
 pub step-spec : {M : Type 1} → statement M
 step-spec =

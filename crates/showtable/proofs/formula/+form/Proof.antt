@@ -66,7 +66,9 @@ form-sub-form-2 : (t : ℕ) → form-lts.Need-sub-form-2 (calls t) (form-at t) f
 form-sub-form-2 t c = omega arith
 
 form-form-requires-2 : (t : ℕ) → form-lts.Need-form-requires-2 (calls t) (form-at t) form.Post
-form-form-requires-2 t c κs = (let e : c .before .before .before .before .before .before .before .before .before .before .args .levels ≡ t = c .before .before .before .before .before .before .before .before .before .before .pre .0 in omega arith, tt)
+form-form-requires-2 t c κs =
+    let c7 = c .before .before .before .before .before .before .before in
+    (let e : c7 .before .before .before .args .levels ≡ t = c7 .before .before .before .pre .0 in omega arith, tt)
 
 form-bracket-requires : (t : ℕ) → form-lts.Need-bracket-requires (calls t) (form-at t) form.Post
 form-bracket-requires t c κs = tt

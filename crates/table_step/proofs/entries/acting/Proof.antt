@@ -39,7 +39,9 @@ with-requires : tie.Need-with-requires Inv-loop μ-loop
 with-requires c κs = omega (arith, (c .wide2 .ensures), (c .before .shared-slice-known3 .given) (c .before .before .before .loop .p))
 
 add-p-2 : tie.Need-add-p-2 Inv-loop μ-loop
-add-p-2 c = omega (arith, (c .before .before .before .before .loop .inv .2 .place), (c .before .before .before .before .loop .inv .1), (c .before .before .before .before .before .before .before .before .before .pre .inside))
+add-p-2 c =
+    let c7 = c .before .before .before .before .before .before .before in
+    omega (arith, (c .before .before .before .before .loop .inv .2 .place), (c .before .before .before .before .loop .inv .1), (c7 .before .before .pre .inside))
 
 add-j : tie.Need-add-j Inv-loop μ-loop
 add-j c = omega arith
@@ -48,7 +50,9 @@ loop-less : tie.Need-loop-less Inv-loop μ-loop
 loop-less c = omega arith
 
 loop-again : tie.Need-loop-again Inv-loop μ-loop
-loop-again c = (omega arith, (c .before .before .before .before .loop .inv .1), gather-next (c .before .before .before .before .before .before .before .before .before .args .locs .now) (c .before .before .before .before .before .before .before .before .before .args .at) (c .before .before .before .before .loop .inv .2) (omega (arith, (c .before .before .before .before .loop .inv .1))) (c .before .wide2 .ensures) (omega (arith, (c .before .wide2 .ensures), (c .before .before .shared-slice-known3 .given) (c .before .before .before .before .loop .p))) (owned _ _ (c .with .ok .1 .1 .0)) (c .with .ensures))
+loop-again c =
+    let c7 = c .before .before .before .before .before .before .before in
+    (omega arith, (c .before .before .before .before .loop .inv .1), gather-next (c7 .before .before .args .locs .now) (c7 .before .before .args .at) (c .before .before .before .before .loop .inv .2) (omega (arith, (c .before .before .before .before .loop .inv .1))) (c .before .wide2 .ensures) (omega (arith, (c .before .wide2 .ensures), (c .before .before .shared-slice-known3 .given) (c .before .before .before .before .loop .p))) (owned _ _ (c .with .ok .1 .1 .0)) (c .with .ensures))
 
 returns : tie.Need-returns Inv-loop μ-loop
 returns c = gather-end (c .before .before .before .before .before .before .args .locs .now) (c .before .before .before .before .before .before .args .at) (c .before .loop .inv .2) (omega (arith, (c .before .loop .inv .1)))

@@ -32,28 +32,44 @@ wide-requires-2 : tie.Need-wide-requires-2 Inv-loop μ-loop
 wide-requires-2 c κs = search needs
 
 add-nat2 : tie.Need-add-nat2 Inv-loop μ-loop
-add-nat2 c = omega (arith, (c .before .before .before .before .before .loop .inv .2 .place), (c .before .before .before .before .before .loop .inv .1), (c .before .before .before .before .before .before .before .before .before .pre .inside))
+add-nat2 c =
+    let c7 = c .before .before .before .before .before .before .before in
+    omega (arith, (c .before .before .before .before .before .loop .inv .2 .place), (c .before .before .before .before .before .loop .inv .1), (c7 .before .before .pre .inside))
 
 nat2-requires : tie.Need-nat2-requires Inv-loop μ-loop
-nat2-requires c κs = omega (arith, (c .before .before .before .before .before .loop .inv .2 .place), (c .before .before .before .before .before .loop .inv .1), (c .before .before .before .before .before .before .before .before .before .pre .inside))
+nat2-requires c κs =
+    let c7 = c .before .before .before .before .before .before .before in
+    omega (arith, (c .before .before .before .before .before .loop .inv .2 .place), (c .before .before .before .before .before .loop .inv .1), (c7 .before .before .pre .inside))
 
 returns : tie.Need-returns Inv-loop μ-loop
-returns c = look-true (c .before .before .before .before .before .before .before .before .before .before .args .locs .now) (c .before .before .before .before .before .before .before .before .before .before .args .at) (c .before .before .before .before .before .before .before .before .before .before .args .n) (c .before .before .before .before .before .before .before .before .before .before .args .truth) (c .before .before .before .before .before .before .loop .inv .2) (omega (arith, (c .before .before .before .before .before .before .loop .inv .1))) (c .before .before .before .wide2 .ensures) (c .before .before .if1 .taken) (c .before .if2 .taken) (c .nat2 .ensures)
+returns c =
+    let c7 = c .before .before .before .before .before .before .before in
+    look-true (c7 .before .before .before .args .locs .now) (c7 .before .before .before .args .at) (c7 .before .before .before .args .n) (c7 .before .before .before .args .truth) (c .before .before .before .before .before .before .loop .inv .2) (omega (arith, (c .before .before .before .before .before .before .loop .inv .1))) (c .before .before .before .wide2 .ensures) (c .before .before .if1 .taken) (c .before .if2 .taken) (c .nat2 .ensures)
 
 add-nat2-2 : tie.Need-add-nat2-2 Inv-loop μ-loop
-add-nat2-2 c = omega (arith, (c .before .before .before .before .before .loop .inv .2 .place), (c .before .before .before .before .before .loop .inv .1), (c .before .before .before .before .before .before .before .before .before .pre .inside))
+add-nat2-2 c =
+    let c7 = c .before .before .before .before .before .before .before in
+    omega (arith, (c .before .before .before .before .before .loop .inv .2 .place), (c .before .before .before .before .before .loop .inv .1), (c7 .before .before .pre .inside))
 
 add-nat2-3 : tie.Need-add-nat2-3 Inv-loop μ-loop
-add-nat2-3 c = omega (arith, (c .before .before .before .before .before .loop .inv .2 .place), (c .before .before .before .before .before .loop .inv .1), (c .before .before .before .before .before .before .before .before .before .pre .inside))
+add-nat2-3 c =
+    let c7 = c .before .before .before .before .before .before .before in
+    omega (arith, (c .before .before .before .before .before .loop .inv .2 .place), (c .before .before .before .before .before .loop .inv .1), (c7 .before .before .pre .inside))
 
 nat2-requires-2 : tie.Need-nat2-requires-2 Inv-loop μ-loop
-nat2-requires-2 c κs = omega (arith, (c .before .before .before .before .before .loop .inv .2 .place), (c .before .before .before .before .before .loop .inv .1), (c .before .before .before .before .before .before .before .before .before .pre .inside))
+nat2-requires-2 c κs =
+    let c7 = c .before .before .before .before .before .before .before in
+    omega (arith, (c .before .before .before .before .before .loop .inv .2 .place), (c .before .before .before .before .before .loop .inv .1), (c7 .before .before .pre .inside))
 
 returns-2 : tie.Need-returns-2 Inv-loop μ-loop
-returns-2 c = look-false (c .before .before .before .before .before .before .before .before .before .before .args .locs .now) (c .before .before .before .before .before .before .before .before .before .before .args .at) (c .before .before .before .before .before .before .before .before .before .before .args .n) (c .before .before .before .before .before .before .before .before .before .before .args .truth) (c .before .before .before .before .before .before .loop .inv .2) (omega (arith, (c .before .before .before .before .before .before .loop .inv .1))) (c .before .before .before .wide2 .ensures) (c .before .before .if1 .taken) (c .before .if2 .left) (c .nat22 .ensures)
+returns-2 c =
+    let c7 = c .before .before .before .before .before .before .before in
+    look-false (c7 .before .before .before .args .locs .now) (c7 .before .before .before .args .at) (c7 .before .before .before .args .n) (c7 .before .before .before .args .truth) (c .before .before .before .before .before .before .loop .inv .2) (omega (arith, (c .before .before .before .before .before .before .loop .inv .1))) (c .before .before .before .wide2 .ensures) (c .before .before .if1 .taken) (c .before .if2 .left) (c .nat22 .ensures)
 
 add-p-2 : tie.Need-add-p-2 Inv-loop μ-loop
-add-p-2 c = omega (arith, (c .before .before .before .before .loop .inv .2 .place), (c .before .before .before .before .loop .inv .1), (c .before .before .before .before .before .before .before .before .pre .inside))
+add-p-2 c =
+    let c7 = c .before .before .before .before .before .before .before in
+    omega (arith, (c .before .before .before .before .loop .inv .2 .place), (c .before .before .before .before .loop .inv .1), (c7 .before .pre .inside))
 
 add-j : tie.Need-add-j Inv-loop μ-loop
 add-j c = omega arith
@@ -62,7 +78,9 @@ loop-less : tie.Need-loop-less Inv-loop μ-loop
 loop-less c = omega arith
 
 loop-again : tie.Need-loop-again Inv-loop μ-loop
-loop-again c = (omega arith, (c .before .before .before .before .loop .inv .1), look-next (c .before .before .before .before .before .before .before .before .args .locs .now) (c .before .before .before .before .before .before .before .before .args .at) (c .before .before .before .before .before .before .before .before .args .n) (c .before .before .before .before .before .before .before .before .args .truth) (c .before .before .before .before .loop .inv .2) (omega (arith, (c .before .before .before .before .loop .inv .1))) (c .before .wide2 .ensures) (c .if1 .left))
+loop-again c =
+    let c7 = c .before .before .before .before .before .before .before in
+    (omega arith, (c .before .before .before .before .loop .inv .1), look-next (c7 .before .args .locs .now) (c7 .before .args .at) (c7 .before .args .n) (c7 .before .args .truth) (c .before .before .before .before .loop .inv .2) (omega (arith, (c .before .before .before .before .loop .inv .1))) (c .before .wide2 .ensures) (c .if1 .left))
 
 returns-3 : tie.Need-returns-3 Inv-loop μ-loop
 returns-3 c = look-end (c .before .before .before .before .before .args .locs .now) (c .before .before .before .before .before .args .at) (c .before .before .before .before .before .args .n) (c .before .before .before .before .before .args .truth) (c .before .loop .inv .2) (omega (arith, (c .before .loop .inv .1)))

@@ -56,7 +56,9 @@ payload-requires : tie.Need-payload-requires
 payload-requires c κs = search needs
 
 returns-5 : tie.Need-returns-5
-returns-5 c = has-payload (c .before .before .before .before .before .before .before .before .before .args .s .now) (c .before .before .before .before .before .before .before .before .before .args .at) (omega arith) (omega arith) (omega arith) (omega arith) (c .payload .ensures)
+returns-5 c =
+    let c7 = c .before .before .before .before .before .before .before in
+    has-payload (c7 .before .before .args .s .now) (c7 .before .before .args .at) (omega arith) (omega arith) (omega arith) (omega arith) (c .payload .ensures)
 
 pub node-spec : {M : Type 1} → statement M
 node-spec =

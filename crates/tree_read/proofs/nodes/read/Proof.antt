@@ -50,28 +50,40 @@ returns-4 : tie.Need-returns-4 Inv-loop μ-loop
 returns-4 c = c .refused4 .ensures ∙ sym (nodes-none _ (fill-broken _ _ _ _ _ _ (c .before .before .before .before .loop .inv .1) (omega arith) (omega arith) (omega arith) (c .before .before .before .loop-test .taken) (sym (not-true _ (c .before .if4 .taken)) ∙ c .before .before .node .ensures)))
 
 add-e : tie.Need-add-e Inv-loop μ-loop
-add-e c = omega (arith, stands-inside (c .before .before .before .before .before .before .before .before .before .args .s .now) (c .before .before .before .loop .p) (sym (not-false _ (c .if4 .left)) ∙ c .before .node .ensures))
+add-e c =
+    let c7 = c .before .before .before .before .before .before .before in
+    omega (arith, stands-inside (c7 .before .before .args .s .now) (c .before .before .before .loop .p) (sym (not-false _ (c .if4 .left)) ∙ c .before .node .ensures))
 
 shared-slice-read-e : tie.Need-shared-slice-read-e Inv-loop μ-loop
-shared-slice-read-e c = omega (arith, stands-inside (c .before .before .before .before .before .before .before .before .before .before .args .s .now) (c .before .before .before .before .loop .p) (sym (not-false _ (c .before .if4 .left)) ∙ c .before .before .node .ensures))
+shared-slice-read-e c =
+    let c7 = c .before .before .before .before .before .before .before in
+    omega (arith, stands-inside (c7 .before .before .before .args .s .now) (c .before .before .before .before .loop .p) (sym (not-false _ (c .before .if4 .left)) ∙ c .before .before .node .ensures))
 
 cast-e : tie.Need-cast-e Inv-loop μ-loop
 cast-e c = omega (arith, c .shared-slice-known3 .given (c .before .before .before .before .loop .p))
 
 add-e-2 : tie.Need-add-e-2 Inv-loop μ-loop
-add-e-2 c = omega (arith, stands-inside (c .before .before .before .before .before .before .before .before .before .before .args .s .now) (c .before .before .before .before .loop .p) (sym (not-false _ (c .before .if4 .left)) ∙ c .before .before .node .ensures))
+add-e-2 c =
+    let c7 = c .before .before .before .before .before .before .before in
+    omega (arith, stands-inside (c7 .before .before .before .args .s .now) (c .before .before .before .before .loop .p) (sym (not-false _ (c .before .if4 .left)) ∙ c .before .before .node .ensures))
 
 add-kinds : tie.Need-add-kinds Inv-loop μ-loop
-add-kinds c = omega (arith, stands-inside (c .before .before .before .before .before .before .before .before .before .before .args .s .now) (c .before .before .before .before .loop .p) (sym (not-false _ (c .before .if4 .left)) ∙ c .before .before .node .ensures))
+add-kinds c =
+    let c7 = c .before .before .before .before .before .before .before in
+    omega (arith, stands-inside (c7 .before .before .before .args .s .now) (c .before .before .before .before .loop .p) (sym (not-false _ (c .before .if4 .left)) ∙ c .before .before .node .ensures))
 
 shared-slice-read-kinds : tie.Need-shared-slice-read-kinds Inv-loop μ-loop
-shared-slice-read-kinds c = omega (arith, stands-inside (c .before .before .before .before .before .before .before .before .before .before .before .args .s .now) (c .before .before .before .before .before .loop .p) (sym (not-false _ (c .before .before .if4 .left)) ∙ c .before .before .before .node .ensures))
+shared-slice-read-kinds c =
+    let c7 = c .before .before .before .before .before .before .before in
+    omega (arith, stands-inside (c7 .before .before .before .before .args .s .now) (c .before .before .before .before .before .loop .p) (sym (not-false _ (c .before .before .if4 .left)) ∙ c .before .before .before .node .ensures))
 
 array-write-kinds : tie.Need-array-write-kinds Inv-loop μ-loop
 array-write-kinds c = omega arith
 
 add-starts : tie.Need-add-starts Inv-loop μ-loop
-add-starts c = omega (arith, stands-inside (c .before .before .before .before .before .before .before .before .before .before .before .args .s .now) (c .before .before .before .before .before .loop .p) (sym (not-false _ (c .before .before .if4 .left)) ∙ c .before .before .before .node .ensures))
+add-starts c =
+    let c7 = c .before .before .before .before .before .before .before in
+    omega (arith, stands-inside (c7 .before .before .before .before .args .s .now) (c .before .before .before .before .before .loop .p) (sym (not-false _ (c .before .before .if4 .left)) ∙ c .before .before .before .node .ensures))
 
 mul-starts : tie.Need-mul-starts Inv-loop μ-loop
 mul-starts c = omega arith

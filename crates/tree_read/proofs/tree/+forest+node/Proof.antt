@@ -53,13 +53,17 @@ forest-sub-forest : (t : ℕ) → forest-lts.Need-sub-forest (forest-calls t) (f
 forest-sub-forest t c = omega arith
 
 forest-forest-requires : (t : ℕ) → forest-lts.Need-forest-requires (forest-calls t) (forest-at t) forest.Post
-forest-forest-requires t c κs = let b = c .before .before .before .before .before .before .node .ensures .0 .within _ (next-is (c .before .before .w .given .1)) in omega (arith, c .before .before .before .before .before .before .node .kept .1 .0, c .before .before .before .before .before .before .before .before .before .before .before .pre)
+forest-forest-requires t c κs =
+    let c7 = c .before .before .before .before .before .before .before in
+    let b = c .before .before .before .before .before .before .node .ensures .0 .within _ (next-is (c .before .before .w .given .1)) in omega (arith, c .before .before .before .before .before .before .node .kept .1 .0, c7 .before .before .before .before .pre)
 
 forest-enum-told : (t : ℕ) → forest-lts.Need-enum-told (forest-calls t) (forest-at t) forest.Post
 forest-enum-told t c = search needs
 
 forest-same-length : (t : ℕ) → forest-lts.Need-same-length (forest-calls t) (forest-at t) forest.Post
-forest-same-length t c = c .before .before .forest .kept .1 .0 ∙ c .before .before .before .before .before .before .before .before .before .node .kept .1 .0
+forest-same-length t c =
+    let c7 = c .before .before .before .before .before .before .before in
+    c .before .before .forest .kept .1 .0 ∙ c7 .before .before .node .kept .1 .0
 
 forest-returns-2 : (t : ℕ) → forest-lts.Need-returns-2 (forest-calls t) (forest-at t) forest.Post
 forest-returns-2 t c =

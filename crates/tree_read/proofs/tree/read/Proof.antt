@@ -37,13 +37,19 @@ no-tree-requires-2 : tie.Need-no-tree-requires-2
 no-tree-requires-2 c κs = search needs
 
 returns : tie.Need-returns
-returns c = tree-found _ _ _ _ (c .before .before .before .before .before .before .before .before .before .before .args .n) (c .before .before .before .before .before .before .before .before .before .before .pre) (c .before .before .before .before .before .before .before .before .child-counts .ensures) (c .before .before .before .before .before .node .ensures .1) (c .before .before .w .given .1) (c .if1 .taken)
+returns c =
+    let c7 = c .before .before .before .before .before .before .before in
+    tree-found _ _ _ _ (c7 .before .before .before .args .n) (c7 .before .before .before .pre) (c7 .before .child-counts .ensures) (c .before .before .before .before .before .node .ensures .1) (c .before .before .w .given .1) (c .if1 .taken)
 
 returns-2 : tie.Need-returns-2
-returns-2 c = let b = c .before .before .before .before .before .before .node .ensures .0 .within _ (next-is (c .before .before .before .w .given .1)) in c .no-tree .ensures ∙ sym (tree-over _ _ _ _ (c .before .before .before .before .before .before .before .before .before .before .before .args .n) (c .before .before .before .before .before .before .before .before .before .before .before .pre) (c .before .before .before .before .before .before .before .before .before .child-counts .ensures) (c .before .before .before .before .before .before .node .ensures .1) (c .before .before .before .w .given .1) (c .before .if1 .left) (omega (arith, length-take (c .before .before .before .before .before .before .before .before .before .before .before .args .n .count) (c .before .before .before .before .before .before .before .before .before .child-counts .result))))
+returns-2 c =
+    let c7 = c .before .before .before .before .before .before .before in
+    let b = c .before .before .before .before .before .before .node .ensures .0 .within _ (next-is (c .before .before .before .w .given .1)) in c .no-tree .ensures ∙ sym (tree-over _ _ _ _ (c7 .before .before .before .before .args .n) (c7 .before .before .before .before .pre) (c7 .before .before .child-counts .ensures) (c .before .before .before .before .before .before .node .ensures .1) (c .before .before .before .w .given .1) (c .before .if1 .left) (omega (arith, length-take (c7 .before .before .before .before .args .n .count) (c7 .before .before .child-counts .result))))
 
 returns-3 : tie.Need-returns-3
-returns-3 c = c .no-tree2 .ensures ∙ sym (tree-lost _ _ _ _ (c .before .before .before .before .before .before .before .before .before .args .n) (c .before .before .before .before .before .before .before .before .before .pre) (c .before .before .before .before .before .before .before .child-counts .ensures) (c .before .before .before .before .node .ensures .1) (c .before .enum-told .given .1))
+returns-3 c =
+    let c7 = c .before .before .before .before .before .before .before in
+    c .no-tree2 .ensures ∙ sym (tree-lost _ _ _ _ (c7 .before .before .args .n) (c7 .before .before .pre) (c .before .before .before .before .before .before .before .child-counts .ensures) (c .before .before .before .before .node .ensures .1) (c .before .enum-told .given .1))
 
 pub read-spec : {M : Type 1} → statement M
 read-spec =
