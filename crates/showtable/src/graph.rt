@@ -63,9 +63,12 @@ fn leads(t: &[u8], p: usize, to: usize) -> usize {
 // what stands before the arrows of the section at p; an end of the run is drawn where it is reached
 pub fn start(t: &[u8], p: usize) {
     out::text(
-        leads(t, p, 0xFFFE),
+        leads(t, p, paper::targets::FINISHED),
         b"digraph table {\n    rankdir=LR;\n    node [shape=circle];\n    start [shape=point];|\n    finished [shape=doublecircle];",
     );
-    out::text(leads(t, p, 0xFFFD), b"|\n    halted [shape=octagon];");
+    out::text(
+        leads(t, p, paper::targets::HALTED),
+        b"|\n    halted [shape=octagon];",
+    );
     out::text(0, b"\n    start -> 0;");
 }

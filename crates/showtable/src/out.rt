@@ -54,11 +54,14 @@ pub fn signed(u: usize) {
     decimal(std::num::wrapping_sub_usize(4294967296, u));
 }
 
+// the number before the codes of targets that are no locations
+const BEFORE_CODES: usize = paper::targets::HALTED - 1;
+
 // a location, or how the run ends
 pub fn target(n: usize) {
-    if n < 0xFFFD {
+    if n < paper::targets::HALTED {
         decimal(n);
         return;
     }
-    text(n - 0xFFFC, b"|halted|finished|none");
+    text(n - BEFORE_CODES, b"|halted|finished|none");
 }
