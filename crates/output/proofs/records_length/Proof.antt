@@ -1,3 +1,4 @@
+-- Each return by its law of Fronts; below the three limits the product is small (`records-few`).
 use native.Mathlib.Omega.{arith}
 use borrow.Author.Needs.{needs}
 use Rattle.output.proofs.Fronts.{too-long, too-many, too-many-cases, records-are, records-few}

@@ -1,3 +1,4 @@
+-- No node is 64 or above, so the set's number is its first word: two halves of four bytes (`set-bytes`).
 use Prim.Native.Nat.{_≤_}
 use native.Mathlib.Omega.{arith}
 use lib.ListN.{length}

@@ -1,3 +1,4 @@
+-- The bytes of the first j values are written, up to i + 4 * j.
 use mathlib.Core.Path.{_≡_, refl, ap, _∙_}
 use mathlib.Core.List.{flatMap}
 use Prim.Native.Nat.{_+_, _*_, _-_, _≤_, _<_}

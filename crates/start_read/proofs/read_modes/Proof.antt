@@ -1,3 +1,4 @@
+-- The first i modes are stored, and whether all fit is left to the others (`Moded`).
 use mathlib.Core.Path.{refl}
 use native.Mathlib.Omega.{arith}
 use Prim.Native.Nat.{_-_, _≤_}

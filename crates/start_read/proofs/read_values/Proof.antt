@@ -1,3 +1,4 @@
+-- The first i values are stored, and whether all fit is left to the others (`Valued`).
 use mathlib.Core.Path.{_∙_}
 use lib.IntN.{pos}
 use lib.ListN.{getD}

@@ -1,3 +1,4 @@
+-- The test of all modes is that of the modes left, and only their variables are yet to be marked (`ModesGoing`).
 use Prim.Native.Nat.{_+_, _-_, _*_, _≤_}
 use native.Mathlib.Omega.{arith}
 use lib.ListN.{getD}

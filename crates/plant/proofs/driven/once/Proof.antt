@@ -1,3 +1,4 @@
+-- The variables of the equations before are marked, and the answer is that of the equations left (`OnceGoing`).
 use Prim.Native.Nat.{_-_, _≤_}
 use native.Mathlib.Omega.{arith}
 use borrow.Author.Tests.{not-true, not-false}

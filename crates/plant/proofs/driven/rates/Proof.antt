@@ -1,3 +1,4 @@
+-- The marks of its own are the variables so far; the test of all rates is left to those ahead (`RatesGoing`).
 use Prim.Native.Nat.{_-_, _≤_}
 use native.Mathlib.Omega.{arith}
 use Rattle.plant.proofs.DrivenOnce.{RatesGoing, rates-start, rate-inside, rate-variable, rates-before, rates-twice, rates-next, rates-false, rates-end}

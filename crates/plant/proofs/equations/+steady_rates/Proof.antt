@@ -1,3 +1,4 @@
+-- By the number of equations: none is `steady-none`; else the rates of those after the first, then the first (`steady-more`).
 use native.Mathlib.Omega.{arith}
 use Rattle.plant.proofs.EquationIndex.{equation-fits, next-fits, equation-kind, equations-left, steady-none, steady-more}
 use Prim.Native.Nat.{ℕ, _<_}

@@ -1,3 +1,4 @@
+-- The reader of a CASE step by step: two bytes, the count between 1 and 8, the modes; where one breaks, all is broken.
 use mathlib.Core.Path.{ap}
 use native.Mathlib.Omega.{arith}
 use lib.ListN.{length}

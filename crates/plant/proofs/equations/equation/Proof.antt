@@ -1,3 +1,4 @@
+-- The slice after its two-byte length is missing, cut short, kept or lost: one law for each.
 use native.Mathlib.Omega.{arith}
 use Rattle.semantics.specs.Sections.{readEquation}
 use Rattle.codec.proofs.Reading.{no-section2}

@@ -1,3 +1,4 @@
+-- The kind's byte decides what the reader of an equation's body is; of any other kind it fails.
 use native.Mathlib.Omega.{arith}
 use borrow.Author.Tests.{ne-eqb}
 use Rattle.semantics.specs.Sections.{readEquationBody}

@@ -1,3 +1,4 @@
+-- The reader of a mode step by step: count, rates, count, switches; a step that breaks is the answer.
 use mathlib.Core.Path.{ap, ap₂, _∙_}
 use mathlib.Core.Bool.{_&&_}
 use native.Mathlib.Omega.{arith}

@@ -1,3 +1,4 @@
+-- A mode that stands has its switches after its rates (`switches-stand`), and ends where they end (`mode-ends`).
 use native.Mathlib.Omega.{arith}
 use Rattle.plant.proofs.EquationIndex.{switches-stand, mode-ends, mode-fits}
 use Rattle.plant.proofs.equations.mode_end.Statement.{statement}

@@ -1,3 +1,4 @@
+-- The places so far are noted, and noting those of the modes left makes the whole (`Noting`).
 use native.Mathlib.Omega.{arith}
 use Rattle.semantics.specs.Sections.{readMode}
 use Rattle.plant.specs.Equations.{modeSize}

@@ -1,3 +1,4 @@
+-- Each return by what the section's reader gives: broken is 6, read with a name missing 7, read with all names 0.
 use mathlib.Core.Path.{ap}
 use native.Mathlib.Omega.{arith}
 use Rattle.semantics.specs.Sections.{equationsIn}

@@ -1,3 +1,4 @@
+-- The selectors of the equations before are noted with their modes and places, and the equations left stand (`Noted`).
 use mathlib.Core.Logic.{⊎-elim}
 use native.Mathlib.Omega.{arith}
 use Rattle.plant.specs.Equations.{SectionStands}

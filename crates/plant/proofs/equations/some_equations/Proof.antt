@@ -1,3 +1,4 @@
+-- The first i equations are read up to p, and `named` says whether all their names are there (`Took`).
 use Prim.Native.Nat.{_≤_, _-_}
 use native.Mathlib.Omega.{arith}
 use borrow.Author.Needs.{needs}

@@ -1,3 +1,4 @@
+-- A switch has no length byte, length 0, too few bytes, or is there: one law for each.
 use native.Mathlib.Omega.{arith}
 use Rattle.semantics.specs.Sections.{readSwitch}
 use Rattle.codec.proofs.Reading.{no-byte}

@@ -1,3 +1,4 @@
+-- The first i switches are read up to p, and `named` says whether all their modes are there (`Took`).
 use Prim.Native.Nat.{_≤_, _-_}
 use native.Mathlib.Omega.{arith}
 use borrow.Author.Needs.{needs}

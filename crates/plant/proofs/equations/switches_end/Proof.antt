@@ -1,3 +1,4 @@
+-- The switches left stand at p, and p with their sizes is the end of all (`Ahead`).
 use native.Mathlib.Omega.{arith}
 use Rattle.semantics.specs.Sections.{readSwitch}
 use Rattle.plant.specs.Equations.{switchSize}

@@ -1,3 +1,4 @@
+-- By the kind: other than 1 has no rate to put (`with-none`); kind 1 has one, a signed number of four bytes (`with-one`).
 use mathlib.Core.Path.{_∙_}
 use Prim.Native.Nat.{_+_}
 use mir.Syntax.{w32}

@@ -1,3 +1,4 @@
+-- The switches left are read from p, up to the same end as all (`Turns`, with no test).
 use Prim.Native.Nat.{_-_, _≤_}
 use native.Mathlib.Omega.{arith}
 use mathlib.Core.Path.{refl}

@@ -1,3 +1,4 @@
+-- The modes left are read from p, and the truths of all read where theirs do (`Turns`).
 use mathlib.Core.Path.{sym, _∙_}
 use Prim.Native.Nat.{_+_, _-_, _*_, _≤_}
 use native.Mathlib.Omega.{arith}

@@ -1,3 +1,4 @@
+-- The equations left are read from p, and the truths of all read where theirs do (`Turns`).
 use mathlib.Core.List.{[]}
 use Prim.Native.Nat.{_-_, _≤_}
 use native.Mathlib.Omega.{arith}

@@ -1,3 +1,4 @@
+-- The arrays have the variables before i, all of them in order; those left are read from p = 1 + 12 * i (`Going`).
 use borrow.Author.Needs.{needs}
 use native.Mathlib.Omega.{arith}
 use mathlib.Core.Path.{_≡_, sym, _∙_}

@@ -1,3 +1,4 @@
+-- The run is over (`step-over`), or what the event's verdict makes of the acting nodes is the step (`step-at`).
 use mathlib.Core.Path.{refl}
 use mathlib.Core.List.{[], _∷_}
 use Rattle.rule_step.proofs.Settling.{judging, movable, step-over, step-at}

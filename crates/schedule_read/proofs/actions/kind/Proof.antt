@@ -1,3 +1,4 @@
+-- Each of the seven kinds is computed; a kind that is none of them has no action (`no-action`).
 use mathlib.Core.Path.{refl}
 use Rattle.schedules.specs.Nodes.{kindOf}
 use Rattle.schedule_read.specs.Actions.{actionNumber}

@@ -1,3 +1,4 @@
+-- The numbers of the first i nodes are written, and the others are 0.
 use mathlib.Core.Path.{_≡_}
 use mathlib.Core.List.{map}
 use Prim.Native.Nat.{_≤_, _-_}

@@ -1,3 +1,4 @@
+-- One law of Stages for each return: the plant, the nodes, the tree or the last check refuses, or all have passed.
 use mathlib.Core.Path.{sym, _∙_}
 use borrow.Author.Needs.{needs}
 use borrow.Author.Tests.{not-true, not-false}

@@ -1,3 +1,4 @@
+-- By the kind: 6, 7 and 8 have the payload bytes that are read (`Made`); a node of any other kind names nothing.
 use mathlib.Core.Path.{refl}
 use native.Mathlib.Omega.{arith}
 use Rattle.schedules.specs.Nodes.{nodeNamed}

@@ -1,3 +1,4 @@
+-- One law of PartsStand for each return; past the header and the length, three sections stand or one is missing.
 use mathlib.Core.Path.{sym, _∙_}
 use native.Mathlib.Omega.{arith}
 use borrow.Author.Tests.{not-true, not-false}

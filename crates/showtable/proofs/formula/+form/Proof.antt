@@ -1,3 +1,4 @@
+-- The levels fall with each call of itself; nothing else is asked.
 use mathlib.Core.Path.{_≡_, refl}
 use native.Mathlib.Omega.{arith}
 use Prim.Native.Nat.{ℕ, _<_}

@@ -1,3 +1,4 @@
+-- Nothing has to hold from turn to turn; the steps go down to 0.
 use native.Mathlib.Omega.{arith}
 use Rattle.showtable.proofs.graph.leads.Statement.{statement}
 use Rattle.showtable.proofs.graph.leads.Tie as tie

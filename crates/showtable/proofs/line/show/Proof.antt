@@ -1,3 +1,4 @@
+-- Nothing has to hold from turn to turn; the place in the pattern goes up to its length.
 use Prim.Native.Nat.{_-_}
 use lib.ListN.{length}
 use native.Mathlib.Omega.{arith}

@@ -1,3 +1,4 @@
+-- The length is missing, too low, too high or past the end, or the operand's form decides: one law of ActionForms each.
 use native.Mathlib.Omega.{arith}
 use Rattle.table_read.proofs.ActionForms.{action-none, action-low, action-high, action-short, action-ok, action-bad}
 use borrow.Author.Needs.{needs}

@@ -1,3 +1,4 @@
+-- The action is broken, its node too low or too high, or it is found: one law of ActionLoop each.
 use Prim.Native.Nat.{_+_}
 use native.Mathlib.Omega.{arith}
 use Rattle.table_read.proofs.Ended.{ended, not-ended}

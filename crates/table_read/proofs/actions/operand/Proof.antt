@@ -1,3 +1,4 @@
+-- By the kind: 1 and 2 have any operand, 3 to 5 one whose length is tested (a law of ActionForms each), others none.
 use mathlib.Core.Path.{refl}
 use borrow.Author.Tests.{ne-eqb}
 use Rattle.semantics.specs.Bytes.{isSome}

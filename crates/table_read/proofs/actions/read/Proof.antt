@@ -1,3 +1,4 @@
+-- The first i actions are read up to p, their nodes ascend below low, and the arrays have them by node (`Indexing`).
 use mathlib.Core.Path.{_∙_}
 use Prim.Native.Nat.{_+_, _-_, _≤_}
 use native.Mathlib.Omega.{arith}

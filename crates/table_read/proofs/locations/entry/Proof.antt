@@ -1,3 +1,4 @@
+-- Too few bytes, a node too low or outside, or by the targets' fit: one law of EntryLoop for each return.
 use native.Mathlib.Omega.{arith}
 use Rattle.table_read.proofs.EntryLoop.{entry-none, entry-low, entry-outside, entry-ok, entry-bad}
 use borrow.Author.Needs.{needs}
