@@ -38,5 +38,5 @@ pub fn records_length(events: usize, variables: usize, selectors: usize) -> usiz
     if selectors > paper::EQUATIONS {
         return 0;
     }
-    (events / 3) * (9 + 4 * variables + selectors)
+    (events / paper::EVENT_BYTES) * (9 + 4 * variables + selectors)
 }

@@ -37,12 +37,12 @@ pub fn admit(plant: PlantRead, start: &[u8], events: usize, room: usize) -> Admi
     if first.refusal != 0 {
         return first;
     }
-    if events % 3 != 0 {
+    if events % paper::EVENT_BYTES != 0 {
         return refused(21);
     }
     // the bytes of a record
     let size = 9 + 4 * plant.variables + plant.selectors;
-    if room / size < events / 3 {
+    if room / size < events / paper::EVENT_BYTES {
         return refused(22);
     }
     first

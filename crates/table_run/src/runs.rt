@@ -38,7 +38,7 @@ pub fn all(
         acting: first,
     };
     let mut counts = records::none();
-    let n = events.len() / 3;
+    let n = events.len() / paper::EVENT_BYTES;
     let mut i = 0;
     let mut k = 0;
     while k < n {
