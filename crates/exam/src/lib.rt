@@ -102,7 +102,7 @@ fn agreed(r: Ran, t: Ran, a: &[u8], b: &[u8]) -> bool
 fn compared(file: &[u8], events: usize, r: Ran, t: Ran, a: &[u8], b: &[u8]) -> bool
     requires { ⌜ Room (now file) events (length (now a)) × Room (now file) events (length (now b)) ⌝ }
     ensures { λ q. ⌜ ((s : Schedule) → judgeFile edition1 (now (file .entry)) ≡ accepted s
-        → q ≡ Exam.agreed (events / paper::EVENT_BYTES * recordSize edition1 (s .plant)) (ranWith r (now (a .entry))) (ranWith t (now (b .entry)))) ⌝ }
+        → q ≡ Exam.agreed (events / 3 * recordSize edition1 (s .plant)) (ranWith r (now (a .entry))) (ranWith t (now (b .entry)))) ⌝ }
 {
     let size = records_length(file, events, a.len());
     agreed(r, t, &a[..size], &b[..size])
