@@ -1,3 +1,4 @@
+-- Each read is a byte below 256, so that the sum fits; the result is `be2` unfolded.
 use mathlib.Core.Path.{refl}
 use Prim.Native.Nat.{_+_}
 use native.Mathlib.Omega.{arith}

@@ -1,3 +1,4 @@
+-- Two writes of one byte join to one (`put-more`); the two bytes are the number's, which is below 65536.
 use Prim.Native.Nat.{_≤_}
 use native.Mathlib.Omega.{arith}
 use lib.ListN.{length}

@@ -1,3 +1,4 @@
+-- Four writes of one byte join to one (`put-more`); the four bytes are the number's, which is below 4294967296.
 use Prim.Native.Nat.{_≤_}
 use native.Mathlib.Omega.{arith}
 use lib.ListN.{length}

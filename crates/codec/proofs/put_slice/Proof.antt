@@ -1,3 +1,4 @@
+-- The first j bytes of the slice are written, and the next place is i + j.
 use mathlib.Core.Path.{_≡_, refl, _∙_}
 use Prim.Native.Nat.{_+_, _-_, _≤_, _<_}
 use native.Mathlib.Omega.{arith}

@@ -1,3 +1,4 @@
+-- Two cases, below 2147483648 and from there on: `signed-low` and `signed-high`.
 use mathlib.Core.Path.{sym, ap, _∙_, subst}
 use Prim.Native.Nat.{_-_}
 use native.Mathlib.Omega.{arith}

@@ -1,3 +1,4 @@
+-- Two cases by the sign: `negative-bits` and `positive-bits`; the difference of a negative number fits (`distance-is`).
 use mathlib.Core.Path.{sym, ap, _∙_, subst}
 use Prim.Native.Nat.{_-_}
 use native.Mathlib.Omega.{arith}

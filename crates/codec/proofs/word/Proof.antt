@@ -1,3 +1,4 @@
+-- Each read is a byte below 256, so that the products and sums fit 32 bits; the result is `be4` unfolded.
 use mathlib.Core.Path.{refl}
 use Prim.Native.Nat.{_+_}
 use native.Mathlib.Omega.{arith}

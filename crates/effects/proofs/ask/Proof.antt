@@ -1,3 +1,4 @@
+-- One case for each answer of `truth_value`, all by the law `asked`.
 use borrow.Author.Needs.{needs}
 use Rattle.expression.specs.declared.Truth.the-variants.{Yes, No, Above, Below, Malformed}
 use Rattle.effects.proofs.Steps.{asked}

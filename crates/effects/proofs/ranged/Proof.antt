@@ -1,3 +1,4 @@
+-- Three cases: below the range, above it, in it; the bounds are the same numbers in 64 bits.
 use mathlib.Core.Path.{_≡_, sym, ap₂, _∙_}
 use mathlib.Core.Bool.{false}
 use lib.Signed.{ltZ}

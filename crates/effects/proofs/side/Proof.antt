@@ -1,3 +1,4 @@
+-- Two cases: v is a variable, and its numbers as they are held are those of the lists (`held-ranged`), or there is none.
 use mathlib.Core.Path.{refl, ap, _∙_}
 use lib.IntN.{pos}
 use lib.ListN.{getD}

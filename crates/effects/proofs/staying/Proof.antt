@@ -1,3 +1,4 @@
+-- The first i variables stay in their ranges (`FirstStay`).
 use mathlib.Core.Path.{_≡_, sym, ap, _∙_}
 use Prim.Native.Nat.{_<_, _-_}
 use lib.ListN.{length}

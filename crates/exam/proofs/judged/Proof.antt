@@ -1,3 +1,4 @@
+-- One law for each return: `by-measure`, `by-table`, `by-records`, `by-others` (ExamStages).
 use Prim.Native.Nat.{_<_, _≤_}
 use native.Mathlib.Omega.{arith}
 use borrow.Author.Needs.{needs}

@@ -1,3 +1,4 @@
+-- The counts that were read are those of the schedule and are small (`counts`); they make a record's size (`length-of`).
 use Prim.Native.Nat.{_/_}
 use native.Mathlib.Omega.{arith}
 use borrow.Author.Needs.{needs}

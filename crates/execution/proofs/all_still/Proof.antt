@@ -1,3 +1,4 @@
+-- A walk from one acting node to the next: the walk of all is that of those from n on (`stillFrom`).
 use mathlib.Core.Path.{_≡_, sym, ap, _∙_}
 use mathlib.Core.List.{map}
 use Prim.Native.Nat.{_+_, _-_}

@@ -1,3 +1,4 @@
+-- A walk from one acting node to the next: whether all are waits is whether those from n on are (`all`).
 use mathlib.Core.Path.{_≡_, sym, _∙_}
 use Prim.Native.Nat.{_+_, _-_}
 use native.Mathlib.Omega.{arith}

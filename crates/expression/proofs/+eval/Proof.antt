@@ -1,3 +1,4 @@
+-- By the depth that is left, and one law of Steps for each return.
 use mathlib.Core.Path.{_∙_}
 use Prim.Native.Nat.{ℕ, _<_}
 use native.Mathlib.Omega.{arith}

@@ -1,3 +1,4 @@
+-- By the code; the result of two numbers of 32 bits fits 64 (`wide-fits`) and is exact (`wide-is`).
 use mathlib.Core.Path.{_≡_, sym, ap, _∙_}
 use lib.IntN.{ℤ}
 use borrow.Author.Tests.{ne-eqb}

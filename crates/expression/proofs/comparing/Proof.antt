@@ -1,3 +1,4 @@
+-- Only the last return owes anything: the two leaves make a comparison (`two-related`) that is the whole (`truth-whole`).
 use mathlib.Core.Path.{refl, sym, ap, ap₂, _∙_}
 use mathlib.Core.Bool.{Bool}
 use native.Mathlib.Omega.{arith}

@@ -1,3 +1,4 @@
+-- By the code; numbers of 32 bits compare as their integers do, and are equal where their bits are (`eq-bits`).
 use mathlib.Core.Path.{_≡_, sym, ap, ap₂, _∙_}
 use mathlib.Core.Bool.{not}
 use borrow.Author.Tests.{ne-eqb}

@@ -1,3 +1,4 @@
+-- Three cases: the place is past the end, fewer than four bytes are left, or they are there and their number fits 32 bits.
 use mathlib.Core.Path.{_≡_, sym, ap, _∙_}
 use Prim.Native.Nat.{_+_}
 use mir.Val.{SFits}

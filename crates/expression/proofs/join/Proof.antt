@@ -1,3 +1,4 @@
+-- By what the two operands gave; where one is no truth, `off-joined` and its like say that the whole is broken.
 use mathlib.Core.Path.{sym, ap, ap₂, _∙_}
 use mathlib.Core.Bool.{Bool}
 use borrow.Author.Needs.{needs}

@@ -1,3 +1,4 @@
+-- Only the last return owes anything: the two truths are joined (`two-joined`), and that is the whole (`truth-whole`).
 use mathlib.Core.Path.{refl, sym, ap, _∙_}
 use mathlib.Core.Bool.{Bool}
 use native.Mathlib.Omega.{arith}

@@ -1,3 +1,4 @@
+-- Four cases, by the tests of `leafAt`: past the end, a constant, a variable, any other code.
 use mathlib.Core.Path.{refl}
 use borrow.Author.Needs.{needs}
 use borrow.Author.Tests.{lt-ltb, le-ltb, eq-eqb, ne-eqb}

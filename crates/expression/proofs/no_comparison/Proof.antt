@@ -1,3 +1,4 @@
+-- The answer of `joining` where it has one; else what `eval` found, by its form and where it ends (`truth-said`).
 use mathlib.Core.Path.{_≡_, refl, sym, ap, _∙_}
 use borrow.Author.Tests.{eq-eqb, ne-eqb}
 use lib.ListN.{length}

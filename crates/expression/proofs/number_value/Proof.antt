@@ -1,3 +1,4 @@
+-- What `whole` found, by its form and by whether it ends where the bytes do (`number-said`).
 use mathlib.Core.Path.{_≡_, refl, sym, ap, _∙_}
 use borrow.Author.Tests.{eq-eqb, ne-eqb}
 use lib.ListN.{length}

@@ -1,3 +1,4 @@
+-- Three cases: `result-low`, `result-high`, and `result-in`, where the number fits 32 bits.
 use mathlib.Core.Path.{_≡_, sym, ap, _∙_, subst}
 use mathlib.Core.Bool.{true, false}
 use lib.IntN.{ℤ, pos, negsuc}

@@ -1,3 +1,4 @@
+-- Two cases: below 2147483648 `signed` unfolds to the number itself, from there on it is `signed-high`.
 use mathlib.Core.Path.{refl, sym, ap, _∙_, subst}
 use Prim.Native.Nat.{_-_}
 use borrow.Author.Tests.{lt-ltb}

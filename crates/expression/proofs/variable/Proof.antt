@@ -1,3 +1,4 @@
+-- Three cases: past the end, no such variable, or its value, which fits 32 bits and so is its own result (`result-fits`).
 use mathlib.Core.Path.{sym, ap, _∙_}
 use Prim.Native.Nat.{_+_}
 use native.Mathlib.Omega.{arith}

@@ -1,3 +1,4 @@
+-- Either an operation on two leaves (`two-operated`), or the answer of `eval` as it is.
 use mathlib.Core.Path.{sym, ap₂, _∙_}
 use native.Mathlib.Omega.{arith}
 use lib.IntN.{ℤ}

@@ -1,3 +1,4 @@
+-- The mode that stands there says that its rates, and the byte after them, are inside (`parts`).
 use Rattle.modes.proofs.Standing.{parts}
 use native.Mathlib.Omega.{arith}
 use borrow.Author.Needs.{needs}

@@ -1,3 +1,4 @@
+-- The first i entries were read up to p and fit, and the next node is `low` or above (`Entries`).
 use mathlib.Core.Path.{refl}
 use Prim.Native.Nat.{_-_, _≤_, _<_}
 use native.Mathlib.Omega.{arith}

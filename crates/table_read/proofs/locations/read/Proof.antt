@@ -1,3 +1,4 @@
+-- The first i locations were read up to p and fit, and their places are noted (`Located`).
 use mathlib.Core.Path.{_∙_}
 use Prim.Native.Nat.{_-_, _≤_}
 use native.Mathlib.Omega.{arith}

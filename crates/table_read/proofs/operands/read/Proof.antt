@@ -1,3 +1,4 @@
+-- The operands of the nodes before i fit (`Fitting`).
 use Prim.Native.Nat.{_-_, _≤_}
 use borrow.Author.Tests.{not-true, not-false}
 use Rattle.table_read.proofs.OperandTurns.{operand-inside, Fitting, fit-start, fit-next, fit-stop, fit-end}

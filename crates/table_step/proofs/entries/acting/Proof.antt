@@ -1,3 +1,4 @@
+-- The set has the nodes of the first j entries (`Gathering`).
 use mathlib.Core.Path.{_≡_}
 use Prim.Native.Nat.{_-_, _≤_}
 use lib.ListN.{getD}

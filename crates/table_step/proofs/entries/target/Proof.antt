@@ -1,3 +1,4 @@
+-- None of the first j entries is node n's (`Looking`).
 use mathlib.Core.Path.{_≡_}
 use Prim.Native.Nat.{_-_, _≤_}
 use lib.ListN.{getD}

@@ -1,3 +1,4 @@
+-- Either the run is over (`step-over`), or the event is judged, then settled (`step-at`).
 use mathlib.Core.Path.{refl}
 use mathlib.Core.List.{[], _∷_}
 use Rattle.table_step.proofs.Settling.{judging, moving, step-over, step-at}

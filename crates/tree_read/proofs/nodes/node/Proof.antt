@@ -1,3 +1,4 @@
+-- One law of NodeForms for each return: four that no node is read, and `has-payload`.
 use native.Mathlib.Omega.{arith}
 use Rattle.tree_read.proofs.NodeForms.{past-end, too-short, too-long, cut-off, has-payload}
 use borrow.Author.Needs.{needs}

@@ -1,3 +1,4 @@
+-- By the kind: always a node, never one, or as the law of its payload's form says (NodeForms).
 use mathlib.Core.Path.{refl, _∙_}
 use borrow.Author.Tests.{ne-eqb}
 use Rattle.semantics.specs.Bytes.{isSome}

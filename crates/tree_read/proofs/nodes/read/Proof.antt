@@ -1,3 +1,4 @@
+-- The first i nodes were read up to p, and the arrays hold them (`Filled`).
 use mathlib.Core.Path.{sym, _∙_}
 use Prim.Native.Nat.{_≤_, _-_}
 use native.Mathlib.Omega.{arith}

@@ -1,3 +1,4 @@
+-- By the number of nodes left to read, and one law of WalkSteps for each return.
 use mathlib.Core.Path.{_∙_}
 use Prim.Native.Nat.{ℕ, _+_, _-_, _*_, _<_}
 use native.Mathlib.Omega.{arith}

@@ -1,3 +1,4 @@
+-- The counts of the first i nodes are written, and then zeros.
 use mathlib.Core.Path.{_≡_}
 use mathlib.Core.List.{List, map}
 use mathlib.Core.Option.{some}

@@ -1,3 +1,4 @@
+-- One law of WholeTree for each return: `tree-found`, `tree-over`, `tree-lost`.
 use mathlib.Core.Path.{_≡_, sym, _∙_}
 use native.Mathlib.Omega.{arith}
 use lib.ListN.{length, length-take}
