@@ -20,15 +20,15 @@ use Rattle.semantics.specs.Evaluating.{Evaluates, Holds}
 use Rattle.semantics.specs.Plant.{Plant, selectors}
 use Rattle.semantics.specs.Events.{eventsIn}
 use Rattle.semantics.specs.Run.{Action, stop, possible, Next, halted, Control, Situation, Answered, at, step, recordOf, noCounts, countsOf}
-use Rattle.semantics.specs.Rules.{Rule, Derives, Stopping, Standing, at-start, stands-at, Sound, Decides}
+use Rattle.semantics.specs.Rules.{Rule, Derives, Stopping, Standing, at-start, stands-at, Sound, Decides, InRange}
 use Rattle.semantics.specs.Records.{AtFront, Fits32, RecordIs, RecordsIn}
 use Rattle.semantics.specs.Counting.{Counted}
 use Rattle.semantics.specs.TableFile.{locationLimit, writeAction}
 use Rattle.semantics.specs.Tables.{Table, risingFrom, judgeTable, actionOrStop, tableControl}
 use Rattle.semantics.specs.TableRuns.{TableRuns}
 use Rattle.semantics.specs.Starts.{Start, startIn, startFits}
-use Rattle.semantics.specs.Writing.{writeTable, TableLimits, TableReadAs, startBytes, Each, InRange, HasMode, StartLimits}
-use Rattle.semantics.specs.Proper.{NamesKnown, TruthNamesKnown, IsTruth, IsNumber, TableWritten}
+use Rattle.semantics.specs.Writing.{writeTable, TableLimits, TableReadAs, startBytes, Each, HasMode, StartLimits}
+use Rattle.semantics.specs.Proper.{NamesKnown, TruthNamesKnown, IsTruth, IsNumber, TableWritten, Distinct}
 use Rattle.semantics.specs.Statements.{RunHolds}
 use Rattle.semantics.specs.Calls.{eventCount, recordSize, readTable, tableRun}
 use Rattle.semantics.specs.Conditions.{is20}
@@ -55,7 +55,7 @@ use Rattle.schedules.specs.Trees.{Tree, treeOf}
 use Rattle.schedules.specs.Preorder.{Written}
 use Rattle.schedules.specs.Residuals.{Residual, fresh, acting, move}
 use Rattle.schedules.specs.MoveRules.{Fresh, Acts, MoveRule, LeadsByRule}
-use Rattle.schedules.specs.Reached.{Leads, Of, Distinct, AsMany}
+use Rattle.schedules.specs.Reached.{Leads, Of, AsMany}
 use Rattle.schedules.specs.Arrivals.{NumberedInOrder}
 use Rattle.schedules.specs.Files.{Schedule, judgeFile, ruleControl}
 use Rattle.schedules.specs.Compiling.{testsOf, tableOf}

@@ -13,7 +13,7 @@ use lib.Seq.{take-all, length-take-le}
 use Rattle.semantics.specs.Bytes.{noBytes, twoBytes, byteAndRest}
 use Rattle.semantics.specs.Editions.{edition1}
 use Rattle.semantics.specs.Run.{Action, stop, isTest, test}
-use Rattle.semantics.specs.TableFile.{NodeAction, actionBytes, writeAction, actionKind, actionOfKind}
+use Rattle.semantics.specs.TableFile.{NodeAction, actionBytes, kindNumber, operandBytes, writeAction, actionKind, actionOfKind}
 use Rattle.semantics.specs.Tables.{actionAt, actionOrStop}
 use Rattle.semantics.proofs.Facts.{none-not-some, some-is, at-exists, at-mem, all-mem}
 use Rattle.schedules.specs.Nodes.{Node, sequence, parallel, Kind, a-sequence, a-parallel, a-while, an-if, a-continue, a-reset, a-reinitial, a-switch, a-stop, no-kind, kindOf, childCount, nodeOf, nodesIn, actionOf, listed, actionsFrom, actionsOf}
@@ -43,7 +43,7 @@ counts-formed f h (k ∷ []) {x} e = go (leb 1 k) e
 counts-formed f h (k ∷ l ∷ b) e = none-not-some e
 
 formed : (j : Kind) (b : List ℕ) {x : Node} → nodeOf j b ≡ some x → Formed (actionNumber j) b (actionOf x)
-unfolding nodeOf actionOf actionNumber actionBytes isTest byteAndRest twoBytes noBytes
+unfolding nodeOf actionOf actionNumber actionBytes kindNumber operandBytes isTest byteAndRest twoBytes noBytes
 formed a-sequence b e = counts-formed sequence (λ k. refl) b e
 formed a-parallel b e = counts-formed parallel (λ k. refl) b e
 formed a-while b e = rw (← some-is e) (an-action refl refl)

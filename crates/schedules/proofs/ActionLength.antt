@@ -7,7 +7,7 @@ use lib.ListN.{length, length-append}
 use Rattle.semantics.specs.Bytes.{widthOf, out}
 use Rattle.semantics.specs.Editions.{Edition, edition1}
 use Rattle.semantics.specs.Run.{Action}
-use Rattle.semantics.specs.TableFile.{actionBytes, writeAction}
+use Rattle.semantics.specs.TableFile.{actionBytes, kindNumber, operandBytes, writeAction}
 use Rattle.semantics.proofs.WrittenTables.{out-length}
 use Rattle.schedules.specs.Nodes.{Node}
 use Rattle.schedules.specs.Doing.{Does, while-tests, if-tests, continue-waits, reset-assigns, reinitial-assigns, switch-switches, stop-stops}
@@ -15,7 +15,7 @@ use Rattle.schedules.specs.Writing.{nodeBytes, writeNode}
 
 -- kind and operand are as long as kind and payload
 as-long : {x : Node} {a : Action} → Does x a → length (actionBytes a) ≡ length (nodeBytes x)
-unfolding actionBytes nodeBytes
+unfolding actionBytes kindNumber operandBytes nodeBytes
 as-long while-tests = refl
 as-long if-tests = refl
 as-long continue-waits = refl

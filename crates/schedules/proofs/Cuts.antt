@@ -6,10 +6,10 @@ use mathlib.Core.Option.{some}
 use Prim.Native.Nat.{ℕ, zero, suc, _<_}
 use native.Mathlib.Omega.{arith}
 use lib.ListN.{getElem?}
-use Rattle.semantics.specs.Proper.{Rising}
+use Rattle.semantics.specs.Proper.{Rising, Distinct}
 use Rattle.semantics.proofs.Facts.{none-not-some, some-is}
 use Rattle.semantics.proofs.TablesProper.{rising-rest, rising-above}
-use Rattle.schedules.specs.Reached.{Distinct, FirstOccurrences}
+use Rattle.schedules.specs.Reached.{FirstOccurrences}
 use Rattle.schedules.proofs.Places.{flat-append, flat-from}
 use Rattle.schedules.proofs.Numbered.{met?, number-at}
 

@@ -14,7 +14,8 @@ use Rattle.semantics.specs.Plant.{Plant, selectors}
 use Rattle.semantics.specs.Starts.{Start}
 use Rattle.semantics.specs.Calls.{wholeEvents, recordSize, roomForRecords, tableRun}
 use Rattle.semantics.specs.Conditions.{given, is21, is22}
-use Rattle.semantics.specs.Writing.{AllBytes, startBytes, Each, InRange, HasMode}
+use Rattle.semantics.specs.Rules.{InRange}
+use Rattle.semantics.specs.Writing.{AllBytes, startBytes, Each, HasMode}
 use Rattle.semantics.proofs.Facts.{some-is}
 use Rattle.semantics.proofs.EventsCut.{event-count}
 use Rattle.semantics.proofs.TableSentences.{whole-events}

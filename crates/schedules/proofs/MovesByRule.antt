@@ -14,7 +14,8 @@ use Rattle.semantics.specs.Tables.{risingFrom}
 use Rattle.schedules.specs.Nodes.{Node}
 use Rattle.schedules.specs.Trees.{Tree, Forest, leaf, halt, loop, branch, seq, par, nil, cons, treeOf}
 use Rattle.schedules.specs.Residuals.{Residual, Parts, at-node, in-loop, in-branch, in-seq, in-par, no-part, finished-part, part, fresh, freshParts, acting, actingAt, actingParts, whenNode, moveAt, inside, nextChild, allFinished, joined, orElse, move, moveParts}
-use Rattle.schedules.specs.Reached.{Of, Leads, stays, goes, Distinct, distinct-nil, distinct-cons}
+use Rattle.semantics.specs.Proper.{Distinct, distinct-nil, distinct-cons}
+use Rattle.schedules.specs.Reached.{Of, Leads, stays, goes}
 use Rattle.schedules.specs.MoveRules.{Fresh, AllFresh, fresh-sequence, fresh-parallel, fresh-leaf, fresh-stop, fresh-while, fresh-if, no-child, one-child, Child, this-child, past-child, past-finished, Becomes, goes-here, finishes-here, stays-child, stays-finished, AllFinished, none-left, one-finished, Acts, leaf-acts, stop-acts, while-acts, if-acts, body-acts, branch-acts, sequence-acts, parallel-acts, MoveRule, leaf-finishes, stop-halts, body-halts, branch-halts, sequence-halts, parallel-halts, while-true, while-false, body-finished, body-goes, if-true, if-false, branch-finished, branch-goes, gives-way, last-finished, sequence-goes, child-finished, all-finished, child-goes, LeadsByRule, rule-stays, rule-goes}
 use Rattle.schedules.proofs.MovesFit.{no-move, never-idle}
 use Rattle.schedules.proofs.ReadShapes.{root-shapes}

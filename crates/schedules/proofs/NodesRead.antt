@@ -11,7 +11,7 @@ use lib.ListN.{length}
 use Rattle.semantics.specs.Bytes.{read, within, byte, number, bytes, noBytes, twoBytes, byteAndRest}
 use Rattle.semantics.specs.Editions.{Edition}
 use Rattle.semantics.specs.Run.{Action}
-use Rattle.semantics.specs.TableFile.{actionBytes}
+use Rattle.semantics.specs.TableFile.{actionBytes, kindNumber, operandBytes}
 use Rattle.semantics.proofs.Facts.{none-not-some, some-is, within-low, within-high, All}
 use Rattle.semantics.proofs.Readers.{split, guarded, from-some, bytes-read, whole-read, times-read}
 use Rattle.schedules.specs.Nodes.{Node, sequence, parallel, Kind, a-sequence, a-parallel, a-while, an-if, a-continue, a-reset, a-reinitial, a-switch, a-stop, no-kind, kindOf, childCount, nodeOf, readNode, readNodes, nodesIn, actionOf}
@@ -35,7 +35,7 @@ count-short f h (k ∷ i ∷ b) e = none-not-some e
 
 -- a kind and a payload make a node whose action is no longer
 made-short : (k : Kind) (b : List ℕ) {x : Node} → nodeOf k b ≡ some x → Short (suc (length b)) x
-unfolding nodeOf byteAndRest twoBytes noBytes actionOf actionBytes
+unfolding nodeOf byteAndRest twoBytes noBytes actionOf actionBytes kindNumber operandBytes
 made-short a-sequence b e = count-short sequence (λ k. refl) b e
 made-short a-parallel b e = count-short parallel (λ k. refl) b e
 made-short a-while b e = acts-short e refl (le-refl (suc (length b)))

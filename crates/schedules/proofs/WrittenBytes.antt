@@ -12,7 +12,7 @@ use Rattle.semantics.specs.Bytes.{overwrite, section2, byteAndRest, twoBytes, n
 use Rattle.semantics.specs.Editions.{Edition}
 use Rattle.semantics.specs.Refusals.{Judged, refused, accepted}
 use Rattle.semantics.specs.Run.{Action}
-use Rattle.semantics.specs.TableFile.{locationLimit, actionBytes}
+use Rattle.semantics.specs.TableFile.{locationLimit, actionBytes, kindNumber, operandBytes}
 use Rattle.semantics.specs.Calls.{Program}
 use Rattle.semantics.proofs.Facts.{none-not-some, some-is, All, all-nil, all-cons, all-append}
 use Rattle.semantics.proofs.Judging.{accepted-is, passed-then}
@@ -86,19 +86,19 @@ module _ {x : Node} where
   assign-bytes f h (all-cons {x = v} {l = t} p q) e = is-node (f v t) (h v t p q) e
 
   switch-bytes : {b : List ℕ} → All Byte b → twoBytes switch-to b ≡ some x → NodeBytes x
-  unfolding twoBytes actionOf actionBytes
+  unfolding twoBytes actionOf actionBytes kindNumber operandBytes
   switch-bytes all-nil e = none-not-some e
   switch-bytes (all-cons p all-nil) e = none-not-some e
   switch-bytes (all-cons {x = s} p (all-cons {x = m} q all-nil)) e = is-node (switch-to s m) (λ y f. of-action f (all-cons (lit< tt) (all-cons p (all-cons q all-nil)))) e
   switch-bytes (all-cons p (all-cons q (all-cons r k))) e = none-not-some e
 
   stop-bytes : (b : List ℕ) → noBytes stop-all b ≡ some x → NodeBytes x
-  unfolding noBytes actionOf actionBytes
+  unfolding noBytes actionOf actionBytes kindNumber operandBytes
   stop-bytes [] e = is-node stop-all (λ y f. of-action f (all-cons (lit< tt) all-nil)) e
   stop-bytes (a ∷ s) e = none-not-some e
 
   node-bytes : (k : Kind) (b : List ℕ) → All Byte b → nodeOf k b ≡ some x → NodeBytes x
-  unfolding nodeOf actionOf actionBytes
+  unfolding nodeOf actionOf actionBytes kindNumber operandBytes
   node-bytes a-sequence b h e = counts-bytes sequence (λ k y f. none-not-some f) b e
   node-bytes a-parallel b h e = counts-bytes parallel (λ k y f. none-not-some f) b e
   node-bytes a-while b h e = is-node (while-do b) (λ y f. of-action f (all-cons (lit< tt) h)) e

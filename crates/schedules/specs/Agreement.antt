@@ -20,7 +20,8 @@ use Rattle.schedules.specs.Residuals.{Residual, fresh}
 use Rattle.schedules.specs.Nodes.{actionsOf}
 use Rattle.schedules.specs.Preorder.{Written}
 use Rattle.schedules.specs.Conditions.{fileSchedule}
-use Rattle.schedules.specs.Reached.{Distinct, Leads, Reached, Rows}
+use Rattle.semantics.specs.Proper.{Distinct}
+use Rattle.schedules.specs.Reached.{Leads, Reached, Rows}
 use Rattle.schedules.specs.Compiling.{testsOf}
 use Rattle.schedules.specs.Files.{Schedule, judgeFile, ruleControl}
 use Rattle.schedules.specs.Calls.{ruleRun}

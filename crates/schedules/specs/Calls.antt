@@ -52,10 +52,13 @@ unfoldable pub size : Edition → List ℕ → Sized
 size ed f = sizeCounts (judgeFile ed f)
 
 -- ---- the call "running a schedule by the rules": 1 to 12 and 20 to 22
+abbrev pub programOf : Schedule → Program Residual
+programOf s = record { plant = s .plant; control = ruleControl s }
+
 unfoldable pub ruleProgram : Edition → List ℕ → Judged (Program Residual)
 ruleProgram ed f = do
   s ← judgeFile ed f
-  accepted (record { plant = s .plant; control = ruleControl s })
+  accepted (programOf s)
 
 unfoldable pub ruleRun : Edition → List ℕ → List ℕ → List ℕ → List ℕ → Ran
 ruleRun ed f start events buffer = report buffer (judgeRun ed (ruleProgram ed f) start events buffer)

@@ -11,7 +11,7 @@ use Rattle.semantics.specs.Editions.{Edition}
 use Rattle.semantics.specs.Refusals.{Judged, refused, accepted, _>>=_, _>>_, ensure}
 use Rattle.semantics.specs.Starts.{Start, startIn}
 use Rattle.semantics.specs.Run.{Counts, noCounts}
-use Rattle.semantics.specs.Calls.{Ran, judgeRun, tableRun, eventCount, recordSize, roomForRecords}
+use Rattle.semantics.specs.Calls.{Ran, judgeAdmission, tableRun, eventCount, recordSize, roomForRecords}
 use Rattle.semantics.specs.Sentences.{Clause, _when_, Sentence22, runClauses}
 use Rattle.schedules.specs.Files.{Schedule, judgeFile}
 use Rattle.schedules.specs.Compiling.{judgeCompile}
@@ -25,7 +25,7 @@ unfoldable pub judgeExam : Edition → (file start events table records others :
 judgeExam ed file start events table records others = do
   t ← judgeCompile ed file table
   g ← ruleProgram ed file
-  o ← judgeRun ed (accepted g) start events records
+  st ← judgeAdmission ed (g .plant) start events records
   ensure 22 (roomForRecords ed (g .plant) events others)
   accepted (eventCount ed events * recordSize ed (g .plant))
 

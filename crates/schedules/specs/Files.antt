@@ -44,11 +44,16 @@ judgeFileSections ed parts = do
   judgeNodes ed p ns
   accepted (record { sections = parts; plant = p; nodes = ns; root = t })
 
-unfoldable pub judgeFile : Edition → List ℕ → Judged Schedule
-judgeFile ed f = do
+-- 1 to 3: the three sections
+unfoldable pub judgeFileLayout : Edition → List ℕ → Judged FileSections
+judgeFileLayout ed f = do
   ensure 1 (fileHeader ed f)
   ensure 2 (fileLength f)
-  parts ← need 3 (fileSectionsIn (drop 3 f))
+  need 3 (fileSectionsIn (drop 3 f))
+
+unfoldable pub judgeFile : Edition → List ℕ → Judged Schedule
+judgeFile ed f = do
+  parts ← judgeFileLayout ed f
   judgeFileSections ed parts
 
 -- "A run starts at the fresh root"

@@ -18,7 +18,7 @@ use Rattle.semantics.specs.Starts.{Start, startIn, readStart}
 use Rattle.semantics.specs.Run.{Action, test, wait, assign, switch, stop, possible, isTest, to, halted, Control, at, answers, recordOf, countsOf, noCounts}
 use Rattle.semantics.specs.Rules.{at-start, stands-at, Sound}
 use Rattle.semantics.specs.TableFile.{NodeAction, Entry, FINISHED, HALTED, NONE, locationLimit, readLocation, readLocations, locationsIn}
-use Rattle.semantics.specs.Tables.{Table, judgeTable, operandFits, operandsFit, actionsNumbered, actionsFit, actionAt, actionOrStop, goesOn, targetsFit, entryFits, entryNodes, locationFits, locationsFit, risingFrom, goingTo, entryNext, entriesAt, tableControl}
+use Rattle.semantics.specs.Tables.{Table, judgeTable, operandFits, operandsFit, actionsNumbered, actionsFit, actionAt, actionOrStop, goesOn, targetsFit, entryFits, entryNodes, locationFits, locationsFit, risingFrom, goingTo, entryTarget, entryNext, entriesAt, tableControl}
 use Rattle.semantics.specs.Calls.{Program, Outcome, outcomeOf, runFrom, judgeAdmission, judgeRun, report, eventCount, recordSize, roomForRecords, tableProgram, tableRun, tableCounts, readTable}
 use Rattle.semantics.specs.Conditions.{Condition, First, here, further, Firsts, refuses, accepts, tableConditions, runConditions, tableRunConditions}
 use Rattle.semantics.specs.Statements.{RunHolds}
@@ -67,20 +67,20 @@ record Leads (k : ℕ) (acts : List NodeAction) (es : List Entry) (n : ℕ) : Ty
   entry : Entry
   fits : entryFits k acts entry ≡ true
   here : entry .node ≡ n
-  next : (b : Bool) → entryNext es n b ≡ goingTo (cond b (entry .target) (entry .other))
+  found : (b : Bool) → entryTarget es n b ≡ cond b (entry .target) (entry .other)
 
 leads : (k : ℕ) (acts : List NodeAction) (es : List Entry) → All (λ e. entryFits k acts e ≡ true) es → (n : ℕ) → Mem n (entryNodes es) → Leads k acts es n
-unfolding entryNodes entryNext
+unfolding entryNodes entryTarget
 leads k acts [] h n m = absurd (List·Memᴰ·not-nil m)
 leads k acts (e ∷ es) h n m = go h (eqb (e .node) n) refl (List·Memᴰ·cases-cons m) (leads k acts es)
   where
     go : All (λ e. entryFits k acts e ≡ true) (e ∷ es) → (b : Bool) → eqb (e .node) n ≡ b → (n ≡ e .node) ⊎ Mem n (map (λ (e : Entry). e .node) es) →
         (All (λ e. entryFits k acts e ≡ true) es → (n : ℕ) → Mem n (entryNodes es) → Leads k acts es n) → Leads k acts (e ∷ es) n
-    go (all-cons f g) true i c ih = record { entry = e; fits = f; here = eqb-true (e .node) n i; next = λ b. rw (i, entryNext) refl }
+    go (all-cons f g) true i c ih = record { entry = e; fits = f; here = eqb-true (e .node) n i; found = λ b. rw (i, entryTarget) refl }
     go (all-cons f g) false i (inl c) ih = absurd (eqb-false (e .node) n i (sym c))
     go (all-cons f g) false i (inr c) ih =
         let q = ih g n c in
-        record { entry = q .entry; fits = q .fits; here = q .here; next = λ b. rw (i, entryNext) (q .next b) }
+        record { entry = q .entry; fits = q .fits; here = q .here; found = λ b. rw (i, entryTarget) (q .found b) }
 
 test-no-stop : (t : List ℕ) → test t ≡ stop → ⊥
 test-no-stop t h = let z : _≡_ {A = ℕ} 0 1 = cc in omega arith
@@ -154,12 +154,13 @@ module _ (ed : Edition) (table : List ℕ) (t : Table) (h : judgeTable ed table 
   row-fits x = entries-fit (length (t .locations)) acts (t .locations) x (every-all (locationFits (length (t .locations)) acts) (t .locations) ((table-passed ed table h) .locs-fit))
 
   row-moves : (x n : ℕ) (b : Bool) → Mem n (entryNodes (getD (t .locations) x [])) → possible (actionOrStop acts n) b ≡ true → Fitting (actionOrStop acts n) (entryNext (getD (t .locations) x []) n b)
+  unfolding entryNext
   row-moves x n b m p =
       let q = leads (length (t .locations)) acts (getD (t .locations) x []) (row-fits x) n m in
       let k = known-fits (length (t .locations)) acts (q .entry) (q .fits) in
       let a : k .0 ≡ actionOrStop acts n = sym (found-or-stop acts (q .entry .node) (k .1)) ∙ ap (actionOrStop acts) (q .here) in
       let f = fit-moves (length (t .locations)) (k .0) (q .entry .target) (q .entry .other) (let q = table-passed ed table h in few-locations ed (q .parts .locations) (q .locs)) (k .2) b (ap (λ y. possible y b) a ∙ p) in
-      subst₂ (λ a x. Fitting a x) a (sym (q .next b)) f
+      subst₂ (λ a x. Fitting a x) a (sym (ap goingTo (q .found b))) f
 
   named : (n v : ℕ) (e : List ℕ) → actionOrStop acts n ≡ assign v e → v < length (t .plant .variables)
   unfolding actionsFit operandsFit operandFits

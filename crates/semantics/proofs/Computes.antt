@@ -42,11 +42,11 @@ unfolding Run.isTest Run.possible Run._>>=_ Run._>>_ Run.allow Run.find Run.valu
 run = tt
 
 unfoldable pub tableFile : Unit {0}
-unfolding TableFile.FINISHED TableFile.HALTED TableFile.NONE TableFile.actionKind TableFile.actionOfKind TableFile.readTableSections TableFile.tableSectionsIn TableFile.readAction TableFile.readActions TableFile.actionsIn TableFile.readEntry TableFile.readLocation TableFile.readLocations TableFile.locationsIn TableFile.actionBytes TableFile.inSection2 TableFile.inSection4 TableFile.writeAction TableFile.writeActions TableFile.writeEntry TableFile.writeLocation TableFile.writeLocations TableFile.tableBody TableFile.tableBytes
+unfolding TableFile.FINISHED TableFile.HALTED TableFile.NONE TableFile.actionKind TableFile.actionOfKind TableFile.readTableSections TableFile.tableSectionsIn TableFile.readAction TableFile.readActions TableFile.actionsIn TableFile.readEntry TableFile.readLocation TableFile.readLocations TableFile.locationsIn TableFile.kindNumber TableFile.operandBytes TableFile.actionBytes TableFile.inSection2 TableFile.inSection4 TableFile.writeAction TableFile.writeActions TableFile.writeEntry TableFile.writeLocation TableFile.writeLocations TableFile.tableBody TableFile.tableBytes
 tableFile = tt
 
 unfoldable pub tables : Unit {0}
-unfolding Tables.tableHeader Tables.risingFrom Tables.operandFits Tables.operandsFit Tables.nodeExists Tables.actionNodes Tables.actionsNumbered Tables.actionsFit Tables.actionAt Tables.goesOn Tables.targetsFit Tables.entryFits Tables.entryNodes Tables.locationFits Tables.locationsFit Tables.judgeTableSections Tables.judgeTable Tables.goingTo Tables.entryNext Tables.entriesAt Tables.actionOrStop Tables.tableControl
+unfolding Tables.tableHeader Tables.risingFrom Tables.operandFits Tables.operandsFit Tables.nodeExists Tables.actionNodes Tables.actionsNumbered Tables.actionsFit Tables.actionAt Tables.goesOn Tables.targetsFit Tables.entryFits Tables.entryNodes Tables.locationFits Tables.locationsFit Tables.judgeActions Tables.judgeLocations Tables.judgeTableSections Tables.judgeTableLayout Tables.judgeTable Tables.goingTo Tables.entryTarget Tables.entryNext Tables.entriesAt Tables.actionOrStop Tables.tableControl
 tables = tt
 
 unfoldable pub starts : Unit {0}
@@ -54,7 +54,7 @@ unfolding Starts.readStart Starts.startIn Starts.isOk Starts.modesFit Starts.sta
 starts = tt
 
 unfoldable pub writing : Unit {0}
-unfolding Writing.writeVariable Writing.writeVariables Writing.writeRate Writing.writeSwitch Writing.writeMode Writing.equationBytes Writing.writeEquation Writing.writeEquations Writing.writeTableSections Writing.writeTable Writing.startBytes
+unfolding Writing.writeVariable Writing.writeVariables Writing.writeRate Writing.writeSwitch Writing.writeMode Writing.equationBytes Writing.writeEquation Writing.writeEquations Writing.writeTable Writing.startBytes
 writing = tt
 
 unfoldable pub calls : Unit {0}

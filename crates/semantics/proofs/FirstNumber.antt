@@ -11,7 +11,7 @@ use Rattle.semantics.specs.Refusals.{Judged, refused, accepted, _>>=_, _
 use Rattle.semantics.specs.Sections.{Variable, variablesIn, equationsIn}
 use Rattle.semantics.specs.Plant.{Plant, judgeVariables, judgeEquations, judgePlant, switchesRead, ordered, equationNamed, drivenOnce}
 use Rattle.semantics.specs.TableFile.{tableSectionsIn, actionsIn, locationsIn}
-use Rattle.semantics.specs.Tables.{Table, judgeTableSections, judgeTable, tableHeader, actionsFit, locationsFit}
+use Rattle.semantics.specs.Tables.{Table, judgeTable, tableHeader, actionsFit, locationsFit}
 use Rattle.semantics.specs.Starts.{startIn, startFits}
 use Rattle.semantics.specs.Calls.{Program, Outcome, report, tableCounts, judgeStart, judgeAdmission, judgeRun, tableProgram, wholeEvents, roomForRecords}
 use Rattle.semantics.specs.Conditions.{Condition, _if_, anyApplies, given, is4, is5, is6, is7, is8, is12Switches, plantConditions, plantIn, tableParts, tablePlant, is15, is16, is17, is18, is19, tableConditions, is20, is21, is22, runConditions, tableRunConditions}
@@ -19,6 +19,7 @@ pub use Rattle.semantics.specs.Conditions.{First, here, further, Clear, 
 use Rattle.semantics.proofs.Judging
 use Rattle.semantics.proofs.PlantPassed.{variables-passed, equations-passed, plant-passed}
 use Rattle.semantics.proofs.TablePassed.{table-passed}
+use Rattle.semantics.proofs.TableJudged.{table-in-turn}
 use Rattle.semantics.proofs.Judging.{accepted-is}
 
 -- ---- steps of a call
@@ -144,15 +145,15 @@ by-read n (some a) t e f = by-ensure n (t a) e (f a refl)
 -- ---- 15 to 19
 module _ (ed : Edition) (table : List ℕ) where
   pub table-first : Firsts (judgeTable ed table) (tableConditions ed table)
-  unfolding judgeTable judgeTableSections tableConditions is15 is16 is17 is18 is19 tableParts tablePlant
-  table-first =
+  unfolding tableConditions is15 is16 is17 is18 is19 tableParts tablePlant
+  table-first = rw (table-in-turn ed table) (
       by-ensure 15 (tableHeader ed table) refl (λ h15.
       by-need 16 (tableSectionsIn (drop 5 table)) refl (λ parts e.
       by-only 17 (plant-first ed (parts .variables) (parts .equations)) (λ a. given-some _ e ∙ or-true _ _ a) (λ p j c.
       by-ensure 17 (switchesRead ed p) (given-some _ e ∙ or-false _ _ c ∙ plant-reads ed (parts .variables) (parts .equations) j) (λ h17.
       by-read 18 (actionsIn ed (parts .actions)) (actionsFit ed p)
       (given-some _ e ∙ ap not (given-some _ (bind-some _ e ∙ plant-in ed (parts .variables) (parts .equations) j))) (λ acts f h18.
-      by-read 19 (locationsIn ed (parts .locations)) (locationsFit acts) (given-some _ e ∙ ap not (given-some _ f)) (λ locs g h19. by-end _))))))
+      by-read 19 (locationsIn ed (parts .locations)) (locationsFit acts) (given-some _ e ∙ ap not (given-some _ f)) (λ locs g h19. by-end _)))))))
 
   -- the plant of an accepted table
   pub table-plant : {t : Table} → judgeTable ed table ≡ accepted t → tablePlant ed table ≡ some (t .plant)

@@ -1,6 +1,6 @@
 -- Refusals taken apart: what an accepted call has passed, and how a call goes on where a condition holds.
 use mathlib.Core.Path.{_≡_, refl}
-use mathlib.Core.Bool.{Bool, true, false}
+use mathlib.Core.Bool.{Bool, true, false, _&&_}
 use mathlib.Core.Option.{Option, none, some}
 use Prim.Native.Nat.{ℕ}
 use native.Mathlib.Omega.{arith}
@@ -41,6 +41,34 @@ pub then-after : {A B C : Type 0} (i : Judged A) (j : Judged B) (k : Judged C) �
 unfolding _>>_
 then-after (refused n) j k = refl
 then-after (accepted a) j k = refl
+
+-- what follows a call follows each way through it
+pub then-same : {A B : Type 0} (j : Judged A) {f g : A → Judged B} → ((a : A) → f a ≡ g a) → (j >>= f) ≡ (j >>= g)
+unfolding _>>=_
+then-same (refused n) h = refl
+then-same (accepted a) h = h a
+
+pub ensure-then : {A B : Type 0} (n : ℕ) (t : Bool) (j : Judged A) (f : A → Judged B) → ((ensure n t >> j) >>= f) ≡ (ensure n t >> (j >>= f))
+unfolding _>>=_ _>>_ ensure
+ensure-then n true j f = refl
+ensure-then n false j f = refl
+
+-- what is read and fits a test; then what follows it
+pub fitting-then : {A B : Type 0} (n : ℕ) (o : Option A) (t : A → Bool) (f : A → Judged B) →
+    ((need n o >>= λ a. ensure n (t a) >> accepted a) >>= f) ≡ (need n o >>= λ a. ensure n (t a) >> f a)
+unfolding _>>=_ _>>_ need ensure
+fitting-then n none t f = refl
+fitting-then n (some a) t f = go (t a)
+  where
+    go : (b : Bool) → ((ensure n b >> accepted a) >>= f) ≡ (ensure n b >> f a)
+    go true = refl
+    go false = refl
+
+-- two tests with one number are one test
+pub ensure-both : {B : Type 0} (n : ℕ) (s t : Bool) (j : Judged B) → (ensure n s >> (ensure n t >> j)) ≡ (ensure n (s && t) >> j)
+unfolding _>>_ ensure
+ensure-both n true t j = refl
+ensure-both n false t j = refl
 
 -- a condition that holds lets the call go on
 pub go-then : {A B : Type 0} {j : Judged A} {a : A} (f : A → Judged B) → j ≡ accepted a → (j >>= f) ≡ f a

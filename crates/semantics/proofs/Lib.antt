@@ -5,6 +5,7 @@ pub mod Judging
 pub mod Readers
 pub mod SignedBytes
 pub mod PlantPassed
+pub mod TableJudged
 pub mod TablePassed
 pub mod Admission
 -- papers

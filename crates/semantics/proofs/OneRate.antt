@@ -103,12 +103,12 @@ apart-mem seen l h {n} m i =
     let a = all-mem (every-all (λ n. not (among n seen)) l h) m in
     true-not-false (sym (rw (mem-among n seen i) at a))
 
-record Once (seen : List ℕ) (e : Equation) (es : List Equation) : Type 0 where
+record Distinct (seen : List ℕ) (e : Equation) (es : List Equation) : Type 0 where
   modes : modesOnce e ≡ true
   unseen : apart seen (drives e) ≡ true
   others : drivenOnce (drives e ++ seen) es ≡ true
 
-once-parts : (seen : List ℕ) (e : Equation) (es : List Equation) → drivenOnce seen (e ∷ es) ≡ true → Once seen e es
+once-parts : (seen : List ℕ) (e : Equation) (es : List Equation) → drivenOnce seen (e ∷ es) ≡ true → Distinct seen e es
 unfolding drivenOnce
 once-parts seen e es h =
     let a = and-left (modesOnce e && apart seen (drives e)) (drivenOnce (drives e ++ seen) es) h in
@@ -128,7 +128,7 @@ not-seen seen (e ∷ es) h ms {r} m i =
     let o = once-parts seen e es h in
     go o (in-parts e es ms m) (λ k. not-seen (drives e ++ seen) es (o .others) (restOf e ms) k (Memᴰ·append-right (drives e) i))
   where
-    go : Once seen e es → Mem r (hereOf e ms) ⊎ Mem r (ratesOf es (restOf e ms)) → (Mem r (ratesOf es (restOf e ms)) → ⊥) → ⊥
+    go : Distinct seen e es → Mem r (hereOf e ms) ⊎ Mem r (ratesOf es (restOf e ms)) → (Mem r (ratesOf es (restOf e ms)) → ⊥) → ⊥
     go o (inl k) f = apart-mem seen (drives e) (o .unseen) (here-driven e ms k) i
     go o (inr k) f = f k
 
@@ -139,7 +139,7 @@ one-of seen (x ∷ es) h ms {r} {q} i j e =
     let o = once-parts seen x es h in
     go o (in-parts x es ms i) (in-parts x es ms j) (λ a b. one-of (drives x ++ seen) es (o .others) (restOf x ms) a b e)
   where
-    go : Once seen x es → Mem r (hereOf x ms) ⊎ Mem r (ratesOf es (restOf x ms)) → Mem q (hereOf x ms) ⊎ Mem q (ratesOf es (restOf x ms)) →
+    go : Distinct seen x es → Mem r (hereOf x ms) ⊎ Mem r (ratesOf es (restOf x ms)) → Mem q (hereOf x ms) ⊎ Mem q (ratesOf es (restOf x ms)) →
         (Mem r (ratesOf es (restOf x ms)) → Mem q (ratesOf es (restOf x ms)) → r .rate ≡ q .rate) → r .rate ≡ q .rate
     go o (inl a) (inl b) f = here-once x ms (o .modes) a b e
     go o (inl a) (inr b) f = absurd (not-seen (drives x ++ seen) es (o .others) (restOf x ms) b (Memᴰ·append-left seen (rw e at (here-driven x ms a))))

@@ -14,8 +14,9 @@ use Rattle.semantics.specs.Editions.{Edition}
 use Rattle.semantics.specs.Expressions.{Number, constant, variable, operate, negation, Truth, compare, connect, opposite, always, numberBytes, truthBytes, numberDepth, truthDepth, numberKnown, truthKnown, numberIn, truthIn}
 use Rattle.semantics.specs.Sections.{Variable, Rate, Mode, Selector, Equation, steady, choice}
 use Rattle.semantics.specs.Plant.{Plant, ordered, rateNamed, switchNamed, modeNamed, equationNamed, among, apart, onceAfter, ratesDrive, modeDrives, drives, modeOnce, modesOnce, drivenOnce, switchReads, modeReads, equationReads, switchesRead, modeExists}
-use Rattle.semantics.specs.Writing.{AllBytes, InRange, ModeLimits, SelectorLimits, PayloadLimits, steady-within, choice-within, EquationLimits}
-use Rattle.semantics.specs.Proper.{NamesKnown, known-constant, known-variable, known-operands, known-negation, TruthNamesKnown, known-numbers, known-truths, known-opposite, known-always, IsTruth, IsNumber, NamedInMode, Named, named-steady, named-choice, Once, once-nil, once-cons, OnceInModes, once-steady, once-choice, Drives, drives-always, drives-in-mode, Apart, apart-nil, apart-cons, DrivenOnce, TruthsInMode, Truths, truths-steady, truths-choice, ProperPlant, ModeThere}
+use Rattle.semantics.specs.Rules.{InRange}
+use Rattle.semantics.specs.Writing.{AllBytes, ModeLimits, SelectorLimits, PayloadLimits, steady-within, choice-within, EquationLimits}
+use Rattle.semantics.specs.Proper.{NamesKnown, known-constant, known-variable, known-operands, known-negation, TruthNamesKnown, known-numbers, known-truths, known-opposite, known-always, IsTruth, IsNumber, NamedInMode, Named, named-steady, named-choice, Distinct, distinct-nil, distinct-cons, OnceInModes, once-steady, once-choice, Drives, drives-always, drives-in-mode, Apart, apart-nil, apart-cons, DrivenOnce, TruthsInMode, Truths, truths-steady, truths-choice, ProperPlant, ModeThere}
 use Rattle.semantics.proofs.Facts.{true-not-false, by-cases, and-left, and-right, and-both, every-all, all-every, among-mem, mem-among, All, all-nil, all-cons, all-map, all-mem}
 use Rattle.semantics.proofs.OneRate.{map-mem}
 use Rattle.semantics.proofs.ExpressionBytes.{number-is, truth-is, expression-bytes, truth-bytes}
@@ -118,26 +119,26 @@ Without seen l = (n : ℕ) → Mem n l → Mem n seen → ⊥
 not-among : (n : ℕ) (l : List ℕ) → (among n l ≡ false) ↔ (Mem n l → ⊥)
 not-among n l = (λ h m. true-not-false (sym (mem-among n l m) ∙ h), λ h. by-cases (among n l) (λ e. absurd (h (among-mem n l e))) (λ e. e))
 
-once-there : (seen l : List ℕ) → onceAfter seen l ≡ true → Once l × Without seen l
+once-there : (seen l : List ℕ) → onceAfter seen l ≡ true → Distinct l × Without seen l
 unfolding onceAfter
-once-there seen [] h = (once-nil, λ n m k. List·Memᴰ·not-nil m)
+once-there seen [] h = (distinct-nil, λ n m k. List·Memᴰ·not-nil m)
 once-there seen (n ∷ l) h = go (among n seen) refl h (λ k. once-there (n ∷ seen) l k)
   where
-    split : (among n seen ≡ false) → Once l × Without (n ∷ seen) l → Once (n ∷ l) × Without seen (n ∷ l)
-    split e k = (once-cons (λ m. k .1 n m (first refl)) (k .0), λ x m s. at x s (List·Memᴰ·cases-cons m))
+    split : (among n seen ≡ false) → Distinct l × Without (n ∷ seen) l → Distinct (n ∷ l) × Without seen (n ∷ l)
+    split e k = (distinct-cons (λ m. k .1 n m (first refl)) (k .0), λ x m s. at x s (List·Memᴰ·cases-cons m))
       where
         at : (x : ℕ) → Mem x seen → (x ≡ n) ⊎ Mem x l → ⊥
         at x s (inl f) = (not-among n seen) .0 e (subst (λ x. Mem x seen) f s)
         at x s (inr m) = k .1 x m (later s)
 
-    go : (b : Bool) → among n seen ≡ b → elim b [ true ↦ false | false ↦ onceAfter (n ∷ seen) l ] ≡ true → (onceAfter (n ∷ seen) l ≡ true → Once l × Without (n ∷ seen) l) → Once (n ∷ l) × Without seen (n ∷ l)
+    go : (b : Bool) → among n seen ≡ b → elim b [ true ↦ false | false ↦ onceAfter (n ∷ seen) l ] ≡ true → (onceAfter (n ∷ seen) l ≡ true → Distinct l × Without (n ∷ seen) l) → Distinct (n ∷ l) × Without seen (n ∷ l)
     go true e h ih = true-not-false (sym h)
     go false e h ih = split e (ih h)
 
-once-here : (seen : List ℕ) {l : List ℕ} → Once l → Without seen l → onceAfter seen l ≡ true
+once-here : (seen : List ℕ) {l : List ℕ} → Distinct l → Without seen l → onceAfter seen l ≡ true
 unfolding onceAfter
-once-here seen once-nil w = refl
-once-here seen (once-cons {n = n} {l = l} h k) w = rw ((not-among n seen) .1 (w n (first refl)), onceAfter) (once-here (n ∷ seen) k more)
+once-here seen distinct-nil w = refl
+once-here seen (distinct-cons {x = n} {l = l} h k) w = rw ((not-among n seen) .1 (w n (first refl)), onceAfter) (once-here (n ∷ seen) k more)
   where
     more : Without (n ∷ seen) l
     more x m s = at (List·Memᴰ·cases-cons s)
@@ -146,7 +147,7 @@ once-here seen (once-cons {n = n} {l = l} h k) w = rw ((not-among n seen) .1 (w 
         at (inl f) = h (subst (λ x. Mem x l) f m)
         at (inr s) = w x (later m) s
 
-mode-once : (m : Mode) → (onceAfter [] (modeDrives m) ≡ true) ↔ Once (map (λ (r : Rate). r .driven) (m .rates))
+mode-once : (m : Mode) → (onceAfter [] (modeDrives m) ≡ true) ↔ Distinct (map (λ (r : Rate). r .driven) (m .rates))
 unfolding ratesDrive modeDrives
 mode-once m = (λ h. (once-there [] (modeDrives m) h) .0, λ h. once-here [] h (λ n k e. List·Memᴰ·not-nil e))
 

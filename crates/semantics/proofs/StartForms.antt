@@ -19,10 +19,11 @@ use Rattle.semantics.specs.Plant.{Plant, selectors, selectorsOf, declare
 use Rattle.semantics.specs.Run.{valueBytes}
 use Rattle.semantics.specs.Starts.{Start, readStart, startIn, isOk, modesFit, startFits}
 use Rattle.semantics.specs.Conditions.{given, is20}
-use Rattle.semantics.specs.Writing.{AllBytes, VariableLimits, SelectorLimits, PayloadLimits, choice-within, EquationLimits, PlantLimits, startBytes, Each, each-nil, each-cons, InRange, HasMode, StartLimits}
+use Rattle.semantics.specs.Rules.{InRange}
+use Rattle.semantics.specs.Writing.{AllBytes, VariableLimits, SelectorLimits, PayloadLimits, choice-within, EquationLimits, PlantLimits, startBytes, Each, each-nil, each-cons, HasMode, StartLimits}
 use Rattle.semantics.proofs.Facts.{true-not-false, and-left, and-right, and-both, by-cases, All, all-nil, all-cons, all-append, all-map, all-flat}
 use Rattle.semantics.proofs.Readers.{Reads, reads-then, reads-last, reads-byte, reads-times}
-use Rattle.semantics.proofs.StepParts.{ltZ-leZ}
+use Rattle.semantics.proofs.StepParts.{inside-declared, outside-declared, Lies, lies-inside, lies-outside, lies}
 use Rattle.semantics.proofs.TakenBytes.{Is, Takes, takes-then, takes-last, takes-byte, takes-int4, takes-times, Exact, exact}
 use Rattle.semantics.proofs.SectionForms.{reads-value, value-written}
 
@@ -38,27 +39,12 @@ each-all f (all-cons {x = a} p q) (each-cons {b = b} h e) = all-cons (f a b p h)
 
 -- ---- values in range
 range-passed : (x : Variable) (z : ℤ) → isOk (declared x z) ≡ true → InRange x z
-unfolding declared ranged isOk
-range-passed x z h = go (ltZ z (x .minimum)) (ltZ (x .maximum) z) refl refl h
+unfolding isOk
+range-passed x z h = go (lies x z)
   where
-    not-false : (b : Bool) → not b ≡ false → b ≡ true
-    not-false true e = refl
-    not-false false e = true-not-false e
-
-    go : (s t : Bool) → ltZ z (x .minimum) ≡ s → ltZ (x .maximum) z ≡ t → isOk (cond s (fault below) (cond t (fault above) (ok z))) ≡ true → InRange x z
-    go true t e f h = true-not-false (sym h)
-    go false true e f h = true-not-false (sym h)
-    go false false e f h = record {
-      not-below = not-false (leZ (x .minimum) z) (sym (ltZ-leZ z (x .minimum)) ∙ e);
-      not-above = not-false (leZ z (x .maximum)) (sym (ltZ-leZ (x .maximum) z) ∙ f);
-    }
-
-range-passes : (x : Variable) (z : ℤ) → InRange x z → declared x z ≡ ok z
-unfolding declared ranged
-range-passes x z h =
-    let e : ltZ z (x .minimum) ≡ false = ltZ-leZ z (x .minimum) ∙ ap not (h .not-below) in
-    let f : ltZ (x .maximum) z ≡ false = ltZ-leZ (x .maximum) z ∙ ap not (h .not-above) in
-    rw (e, f) refl
+    go : Lies x z → InRange x z
+    go (lies-inside i) = i
+    go (lies-outside o) = true-not-false (sym h ∙ ap isOk (outside-declared o))
 
 then-passed : {A B : Type 0} (v : Value A) (w : Value B) {C : Type 0} (f : A → B → C) → isOk (thenValue v (λ a. thenValue w (λ b. ok (f a b)))) ≡ true → (isOk v ≡ true) × (isOk w ≡ true)
 unfolding isOk thenValue
@@ -78,7 +64,7 @@ values-passed (x ∷ xs) (z ∷ zs) e h =
 values-pass : {xs : List Variable} {zs : List ℤ} → Each InRange xs zs → allDeclared xs zs ≡ ok zs
 unfolding allDeclared thenValue
 values-pass each-nil = refl
-values-pass (each-cons {a = x} {b = z} h e) = rw (range-passes x z h, values-pass e) refl
+values-pass (each-cons {a = x} {b = z} h e) = rw (inside-declared h, values-pass e) refl
 
 le-trans : (a b c : ℤ) → leZ a b ≡ true → leZ b c ≡ true → leZ a c ≡ true
 le-trans (pos a) (pos b) (pos c) h k = let i = leb-true a b h in let j = leb-true b c k in le-leb a c (omega arith)

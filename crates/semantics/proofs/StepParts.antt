@@ -16,7 +16,7 @@ use Rattle.semantics.specs.Expressions.{Side, Value, ok, fault, ranged, 
 use Rattle.semantics.specs.Sections.{Variable}
 use Rattle.semantics.specs.Plant.{declared, allDeclared, added}
 use Rattle.semantics.specs.Run.{Action, test, wait, assign, switch, stop, isWait, waitTruth, Verdict, away, faulty, pass, _>>=_, _>>_, allow, valued, walk}
-use Rattle.semantics.specs.Rules.{Found, nothing, found-true, found-fault, Walks, walk-ends, walk-on, stops-at-truth, stops-at-fault, Waits, none-waits, one-waits, Inside, inside, Outside, too-low, too-high, AllInside, FirstOutside}
+use Rattle.semantics.specs.Rules.{Found, nothing, found-true, found-fault, Walks, walk-ends, walk-on, stops-at-truth, stops-at-fault, Waits, none-waits, one-waits, InRange, Outside, too-low, too-high, AllInRange, FirstOutside}
 use Rattle.semantics.proofs.Facts.{true-not-false, none-not-some, some-is, by-cases, every-all, all-mem}
 
 -- ---- walks
@@ -103,9 +103,9 @@ ltZ-leZ (pos a) (negsuc b) = refl
 ltZ-leZ (negsuc a) (pos b) = refl
 ltZ-leZ (negsuc a) (negsuc b) = ltb-leb b a
 
-pub inside-declared : {x : Variable} {z : ℤ} → Inside x z → declared x z ≡ ok z
+pub inside-declared : {x : Variable} {z : ℤ} → InRange x z → declared x z ≡ ok z
 unfolding declared ranged
-inside-declared {x} {z} (inside l h) = rw (ltZ-leZ z (x .minimum), ltZ-leZ (x .maximum) z, l, h) refl
+inside-declared {x} {z} i = rw (ltZ-leZ z (x .minimum), ltZ-leZ (x .maximum) z, i .not-below, i .not-above) refl
 
 pub outside-declared : {x : Variable} {z : ℤ} {side : Side} → Outside x z side → declared x z ≡ fault side
 unfolding declared ranged
@@ -114,14 +114,14 @@ outside-declared {x} {z} (too-high l h) = rw (ltZ-leZ z (x .minimum), l, h) refl
 
 -- a number lies inside its range or outside
 pub data Lies (x : Variable) (z : ℤ) : Type 0 where
-  lies-inside : Inside x z → Lies x z
+  lies-inside : InRange x z → Lies x z
   lies-outside : {side : Side} → Outside x z side → Lies x z
 
 pub lies : (x : Variable) (z : ℤ) → Lies x z
 lies x z = go (leZ (x .minimum) z) refl (leZ z (x .maximum)) refl
   where
     go : (a : Bool) → leZ (x .minimum) z ≡ a → (b : Bool) → leZ z (x .maximum) ≡ b → Lies x z
-    go true e true h = lies-inside (inside e h)
+    go true e true h = lies-inside (record { not-below = e; not-above = h })
     go true e false h = lies-outside (too-high e (rw (ltZ-leZ (x .maximum) z, h) refl))
     go false e b h = lies-outside (too-low (rw (ltZ-leZ z (x .minimum), e) refl))
 
@@ -153,7 +153,7 @@ added-only rate a (z ∷ zs) (y ∷ ys) e h =
 
 -- ---- all in range, or the first that is not
 pub data AllLie (xs : List Variable) (ys : List ℤ) : Type 0 where
-  all-inside : AllInside xs ys → AllLie xs ys
+  all-inside : AllInRange xs ys → AllLie xs ys
   first-outside : {side : Side} → FirstOutside xs ys side → AllLie xs ys
 
 pub all-lie : (xs : List Variable) (ys : List ℤ) → AllLie xs ys
@@ -161,12 +161,12 @@ all-lie [] ys = all-inside (record { each = λ v x y h k. none-not-some h })
 all-lie (x ∷ xs) [] = all-inside (record { each = λ v x y h k. none-not-some k })
 all-lie (x ∷ xs) (y ∷ ys) = go (lies x y) (all-lie xs ys)
   where
-    each : Inside x y → AllInside xs ys → (v : ℕ) (d : Variable) (z : ℤ) → getElem? (x ∷ xs) v ≡ some d → getElem? (y ∷ ys) v ≡ some z → Inside d z
-    each i a zero d z h k = subst₂ Inside (some-is h) (some-is k) i
+    each : InRange x y → AllInRange xs ys → (v : ℕ) (d : Variable) (z : ℤ) → getElem? (x ∷ xs) v ≡ some d → getElem? (y ∷ ys) v ≡ some z → InRange d z
+    each i a zero d z h k = subst₂ InRange (some-is h) (some-is k) i
     each i a (suc v) d z h k = a .each v d z h k
 
-    low : {side : Side} → Inside x y → (f : FirstOutside xs ys side) → (v : ℕ) (d : Variable) (z : ℤ) → v < suc (f .which) → getElem? (x ∷ xs) v ≡ some d → getElem? (y ∷ ys) v ≡ some z → Inside d z
-    low i f zero d z l h k = subst₂ Inside (some-is h) (some-is k) i
+    low : {side : Side} → InRange x y → (f : FirstOutside xs ys side) → (v : ℕ) (d : Variable) (z : ℤ) → v < suc (f .which) → getElem? (x ∷ xs) v ≡ some d → getElem? (y ∷ ys) v ≡ some z → InRange d z
+    low i f zero d z l h k = subst₂ InRange (some-is h) (some-is k) i
     low i f (suc v) d z l h k = f .lower v d z (omega arith) h k
 
     go : Lies x y → AllLie xs ys → AllLie (x ∷ xs) (y ∷ ys)
@@ -190,7 +190,7 @@ all-lie (x ∷ xs) (y ∷ ys) = go (lies x y) (all-lie xs ys)
       lower = low i f;
     })
 
-pub inside-all : (xs : List Variable) (ys : List ℤ) → AllInside xs ys → allDeclared xs ys ≡ ok ys
+pub inside-all : (xs : List Variable) (ys : List ℤ) → AllInRange xs ys → allDeclared xs ys ≡ ok ys
 unfolding allDeclared thenValue
 inside-all [] ys h = refl
 inside-all (x ∷ xs) [] h = refl
@@ -199,7 +199,7 @@ inside-all (x ∷ xs) (y ∷ ys) h =
     rw (inside-declared (h .each 0 x y refl refl), i) refl
 
 outside-at : (xs : List Variable) (ys : List ℤ) (n : ℕ) {x : Variable} {y : ℤ} {side : Side} → getElem? xs n ≡ some x → getElem? ys n ≡ some y → Outside x y side →
-    ((v : ℕ) (x : Variable) (y : ℤ) → v < n → getElem? xs v ≡ some x → getElem? ys v ≡ some y → Inside x y) → allDeclared xs ys ≡ fault side
+    ((v : ℕ) (x : Variable) (y : ℤ) → v < n → getElem? xs v ≡ some x → getElem? ys v ≡ some y → InRange x y) → allDeclared xs ys ≡ fault side
 unfolding allDeclared thenValue
 outside-at [] ys n h k o l = none-not-some h
 outside-at (x ∷ xs) [] n h k o l = none-not-some k

@@ -14,7 +14,7 @@ use Rattle.semantics.specs.Sections.{Variable, Switch, Mode}
 use Rattle.semantics.specs.Plant.{Plant, among, currentModes, declared, declaredAt, stored, advance, added, rateOf}
 use Rattle.semantics.specs.Events.{Event, senseless, eventIn}
 use Rattle.semantics.specs.Run.{Action, test, wait, assign, switch, stop, isTest, possible, Next, to, finished, halted, idle, Control, Verdict, away, pass, _>>=_, _>>_, allow, find, valued, nobody, Done, walk, checkModes, assigned, act, judgeSwitch, switchCheck, judgePick, judgeTick, judge, Situation, Answered, at, over, faultAnswer, turnedAway, arrive, follow, settle, step, answers}
-use Rattle.semantics.specs.Rules.{SaysTick, SaysPick, SaysSwitch, Found, nothing, found-true, found-fault, Walks, Waits, Inside, Added, AllInside, FirstOutside, Goes, goes-on, finishes, Rule, when-over, when-senseless, pick-idle, pick-switch-true, pick-switch-fault, pick-test, pick-test-fault, pick-wait, pick-wait-false, pick-wait-fault, pick-assign, pick-assign-fault, pick-assign-outside, pick-switch, pick-stop, switch-missing, switch-taken, switch-false, switch-fault, tick-busy, tick-switch-true, tick-switch-fault, tick-wait-true, tick-wait-fault, tick-taken, tick-outside, Derives, no-events, one-event, CurrentSwitch, Checks, Comes, by-move, Standing, stands-at, stands-over, Sound, Stopping}
+use Rattle.semantics.specs.Rules.{SaysTick, SaysPick, SaysSwitch, Found, nothing, found-true, found-fault, Walks, Waits, InRange, Added, AllInRange, FirstOutside, Goes, goes-on, finishes, Rule, when-over, when-senseless, pick-idle, pick-switch-true, pick-switch-fault, pick-test, pick-test-fault, pick-wait, pick-wait-false, pick-wait-fault, pick-assign, pick-assign-fault, pick-assign-outside, pick-switch, pick-stop, switch-missing, switch-taken, switch-false, switch-fault, tick-busy, tick-switch-true, tick-switch-fault, tick-wait-true, tick-wait-fault, tick-taken, tick-outside, Derives, no-events, one-event, CurrentSwitch, Checks, Comes, by-move, Standing, stands-at, stands-over, Sound, Stopping}
 use Rattle.semantics.proofs.Facts.{true-not-false, none-not-some, some-is, by-cases, among-mem, mem-among, at-exists}
 use Rattle.semantics.proofs.EventDecoding.{decoded-tick, decoded-pick, decoded-switch, Said, says-tick, says-pick, says-switch, says-nothing, said-of}
 use Rattle.semantics.proofs.Currents.{check-walk, found-check, is-current, current-is, rates-added, added-rates}
@@ -104,7 +104,7 @@ senseless-event ed e f g h = go (said-of ed e)
     go (says-switch w) = absurd (h _ _ w)
     go (says-nothing f g h) = refl
 
-inside-advance : (p : Plant) (ms : List ℕ) (vs : List ℤ) {ys : List ℤ} → Added p ms vs ys → AllInside (p .variables) ys → advance (p .variables) (rateOf p ms) vs ≡ ok ys
+inside-advance : (p : Plant) (ms : List ℕ) (vs : List ℤ) {ys : List ℤ} → Added p ms vs ys → AllInRange (p .variables) ys → advance (p .variables) (rateOf p ms) vs ≡ ok ys
 unfolding advance
 inside-advance p ms vs {ys} h i = rw (← added-rates h) (inside-all (p .variables) ys i)
 
@@ -226,7 +226,7 @@ module _ {S : Type 0} (ed : Edition) (p : Plant) (c : Control S) where
         go (fault s) h = ruled (pick-wait-fault w m k q h)
     ruled-act {n} w m k (assign v t) q = go (numberValue ed vs t) refl
       where
-        taken : (z : ℤ) {d : Variable} → numberValue ed vs t ≡ ok z → getElem? (p .variables) v ≡ some d → Inside d z → Going (set vs v z) ms (c .next x n true) → Ruled (at x vs ms) e
+        taken : (z : ℤ) {d : Variable} → numberValue ed vs t ≡ ok z → getElem? (p .variables) v ≡ some d → InRange d z → Going (set vs v z) ms (c .next x n true) → Ruled (at x vs ms) e
         taken z h d i (going g) = ruled (pick-assign w m k q h d i g)
 
         lying : (z : ℤ) {d : Variable} → numberValue ed vs t ≡ ok z → getElem? (p .variables) v ≡ some d → Lies d z → Ruled (at x vs ms) e

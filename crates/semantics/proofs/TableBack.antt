@@ -12,9 +12,10 @@ use Rattle.semantics.specs.Editions.{Edition}
 use Rattle.semantics.specs.Refusals.{accepted}
 use Rattle.semantics.specs.Plant.{Plant, judgePlant, switchesRead}
 use Rattle.semantics.specs.Run.{Action, test, wait, assign, switch, stop}
-use Rattle.semantics.specs.TableFile.{NodeAction, Entry, locationLimit, actionKind, actionOfKind, readTableSections, tableSectionsIn, readAction, readActions, actionsIn, readEntry, readLocation, readLocations, locationsIn, actionBytes, inSection2, inSection4, writeAction, writeActions, writeEntry, writeLocation, writeLocations, tableBody, tableBytes}
-use Rattle.semantics.specs.Tables.{tableHeader, actionsFit, locationsFit, judgeTableSections, judgeTable}
+use Rattle.semantics.specs.TableFile.{NodeAction, Entry, locationLimit, actionKind, actionOfKind, readTableSections, tableSectionsIn, readAction, readActions, actionsIn, readEntry, readLocation, readLocations, locationsIn, actionBytes, kindNumber, operandBytes, inSection2, inSection4, writeAction, writeActions, writeEntry, writeLocation, writeLocations, tableBody, tableBytes}
+use Rattle.semantics.specs.Tables.{tableHeader, actionsFit, locationsFit, judgeTable}
 use Rattle.semantics.proofs.Facts.{and-both, within-both, All, all-nil, all-cons}
+use Rattle.semantics.proofs.TableJudged.{table-in-turn}
 use Rattle.semantics.proofs.Judging.{go-then, go-need, go-ensure, go-only}
 use Rattle.semantics.proofs.Readers.{Reads, reads-then, reads-last, reads-byte, reads-nat2, reads-nat4, reads-number, reads-bytes, reads-guard, reads-from, reads-times, whole-reads}
 
@@ -45,7 +46,7 @@ pub record Coded (a : Action) : Type 0 where
   pub decoded : actionOfKind (actionKind kind) operand ≡ some a
 
 pub action-back : (a : Action) → Coded a
-unfolding actionBytes actionOfKind actionKind noBytes twoBytes byteAndRest
+unfolding actionBytes kindNumber operandBytes actionOfKind actionKind noBytes twoBytes byteAndRest
 action-back (test t) = record { kind = 1; operand = t; coded = refl; decoded = refl }
 action-back (wait t) = record { kind = 2; operand = t; coded = refl; decoded = refl }
 action-back (assign v e) = record { kind = 3; operand = v ∷ e; coded = refl; decoded = refl }
@@ -126,9 +127,9 @@ module _ (ed : Edition) where
       1 ≤ length acts → length acts ≤ ed .nodes → All Short acts → actionsFit ed p acts ≡ true →
       1 ≤ length locs → length locs ≤ locationLimit → All (λ es. 1 ≤ length es) locs → locationsFit acts locs ≡ true →
       judgeTable ed (tableBytes ed vs es acts locs) ≡ accepted (record { plant = p; actions = acts; locations = locs })
-  unfolding judgeTable judgeTableSections
   table-back vs es acts locs plant switches some-acts few-acts short fit some-locs few-locs entries fits =
-      go-ensure 15 _ (header-back vs es acts locs)
+      table-in-turn ed _
+      ∙ go-ensure 15 _ (header-back vs es acts locs)
       ∙ go-need 16 _ (ap tableSectionsIn (body-back vs es acts locs) ∙ sections-back vs es acts locs)
       ∙ go-then _ (go-only 17 plant)
       ∙ go-ensure 17 _ switches

@@ -13,7 +13,7 @@ use Rattle.semantics.specs.Editions.{Edition}
 use Rattle.semantics.specs.Refusals.{accepted}
 use Rattle.semantics.specs.Run.{Action, test, wait, assign, switch, stop}
 use Rattle.semantics.specs.TableFile.{NodeAction, Entry, FINISHED, HALTED, NONE, locationLimit}
-use Rattle.semantics.specs.Tables.{Table, judgeTable, risingFrom, actionNodes, actionsFit, operandsFit, nodeExists, actionsNumbered, actionOrStop, entryNodes, goingTo, entryNext, entriesAt, tableControl}
+use Rattle.semantics.specs.Tables.{Table, judgeTable, risingFrom, actionNodes, actionsFit, operandsFit, nodeExists, actionsNumbered, actionOrStop, entryNodes, goingTo, entryNext, entryTarget, entriesAt, tableControl}
 use Rattle.semantics.specs.Bytes.{every}
 use Rattle.semantics.specs.Proper.{Rising, GoesOn, FitTargets, fit-test, fit-wait, fit-assign, fit-switch, fit-stop, ProperEntry, ProperRow}
 use Rattle.semantics.specs.TableRuns.{Coded, coded-location, coded-finished, coded-halted, EntryRuns, TableRuns}
@@ -50,15 +50,19 @@ unfolding entryNodes
 entry-mem (first h) = first (ap (λ (e : Entry). e .node) h)
 entry-mem (later m) = later (entry-mem m)
 
-entry-next : (es : List Entry) (e : Entry) → Rising (entryNodes es) → Mem e es → (b : Bool) → entryNext es (e .node) b ≡ goingTo (cond b (e .target) (e .other))
-unfolding entryNodes entryNext
-entry-next [] e r m b = absurd (List·Memᴰ·not-nil m)
-entry-next (x ∷ es) e r m b = go (List·Memᴰ·cases-cons m) (λ i. entry-next es e (rising-rest r) i b)
+entry-target : (es : List Entry) (e : Entry) → Rising (entryNodes es) → Mem e es → (b : Bool) → entryTarget es (e .node) b ≡ cond b (e .target) (e .other)
+unfolding entryNodes entryTarget
+entry-target [] e r m b = absurd (List·Memᴰ·not-nil m)
+entry-target (x ∷ es) e r m b = go (List·Memᴰ·cases-cons m) (λ i. entry-target es e (rising-rest r) i b)
   where
-    go : (e ≡ x) ⊎ Mem e es → (Mem e es → entryNext es (e .node) b ≡ goingTo (cond b (e .target) (e .other))) →
-        elim (eqb (x .node) (e .node)) [ true ↦ goingTo (cond b (x .target) (x .other)) | false ↦ entryNext es (e .node) b ] ≡ goingTo (cond b (e .target) (e .other))
-    go (inl h) f = rw (eq-eqb (x .node) (e .node) (ap (λ (e : Entry). e .node) (sym h))) (ap (λ (e : Entry). goingTo (cond b (e .target) (e .other))) (sym h))
+    go : (e ≡ x) ⊎ Mem e es → (Mem e es → entryTarget es (e .node) b ≡ cond b (e .target) (e .other)) →
+        elim (eqb (x .node) (e .node)) [ true ↦ cond b (x .target) (x .other) | false ↦ entryTarget es (e .node) b ] ≡ cond b (e .target) (e .other)
+    go (inl h) f = rw (eq-eqb (x .node) (e .node) (ap (λ (e : Entry). e .node) (sym h))) (ap (λ (e : Entry). cond b (e .target) (e .other)) (sym h))
     go (inr i) f = let l = rising-above (e .node) r (entry-mem i) in rw (ne-eqb (x .node) (e .node) (λ h. omega arith)) (f i)
+
+entry-next : (es : List Entry) (e : Entry) → Rising (entryNodes es) → Mem e es → (b : Bool) → entryNext es (e .node) b ≡ goingTo (cond b (e .target) (e .other))
+unfolding entryNext
+entry-next es e r m b = ap goingTo (entry-target es e r m b)
 
 at-default : {A : Type 0} (d : A) (l : List A) (x : ℕ) {a : A} → getElem? l x ≡ some a → getD l x d ≡ a
 at-default d [] x h = none-not-some h

@@ -12,9 +12,9 @@ use lib.ListN.{length, drop}
 use Rattle.semantics.specs.Bytes.{be4, out4, widthOf, within, from, byte, nat2, number, bytes, section2, section4, noBytes, twoBytes, byteAndRest}
 use Rattle.semantics.specs.Editions.{Edition}
 use Rattle.semantics.specs.Run.{Action}
-use Rattle.semantics.specs.TableFile.{NodeAction, Entry, TableSections, ActionKind, a-test, a-wait, an-assignment, a-switch, a-stop, no-kind, actionKind, actionOfKind, readTableSections, tableSectionsIn, readAction, readActions, actionsIn, readEntry, readLocation, readLocations, locationsIn, actionBytes, writeAction, writeActions, writeEntry, writeLocation, writeLocations, tableBody, tableBytes}
+use Rattle.semantics.specs.TableFile.{NodeAction, Entry, TableSections, ActionKind, a-test, a-wait, an-assignment, a-switch, a-stop, no-kind, actionKind, actionOfKind, readTableSections, tableSectionsIn, readAction, readActions, actionsIn, readEntry, readLocation, readLocations, locationsIn, actionBytes, kindNumber, operandBytes, writeAction, writeActions, writeEntry, writeLocation, writeLocations, tableBody, tableBytes, writeTableSections}
 use Rattle.semantics.specs.Tables.{Table, tableHeader}
-use Rattle.semantics.specs.Writing.{AllBytes, writeVariables, writeEquations, writeTable, ActionLimits, ActionsLimits, EntryLimits, RowLimits, LocationsLimits, TableLimits, TableReadAs, writeTableSections, TableSectionsLimits}
+use Rattle.semantics.specs.Writing.{AllBytes, writeVariables, writeEquations, writeTable, ActionLimits, ActionsLimits, EntryLimits, RowLimits, LocationsLimits, TableLimits, TableReadAs, TableSectionsLimits}
 use Rattle.semantics.proofs.Facts.{none-not-some, some-is, true-not-false, by-cases, and-left, and-right, within-low, within-high, within-both, all-cons, all-append, all-map, all-flat}
 use Rattle.semantics.proofs.Readers.{reads-then, reads-last, reads-nat2, reads-number}
 use Rattle.semantics.proofs.SignedBytes.{be4-fits, out4-be4}
@@ -47,7 +47,7 @@ is-action : {n k : ℕ} {b : List ℕ} {x a : Action} → k ≡ n → some x ≡
 is-action {b = b} h e f = ap (λ n. n ∷ b) h ∙ f ∙ ap actionBytes (some-is e)
 
 action-coded : (k : ℕ) (c : ActionKind) → Stands k c → (b : List ℕ) {a : Action} → actionOfKind c b ≡ some a → k ∷ b ≡ actionBytes a
-unfolding actionOfKind actionBytes noBytes twoBytes byteAndRest
+unfolding actionOfKind actionBytes kindNumber operandBytes noBytes twoBytes byteAndRest
 action-coded k a-test h b e = is-action h e refl
 action-coded k a-wait h b e = is-action h e refl
 action-coded k an-assignment h [] e = none-not-some e
@@ -144,7 +144,7 @@ module _ (ed : Edition) where
 
 -- ---- the four sections
 sections-form : Exact readTableSections writeTableSections TableSectionsLimits
-unfolding readTableSections writeTableSections
+unfolding readTableSections
 sections-form = record {
   taken = takes-then section2 _ takes-section2 (λ v h. takes-then section2 _ takes-section2 (λ e i. takes-then section2 _ takes-section2 (λ a j. takes-last section4 _ takes-section4 (λ l k.
       record { written = refl; fits = record { variables = h; equations = i; actions = j; locations = k } }))));
@@ -200,7 +200,7 @@ module _ (ed : Edition) where
       }
 
   written-in-bytes : (t : Table) → TableLimits ed t → AllBytes (writeTable ed t)
-  unfolding writeTable tableBytes tableBody writeTableSections
+  unfolding writeTable tableBytes tableBody
   written-in-bytes t h =
       let vs = writeVariables (t .plant .variables) in
       let es = writeEquations (t .plant .equations) in
@@ -216,7 +216,7 @@ module _ (ed : Edition) where
       })))
 
   read-written : (table : List ℕ) (t : Table) → AllBytes table → TableReadAs ed table t → (table ≡ writeTable ed t) × TableLimits ed t
-  unfolding writeTable tableBytes tableBody writeTableSections
+  unfolding writeTable tableBytes tableBody
   read-written table t z h =
       let x = h .sections in
       let head = header-taken table z (h .header) in

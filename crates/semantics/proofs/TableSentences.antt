@@ -15,14 +15,15 @@ use Rattle.semantics.specs.Editions.{Edition}
 use Rattle.semantics.specs.Refusals.{Judged, accepted, _>>=_, _>>_, oneNumber}
 use Rattle.semantics.specs.Sections.{Variable, Equation, variablesIn, equationsIn}
 use Rattle.semantics.specs.Plant.{Plant, judgeVariables, judgeEquations, judgePlant, switchesRead, ordered, equationNamed, drivenOnce}
-use Rattle.semantics.specs.TableFile.{NodeAction, Entry, TableSections, tableSectionsIn, actionsIn, locationsIn}
-use Rattle.semantics.specs.Tables.{Table, judgeTableSections, judgeTable, tableHeader, actionsFit, locationsFit}
+use Rattle.semantics.specs.TableFile.{NodeAction, Entry, TableSections, tableSectionsIn, actionsIn, locationsIn, writeTableSections}
+use Rattle.semantics.specs.Tables.{Table, judgeTable, tableHeader, actionsFit, locationsFit}
 use Rattle.semantics.specs.Starts.{Start, startIn, startFits}
 use Rattle.semantics.specs.Calls.{Program, judgeStart, judgeAdmission, judgeRun, tableProgram, wholeEvents, roomForRecords, readTable, tableRun}
-use Rattle.semantics.specs.Writing.{AllBytes, writeVariables, VariablesLimits, writeEquations, EquationsLimits, writeTableSections, TableSectionsLimits, PlantLimits, startBytes, StartLimits}
+use Rattle.semantics.specs.Writing.{AllBytes, writeVariables, VariablesLimits, writeEquations, EquationsLimits, TableSectionsLimits, PlantLimits, startBytes, StartLimits}
 use Rattle.semantics.specs.Proper.{TableWritten}
 use Rattle.semantics.specs.Sentences.{Clause, _when_, FirstHolds, AnyHolds, Fails, WrittenAs, PlantSections, VariablesThere, PlantThere, Sentence4, Sentence5, Sentence6, Sentence7, SwitchSentence12, plantClauses, TableHead, HeadOfTable, five-bytes, TableSource, TableActions, ActionsOf, LocationsOf, ProperHead, TableSectionsThere, PlantSectionsOfTable, of-table, SourceThere, ActionsThere, tableClauses, TablePlant, table-plant, runClauses, tableRunClauses}
 use Rattle.semantics.proofs.Facts.{true-not-false, some-is, and-left, and-right, and-both}
+use Rattle.semantics.proofs.TableJudged.{table-in-turn}
 use Rattle.semantics.proofs.Judging.{accepted-is, passed-then}
 use Rattle.semantics.proofs.EventsCut.{room-for-each}
 use Rattle.semantics.proofs.FirstNumber.{plant-is, table-refusal, ran-refusal}
@@ -185,8 +186,7 @@ abbrev last : Edition → List ℕ → List Clause
 last ed table = (12 when SwitchSentence12 (PlantSectionsOfTable table) ed) ∷ []
 
 pub table-answers : (ed : Edition) (table : List ℕ) → AllBytes table → Answers (judgeTable ed table) (tableClauses ed table)
-unfolding judgeTable judgeTableSections
-table-answers ed table z =
+table-answers ed table z = rw (table-in-turn ed table) (
     by-ensure 15 (tableHeader ed table) (λ e h p. true-not-false (sym (head-here ed table h p) ∙ e)) (λ e f. (let k = head-there ed table e in f (k .0) (k .1))) (λ h15.
     let head = head-there ed table h15 in
     let i = head .1 .is-head in
@@ -204,7 +204,7 @@ table-answers ed table z =
     by-read-test t (λ y u. source-one table z ed t u) 18 (actionsIn ed (x .actions)) (actionsFit ed p) (as-actions table z ed source t) (λ acts f h18.
     let parts : TableActions = record { sections = x; actions = acts } in
     let a : ActionsThere ed table parts = record { plant = p; source = t; actions = (as-actions table z ed source t acts) .0 (f, h18) } in
-    by-read-test a (λ y u. actions-one table z ed a u) 19 (locationsIn ed (x .locations)) (locationsFit acts) (as-locations table z ed parts a) (λ locs g h19. by-end _))))))
+    by-read-test a (λ y u. actions-one table z ed a u) 19 (locationsIn ed (x .locations)) (locationsFit acts) (as-locations table z ed parts a) (λ locs g h19. by-end _)))))))
   where
     only-one : {P : Type 0} → (P → ⊥) → P ⊎ ⊥ → ⊥
     only-one h (inl p) = h p

@@ -15,13 +15,14 @@ use Rattle.semantics.specs.Refusals.{accepted}
 use Rattle.semantics.specs.Expressions.{numberIn}
 use Rattle.semantics.specs.Plant.{Plant, selectors}
 use Rattle.semantics.specs.Run.{Action, test, wait, assign, switch, stop}
-use Rattle.semantics.specs.TableFile.{NodeAction, Entry, FINISHED, HALTED, NONE, actionBytes}
-use Rattle.semantics.specs.Tables.{Table, risingFrom, operandFits, operandsFit, nodeExists, actionsNumbered, actionNodes, actionsFit, actionAt, goesOn, targetsFit, entryFits, entryNodes, locationFits, locationsFit, judgeTableSections, judgeTable}
+use Rattle.semantics.specs.TableFile.{NodeAction, Entry, FINISHED, HALTED, NONE, actionBytes, kindNumber, operandBytes}
+use Rattle.semantics.specs.Tables.{Table, risingFrom, operandFits, operandsFit, nodeExists, actionsNumbered, actionNodes, actionsFit, actionAt, goesOn, targetsFit, entryFits, entryNodes, locationFits, locationsFit, judgeTable}
 use Rattle.semantics.specs.Starts.{Start, startIn, startFits}
 use Rattle.semantics.specs.Conditions.{is20}
 use Rattle.semantics.specs.Writing.{AllBytes, ActionLimits, startBytes, StartLimits}
 use Rattle.semantics.specs.Proper.{ProperAction, proper-test, proper-wait, proper-assign, proper-switch, proper-stop, Rising, rising-nil, rising-one, rising-more, GoesOn, FitTargets, fit-test, fit-wait, fit-assign, fit-switch, fit-stop, ProperEntry, ProperRow, ProperActions, ProperLocations, TableWritten}
 use Rattle.semantics.proofs.Facts.{true-not-false, and-left, and-right, and-both, All, all-cons}
+use Rattle.semantics.proofs.TableJudged.{table-in-turn}
 use Rattle.semantics.proofs.Judging.{go-need, go-ensure, go-then, go-only}
 use Rattle.semantics.proofs.PlantPassed.{plant-passed, plant-accepted}
 use Rattle.semantics.proofs.TablePassed.{table-passed}
@@ -82,7 +83,7 @@ module _ (ed : Edition) (p : Plant) where
   n = length (p .variables)
 
   action-there : (a : Action) → AllBytes (actionBytes a) → operandFits ed n (selectors p) a ≡ true → ProperAction ed p a
-  unfolding operandFits actionBytes
+  unfolding operandFits actionBytes kindNumber operandBytes
   action-there (test t) z h = proper-test ((truth-read ed n t (tail-bytes z)) .0 h)
   action-there (wait t) z h = proper-wait ((truth-read ed n t (tail-bytes z)) .0 h)
   action-there (assign v e) z h =
@@ -91,7 +92,7 @@ module _ (ed : Edition) (p : Plant) where
   action-there stop z h = proper-stop
 
   action-here : {a : Action} → AllBytes (actionBytes a) → ProperAction ed p a → operandFits ed n (selectors p) a ≡ true
-  unfolding operandFits actionBytes
+  unfolding operandFits actionBytes kindNumber operandBytes
   action-here z (proper-test {t = t} h) = (truth-read ed n t (tail-bytes z)) .1 h
   action-here z (proper-wait {t = t} h) = (truth-read ed n t (tail-bytes z)) .1 h
   action-here z (proper-assign {v = v} {e = e} h k) = and-both (lt-ltb v n h) ((number-read ed n e (tail-bytes (tail-bytes z))) .1 k)
@@ -223,7 +224,6 @@ module _ (ed : Edition) where
       }
 
   accepted-here : (table : List ℕ) (t : Table) → TableWritten ed table t → AllBytes table × (judgeTable ed table ≡ accepted t)
-  unfolding judgeTable judgeTableSections
   accepted-here table t k =
       let l = k .limits in
       let h = k .proper in
@@ -233,7 +233,8 @@ module _ (ed : Edition) where
       let plant = plant-accepted ed (r .sections .variables) (r .sections .equations)
       (record { variables = r .variables-read; equations = r .equations-read; in-order = p .is-ordered; named = p .named; once = p .once }) in (
         w .0,
-        go-ensure 15 _ (r .header)
+        table-in-turn ed table
+            ∙ go-ensure 15 _ (r .header)
             ∙ go-need 16 _ (r .sections-read)
             ∙ go-then _ (go-only 17 plant)
             ∙ go-ensure 17 _ (p .reads)

@@ -18,7 +18,7 @@ use Rattle.semantics.specs.Sections.{Rate, Selector, Equation, steady, c
 use Rattle.semantics.specs.Plant.{Plant, judgePlant, selectors, selectorsOf}
 use Rattle.semantics.specs.Starts.{Start, readStart, startIn}
 use Rattle.semantics.specs.Run.{at, Action, stop}
-use Rattle.semantics.specs.TableFile.{NodeAction, TableSections, ActionKind, a-test, a-wait, an-assignment, a-switch, a-stop, no-kind, actionKind, actionOfKind, readTableSections, tableSectionsIn, readAction, readActions, actionsIn, actionBytes}
+use Rattle.semantics.specs.TableFile.{NodeAction, TableSections, ActionKind, a-test, a-wait, an-assignment, a-switch, a-stop, no-kind, actionKind, actionOfKind, readTableSections, tableSectionsIn, readAction, readActions, actionsIn, actionBytes, kindNumber, operandBytes}
 use Rattle.semantics.specs.Tables.{Table, judgeTable, actionAt, actionOrStop, tableControl}
 use Rattle.semantics.specs.Calls.{Program, Outcome, runFrom, outcomeOf, judgeAdmission, judgeRun, report, tableProgram, tableRun}
 use Rattle.semantics.proofs.Facts.{all-mem, none-not-some, some-is, All, all-nil, all-cons, all-append}
@@ -215,7 +215,7 @@ abbrev pub ActionWritten : NodeAction → Type 0
 ActionWritten a = All Byte (actionBytes (a .action))
 
 action-bytes : (k : ActionKind) (b : List ℕ) {a : Action} → All Byte b → actionOfKind k b ≡ some a → All Byte (actionBytes a)
-unfolding actionOfKind actionBytes noBytes twoBytes byteAndRest
+unfolding actionOfKind actionBytes kindNumber operandBytes noBytes twoBytes byteAndRest
 action-bytes a-test b h e = subst (λ a. All Byte (actionBytes a)) (some-is e) (all-cons (lit< tt) h)
 action-bytes a-wait b h e = subst (λ a. All Byte (actionBytes a)) (some-is e) (all-cons (lit< tt) h)
 action-bytes an-assignment [] h e = none-not-some e
@@ -264,7 +264,7 @@ third : {a b c : ℕ} → All Byte (a ∷ b ∷ c ∷ []) → c < 256
 third (all-cons h (all-cons k (all-cons l all-nil))) = l
 
 pub action-byte : (a : Action) → All Byte (actionBytes a) → ActionByte a
-unfolding actionBytes
+unfolding actionBytes kindNumber operandBytes
 action-byte a h s m e = third (subst (λ a. All Byte (actionBytes a)) e h)
 
 -- the action of a node stands in the list
@@ -288,7 +288,7 @@ found (x ∷ l) n {a} e = go (eqb (x .node) n) refl e (λ k. found l n k)
 
 -- of the actions of a table, or of any list
 pub actions-bytes : {l : List NodeAction} → All ActionWritten l → (n : ℕ) → ActionByte (actionOrStop l n)
-unfolding actionOrStop actionBytes
+unfolding actionOrStop actionBytes kindNumber operandBytes
 actions-bytes {l} h n = go (actionAt l n) refl
   where
     go : (o : Option Action) → actionAt l n ≡ o → ActionByte (elim o [ none ↦ stop | some a ↦ a ])

@@ -1,7 +1,7 @@
 -- The calls: all that each returns, and what a lent buffer holds afterwards, for all inputs.
 -- Document 01: "the rule run 1..12 and 20..22, the table run 15..22".
 use mathlib.Core.Bool.{Bool}
-use mathlib.Core.List.{List, map, flatMap}
+use mathlib.Core.List.{List, flatMap}
 use Prim.Native.Nat.{ℕ, _+_, _*_, _/_, _%_}
 use lib.ListN.{length}
 use lib.Dec.{leb, eqb}
@@ -11,7 +11,7 @@ use Rattle.semantics.specs.Events.{eventsIn}
 use Rattle.semantics.specs.Refusals.{Judged, refused, accepted, _>>=_, _>>_, ensure, need}
 use Rattle.semantics.specs.Plant.{Plant, selectors}
 use Rattle.semantics.specs.Starts.{Start, startIn, startFits}
-use Rattle.semantics.specs.Run.{Control, Answered, at, answers, recordOf, Counts, countsOf, noCounts}
+use Rattle.semantics.specs.Run.{Control, Answered, at, answers, recordOf, answersIn, Counts, countsOf, noCounts}
 use Rattle.semantics.specs.Tables.{Table, judgeTable, tableControl}
 
 -- 20: "The starting values (4 bytes each, then modes) have a wrong length, value or mode."
@@ -28,9 +28,12 @@ wholeEvents width events = eqb (length events % width) 0
 unfoldable pub eventCount : Edition → List ℕ → ℕ
 eventCount ed events = length events / ed .event-bytes
 
--- answer, set, values, modes
+-- answer, set, values, modes: of so many variables and selectors, and of a plant
+abbrev pub recordLength : Edition → (variables selectors : ℕ) → ℕ
+recordLength ed variables selectors = 1 + (ed .set-bytes + (4 * variables + selectors))
+
 unfoldable pub recordSize : Edition → Plant → ℕ
-recordSize ed p = 1 + (ed .set-bytes + (4 * length (p .variables) + length (selectors p)))
+recordSize ed p = recordLength ed (length (p .variables)) (length (selectors p))
 
 -- 22: "The record buffer is too short."
 unfoldable pub roomForRecords : Edition → Plant → List ℕ → List ℕ → Bool
@@ -62,7 +65,7 @@ pub record Outcome : Type 0 where
 
 module _ {S : Type 0} (ed : Edition) where
   unfoldable pub outcomeOf : Control S → List (Answered S) → Outcome
-  outcomeOf c l = record { said = map (λ (o : Answered S). o .answer) l; written = flatMap (recordOf ed c) l }
+  outcomeOf c l = record { said = answersIn l; written = flatMap (recordOf ed c) l }
 
   unfoldable pub judgeRun : Judged (Program S) → List ℕ → List ℕ → List ℕ → Judged Outcome
   judgeRun program start events buffer = do
@@ -83,10 +86,13 @@ report buffer (refused n) = record { refusal = n; counts = noCounts; records = b
 report buffer (accepted o) = record { refusal = 0; counts = countsOf (o .said); records = overwrite (o .written) buffer }
 
 -- ---- the call "running a table": 15 to 22
+abbrev pub programOfTable : Table → Program ℕ
+programOfTable t = record { plant = t .plant; control = tableControl t }
+
 unfoldable pub tableProgram : Edition → List ℕ → Judged (Program ℕ)
 tableProgram ed table = do
   t ← judgeTable ed table
-  accepted (record { plant = t .plant; control = tableControl t })
+  accepted (programOfTable t)
 
 unfoldable pub tableRun : Edition → List ℕ → List ℕ → List ℕ → List ℕ → Ran
 tableRun ed table start events buffer = report buffer (judgeRun ed (tableProgram ed table) start events buffer)

@@ -16,7 +16,8 @@ use Rattle.semantics.specs.Plant.{Plant, selectors}
 use Rattle.semantics.specs.Run.{Action, test, wait, assign, switch, stop}
 use Rattle.semantics.specs.TableFile.{NodeAction, Entry}
 use Rattle.semantics.specs.Tables.{Table, actionNodes, entryNodes}
-use Rattle.semantics.specs.Writing.{InRange, HasMode, writeTable, TableLimits}
+use Rattle.semantics.specs.Rules.{InRange}
+use Rattle.semantics.specs.Writing.{HasMode, writeTable, TableLimits}
 
 -- ---- 12: these bytes are a truth or number, of depth at most 16, that names no missing variable
 -- each variable that is named is one of so many; constants are "32-bit two's complement"
@@ -55,14 +56,14 @@ pub data Named (variables : ℕ) : Equation → Type 0 where
   named-choice : {c : Selector} → HasMode c (c .initial) → All (NamedInMode variables (length (c .modes))) (c .modes) → Named variables (choice c)
 
 -- ---- 8: "A variable is in two equations or twice in one mode."
--- none twice
-pub data Once : List ℕ → Type 0 where
-  once-nil : Once []
-  once-cons : {n : ℕ} {l : List ℕ} → (Mem n l → ⊥) → Once l → Once (n ∷ l)
+-- no element stands twice
+pub data Distinct {A : Type 0} : List A → Type 0 where
+  distinct-nil : Distinct []
+  distinct-cons : {x : A} {l : List A} → (Mem x l → ⊥) → Distinct l → Distinct (x ∷ l)
 
 pub data OnceInModes : Equation → Type 0 where
   once-steady : {r : Rate} → OnceInModes (steady r)
-  once-choice : {c : Selector} → All (λ (m : Mode). Once (map (λ (r : Rate). r .driven) (m .rates))) (c .modes) → OnceInModes (choice c)
+  once-choice : {c : Selector} → All (λ (m : Mode). Distinct (map (λ (r : Rate). r .driven) (m .rates))) (c .modes) → OnceInModes (choice c)
 
 -- a variable is in an equation: it has the rate of its own, or a rate in one of the CASE's modes
 pub data Drives : Equation → ℕ → Type 0 where

@@ -107,8 +107,9 @@ pub data Waits (action : ℕ → Action) : List ℕ → List (List ℕ) → Type
   one-waits : {n : ℕ} {t : List ℕ} {ns : List ℕ} {ts : List (List ℕ)} → action n ≡ wait t → Waits action ns ts → Waits action (n ∷ ns) (t ∷ ts)
 
 -- ---- "A value outside its declared range faults."
-pub data Inside (x : Variable) (z : ℤ) : Type 0 where
-  inside : leZ (x .minimum) z ≡ true → leZ z (x .maximum) ≡ true → Inside x z
+pub record InRange (x : Variable) (z : ℤ) : Type 0 where
+  pub not-below : leZ (x .minimum) z ≡ true
+  pub not-above : leZ z (x .maximum) ≡ true
 
 pub data Outside (x : Variable) (z : ℤ) : Side → Type 0 where
   too-low : ltZ z (x .minimum) ≡ true → Outside x z below
@@ -120,8 +121,8 @@ pub record Added (p : Plant) (ms : List ℕ) (vs ys : List ℤ) : Type 0 where
   pub driven : (v : ℕ) (x z : ℤ) → getElem? vs v ≡ some x → CurrentRate p ms v z → getElem? ys v ≡ some (x +ℤ z)
   pub others : (v : ℕ) (x : ℤ) → getElem? vs v ≡ some x → ((z : ℤ) → CurrentRate p ms v z → ⊥) → getElem? ys v ≡ some (x +ℤ pos 0)
 
-pub record AllInside (xs : List Variable) (ys : List ℤ) : Type 0 where
-  pub each : (v : ℕ) (x : Variable) (y : ℤ) → getElem? xs v ≡ some x → getElem? ys v ≡ some y → Inside x y
+pub record AllInRange (xs : List Variable) (ys : List ℤ) : Type 0 where
+  pub each : (v : ℕ) (x : Variable) (y : ℤ) → getElem? xs v ≡ some x → getElem? ys v ≡ some y → InRange x y
 
 -- the lowest variable outside its range
 pub record FirstOutside (xs : List Variable) (ys : List ℤ) (side : Side) : Type 0 where
@@ -131,7 +132,7 @@ pub record FirstOutside (xs : List Variable) (ys : List ℤ) (side : Side) : Typ
   pub is-variable : getElem? xs which ≡ some variable
   pub is-value : getElem? ys which ≡ some value
   pub outside : Outside variable value side
-  pub lower : (v : ℕ) (x : Variable) (y : ℤ) → v < which → getElem? xs v ≡ some x → getElem? ys v ≡ some y → Inside x y
+  pub lower : (v : ℕ) (x : Variable) (y : ℤ) → v < which → getElem? xs v ≡ some x → getElem? ys v ≡ some y → InRange x y
 
 -- ---- "A taken pick that finishes the root is answered 201 and one of a STOP 202, and both end the run; any other taken event is answered 200."
 -- where the move of a node leads that is no STOP: a STOP's pick has a rule of its own, `pick-stop`, and no other rule gives 202
@@ -177,7 +178,7 @@ module _ {S : Type 0} (ed : Edition) (p : Plant) (c : Control S) where
     -- a RESET or REINITIAL
     pick-assign : {x : S} {vs : List ℤ} {ms e t : List ℕ} {n v a : ℕ} {z : ℤ} {d : Variable} {after : Situation S} → SaysPick ed e n → Mem n (c .acting x) →
         Checks ed vs (CurrentSwitch p ms) nothing → c .action n ≡ assign v t → numberValue ed vs t ≡ ok z →
-        getElem? (p .variables) v ≡ some d → Inside d z →
+        getElem? (p .variables) v ≡ some d → InRange d z →
         Goes (set vs v z) ms (c .next x n true) a after → Rule (at x vs ms) e a after
     pick-assign-fault : {x : S} {vs : List ℤ} {ms e t : List ℕ} {n v : ℕ} {side : Side} → SaysPick ed e n → Mem n (c .acting x) →
         Checks ed vs (CurrentSwitch p ms) nothing → c .action n ≡ assign v t → numberValue ed vs t ≡ fault side →
@@ -223,7 +224,7 @@ module _ {S : Type 0} (ed : Edition) (p : Plant) (c : Control S) where
     tick-wait-fault : {x : S} {vs : List ℤ} {ms e : List ℕ} {ts : List (List ℕ)} {side : Side} → SaysTick ed e → Waits (c .action) (c .acting x) ts →
         Checks ed vs (CurrentSwitch p ms) nothing → Walks ed vs ts (found-fault side) → Rule (at x vs ms) e 203 (over vs ms)
     tick-taken : {x : S} {vs ys : List ℤ} {ms e : List ℕ} {ts : List (List ℕ)} → SaysTick ed e → Waits (c .action) (c .acting x) ts →
-        Checks ed vs (CurrentSwitch p ms) nothing → Walks ed vs ts nothing → Added p ms vs ys → AllInside (p .variables) ys →
+        Checks ed vs (CurrentSwitch p ms) nothing → Walks ed vs ts nothing → Added p ms vs ys → AllInRange (p .variables) ys →
         Rule (at x vs ms) e 200 (at x ys ms)
     tick-outside : {x : S} {vs ys : List ℤ} {ms e : List ℕ} {ts : List (List ℕ)} {side : Side} → SaysTick ed e → Waits (c .action) (c .acting x) ts →
         Checks ed vs (CurrentSwitch p ms) nothing → Walks ed vs ts nothing → Added p ms vs ys → FirstOutside (p .variables) ys side →

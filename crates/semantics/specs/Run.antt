@@ -267,6 +267,10 @@ recordBytes ed answer set vs ms = answer ∷ bigEndian (ed .set-bytes) set ++ (f
 unfoldable pub recordOf : {S : Type 0} → Edition → Control S → Answered S → List ℕ
 recordOf ed c o = let s = o .left in recordBytes ed (o .answer) (actingSet c (s .place)) (s .values) (s .modes)
 
+-- the answer of each event
+abbrev pub answersIn : {S : Type 0} → List (Answered S) → List ℕ
+answersIn {S} l = map (λ (o : Answered S). o .answer) l
+
 -- "taken (200..202), turned away (23..31) and faulted (203)"
 unfoldable pub isTaken : ℕ → Bool
 isTaken n = within 200 202 n

@@ -10,11 +10,12 @@ use Rattle.semantics.specs.Bytes.{All, be4}
 use Rattle.semantics.specs.Editions.{Edition}
 use Rattle.semantics.specs.Sections.{Variable, Equation}
 use Rattle.semantics.specs.Plant.{Plant}
-use Rattle.semantics.specs.TableFile.{NodeAction, Entry, TableSections, writeActions, writeLocations}
+use Rattle.semantics.specs.TableFile.{NodeAction, Entry, TableSections, writeActions, writeLocations, writeTableSections}
 use Rattle.semantics.specs.Tables.{Table}
 use Rattle.semantics.specs.Starts.{Start}
-use Rattle.semantics.specs.Writing.{writeVariables, VariablesLimits, writeEquations, EquationsLimits, writeTableSections, TableSectionsLimits, ActionsLimits, LocationsLimits}
-use Rattle.semantics.specs.Writing.{startBytes, InRange, StartLimits}
+use Rattle.semantics.specs.Writing.{writeVariables, VariablesLimits, writeEquations, EquationsLimits, TableSectionsLimits, ActionsLimits, LocationsLimits}
+use Rattle.semantics.specs.Rules.{InRange}
+use Rattle.semantics.specs.Writing.{startBytes, StartLimits}
 use Rattle.semantics.specs.Proper.{Named, DrivenOnce, Truths, ProperActions, ProperLocations, TableWritten}
 use Rattle.semantics.specs.Calls.{recordSize}
 

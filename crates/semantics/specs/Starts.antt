@@ -8,7 +8,7 @@ use lib.Dec.{ltb}
 use lib.IntN.{ℤ}
 use Rattle.semantics.specs.Bytes.{Reader, _>>=_, give, byte, int4, times, whole}
 use Rattle.semantics.specs.Expressions.{Value, ok, fault}
-use Rattle.semantics.specs.Sections.{Selector}
+use Rattle.semantics.specs.Sections.{Variable, Selector}
 use Rattle.semantics.specs.Plant.{Plant, selectors, allDeclared}
 
 pub record Start : Type 0 where
@@ -28,6 +28,10 @@ unfoldable pub isOk : {A : Type 0} → Value A → Bool
 isOk (ok a) = true
 isOk (fault s) = false
 
+-- a value in its declared range each
+abbrev pub valuesFit : List Variable → List ℤ → Bool
+valuesFit xs vs = isOk (allDeclared xs vs)
+
 -- a mode of its CASE each
 unfoldable pub modesFit : List Selector → List ℕ → Bool
 modesFit [] ms = true
@@ -35,4 +39,4 @@ modesFit (c ∷ cs) [] = false
 modesFit (c ∷ cs) (m ∷ ms) = ltb m (length (c .modes)) && modesFit cs ms
 
 unfoldable pub startFits : Plant → Start → Bool
-startFits p st = isOk (allDeclared (p .variables) (st .values)) && modesFit (selectors p) (st .modes)
+startFits p st = valuesFit (p .variables) (st .values) && modesFit (selectors p) (st .modes)

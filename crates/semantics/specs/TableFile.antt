@@ -40,13 +40,28 @@ abbrev pub locationLimit : ℕ
 locationLimit = 1024
 
 -- "kind (1 test, 2 wait, 3 assign, 4 switch, 5 stop), operand bytes"
+abbrev pub TEST : ℕ
+TEST = 1
+
+abbrev pub WAIT : ℕ
+WAIT = 2
+
+abbrev pub ASSIGN : ℕ
+ASSIGN = 3
+
+abbrev pub SWITCH : ℕ
+SWITCH = 4
+
+abbrev pub STOP : ℕ
+STOP = 5
+
 pub data ActionKind : Type 0 where
   a-test a-wait an-assignment a-switch a-stop no-kind : ActionKind
 
 unfoldable pub actionKind : ℕ → ActionKind
 actionKind k =
-    cond (eqb k 1) a-test (cond (eqb k 2) a-wait (cond (eqb k 3) an-assignment
-    (cond (eqb k 4) a-switch (cond (eqb k 5) a-stop no-kind))))
+    cond (eqb k TEST) a-test (cond (eqb k WAIT) a-wait (cond (eqb k ASSIGN) an-assignment
+    (cond (eqb k SWITCH) a-switch (cond (eqb k STOP) a-stop no-kind))))
 
 unfoldable pub actionOfKind : ActionKind → List ℕ → Option Action
 actionOfKind a-test t = some (test t)
@@ -114,18 +129,31 @@ module _ (ed : Edition) where
   locationsIn = whole readLocations
 
 -- ---- the same, written
+unfoldable pub kindNumber : Action → ℕ
+kindNumber (test t) = TEST
+kindNumber (wait t) = WAIT
+kindNumber (assign v e) = ASSIGN
+kindNumber (switch s m) = SWITCH
+kindNumber stop = STOP
+
+unfoldable pub operandBytes : Action → List ℕ
+operandBytes (test t) = t
+operandBytes (wait t) = t
+operandBytes (assign v e) = v ∷ e
+operandBytes (switch s m) = s ∷ m ∷ []
+operandBytes stop = []
+
 unfoldable pub actionBytes : Action → List ℕ
-actionBytes (test t) = 1 ∷ t
-actionBytes (wait t) = 2 ∷ t
-actionBytes (assign v e) = 3 ∷ v ∷ e
-actionBytes (switch s m) = 4 ∷ s ∷ m ∷ []
-actionBytes stop = 5 ∷ []
+actionBytes a = kindNumber a ∷ operandBytes a
 
 unfoldable pub inSection2 : List ℕ → List ℕ
 inSection2 s = out2 (length s) ++ s
 
 unfoldable pub inSection4 : List ℕ → List ℕ
 inSection4 s = out4 (length s) ++ s
+
+abbrev pub writeTableSections : TableSections → List ℕ
+writeTableSections x = inSection2 (x .variables) ++ (inSection2 (x .equations) ++ (inSection2 (x .actions) ++ inSection4 (x .locations)))
 
 module _ (ed : Edition) where
   unfoldable pub writeAction : NodeAction → List ℕ
@@ -148,10 +176,14 @@ module _ (ed : Edition) where
   -- the four sections
   unfoldable pub tableBody : List ℕ → List ℕ → List NodeAction → List (List Entry) → List ℕ
   tableBody variables equations actions locations =
-      inSection2 variables ++ (inSection2 equations ++ (inSection2 (writeActions actions) ++ inSection4 (writeLocations locations)))
+      writeTableSections (record { variables = variables; equations = equations; actions = writeActions actions; locations = writeLocations locations })
 
-  -- "Version 1, whole length (4 bytes), the variable and equation sections copied, then .."
+  -- "Version 1, whole length (4 bytes)"
+  abbrev pub tableHead : ℕ → List ℕ
+  tableHead whole = ed .version ∷ out4 whole
+
+  -- "the variable and equation sections copied, then .."
   unfoldable pub tableBytes : List ℕ → List ℕ → List NodeAction → List (List Entry) → List ℕ
   tableBytes variables equations actions locations =
       let body = tableBody variables equations actions locations in
-      ed .version ∷ (out4 (5 + length body) ++ body)
+      tableHead (5 + length body) ++ body

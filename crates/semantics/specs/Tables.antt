@@ -85,22 +85,40 @@ locationFits locations l es = risingFrom 0 (entryNodes es) && every (entryFits l
 unfoldable pub locationsFit : List NodeAction → List (List Entry) → Bool
 locationsFit l locations = every (locationFits (length locations) l) locations
 
+-- 18 of the section alone: its layout and its node numbers
+unfoldable pub judgeActions : Edition → List ℕ → Judged (List NodeAction)
+judgeActions ed s = do
+  l ← need 18 (actionsIn ed s)
+  ensure 18 (actionsNumbered ed l)
+  accepted l
+
+-- 19, of the section and the actions before it
+unfoldable pub judgeLocations : Edition → List NodeAction → List ℕ → Judged (List (List Entry))
+judgeLocations ed l s = do
+  locs ← need 19 (locationsIn ed s)
+  ensure 19 (locationsFit l locs)
+  accepted locs
+
 -- 17 to 19 of the four sections
 unfoldable pub judgeTableSections : Edition → TableSections → Judged Table
 judgeTableSections ed parts = do
   -- 17: "Its first two sections break 4..8 or 12."
   p ← oneNumber 17 (judgePlant ed (parts .variables) (parts .equations))
   ensure 17 (switchesRead ed p)
-  acts ← need 18 (actionsIn ed (parts .actions))
-  ensure 18 (actionsFit ed p acts)
-  locs ← need 19 (locationsIn ed (parts .locations))
-  ensure 19 (locationsFit acts locs)
+  acts ← judgeActions ed (parts .actions)
+  ensure 18 (operandsFit ed p acts)
+  locs ← judgeLocations ed acts (parts .locations)
   accepted (record { plant = p; actions = acts; locations = locs })
+
+-- 15 and 16: the four sections
+unfoldable pub judgeTableLayout : Edition → List ℕ → Judged TableSections
+judgeTableLayout ed t = do
+  ensure 15 (tableHeader ed t)
+  need 16 (tableSectionsIn (drop 5 t))
 
 unfoldable pub judgeTable : Edition → List ℕ → Judged Table
 judgeTable ed t = do
-  ensure 15 (tableHeader ed t)
-  parts ← need 16 (tableSectionsIn (drop 5 t))
+  parts ← judgeTableLayout ed t
   judgeTableSections ed parts
 
 -- ---- "A run of a table starts at location 0 .. The acting nodes are the location's entries, their actions hold the truths and assignments,
@@ -108,9 +126,13 @@ judgeTable ed t = do
 unfoldable pub goingTo : ℕ → Next ℕ
 goingTo t = cond (eqb t FINISHED) finished (cond (eqb t HALTED) halted (cond (eqb t NONE) idle (to t)))
 
+-- the target of a node's entry; a node without an entry does not act
+unfoldable pub entryTarget : List Entry → ℕ → Bool → ℕ
+entryTarget [] n b = NONE
+entryTarget (e ∷ es) n b = elim (eqb (e .node) n) [ true ↦ cond b (e .target) (e .other) | false ↦ entryTarget es n b ]
+
 unfoldable pub entryNext : List Entry → ℕ → Bool → Next ℕ
-entryNext [] n b = idle
-entryNext (e ∷ es) n b = elim (eqb (e .node) n) [ true ↦ goingTo (cond b (e .target) (e .other)) | false ↦ entryNext es n b ]
+entryNext es n b = goingTo (entryTarget es n b)
 
 unfoldable pub entriesAt : Table → ℕ → List Entry
 entriesAt t x = getD (t .locations) x []

@@ -7,14 +7,14 @@ use mathlib.Core.Option.{some}
 use Prim.Native.Nat.{ℕ, suc, _≤_, _<_}
 use lib.ListN.{length, drop}
 use lib.IntN.{ℤ}
-use lib.Signed.{leZ}
 use Rattle.semantics.specs.Bytes.{All}
 use Rattle.semantics.specs.Editions.{Edition, capacity}
 use Rattle.semantics.specs.Expressions.{fits32}
 use Rattle.semantics.specs.Sections.{Variable, Rate, Switch, Mode, Selector, Equation, steady, choice, variablesIn, equationsIn}
 use Rattle.semantics.specs.Plant.{Plant, selectors}
 use Rattle.semantics.specs.Run.{valueBytes}
-use Rattle.semantics.specs.TableFile.{NodeAction, Entry, TableSections, tableSectionsIn, actionsIn, locationsIn, actionBytes, inSection2, inSection4, writeActions, writeLocations, tableBytes}
+use Rattle.semantics.specs.Rules.{InRange}
+use Rattle.semantics.specs.TableFile.{NodeAction, Entry, TableSections, tableSectionsIn, actionsIn, locationsIn, actionBytes, inSection2, writeActions, writeLocations, tableBytes}
 use Rattle.semantics.specs.Tables.{Table, tableHeader}
 use Rattle.semantics.specs.Starts.{Start}
 
@@ -120,9 +120,6 @@ pub record PlantLimits (p : Plant) : Type 0 where
 
 -- ---- tables
 -- "the variable and equation sections copied, then: actions (2-byte length) ..; locations (4-byte length) .."
-unfoldable pub writeTableSections : TableSections → List ℕ
-writeTableSections x = inSection2 (x .variables) ++ (inSection2 (x .equations) ++ (inSection2 (x .actions) ++ inSection4 (x .locations)))
-
 pub record TableSectionsLimits (x : TableSections) : Type 0 where
   pub variables : SectionLimits 65536 (x .variables)
   pub equations : SectionLimits 65536 (x .equations)
@@ -191,11 +188,6 @@ startBytes st = flatMap valueBytes (st .values) ++ st .modes
 pub data Each {A B : Type 0} (R : A → B → Type 0) : List A → List B → Type 0 where
   each-nil : Each R [] []
   each-cons : {a : A} {b : B} {l : List A} {k : List B} → R a b → Each R l k → Each R (a ∷ l) (b ∷ k)
-
--- within its declared range
-pub record InRange (x : Variable) (z : ℤ) : Type 0 where
-  pub not-below : leZ (x .minimum) z ≡ true
-  pub not-above : leZ z (x .maximum) ≡ true
 
 -- a mode of its CASE
 pub record HasMode (c : Selector) (m : ℕ) : Type 0 where
