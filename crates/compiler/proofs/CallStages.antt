@@ -8,7 +8,7 @@ use borrow.Author.Tests.{le-leb, lt-leb}
 use Rattle.semantics.specs.Editions.{Edition, edition1}
 use Rattle.semantics.specs.Refusals.{refused, accepted, _>>=_, _>>_, ensure}
 use Rattle.semantics.proofs.Judging.{go-then, go-ensure}
-use Rattle.schedules.specs.Compiling.{judgeMeasure, judgeCompile}
+use Rattle.schedules.specs.Compiling.{judgeTableOf, judgeCompile}
 use Rattle.schedules.specs.Calls.{compiledInto, compile}
 use Rattle.codec.proofs.Writing.{wrote-front}
 use Rattle.table_write.specs.Pieces.{Put}
@@ -16,16 +16,16 @@ use Rattle.compiler.specs.Answers.{returned}
 
 module _ (ed : Edition) (f room : List ℕ) where
   -- 1 to 13
-  pub refused-too : {n : ℕ} → judgeMeasure ed f ≡ refused n → judgeCompile ed f room ≡ refused n
+  pub refused-too : {n : ℕ} → judgeTableOf ed f ≡ refused n → judgeCompile ed f room ≡ refused n
   unfolding judgeCompile _>>=_
   refused-too e = rw e refl
 
   -- 14
-  pub too-short : {t : List ℕ} → judgeMeasure ed f ≡ accepted t → length room < length t → judgeCompile ed f room ≡ refused 14
+  pub too-short : {t : List ℕ} → judgeTableOf ed f ≡ accepted t → length room < length t → judgeCompile ed f room ≡ refused 14
   unfolding judgeCompile _>>_ ensure
   too-short {t} e l = go-then _ e ∙ rw (lt-leb (length t) (length room) l) refl
 
-  pub long-enough : {t : List ℕ} → judgeMeasure ed f ≡ accepted t → length t ≤ length room → judgeCompile ed f room ≡ accepted t
+  pub long-enough : {t : List ℕ} → judgeTableOf ed f ≡ accepted t → length t ≤ length room → judgeCompile ed f room ≡ accepted t
   unfolding judgeCompile
   long-enough {t} e l = go-then _ e ∙ go-ensure 14 _ (le-leb (length t) (length room) l)
 

@@ -19,7 +19,7 @@ use Rattle.schedules.specs.Trees.{treeOf}
 use Rattle.schedules.specs.Nodes.{actionsOf}
 use Rattle.schedules.specs.Numbering.{locations}
 use Rattle.schedules.specs.Files.{Schedule, fileLength}
-use Rattle.schedules.specs.Compiling.{testsOf, scheduleLocations, tableOf, judgeMeasure}
+use Rattle.schedules.specs.Compiling.{testsOf, scheduleLocations, tableOf, judgeTableOf}
 use Rattle.schedules.specs.Sizes.{sizeOf}
 use Rattle.schedules.specs.TableSizes.{tableLength}
 use Rattle.schedules.proofs.Counting.{total}
@@ -49,12 +49,12 @@ use Rattle.compiler.proofs.Indexes.{Indexed}
 pub told-refused : {j : Judged (List ℕ)} {n a b : ℕ} → (n ≡ 0 → ⊥) → j ≡ refused n → (a ≡ n) × (b ≡ 0) → Told j a b
 told-refused z e p = record { refuses = λ y. e ∙ ap refused (sym (p .0)); nothing = λ y. p .1; accepts = λ y. absurd (z (sym (p .0) ∙ y)) }
 
-pub told-planned : {f : List ℕ} {p : Plan} → p .refusal ≡ 0 → Planned f p → Told (judgeMeasure edition1 f) (p .refusal) (p .length)
+pub told-planned : {f : List ℕ} {p : Plan} → p .refusal ≡ 0 → Planned f p → Told (judgeTableOf edition1 f) (p .refusal) (p .length)
 told-planned z g = record { refuses = λ y. absurd (y z); nothing = λ y. absurd (y z); accepts = λ y. (tableOf edition1 (g .schedule), g .judged, g .whole) }
 
 -- 1 to 12
-pub measure-refused : (f : List ℕ) {ix : ScheduleIndex} → ix ≡ scheduleIndex f → (ix .refusal ≡ 0 → ⊥) → judgeMeasure edition1 f ≡ refused (ix .refusal)
-unfolding judgeMeasure _>>=_
+pub measure-refused : (f : List ℕ) {ix : ScheduleIndex} → ix ≡ scheduleIndex f → (ix .refusal ≡ 0 → ⊥) → judgeTableOf edition1 f ≡ refused (ix .refusal)
+unfolding judgeTableOf _>>=_
 measure-refused f h z = rw (index-refused f h z) refl
 
 -- the file is as long as its length field can say
@@ -81,13 +81,13 @@ module _ {f : List ℕ} {ix : ScheduleIndex} (g : Indexed f ix) {m : Sizes} (x :
   limit = few-locations (s .nodes) (passed edition1 f s (g .promise .judged) .tree)
 
   -- 13
-  pub measure-over : m .over ≡ true → judgeMeasure edition1 f ≡ refused 13
-  unfolding judgeMeasure _>>_ ensure
+  pub measure-over : m .over ≡ true → judgeTableOf edition1 f ≡ refused 13
+  unfolding judgeTableOf _>>_ ensure
   measure-over o = go-then _ (g .promise .judged) ∙ rw (limit ∙ lt-leb size locationLimit (ltb-true 1024 size (sym (exact .over) ∙ o))) refl
 
   -- at most as many nodes act in a location as there are
   pub found : m .over ≡ false → getD f 1 0 < 256 → getD f 2 0 < 256 → Found f ix m
-  unfolding judgeMeasure
+  unfolding judgeTableOf
   found o a b =
       let l = ltb-false 1024 size (sym (exact .over) ∙ o) in
       let n : ix .nodes .count - 0 ≤ 64 = omega (arith, g .promise .nodes .few) in

@@ -10,7 +10,7 @@ use Rattle.semantics.specs.Refusals.{accepted}
 use Rattle.semantics.specs.TableFile.{inSection2, tableBytes, tableBody}
 use Rattle.semantics.proofs.Judging.{accepted-is}
 use Rattle.semantics.proofs.WrittenTables.{section2-length, table-length}
-use Rattle.schedules.specs.Compiling.{scheduleLocations, tableOf, judgeMeasure}
+use Rattle.schedules.specs.Compiling.{scheduleLocations, tableOf, judgeTableOf}
 use Rattle.schedule_read.specs.Promised.{Slice}
 use Rattle.numbering.specs.Meeting.{testsIn}
 use Rattle.table_write.specs.ActionTable.{actionSection, Operands}
@@ -75,5 +75,5 @@ module _ {f : List ℕ} {p : Plan} (g : Planned f p) where
   pub table-written : {d d₁ d₂ d′ : List ℕ} {i j r : ℕ} → Put d 0 (front (p .length) vs es) d₁ i →
       Put d₁ i (actionSection sch (p .acts) (p .index .nodes .starts) (p .index .nodes .ends) (p .index .nodes .count)) d₂ j →
       LocationsPut (p .index .nodes .kinds) (p .index .subtrees .ends) (p .acts) (p .rows .count) (p .rows .at) d₂ j d′ r →
-      (t : List ℕ) → judgeMeasure edition1 f ≡ accepted t → Put d 0 t d′ r
+      (t : List ℕ) → judgeTableOf edition1 f ≡ accepted t → Put d 0 t d′ r
   table-written a b x t h = put-as (table-is ∙ accepted-is (sym (g .judged) ∙ h)) (put-then (put-then a b (omega arith)) (x .of (g .schedule .root) (g .rows)) (omega arith))

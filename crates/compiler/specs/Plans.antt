@@ -8,7 +8,7 @@ use Rattle.semantics.specs.Refusals.{accepted}
 use Rattle.semantics.specs.TableFile.{locationLimit}
 use Rattle.schedules.specs.Nodes.{actionsOf}
 use Rattle.schedules.specs.Files.{Schedule}
-use Rattle.schedules.specs.Compiling.{testsOf, tableOf, judgeMeasure}
+use Rattle.schedules.specs.Compiling.{testsOf, tableOf, judgeTableOf}
 use Rattle.schedules.specs.Sizes.{sizeOf}
 use Rattle.schedule_read.specs.declared.call.ScheduleIndex.{ScheduleIndex}
 use Rattle.schedule_read.specs.declared.parts.Parts.{Parts}
@@ -27,7 +27,7 @@ copied q = q .«variables_to» - q .«variables_from» + (q .«equations_to» - 
 pub record Found (f : List ℕ) (ix : ScheduleIndex) (m : Sizes) : Type 0 where
   pub schedule : Schedule
   pub promise : Promised f ix schedule
-  pub judged : judgeMeasure edition1 f ≡ accepted (tableOf edition1 schedule)
+  pub judged : judgeTableOf edition1 f ≡ accepted (tableOf edition1 schedule)
   pub short : length f < 65536
   pub locations : m .locations ≡ (sizeOf (schedule .root)) .locations
   pub entries : m .entries ≡ (sizeOf (schedule .root)) .entries
@@ -43,7 +43,7 @@ pub record Ready (ix : ScheduleIndex) (m : Sizes) : Type 0 where
 pub record Planned (f : List ℕ) (p : Plan) : Type 0 where
   pub schedule : Schedule
   pub promise : Promised f (p .index) schedule
-  pub judged : judgeMeasure edition1 f ≡ accepted (tableOf edition1 schedule)
+  pub judged : judgeTableOf edition1 f ≡ accepted (tableOf edition1 schedule)
   pub short : length f < 65536
   pub full : length (p .acts) ≡ 64
   pub tests : testsIn (p .acts) ≡ testsOf (schedule .nodes)

@@ -11,7 +11,7 @@ ghost use Prim.Native.Nat.{ℕ, _+_, _*_, _≤_, _<_};
 ghost use lib.ListN.{length};
 ghost use Rattle.semantics.specs.Editions.{edition1};
 ghost use Rattle.semantics.specs.Refusals.{accepted};
-ghost use Rattle.schedules.specs.Compiling.{judgeMeasure};
+ghost use Rattle.schedules.specs.Compiling.{judgeTableOf};
 ghost use Rattle.schedules.specs.Calls as calls;
 ghost use Rattle.table_write.specs.Pieces.{Put};
 ghost use Rattle.compiler.specs.Answers.{Told, returned};
@@ -102,7 +102,7 @@ fn made(x: ScheduleIndex, m: Measured) -> Plan
 
 // 1 to 13, and what the table is made of
 fn planned(file: &[u8]) -> Plan
-    ensures told { λ r. ⌜ Told (judgeMeasure edition1 (now (file .entry))) (r .refusal) (r .length) ⌝ }
+    ensures told { λ r. ⌜ Told (judgeTableOf edition1 (now (file .entry))) (r .refusal) (r .length) ⌝ }
     ensures planned { λ r. ⌜ (r .refusal ≡ 0 → Planned (now (file .entry)) r) ⌝ }
 {
     let x = schedule_read::call::index(file);
@@ -124,7 +124,7 @@ fn planned(file: &[u8]) -> Plan
 // The table that was planned, at the front of a buffer that has room for it; its length.
 fn write(file: &[u8], table: &mut [u8], p: Plan) -> usize
     requires { ⌜ Planned (now file) p × (p .length ≤ length (now table)) ⌝ }
-    ensures { λ r. ⌜ ((t : List ℕ) → judgeMeasure edition1 (now (file .entry)) ≡ accepted t → Put (now (table .entry)) 0 t (now (table .exit)) r) ⌝ }
+    ensures { λ r. ⌜ ((t : List ℕ) → judgeTableOf edition1 (now (file .entry)) ≡ accepted t → Put (now (table .entry)) 0 t (now (table .exit)) r) ⌝ }
 {
     let x = p.index;
     let parts = x.parts;
@@ -177,7 +177,7 @@ pub fn compile(file: &[u8], table: &mut [u8]) -> Compiled
 
 // 1 to 13, and the length of the table that compiling would write
 pub fn measure(file: &[u8]) -> Compiled
-    ensures { λ r. ⌜ Told (judgeMeasure edition1 (now (file .entry))) (r .refusal) (r .length) ⌝ }
+    ensures { λ r. ⌜ Told (judgeTableOf edition1 (now (file .entry))) (r .refusal) (r .length) ⌝ }
 {
     let p = planned(file);
     Compiled {

@@ -19,7 +19,7 @@ use Rattle.semantics.proofs.Admission.{Admits, start-judged, admission-passed}
 use Rattle.semantics.proofs.CallsHold.{accepted-of}
 use Rattle.schedules.specs.Residuals.{Residual}
 use Rattle.schedules.specs.Files.{Schedule, judgeFile, ruleControl}
-use Rattle.schedules.specs.Compiling.{judgeMeasure, judgeCompile}
+use Rattle.schedules.specs.Compiling.{judgeTableOf, judgeCompile}
 use Rattle.schedules.specs.Calls as S
 use Rattle.schedules.specs.Calls.{ruleProgram, ruleRun, compile, compiledInto}
 use Rattle.schedules.proofs.FirstNumber.{rule-run-first}
@@ -73,11 +73,11 @@ other-buffer ed g start events buffer other a h =
 
 module _ (ed : Edition) (file start events table records others : List ℕ) where
   -- 1 to 13
-  pub by-measure : {a b : ℕ} → Told (judgeMeasure ed file) a b → (a ≡ 0 → ⊥) → a ≡ refusalOf (judgeExam ed file start events table records others)
+  pub by-measure : {a b : ℕ} → Told (judgeTableOf ed file) a b → (a ≡ 0 → ⊥) → a ≡ refusalOf (judgeExam ed file start events table records others)
   unfolding judgeExam
   by-measure h z = sym (refused-at _ (refused-too ed file table (h .refuses z)))
 
-  module _ {a b : ℕ} (h : Told (judgeMeasure ed file) a b) (z : a ≡ 0) where
+  module _ {a b : ℕ} (h : Told (judgeTableOf ed file) a b) (z : a ≡ 0) where
     -- 14
     pub by-table : length table < b → 14 ≡ refusalOf (judgeExam ed file start events table records others)
     unfolding judgeExam

@@ -30,7 +30,7 @@ use Rattle.schedules.proofs.FirstNumber.{compile-steps}
 use Rattle.schedules.proofs.LocationCount.{few-locations}
 use Rattle.schedules.proofs.TableLength.{table-of-length}
 use Rattle.schedules.proofs.ReorderedTrees.{reordered-tree, reordered-none, reordered-total, reordered-length, reordered-every}
-use Rattle.schedules.proofs.FirstNumber.{nodes-in-order}
+use Rattle.schedules.proofs.FirstNumber.{file-in-order, nodes-in-order}
 
 -- ---- how long the actions are
 module _ (ed : Edition) where
@@ -137,8 +137,8 @@ as-judged e f a = rw (e, f) a
 
 module _ (ed : Edition) (file other : List ℕ) (s : SameButOrder ed file other) where
   judged-alike : Alike (AsLarge ed) (judgeFile ed file) (judgeFile ed other)
-  unfolding judgeFile judgeFileSections
-  judged-alike =
+  unfolding judgeFileSections
+  judged-alike = as-judged (file-in-order ed file) (file-in-order ed other) (
       alike-ensure 1 (fileHeader ed file) (s .same-header) (λ h1.
       alike-ensure 2 (fileLength file) (s .same-length) (λ h2.
       alike-need 3 _ _ (s .in-file) (s .in-other) (
@@ -149,7 +149,7 @@ module _ (ed : Edition) (file other : List ℕ) (s : SameButOrder ed file other)
       alike-ensure 11 (every (nodeNamed (length (p .variables)) (selectors p)) (s .nodes)) (reordered-every (nodeNamed (length (p .variables)) (selectors p)) (s .order)) (λ h11.
       alike-ensure 12 (every (nodeReads ed (length (p .variables))) (s .nodes) && switchesRead ed p)
       (ap (λ b. b && switchesRead ed p) (reordered-every (nodeReads ed (length (p .variables))) (s .order))) (λ h12.
-      both-accepted (reordered-large ed _ _ refl (s .same-variables) (s .same-equations) h k (s .order) z))))))))))
+      both-accepted (reordered-large ed _ _ refl (s .same-variables) (s .same-equations) h k (s .order) z)))))))))))
 
   compiled-alike : (room : List ℕ) → Alike (λ (t u : List ℕ). length t ≡ length u) (judgeCompile ed file room) (judgeCompile ed other room)
   compiled-alike room = rw (compile-steps ed file room, compile-steps ed other room) (alike-then _ _ judged-alike (λ a b l.

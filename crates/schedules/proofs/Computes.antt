@@ -35,11 +35,11 @@ unfolding Numbering.numberOf Numbering.meet Numbering.numberFrom Numbering.resid
 numbering = tt
 
 unfoldable pub files : Unit {0}
-unfolding Files.fileHeader Files.fileLength Files.judgeNodes Files.judgeFileSections Files.judgeFile Files.ruleControl
+unfolding Files.fileHeader Files.fileLength Files.judgeNodes Files.judgeFileSections Files.judgeFileLayout Files.judgeFile Files.ruleControl
 files = tt
 
 unfoldable pub compiling : Unit {0}
-unfolding Compiling.testsOf Compiling.scheduleLocations Compiling.targetCode Compiling.entryOf Compiling.entriesOf Compiling.tableOf Compiling.judgeMeasure Compiling.judgeCompile
+unfolding Compiling.testsOf Compiling.scheduleLocations Compiling.targetCode Compiling.entryOf Compiling.entriesOf Compiling.tableOf Compiling.judgeTableOf Compiling.judgeCompile
 compiling = tt
 
 unfoldable pub writing : Unit {0}

@@ -14,18 +14,18 @@ use Rattle.semantics.specs.Refusals.{Judged, refused, accepted, _>>=_, refusalO
 use Rattle.semantics.specs.Plant.{Plant}
 use Rattle.semantics.specs.Starts.{Start}
 use Rattle.semantics.specs.Run.{recordOf}
-use Rattle.semantics.specs.Calls.{Program, Ran, judgeRun, eventCount, recordSize, roomForRecords}
+use Rattle.semantics.specs.Calls.{Program, Ran, judgeAdmission, eventCount, recordSize, roomForRecords}
 use Rattle.semantics.specs.Conditions.{Condition, _if_, is20, is21, is22, runConditions}
 use Rattle.semantics.specs.Writing.{AllBytes, PlantLimits}
 use Rattle.semantics.specs.Sentences.{Clause, FirstHolds, AnyHolds}
 use Rattle.semantics.proofs.SentenceSteps as Steps
 use Rattle.semantics.proofs.SentenceSteps.{Answers}
 use Rattle.semantics.proofs.EventsCut.{room-for-each}
-use Rattle.semantics.proofs.TableSentences.{whole-events, run-answers}
-use Rattle.semantics.proofs.CallsHold.{run-passed}
+use Rattle.semantics.proofs.TableSentences.{whole-events, admission-answers}
+use Rattle.semantics.proofs.Admission.{admission-passed}
 use Rattle.semantics.proofs.Facts.{All, all-nil, all-cons, all-append}
 use Rattle.semantics.proofs.Judging as Judging
-use Rattle.semantics.proofs.FirstNumber.{Clear, none-left, one-clear, Firsts, refuses, accepts, by-then, by-ensure, by-end, given-some, run-first}
+use Rattle.semantics.proofs.FirstNumber.{Clear, none-left, one-clear, Firsts, refuses, accepts, by-then, by-ensure, by-end, given-some, admission-first}
 use Rattle.schedules.specs.Residuals.{Residual}
 use Rattle.schedules.specs.Files.{Schedule, judgeFile, ruleControl}
 use Rattle.schedules.specs.Compiling.{judgeCompile}
@@ -94,7 +94,7 @@ module _ (ed : Edition) (file start events table records others : List ℕ) wher
       let k = compile-taken ed file table e in
       let p = file-plant ed file (k .of-file) in
       known _ (rule-program ed file (k .of-file))
-      (by-then (run-first ed start events records (by-end _) (λ g i. p ∙ ap (λ (g : Program Residual). some (g .plant)) (Judging.accepted-is i))) (λ o i.
+      (by-then (admission-first ed start events records p) (λ st i.
       by-ensure 22 (roomForRecords ed (k .of .plant) events others) (given-some _ p) (λ h22. by-end _))))
 
   -- no number is 0
@@ -113,10 +113,9 @@ module _ (ed : Edition) (file start events table records others : List ℕ) wher
       let k = compile-taken ed file table e in
       let q = plant-of-file ed file z (k .of-file) in
       known-answers _ (rule-program ed file (k .of-file))
-      (Steps.by-then (run-answers ed start events records y (Steps.by-end _) (λ g i.
-      subst (λ q. FilePlant ed file q × ((p : Plant) → FilePlant ed file p → q ≡ p) × PlantLimits q) (ap (λ (g : Program Residual). g .plant) (Judging.accepted-is i)) q)) (λ o i.
+      (Steps.by-then (admission-answers ed start events records y (k .of .plant) q) (λ st i.
       Steps.by-test (q .0) (q .1) 22 (roomForRecords ed (k .of .plant) events others)
-      (room-for-each ed (k .of .plant) events others ((whole-events (ed .event-bytes) events) .0 ((run-passed ed _ start events records i) .admits .whole))) (λ h22. Steps.by-end _))))
+      (room-for-each ed (k .of .plant) events others ((whole-events (ed .event-bytes) events) .0 ((admission-passed ed _ start events records i) .whole))) (λ h22. Steps.by-end _))))
 
   -- the refusal is the number of the first sentence that holds, or 0 where none does
   pub exam-first : AllBytes file → AllBytes start → FirstHolds ((examOf ed file start events table records others) .refusal) (examClauses ed file start events table records others) ⊎
@@ -141,7 +140,7 @@ module _ (ed : Edition) (file start events table records others : List ℕ) wher
   exam-length {s} h e =
       let a = Judging.passed-then (judgeCompile ed file table) _ e in
       let b = Judging.passed-then (ruleProgram ed file) _ (a .2) in
-      let c = Judging.passed-then (judgeRun ed (accepted (b .0)) start events records) _ (b .2) in
+      let c = Judging.passed-then (judgeAdmission ed (b .0 .plant) start events records) _ (b .2) in
       let d = Judging.passed-ensure 22 _ _ (c .2) in
       ap (λ (g : Program Residual). eventCount ed events * recordSize ed (g .plant)) (Judging.accepted-is (sym (rule-program ed file h) ∙ b .1)) ∙ Judging.accepted-is (d .1)
 

@@ -37,7 +37,7 @@ use Rattle.schedules.specs.Proper.{ScheduleWritten}
 use Rattle.schedules.specs.Agreement.{TooMany}
 use Rattle.schedules.specs.TableSizes.{tableLength}
 use Rattle.schedules.specs.Sentences.{FileHead, HeadOfFile, three-bytes, FileSource, FileSectionsThere, PlantSectionsOfFile, of-file, NodesThere, FileSourceThere, AllRead, fileClauses, compileClauses, FilePlant, file-plant, ruleRunClauses}
-use Rattle.schedules.proofs.FirstNumber.{nodes-in-order, schedule-refusal, compiled-refusal, passed, compile-steps}
+use Rattle.schedules.proofs.FirstNumber.{file-in-order, nodes-in-order, schedule-refusal, compiled-refusal, passed, compile-steps}
 use Rattle.schedules.proofs.OneTree.{one-tree}
 use Rattle.schedules.proofs.FileForms.{nodes-bytes, sections-bytes}
 use Rattle.schedules.proofs.FilesProper.{nodes-named, nodes-read, schedule-accepted}
@@ -122,8 +122,8 @@ as-judged : {A : Type 0} {i j : Judged A} {l : List Clause} → i ≡ j → Answ
 as-judged {l = l} e k = subst (λ i. Answers i l) (sym e) k
 
 pub file-answers : (ed : Edition) (file : List ℕ) → AllBytes file → Answers (judgeFile ed file) (fileClauses ed file)
-unfolding judgeFile judgeFileSections
-file-answers ed file z =
+unfolding judgeFileSections
+file-answers ed file z = as-judged (file-in-order ed file) (
     by-ensure 1 (fileHeader ed file) (λ e h i v. true-not-false (sym (head-here ed i v) ∙ e)) (λ e f. (let k = head-there ed file e in f (k .0) (k .1) (k .2))) (λ h1.
     let head = head-there ed file h1 in
     let i = head .1 in
@@ -146,7 +146,7 @@ file-answers ed file z =
     } in
     as-judged (nodes-in-order ed p ns _) (
     by-test s (λ y u. source-one file z ed s u) 11 (every (nodeNamed (length (p .variables)) (selectors p)) ns) (nodes-named p ns) (λ h11.
-    by-test s (λ y u. source-one file z ed s u) 12 (every (nodeReads ed (length (p .variables))) ns && switchesRead ed p) (reads-is file z ed (record { plant = p; nodes = ns }) s) (λ h12. by-end _)))))))))
+    by-test s (λ y u. source-one file z ed s u) 12 (every (nodeReads ed (length (p .variables))) ns && switchesRead ed p) (reads-is file z ed (record { plant = p; nodes = ns }) s) (λ h12. by-end _))))))))))
 
 -- ---- 13 and 14, and a run
 module _ (ed : Edition) (file : List ℕ) (z : AllBytes file) where

@@ -26,7 +26,7 @@ use Rattle.schedules.specs.Nodes.{Node, sequence, parallel, while-do, if
 use Rattle.schedules.specs.Files.{Schedule, judgeFileSections, judgeFile}
 use Rattle.schedules.specs.Writing.{nodeBytes, NodeLimits}
 use Rattle.schedules.specs.Proper.{NamedNode, ReadNode, ScheduleWritten}
-use Rattle.schedules.proofs.FirstNumber.{nodes-in-order, passed}
+use Rattle.schedules.proofs.FirstNumber.{file-in-order, nodes-in-order, passed}
 use Rattle.schedules.proofs.OneTree.{one-tree}
 use Rattle.schedules.proofs.FileForms.{payload-bytes, schedule-bytes, sections-written}
 
@@ -129,7 +129,7 @@ module _ (ed : Edition) (file : List ℕ) (s : Schedule) where
       }
 
   accepted-here : ScheduleWritten ed file s → AllBytes file × (judgeFile ed file ≡ accepted s)
-  unfolding judgeFile judgeFileSections
+  unfolding judgeFileSections
   accepted-here h =
       let p = s .plant in
       let v = length (p .variables) in
@@ -141,7 +141,8 @@ module _ (ed : Edition) (file : List ℕ) (s : Schedule) where
       (record { variables = r .variables-read; equations = r .equations-read; in-order = k .is-ordered; named = k .named; once = k .once }) in
       let same = sections-written ed file p (s .nodes) (r .sections) (h .bytes) (r .sections-read) in (
         w .0,
-        go-ensure 1 _ (r .header)
+        file-in-order ed file
+            ∙ go-ensure 1 _ (r .header)
             ∙ go-ensure 2 _ (r .own-length)
             ∙ go-need 3 _ (r .sections-read)
             ∙ go-then _ plant

@@ -8,7 +8,7 @@ use lib.ListN.{length, drop}
 use lib.Dec.{leb}
 use Rattle.semantics.specs.Bytes.{every}
 use Rattle.semantics.specs.Editions.{Edition}
-use Rattle.semantics.specs.Refusals.{Judged, refused, accepted, _>>=_, _>>_, ensure, refusalOf}
+use Rattle.semantics.specs.Refusals.{Judged, refused, accepted, _>>=_, _>>_, ensure, need, refusalOf}
 use Rattle.semantics.specs.Plant.{Plant, judgePlant, selectors, switchesRead}
 use Rattle.semantics.specs.TableFile.{locationLimit}
 use Rattle.semantics.specs.Calls.{Program, judgeRun}
@@ -19,10 +19,17 @@ use Rattle.schedules.specs.FileSections.{FileSections, fileSectionsIn}
 use Rattle.schedules.specs.Nodes.{Node, nodesIn, nodeNamed, nodeReads}
 use Rattle.schedules.specs.Trees.{treeOf}
 use Rattle.schedules.specs.Residuals.{Residual}
-use Rattle.schedules.specs.Files.{Schedule, judgeNodes, judgeFileSections, judgeFile, fileHeader, fileLength}
-use Rattle.schedules.specs.Compiling.{scheduleLocations, tableOf, judgeCompile, judgeMeasure}
+use Rattle.schedules.specs.Files.{Schedule, judgeNodes, judgeFileSections, judgeFileLayout, judgeFile, fileHeader, fileLength}
+use Rattle.schedules.specs.Compiling.{scheduleLocations, tableOf, judgeCompile, judgeTableOf}
 use Rattle.schedules.specs.Calls.{ruleProgram, scheduleCounts, compiledInto}
 use Rattle.schedules.specs.Conditions.{fileParts, filePlant, fileNodes, fileTree, fileSchedule, is1, is2, is3, ofPlant, is9, is10, is11, is12, is13, is14, fileConditions, compileConditions, ruleRunConditions}
+
+-- 1 to 3, as a call goes through them
+pub file-in-order : (ed : Edition) (file : List ℕ) →
+    judgeFile ed file ≡ (ensure 1 (fileHeader ed file) >> (ensure 2 (fileLength file) >> (need 3 (fileSectionsIn (drop 3 file)) >>= judgeFileSections ed)))
+unfolding judgeFile judgeFileLayout
+file-in-order ed file =
+    Judging.ensure-then 1 _ _ (judgeFileSections ed) ∙ ap (λ j. ensure 1 (fileHeader ed file) >> j) (Judging.ensure-then 2 _ _ (judgeFileSections ed))
 
 -- 11 and 12, as a call goes through them
 pub nodes-in-order : {A : Type 0} (ed : Edition) (p : Plant) (ns : List Node) (j : Judged A) →
@@ -46,8 +53,8 @@ module _ (ed : Edition) (file : List ℕ) where
   of-plant e f = rw (of-parts e is4, of-parts e is5, of-parts e is6, of-parts e is7, of-parts e is8) f
 
   pub file-first : Firsts (judgeFile ed file) (fileConditions ed file)
-  unfolding judgeFile judgeFileSections fileConditions is1 is2 is3 is9 is10 is11 is12 fileNodes filePlant fileParts
-  file-first =
+  unfolding judgeFileSections fileConditions is1 is2 is3 is9 is10 is11 is12 fileNodes filePlant fileParts
+  file-first = as-judged (file-in-order ed file) (
       by-ensure 1 (fileHeader ed file) refl (λ h1.
       by-ensure 2 (fileLength file) refl (λ h2.
       by-need 3 (fileSectionsIn (drop 3 file)) refl (λ parts e.
@@ -58,7 +65,7 @@ module _ (ed : Edition) (file : List ℕ) where
       by-need 10 (treeOf ns) (given-some _ n) (λ t g.
       as-judged (nodes-in-order ed p ns _) (
       by-ensure 11 (every (nodeNamed (length (p .variables)) (selectors p)) ns) (given-some _ q ∙ given-some _ n) (λ h11.
-      by-ensure 12 (every (nodeReads ed (length (p .variables))) ns && switchesRead ed p) (given-some _ q ∙ given-some _ n) (λ h12. by-end _))))))))))
+      by-ensure 12 (every (nodeReads ed (length (p .variables))) ns && switchesRead ed p) (given-some _ q ∙ given-some _ n) (λ h12. by-end _)))))))))))
 
 -- an accepted file: its parts, and the conditions that they passed
 pub record Passed (ed : Edition) (file : List ℕ) (s : Schedule) : Type 0 where
@@ -72,9 +79,9 @@ pub record Passed (ed : Edition) (file : List ℕ) (s : Schedule) : Type 0 where
   pub reads : (every (nodeReads ed (length (s .plant .variables))) (s .nodes) && switchesRead ed (s .plant)) ≡ true
 
 pub passed : (ed : Edition) (file : List ℕ) (s : Schedule) → judgeFile ed file ≡ accepted s → Passed ed file s
-unfolding judgeFile judgeFileSections
+unfolding judgeFileSections
 passed ed file s h =
-    let a = Judging.passed-ensure 1 _ _ h in
+    let a = Judging.passed-ensure 1 _ _ (sym (file-in-order ed file) ∙ h) in
     let b = Judging.passed-ensure 2 _ _ (a .1) in
     let c = Judging.passed-need 3 (fileSectionsIn (drop 3 file)) _ (b .1) in
     let d = Judging.passed-then (judgePlant ed (c .0 .variables) (c .0 .equations)) _ (c .2) in
@@ -108,7 +115,7 @@ module _ (ed : Edition) (file : List ℕ) where
   -- 13 and 14 in one list
   pub compile-steps : (buffer : List ℕ) → judgeCompile ed file buffer ≡
       (judgeFile ed file >>= λ s. ensure 13 (leb (length (scheduleLocations s)) locationLimit) >> (ensure 14 (leb (length (tableOf ed s)) (length buffer)) >> accepted (tableOf ed s)))
-  unfolding judgeCompile judgeMeasure _>>=_ _>>_ ensure
+  unfolding judgeCompile judgeTableOf _>>=_ _>>_ ensure
   compile-steps buffer = go (judgeFile ed file)
     where
       fits : List ℕ → Judged (List ℕ)

@@ -11,7 +11,7 @@ use lib.Dec.{eqb}
 use lib.ListN.{length, getD, getElem?}
 use Rattle.semantics.specs.Run.{possible, Next, to, finished, halted, idle}
 use Rattle.semantics.specs.TableFile.{FINISHED, HALTED, NONE, locationLimit}
-use Rattle.semantics.specs.Tables.{Table, actionOrStop, entryNodes, goingTo, entryNext, entriesAt, tableControl}
+use Rattle.semantics.specs.Tables.{Table, actionOrStop, entryNodes, goingTo, entryTarget, entryNext, entriesAt, tableControl}
 use Rattle.semantics.proofs.Facts.{none-not-some, some-is, at-below, at-mem}
 use Rattle.semantics.proofs.Simulation.{NextRel, to-rel, finished-rel, halted-rel, idle-rel, Agree}
 use Rattle.schedules.specs.Nodes.{Node, actionsOf}
@@ -43,17 +43,17 @@ module _ (tests : ℕ → Bool) (l : List Residual) (r : Residual) where
   unfolding entryOf
   other-of n h = rw h refl
 
-  outcome : ℕ → Bool → Next ℕ
-  outcome n b = goingTo (cond b (entryOf tests l r n .target) (entryOf tests l r n .other))
+  outcome : ℕ → Bool → ℕ
+  outcome n b = cond b (entryOf tests l r n .target) (entryOf tests l r n .other)
 
   -- the entry of an acting node is found
-  entry-found : (n : ℕ) (b : Bool) (ns : List ℕ) → Mem n ns → entryNext (map (entryOf tests l r) ns) n b ≡ outcome n b
-  unfolding entryNext entryOf outcome
+  entry-found : (n : ℕ) (b : Bool) (ns : List ℕ) → Mem n ns → entryTarget (map (entryOf tests l r) ns) n b ≡ outcome n b
+  unfolding entryTarget entryOf outcome
   entry-found n b [] m = absurd (List·Memᴰ·not-nil m)
   entry-found n b (k ∷ ns) m = go (eqb k n) refl (List·Memᴰ·cases-cons m) (entry-found n b ns)
     where
-      go : (t : Bool) → eqb k n ≡ t → (n ≡ k) ⊎ Mem n ns → (Mem n ns → entryNext (map (entryOf tests l r) ns) n b ≡ outcome n b) →
-          elim t [ true ↦ outcome k b | false ↦ entryNext (map (entryOf tests l r) ns) n b ] ≡ outcome n b
+      go : (t : Bool) → eqb k n ≡ t → (n ≡ k) ⊎ Mem n ns → (Mem n ns → entryTarget (map (entryOf tests l r) ns) n b ≡ outcome n b) →
+          elim t [ true ↦ outcome k b | false ↦ entryTarget (map (entryOf tests l r) ns) n b ] ≡ outcome n b
       go true e m ih = ap (λ i. outcome i b) (eqb-true k n e)
       go false e (inl h) ih = absurd (eqb-false k n e (sym h))
       go false e (inr h) ih = ih h
@@ -87,14 +87,14 @@ read-back l ns idle h = idle-rel
 module _ (ns : List Node) (l : List Residual) (numbers : Numbers l)
     (closed : (x y : Residual) (n : ℕ) (b : Bool) → Mem x l → Mem n (acting x) → possible (actionOrStop (actionsOf ns) n) b ≡ true → move x n b ≡ to y → Mem y l) where
   leads : (r : Residual) → Mem r l → (n : ℕ) → Mem n (acting r) → (b : Bool) → possible (actionOrStop (actionsOf ns) n) b ≡ true →
-      NextRel (λ r k. getElem? l k ≡ some r) (move r n b) (outcome (testsOf ns) l r n b)
+      NextRel (λ r k. getElem? l k ≡ some r) (move r n b) (goingTo (outcome (testsOf ns) l r n b))
   unfolding outcome entryOf possible testsOf
   leads r m n a true e = read-back l numbers (move r n true) (λ y g. closed r y n true m a e g)
   leads r m n a false e = rw (other-of (testsOf ns) l r n e) (read-back l numbers (move r n false) (λ y g. closed r y n false m a e g))
 
   nexts-at : (r : Residual) (k : ℕ) → getElem? l k ≡ some r → (n : ℕ) → Mem n (acting r) → (b : Bool) → possible (actionOrStop (actionsOf ns) n) b ≡ true →
       NextRel (λ r k. getElem? l k ≡ some r) (move r n b) (entryNext (getD (map (entriesOf (testsOf ns) l) l) k []) n b)
-  unfolding entriesOf
+  unfolding entriesOf entryNext
   nexts-at r k h n m b e =
       rw (getD-map-at (entriesOf (testsOf ns) l) l k [] h, entry-found (testsOf ns) l r n b (acting r) m) (leads r (at-mem l k h) n m b e)
 

@@ -19,7 +19,7 @@ pub use Rattle.semantics.specs.Conditions.{First, here, further, Clear, 
 use Rattle.semantics.proofs.Judging
 use Rattle.semantics.proofs.PlantPassed.{variables-passed, equations-passed, plant-passed}
 use Rattle.semantics.proofs.TablePassed.{table-passed}
-use Rattle.semantics.proofs.TableJudged.{table-in-turn}
+use Rattle.semantics.proofs.TableJudged.{table-in-order}
 use Rattle.semantics.proofs.Judging.{accepted-is}
 
 -- ---- steps of a call
@@ -146,7 +146,7 @@ by-read n (some a) t e f = by-ensure n (t a) e (f a refl)
 module _ (ed : Edition) (table : List ℕ) where
   pub table-first : Firsts (judgeTable ed table) (tableConditions ed table)
   unfolding tableConditions is15 is16 is17 is18 is19 tableParts tablePlant
-  table-first = rw (table-in-turn ed table) (
+  table-first = rw (table-in-order ed table) (
       by-ensure 15 (tableHeader ed table) refl (λ h15.
       by-need 16 (tableSectionsIn (drop 5 table)) refl (λ parts e.
       by-only 17 (plant-first ed (parts .variables) (parts .equations)) (λ a. given-some _ e ∙ or-true _ _ a) (λ p j c.

@@ -15,7 +15,7 @@ use Rattle.semantics.specs.Run.{Action, test, wait, assign, switch, stop
 use Rattle.semantics.specs.TableFile.{NodeAction, Entry, locationLimit, actionKind, actionOfKind, readTableSections, tableSectionsIn, readAction, readActions, actionsIn, readEntry, readLocation, readLocations, locationsIn, actionBytes, kindNumber, operandBytes, inSection2, inSection4, writeAction, writeActions, writeEntry, writeLocation, writeLocations, tableBody, tableBytes}
 use Rattle.semantics.specs.Tables.{tableHeader, actionsFit, locationsFit, judgeTable}
 use Rattle.semantics.proofs.Facts.{and-both, within-both, All, all-nil, all-cons}
-use Rattle.semantics.proofs.TableJudged.{table-in-turn}
+use Rattle.semantics.proofs.TableJudged.{table-in-order}
 use Rattle.semantics.proofs.Judging.{go-then, go-need, go-ensure, go-only}
 use Rattle.semantics.proofs.Readers.{Reads, reads-then, reads-last, reads-byte, reads-nat2, reads-nat4, reads-number, reads-bytes, reads-guard, reads-from, reads-times, whole-reads}
 
@@ -128,7 +128,7 @@ module _ (ed : Edition) where
       1 ≤ length locs → length locs ≤ locationLimit → All (λ es. 1 ≤ length es) locs → locationsFit acts locs ≡ true →
       judgeTable ed (tableBytes ed vs es acts locs) ≡ accepted (record { plant = p; actions = acts; locations = locs })
   table-back vs es acts locs plant switches some-acts few-acts short fit some-locs few-locs entries fits =
-      table-in-turn ed _
+      table-in-order ed _
       ∙ go-ensure 15 _ (header-back vs es acts locs)
       ∙ go-need 16 _ (ap tableSectionsIn (body-back vs es acts locs) ∙ sections-back vs es acts locs)
       ∙ go-then _ (go-only 17 plant)

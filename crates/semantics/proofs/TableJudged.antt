@@ -11,8 +11,8 @@ use Rattle.semantics.specs.Tables.{Table, tableHeader, actionsNumbered, 
 use Rattle.semantics.proofs.Judging.{then-same, ensure-then, fitting-then, ensure-both}
 
 module _ (ed : Edition) where
-  abbrev pub judgeInTurn : TableSections → Judged Table
-  judgeInTurn parts = do
+  abbrev pub judgeInOrder : TableSections → Judged Table
+  judgeInOrder parts = do
     p ← oneNumber 17 (judgePlant ed (parts .variables) (parts .equations))
     ensure 17 (switchesRead ed p)
     acts ← need 18 (actionsIn ed (parts .actions))
@@ -21,15 +21,15 @@ module _ (ed : Edition) where
     ensure 19 (locationsFit acts locs)
     accepted (record { plant = p; actions = acts; locations = locs })
 
-  pub sections-in-turn : (parts : TableSections) → judgeTableSections ed parts ≡ judgeInTurn parts
+  pub sections-in-order : (parts : TableSections) → judgeTableSections ed parts ≡ judgeInOrder parts
   unfolding judgeTableSections judgeActions judgeLocations actionsFit
-  sections-in-turn parts =
+  sections-in-order parts =
       then-same (oneNumber 17 (judgePlant ed (parts .variables) (parts .equations))) (λ p. ap (λ j. ensure 17 (switchesRead ed p) >> j) (
       fitting-then 18 (actionsIn ed (parts .actions)) (actionsNumbered ed) _ ∙
       then-same (need 18 (actionsIn ed (parts .actions))) (λ acts.
       ap (λ j. ensure 18 (actionsNumbered ed acts) >> (ensure 18 (operandsFit ed p acts) >> j)) (fitting-then 19 (locationsIn ed (parts .locations)) (locationsFit acts) _) ∙
       ensure-both 18 (actionsNumbered ed acts) (operandsFit ed p acts) _)))
 
-  pub table-in-turn : (t : List ℕ) → judgeTable ed t ≡ (ensure 15 (tableHeader ed t) >> (need 16 (tableSectionsIn (drop 5 t)) >>= judgeInTurn))
+  pub table-in-order : (t : List ℕ) → judgeTable ed t ≡ (ensure 15 (tableHeader ed t) >> (need 16 (tableSectionsIn (drop 5 t)) >>= judgeInOrder))
   unfolding judgeTable judgeTableLayout
-  table-in-turn t = ensure-then 15 _ _ (judgeTableSections ed) ∙ ap (λ j. ensure 15 (tableHeader ed t) >> j) (then-same (need 16 (tableSectionsIn (drop 5 t))) sections-in-turn)
+  table-in-order t = ensure-then 15 _ _ (judgeTableSections ed) ∙ ap (λ j. ensure 15 (tableHeader ed t) >> j) (then-same (need 16 (tableSectionsIn (drop 5 t))) sections-in-order)

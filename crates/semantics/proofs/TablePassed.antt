@@ -10,7 +10,7 @@ use Rattle.semantics.specs.Refusals.{accepted, oneNumber}
 use Rattle.semantics.specs.Plant.{judgePlant, switchesRead}
 use Rattle.semantics.specs.TableFile.{TableSections, tableSectionsIn, actionsIn, locationsIn}
 use Rattle.semantics.specs.Tables.{Table, judgeTable, tableHeader, actionsFit, locationsFit}
-use Rattle.semantics.proofs.TableJudged.{table-in-turn}
+use Rattle.semantics.proofs.TableJudged.{table-in-order}
 use Rattle.semantics.proofs.Judging.{accepted-is, passed-need, passed-ensure, passed-then, passed-only}
 
 pub record TablePassed (ed : Edition) (table : List ℕ) (t : Table) : Type 0 where
@@ -26,7 +26,7 @@ pub record TablePassed (ed : Edition) (table : List ℕ) (t : Table) : Type 0 wh
 
 pub table-passed : (ed : Edition) (table : List ℕ) {t : Table} → judgeTable ed table ≡ accepted t → TablePassed ed table t
 table-passed ed table h =
-    let a = passed-ensure 15 _ _ (sym (table-in-turn ed table) ∙ h) in
+    let a = passed-ensure 15 _ _ (sym (table-in-order ed table) ∙ h) in
     let b = passed-need 16 (tableSectionsIn (drop 5 table)) _ (a .1) in
     let c = passed-then (oneNumber 17 (judgePlant ed (b .0 .variables) (b .0 .equations))) _ (b .2) in
     let d = passed-ensure 17 _ _ (c .2) in

@@ -23,7 +23,7 @@ use Rattle.semantics.specs.Writing.{AllBytes, writeVariables, VariablesL
 use Rattle.semantics.specs.Proper.{TableWritten}
 use Rattle.semantics.specs.Sentences.{Clause, _when_, FirstHolds, AnyHolds, Fails, WrittenAs, PlantSections, VariablesThere, PlantThere, Sentence4, Sentence5, Sentence6, Sentence7, SwitchSentence12, plantClauses, TableHead, HeadOfTable, five-bytes, TableSource, TableActions, ActionsOf, LocationsOf, ProperHead, TableSectionsThere, PlantSectionsOfTable, of-table, SourceThere, ActionsThere, tableClauses, TablePlant, table-plant, runClauses, tableRunClauses}
 use Rattle.semantics.proofs.Facts.{true-not-false, some-is, and-left, and-right, and-both}
-use Rattle.semantics.proofs.TableJudged.{table-in-turn}
+use Rattle.semantics.proofs.TableJudged.{table-in-order}
 use Rattle.semantics.proofs.Judging.{accepted-is, passed-then}
 use Rattle.semantics.proofs.EventsCut.{room-for-each}
 use Rattle.semantics.proofs.FirstNumber.{plant-is, table-refusal, ran-refusal}
@@ -186,7 +186,7 @@ abbrev last : Edition → List ℕ → List Clause
 last ed table = (12 when SwitchSentence12 (PlantSectionsOfTable table) ed) ∷ []
 
 pub table-answers : (ed : Edition) (table : List ℕ) → AllBytes table → Answers (judgeTable ed table) (tableClauses ed table)
-table-answers ed table z = rw (table-in-turn ed table) (
+table-answers ed table z = rw (table-in-order ed table) (
     by-ensure 15 (tableHeader ed table) (λ e h p. true-not-false (sym (head-here ed table h p) ∙ e)) (λ e f. (let k = head-there ed table e in f (k .0) (k .1))) (λ h15.
     let head = head-there ed table h15 in
     let i = head .1 .is-head in
@@ -218,22 +218,27 @@ whole-events w events = (
   λ k. eq-eqb (length events % w) 0 (ap (λ l. l % w) (k .1) ∙ mul-mod-left (k .0) w),
 )
 
-module _ {S : Type 0} (ed : Edition) {Accepted : Plant → Type 0} (start events buffer : List ℕ) (z : AllBytes start) where
-  pub run-answers : {j : Judged (Program S)} {k : List Clause} → Answers j k →
-      ((g : Program S) → j ≡ accepted g → Accepted (g .plant) × ((p : Plant) → Accepted p → g .plant ≡ p) × PlantLimits (g .plant)) →
-      Answers (judgeRun ed j start events buffer) (k ++ runClauses ed Accepted start events buffer)
-  unfolding judgeRun judgeAdmission judgeStart
-  run-answers f h = by-then f (λ g e.
-      let a = h g e in
-      let p = g .plant in
-      by-map _ (by-then (by-read-test (a .0) (a .1) 20 (startIn p start) (startFits p) (admitted p (a .2)) (λ st i h20. by-end st)) (λ st i.
+-- p is the plant that is accepted, the only one, and it keeps the printed limits
+abbrev pub OnlyPlant : (Plant → Type 0) → Plant → Type 0
+OnlyPlant Accepted p = Accepted p × ((q : Plant) → Accepted q → p ≡ q) × PlantLimits p
+
+module _ (ed : Edition) {Accepted : Plant → Type 0} (start events buffer : List ℕ) (z : AllBytes start) where
+  pub admission-answers : (p : Plant) → OnlyPlant Accepted p → Answers (judgeAdmission ed p start events buffer) (runClauses ed Accepted start events buffer)
+  unfolding judgeAdmission judgeStart
+  admission-answers p a =
+      by-then (by-read-test (a .0) (a .1) 20 (startIn p start) (startFits p) admitted (λ st i h20. by-end st)) (λ st i.
       by-test (a .0) (a .1) 21 (wholeEvents (ed .event-bytes) events) (whole-events (ed .event-bytes) events) (λ h21.
-      by-test (a .0) (a .1) 22 (roomForRecords ed p events buffer) (room-for-each ed p events buffer ((whole-events (ed .event-bytes) events) .0 h21)) (λ h22. by-end st)))))
+      by-test (a .0) (a .1) 22 (roomForRecords ed p events buffer) (room-for-each ed p events buffer ((whole-events (ed .event-bytes) events) .0 h21)) (λ h22. by-end st)))
     where
-      admitted : (p : Plant) → PlantLimits p → (st : Start) → ((startIn p start ≡ some st) × (startFits p st ≡ true)) ↔ WrittenAs startBytes (StartLimits p) start st
-      admitted p l st =
-          let k = StartForms.starts-admitted p l start st in
+      admitted : (st : Start) → ((startIn p start ≡ some st) × (startFits p st ≡ true)) ↔ WrittenAs startBytes (StartLimits p) start st
+      admitted st =
+          let k = StartForms.starts-admitted p (a .2) start st in
           (λ i. (let w = k .0 (z, i .0, i .1) in record { bytes = w .0; limits = w .1 }), λ w. (let i = k .1 (w .bytes, w .limits) in (i .1, i .2)))
+
+  pub run-answers : {S : Type 0} {j : Judged (Program S)} {k : List Clause} → Answers j k → ((g : Program S) → j ≡ accepted g → OnlyPlant Accepted (g .plant)) →
+      Answers (judgeRun ed j start events buffer) (k ++ runClauses ed Accepted start events buffer)
+  unfolding judgeRun
+  run-answers f h = by-then f (λ g e. by-map _ (admission-answers (g .plant) (h g e)))
 
 -- the plant of an accepted table
 plant-of : (ed : Edition) (table : List ℕ) {t : Table} → judgeTable ed table ≡ accepted t → (p : Plant) → TablePlant ed table p → t .plant ≡ p
@@ -244,7 +249,7 @@ pub table-run-answers : (ed : Edition) (table start events buffer : List ℕ) �
 unfolding tableProgram
 table-run-answers ed table start events buffer z y = run-answers ed start events buffer y (by-map _ (table-answers ed table z)) program
   where
-    program : (g : Program ℕ) → tableProgram ed table ≡ accepted g → TablePlant ed table (g .plant) × ((p : Plant) → TablePlant ed table p → g .plant ≡ p) × PlantLimits (g .plant)
+    program : (g : Program ℕ) → tableProgram ed table ≡ accepted g → OnlyPlant (TablePlant ed table) (g .plant)
     program g e =
         let a = passed-then (judgeTable ed table) _ e in
         let w = (table-accepted ed table (a .0)) .0 (z, a .1) in

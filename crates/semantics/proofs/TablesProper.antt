@@ -22,7 +22,7 @@ use Rattle.semantics.specs.Conditions.{is20}
 use Rattle.semantics.specs.Writing.{AllBytes, ActionLimits, startBytes, StartLimits}
 use Rattle.semantics.specs.Proper.{ProperAction, proper-test, proper-wait, proper-assign, proper-switch, proper-stop, Rising, rising-nil, rising-one, rising-more, GoesOn, FitTargets, fit-test, fit-wait, fit-assign, fit-switch, fit-stop, ProperEntry, ProperRow, ProperActions, ProperLocations, TableWritten}
 use Rattle.semantics.proofs.Facts.{true-not-false, and-left, and-right, and-both, All, all-cons}
-use Rattle.semantics.proofs.TableJudged.{table-in-turn}
+use Rattle.semantics.proofs.TableJudged.{table-in-order}
 use Rattle.semantics.proofs.Judging.{go-need, go-ensure, go-then, go-only}
 use Rattle.semantics.proofs.PlantPassed.{plant-passed, plant-accepted}
 use Rattle.semantics.proofs.TablePassed.{table-passed}
@@ -233,7 +233,7 @@ module _ (ed : Edition) where
       let plant = plant-accepted ed (r .sections .variables) (r .sections .equations)
       (record { variables = r .variables-read; equations = r .equations-read; in-order = p .is-ordered; named = p .named; once = p .once }) in (
         w .0,
-        table-in-turn ed table
+        table-in-order ed table
             ∙ go-ensure 15 _ (r .header)
             ∙ go-need 16 _ (r .sections-read)
             ∙ go-then _ (go-only 17 plant)
