@@ -10,9 +10,6 @@ ghost use Rattle.expression.specs.Answers.{numberOf, truthOf, truthAnswe
 ghost use Rattle.expression.specs.Evaluation.{sideOf, found, FoundSays, wordAt, numberAt, nextOf, constantAt, variableAt, leafAt};
 ghost use Rattle.expression.specs.Evaluation.{operationOf, comparisonOf, connectiveOf, operated, related, joined, negated, opposed};
 
-// "Depth is at most 16"
-const DEPTH: usize = 16;
-
 // A number's value, or the side on which a result lies outside its range; malformed where condition 12 turns the bytes away.
 pub enum Number {
     Is(i32),
@@ -179,7 +176,7 @@ fn no_comparison(s: &[u8], vars: &[i32]) -> Truth
         }
         _ => {}
     }
-    match eval(s, vars, 0, DEPTH) {
+    match eval(s, vars, 0, paper::DEPTH) {
         Found::ATruth(b, n) => {
             if n == s.len() {
                 plain_truth(b)
@@ -207,15 +204,15 @@ fn whole(s: &[u8], vars: &[i32]) -> Found
     }
     let code = s[0];
     let Found::ANumber(a, m) = leaf(s, vars, 1) else {
-        return eval(s, vars, 0, DEPTH);
+        return eval(s, vars, 0, paper::DEPTH);
     };
     let Found::ANumber(b, n) = leaf(s, vars, m) else {
-        return eval(s, vars, 0, DEPTH);
+        return eval(s, vars, 0, paper::DEPTH);
     };
     if 0x10 <= code && code < 0x13 {
         return arithmetic(code, a, b, n);
     }
-    eval(s, vars, 0, DEPTH)
+    eval(s, vars, 0, paper::DEPTH)
 }
 
 // A constant or a variable at a position.

@@ -29,6 +29,9 @@ pub const MODE_PLACES: usize = EQUATIONS * MODES;
 // "There are over 1,024 locations."
 pub const LOCATIONS: usize = 1024;
 
+// of a truth or number: "Depth is at most 16"
+pub const DEPTH: usize = 16;
+
 // the longest start: "4 bytes each, then modes"
 pub const START_BYTES: usize = 4 * VARIABLES + EQUATIONS;
 

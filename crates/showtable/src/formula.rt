@@ -37,7 +37,7 @@ fn leaf(t: &[u8], p: usize, code: usize) -> usize {
 
 // a parenthesis, but not around the whole
 fn bracket(levels: usize, b: u8) {
-    if levels < 16 {
+    if levels < paper::DEPTH {
         out::byte(b);
     }
 }

@@ -23,7 +23,7 @@ fn field(t: &[u8], p: usize, n: usize, c: u8) -> usize {
             bytes::on(p, 2)
         }
         // no depth is above 16
-        b'$' => formula::form(t, p, 16),
+        b'$' => formula::form(t, p, paper::DEPTH),
         b'~' => bytes::on(p, 1),
         b'!' => {
             out::decimal(n);
