@@ -5,7 +5,8 @@ ghost use mathlib.Core.Path.{_≡_};
 ghost use Rattle.semantics.specs.Editions.{edition1};
 ghost use Rattle.semantics.specs.Calls.{readTable, tableRun};
 ghost use Rattle.schedules.specs.Calls.{readSchedule, size, compile, ruleRun};
-ghost use Rattle.capi.specs.Returned.{sized, compiled, ran, Behind};
+ghost use Rattle.compiler.specs.Answers.{returned, sized};
+ghost use Rattle.capi.specs.Returned.{ran, Behind};
 
 // 0, or the first of 1 to 12 that applies
 #[no_mangle]
@@ -39,7 +40,7 @@ pub extern "C" fn zimtleiter_size(file: &[u8], locations: &mut u64, entries: &mu
 // 0, the table and its length; or the first of 1 to 14 that applies, and length 0
 #[no_mangle]
 pub extern "C" fn zimtleiter_compile(file: &[u8], table: &mut [u8], length: &mut u64) -> u8
-    ensures { λ r. ⌜ compiled r (now (length .exit)) (now (table .exit)) ≡ compile edition1 (now (file .entry)) (now (table .entry)) ⌝ }
+    ensures { λ r. ⌜ returned r (now (length .exit)) (now (table .exit)) ≡ compile edition1 (now (file .entry)) (now (table .entry)) ⌝ }
 {
     let x = compiler::call::compile(file, table);
     *length = x.length as u64;

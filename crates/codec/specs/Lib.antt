@@ -3,4 +3,5 @@ pub mod Reading
 pub mod Places
 pub mod Writing
 pub mod Ends
+pub mod Parts
 pub mod Padding

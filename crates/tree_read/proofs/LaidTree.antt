@@ -22,7 +22,7 @@ use Rattle.tree_read.specs.declared.tree.Subtrees.{Subtrees}
 use Rattle.codec.proofs.Padding.{getD-pad, length-pad}
 use Rattle.tree_read.proofs.NodeIndex.{indexed}
 use Rattle.tree_read.proofs.NodeKinds.{kindNumber}
-use Rattle.tree_read.proofs.ChildCounts.{known}
+use Rattle.tree_read.proofs.ChildCounts.{known, said}
 use Rattle.tree_read.proofs.TreeEnds.{length-tree-ends}
 use Rattle.tree_read.proofs.WholeTree.{of-nodes}
 
@@ -144,7 +144,7 @@ module _ (s : List ℕ) {ns : List Node} {t : Tree} (h : nodesIn edition1 s ≡ 
       let n = x .counted in
       held-map kindNumber ns (nodesOf s .kinds) 0 (omega (arith, x .few-nodes, x .kinds-full)) (λ i y e.
       let k = known s h i (at-below ns i e) in
-      ap (λ j. getD (nodesOf s .kinds) j 0) (zero-add i) ∙ k .says-so .number ∙ ap kindNumber (some-is (sym (k .is) ∙ e)))
+      ap (λ j. getD (nodesOf s .kinds) j 0) (zero-add i) ∙ said (k .made) .number ∙ ap kindNumber (some-is (sym (k .is) ∙ e)))
 
   ends-held : Held (treeIn s .ends) 0 (treeEnds t 0)
   ends-held =

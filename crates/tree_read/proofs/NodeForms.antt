@@ -18,30 +18,24 @@ use Rattle.codec.specs.Reading.{Reads}
 use Rattle.codec.proofs.Reading.{lost, drop-some, then-number, no-number, then-byte, no-byte, no-bytes, then-guard, no-guard, within-below, within-above, either}
 use Rattle.codec.proofs.Known.{after-number, not-number, after-byte, not-past, after-bytes, not-short}
 use Rattle.codec.proofs.Places.{Takes, takes-then, takes-number, takes-guard, takes-byte, takes-bytes, takes-from}
-use Rattle.tree_read.specs.Index.{oneCount, isRead}
+use Rattle.tree_read.specs.Index.{isRead}
 
 -- ---- payloads
-pub not-one : (b : List ℕ) → (length b ≡ 1 → ⊥) → false ≡ oneCount b
-unfolding oneCount
-not-one [] h = refl
-not-one (a ∷ []) h = absurd (h refl)
-not-one (a ∷ b ∷ l) h = refl
+pub not-one : (f : ℕ → Node) (b : List ℕ) → (length b ≡ 1 → ⊥) → false ≡ isSome (childCount f b)
+unfolding isSome childCount
+not-one f [] h = refl
+not-one f (a ∷ []) h = absurd (h refl)
+not-one f (a ∷ b ∷ l) h = refl
 
-pub one : (b : List ℕ) → length b ≡ 1 → leb 1 (getD b 0 0) ≡ oneCount b
-unfolding oneCount
-one [] h = absurd (omega arith)
-one (a ∷ []) h = refl
-one (a ∷ b ∷ l) h = absurd (omega arith)
-
-pub count-form : (f : ℕ → Node) (b : List ℕ) → oneCount b ≡ isSome (childCount f b)
-unfolding oneCount isSome childCount
-count-form f [] = refl
-count-form f (a ∷ []) = go (leb 1 a)
+pub one : (f : ℕ → Node) (b : List ℕ) → length b ≡ 1 → leb 1 (getD b 0 0) ≡ isSome (childCount f b)
+unfolding isSome childCount
+one f [] h = absurd (omega arith)
+one f (a ∷ []) h = go (leb 1 a)
   where
     go : (t : Bool) → t ≡ isSome (cond t (some (f a)) none)
     go true = refl
     go false = refl
-count-form f (a ∷ b ∷ l) = refl
+one f (a ∷ b ∷ l) h = absurd (omega arith)
 
 pub rest-form : {A : Type 0} (f : ℕ → List ℕ → A) (b : List ℕ) → leb 1 (length b) ≡ isSome (byteAndRest f b)
 unfolding isSome byteAndRest

@@ -1,11 +1,11 @@
 -- What a kind and a payload that make a node say of it: its kind's number, its child count, and that it can have its children.
-use mathlib.Core.Path.{_≡_, refl, sym, _∙_, subst}
+use mathlib.Core.Path.{_≡_, refl, sym, subst}
 use mathlib.Core.Bool.{Bool, true, false, cond}
 use mathlib.Core.List.{List, [], _∷_}
 use mathlib.Core.Option.{Option, none, some}
 use Prim.Native.Nat.{ℕ, _≤_, _<_}
 use native.Mathlib.Omega.{arith}
-use borrow.Author.Tests.{eqb-true, ne-eqb, leb-true, le-leb, lt-leb}
+use borrow.Author.Tests.{eqb-true, leb-true}
 use lib.Dec.{leb, eqb}
 use lib.ListN.{length, getD}
 use Rattle.semantics.specs.Bytes.{noBytes, twoBytes, byteAndRest}
@@ -13,7 +13,7 @@ use Rattle.semantics.proofs.Facts.{none-not-some, some-is}
 use Rattle.schedules.specs.Nodes.{Node, sequence, parallel, while-do, if-else, continue-until, reset, reinitial, switch-to, stop-all, Kind, a-sequence, a-parallel, a-while, an-if, a-continue, a-reset, a-reinitial, a-switch, a-stop, no-kind, kindOf, childCount, nodeOf}
 use Rattle.schedules.specs.Trees.{Tree, Forest, nil, cons, children, ofNone, ofOne, ofTwo, ofSome, treeFrom}
 use Rattle.schedules.specs.Preorder.{forestLength}
-use Rattle.tree_read.specs.Walks.{childrenOf, Parent}
+use Rattle.tree_read.specs.Walks.{Parent}
 
 -- the number of a node's kind in the file
 unfoldable pub kindNumber : Node → ℕ
@@ -80,27 +80,13 @@ some-made f (cons t ts) l h = (f t ts, refl)
 -- ---- a node that a kind and a payload make
 pub record Says (k : ℕ) (b : List ℕ) (x : Node) : Type 0 where
   pub number : k ≡ kindNumber x
-  pub counts : childrenOf k (getD b 0 0) ≡ children x
   pub begins : k ≤ 2 → 1 ≤ length b
+  -- its children: as many as the first byte says, one, two, or none
+  pub counted : k ≤ 2 → getD b 0 0 ≡ children x
+  pub one : k ≡ 3 → 1 ≡ children x
+  pub two : k ≡ 4 → 2 ≡ children x
+  pub no-child : 4 < k → 0 ≡ children x
   pub parent : Parent x
-
--- the child count of a kind
-module _ (k c : ℕ) where
-  pub count-given : k ≤ 2 → c ≡ childrenOf k c
-  unfolding childrenOf
-  count-given h = rw (le-leb k 2 h) refl
-
-  pub count-one : k ≡ 3 → 1 ≡ childrenOf k c
-  unfolding childrenOf
-  count-one e = rw e refl
-
-  pub count-two : k ≡ 4 → 2 ≡ childrenOf k c
-  unfolding childrenOf
-  count-two e = rw e refl
-
-  pub count-none : 2 < k → (k ≡ 3 → ⊥) → (k ≡ 4 → ⊥) → 0 ≡ childrenOf k c
-  unfolding childrenOf
-  count-none h f g = rw (lt-leb k 2 h, ne-eqb k 3 f, ne-eqb k 4 g) refl
 
 says-count : (f : ℕ → Node) (k : ℕ) (b : List ℕ) {x : Node} → k ≤ 2 → ((c : ℕ) → k ≡ kindNumber (f c)) → ((c : ℕ) → children (f c) ≡ c) →
     ((c : ℕ) → 1 ≤ c → Parent (f c)) → childCount f b ≡ some x → Says k b x
@@ -109,23 +95,25 @@ says-count f k [] l g h p e = none-not-some e
 says-count f k (c ∷ []) {x} l g h p e = go (leb 1 c) refl e
   where
     go : (t : Bool) → leb 1 c ≡ t → cond t (some (f c)) none ≡ some x → Says k (c ∷ []) x
-    go true q e = subst (Says k (c ∷ [])) (some-is e) (record { number = g c; counts = sym (count-given k c l) ∙ sym (h c); begins = λ l. omega arith; parent = p c (leb-true 1 c q) })
+    go true q e = subst (Says k (c ∷ [])) (some-is e) (record { number = g c; begins = λ l. omega arith; counted = λ l. sym (h c); one = λ q. absurd (omega arith); two = λ q. absurd (omega arith); no-child = λ q. absurd (omega arith); parent = p c (leb-true 1 c q) })
     go false q e = none-not-some e
 says-count f k (c ∷ d ∷ b) l g h p e = none-not-some e
 
-says-as : {k : ℕ} {b : List ℕ} {x y : Node} → _≡_ {A = Option Node} (some y) (some x) → 2 < k → k ≡ kindNumber y → children y ≡ childrenOf k (getD b 0 0) → Parent y → Says k b x
-says-as {k} {b} e h g c p = subst (Says k b) (some-is e) (record { number = g; counts = sym c; begins = λ l. absurd (omega arith); parent = p })
+says-as : {k : ℕ} {b : List ℕ} {x y : Node} → _≡_ {A = Option Node} (some y) (some x) → 2 < k → k ≡ kindNumber y →
+    (k ≡ 3 → 1 ≡ children y) → (k ≡ 4 → 2 ≡ children y) → (4 < k → 0 ≡ children y) → Parent y → Says k b x
+says-as {k} {b} e h g o t n p = subst (Says k b) (some-is e)
+    (record { number = g; begins = λ l. absurd (omega arith); counted = λ l. absurd (omega arith); one = o; two = t; no-child = n; parent = p })
 
 -- a node that has no children
 says-leaf : {k : ℕ} {b : List ℕ} {x y : Node} → _≡_ {A = Option Node} (some y) (some x) → 4 < k → k ≡ kindNumber y → children y ≡ 0 → Parent y → Says k b x
-says-leaf {k} {b} e h g c p = says-as e (omega arith) g (c ∙ count-none k (getD b 0 0) (omega arith) (λ q. omega arith) (λ q. omega arith)) p
+says-leaf {k} {b} e h g c p = says-as e (omega arith) g (λ q. absurd (omega arith)) (λ q. absurd (omega arith)) (λ q. sym c) p
 
 says-of : (k : ℕ) (j : Kind) (b : List ℕ) {x : Node} → Numbered k j → nodeOf j b ≡ some x → Says k b x
 unfolding nodeOf byteAndRest twoBytes noBytes kindNumber children treeFrom
 says-of k j b (n-sequence h) e = says-count sequence k b (omega arith) (λ c. h) (λ c. refl) (λ c l n ts q. some-made _ ts l q) e
 says-of k j b (n-parallel h) e = says-count parallel k b (omega arith) (λ c. h) (λ c. refl) (λ c l n ts q. some-made _ ts l q) e
-says-of k j b (n-while h) e = says-as e (omega arith) h (count-one k (getD b 0 0) h) (λ n ts q. one-made _ ts q)
-says-of k j b (n-if h) e = says-as e (omega arith) h (count-two k (getD b 0 0) h) (λ n ts q. two-made _ ts q)
+says-of k j b (n-while h) e = says-as e (omega arith) h (λ q. refl) (λ q. absurd (omega arith)) (λ q. absurd (omega arith)) (λ n ts q. one-made _ ts q)
+says-of k j b (n-if h) e = says-as e (omega arith) h (λ q. absurd (omega arith)) (λ q. refl) (λ q. absurd (omega arith)) (λ n ts q. two-made _ ts q)
 says-of k j b (n-continue h) e = says-leaf e (omega arith) h refl (λ n ts q. none-made _ ts q)
 says-of k j [] (n-reset h) e = none-not-some e
 says-of k j (v ∷ b) (n-reset h) e = says-leaf e (omega arith) h refl (λ n ts q. none-made _ ts q)

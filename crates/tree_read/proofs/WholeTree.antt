@@ -24,7 +24,7 @@ use Rattle.tree_read.specs.declared.nodes.Nodes.{Nodes}
 use Rattle.tree_read.specs.declared.tree.Walk.{Walk}
 use Rattle.tree_read.specs.declared.tree.Walk.the-variants.{Next, Lost}
 use Rattle.tree_read.proofs.NodeIndex.{nodes-none, indexed}
-use Rattle.tree_read.proofs.ChildCounts.{known}
+use Rattle.tree_read.proofs.ChildCounts.{known, said}
 use Rattle.tree_read.proofs.WalkSteps.{no-next, not-10, next-same}
 
 -- ---- the answer, by the nodes
@@ -51,7 +51,7 @@ counts-of : (s cs : List ℕ) {ns : List Node} → nodesIn edition1 s ≡ some n
 unfolding pad
 counts-of s cs {ns} h e = record {
   is = ap (take (nodesOf s .count)) e ∙ take-at (map children ns) _ (nodesOf s .count) (length-map ns children ∙ indexed s h .counted);
-  parents = λ i g. subst Parent (some-is (sym (known s h i (at-below ns i g) .is) ∙ g)) (known s h i (at-below ns i g) .says-so .parent);
+  parents = λ i g. subst Parent (some-is (sym (known s h i (at-below ns i g) .is) ∙ g)) (said (known s h i (at-below ns i g) .made) .parent);
 }
 
 -- what the walk of node 0 says of any nodes with these child counts

@@ -1,14 +1,14 @@
 -- Condition 9, and the nodes by number: the kind of each, and where its payload starts and ends in the schedule section.
 use mathlib.Core.Path.{_≡_}
 use mathlib.Core.Bool.{Bool, true, false}
-use mathlib.Core.List.{List, [], _∷_, map}
+use mathlib.Core.List.{List, map}
 use mathlib.Core.Option.{none, some}
-use Prim.Native.Nat.{ℕ, _+_, _-_, _≤_, _<_}
-use lib.Dec.{leb}
-use lib.ListN.{length, getD, take, drop, replicate, getElem?}
+use Prim.Native.Nat.{ℕ, _+_, _≤_, _<_}
+use lib.ListN.{length, getD, drop, replicate, getElem?}
 use Rattle.semantics.specs.Bytes.{Read, broken, read}
 use Rattle.semantics.specs.Editions.{edition1}
 use Rattle.schedules.specs.Nodes.{Node, kindOf, nodeOf, readNode, nodesIn}
+use Rattle.codec.specs.Parts.{between}
 use Rattle.codec.specs.Places.{placesFrom}
 use Rattle.codec.specs.Padding.{pad}
 use Rattle.tree_read.specs.declared.nodes.Nodes.{Nodes}
@@ -45,7 +45,7 @@ nodesOf s = elim (nodesIn edition1 s) [ none ↦ notNodes | some ns ↦ index s 
 
 -- ---- what the index says of the nodes
 abbrev pub payloadOf : List ℕ → Nodes → ℕ → List ℕ
-payloadOf s r i = take (getD (r .ends) i 0 - getD (r .starts) i 0) (drop (getD (r .starts) i 0) s)
+payloadOf s r i = between (getD (r .starts) i 0) (getD (r .ends) i 0) s
 
 -- entry i is node i
 pub record Entry (s : List ℕ) (r : Nodes) (ns : List Node) (i : ℕ) : Type 0 where
@@ -64,12 +64,6 @@ pub record IndexOf (s : List ℕ) (r : Nodes) (ns : List Node) : Type 0 where
   pub entries : (i : ℕ) → i < r .count → Entry s r ns i
 
 -- ---- for the code's own contracts
--- a child count, at least 1, and nothing else
-unfoldable pub oneCount : List ℕ → Bool
-oneCount [] = false
-oneCount (a ∷ []) = leb 1 a
-oneCount (a ∷ b ∷ l) = false
-
 unfoldable pub isRead : {A : Type 0} → Read A → Bool
 isRead broken = false
 isRead (read a s) = true

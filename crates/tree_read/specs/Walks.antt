@@ -1,22 +1,22 @@
 -- What the walk of a node and the walk over its children say, for the code's own contracts.
 use mathlib.Core.Path.{_≡_}
-use mathlib.Core.Bool.{cond}
 use mathlib.Core.List.{List, map}
 use mathlib.Core.Option.{some}
 use Prim.Native.Nat.{ℕ, _+_, _≤_}
-use lib.Dec.{leb, eqb}
 use lib.ListN.{drop, getElem?, length}
-use Rattle.schedules.specs.Nodes.{Node}
+use Rattle.schedules.specs.Nodes.{Node, kindOf, nodeOf}
 use Rattle.schedules.specs.Trees.{Tree, Forest, children, treeFrom, Walked, lost, walked, readTree, readForest}
 use Rattle.schedules.specs.Preorder.{forestLength}
+use Rattle.codec.specs.Parts.{between}
 use Rattle.codec.specs.Writing.{Wrote}
 use Rattle.tree_read.specs.Ends.{treeSize, forestSize, treeEnds, forestEnds}
 use Rattle.tree_read.specs.declared.tree.Walk.{Walk}
 use Rattle.tree_read.specs.PaperNumbers.{paperWalk, nextNode}
 
--- the children of a node of kind k whose payload begins with c
-unfoldable pub childrenOf : ℕ → ℕ → ℕ
-childrenOf k c = cond (leb k 2) c (cond (eqb k 3) 1 (cond (eqb k 4) 2 0))
+-- kind k and a payload that starts here make x
+pub record Makes (s : List ℕ) (k start : ℕ) (x : Node) : Type 0 where
+  pub stop : ℕ
+  pub is : nodeOf (kindOf k) (between start stop s) ≡ some x
 
 -- a node of whose children a tree can be made: no SEQUENCE and no PARALLEL without children
 abbrev pub Parent : Node → Type 0

@@ -1,10 +1,11 @@
 // The layout of the schedule section (9), and its nodes by number.
 ghost use mathlib.Core.Path.{_≡_};
+ghost use Prim.Native.Nat.{ℕ};
 ghost use lib.ListN.{drop};
 ghost use Rattle.semantics.specs.Bytes.{isSome};
 ghost use Rattle.semantics.specs.Editions.{edition1};
-ghost use Rattle.schedules.specs.Nodes.{kindOf, nodeOf, readNode};
-ghost use Rattle.tree_read.specs.Index.{oneCount, isRead, notNodes, nodesOf};
+ghost use Rattle.schedules.specs.Nodes.{Node, kindOf, childCount, nodeOf, readNode};
+ghost use Rattle.tree_read.specs.Index.{isRead, notNodes, nodesOf};
 
 pub struct Nodes {
     pub refusal: u8,
@@ -28,8 +29,9 @@ pub fn refused() -> Nodes
     }
 }
 
+// the payload is a child count, of a SEQUENCE or a PARALLEL
 fn one_count(b: &[u8]) -> bool
-    ensures { λ r. ⌜ r ≡ oneCount (now (b .entry)) ⌝ }
+    ensures { λ r. ⌜ ((f : ℕ → Node) → r ≡ isSome (childCount f (now (b .entry)))) ⌝ }
 {
     if b.len() != 1 {
         return false;

@@ -3,15 +3,15 @@ use super::nodes::Nodes;
 ghost use mathlib.Core.Path.{_≡_};
 ghost use mathlib.Core.List.{List, map};
 ghost use mathlib.Core.Option.{some};
-ghost use Prim.Native.Nat.{_+_, _≤_, _<_};
-ghost use lib.ListN.{length, getD};
+ghost use Prim.Native.Nat.{_≤_};
+ghost use lib.ListN.{length};
 ghost use Rattle.semantics.specs.Editions.{edition1};
 ghost use Rattle.schedules.specs.Nodes.{Node, nodesIn};
 ghost use Rattle.schedules.specs.Trees.{children};
 ghost use Rattle.codec.specs.Padding.{pad};
 ghost use Rattle.tree_read.specs.Index.{nodesOf};
 ghost use Rattle.tree_read.specs.Ends.{noTree, treeIn};
-ghost use Rattle.tree_read.specs.Walks.{childrenOf, NodeWalked, NodesWalked};
+ghost use Rattle.tree_read.specs.Walks.{Makes, NodeWalked, NodesWalked};
 
 pub struct Subtrees {
     pub ok: bool,
@@ -36,8 +36,8 @@ pub fn no_tree() -> Subtrees
 
 // the children of a node of kind k whose payload starts here
 fn children_of(s: &[u8], k: u8, start: usize) -> u8
-    requires { ⌜ (k ≤ 2 → start < length (now s)) ⌝ }
-    ensures { λ r. ⌜ r ≡ childrenOf k (getD (now (s .entry)) start 0) ⌝ }
+    requires { ⌜ ((x : Node) × Makes (now s) k start x) ⌝ }
+    ensures { λ r. ⌜ ((x : Node) → Makes (now (s .entry)) k start x → r ≡ children x) ⌝ }
 {
     if k <= 2 {
         return s[start];

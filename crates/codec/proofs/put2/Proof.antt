@@ -24,13 +24,14 @@ same-length c = search needs
 
 returns : tie.Need-returns
 returns c =
-    let p = c .before .before .before .before .before .before .before .put1 in
+    let c7 = c .before .before .before .before .before .before .before in
+    let p = c7 .put1 in
     let q = c .before .before .put12 in
-    let s = c .before .before .before .before .before .before .before .before .before .before .before in
+    let s = c7 .before .before .before .before in
     let n = s .args .n in
     let h : s .args .i ≤ length (s .args .d .now) = omega (arith, s .pre .0) in
     let w = put-more (p .ensures .1) (q .ensures .1) h (p .ensures .0) in
-    (omega (arith, p .ensures .0, q .ensures .0), wrote-as (cc (c .before .before .before .before .before .before .before .before .low .ensures, c .before .before .before .low2 .ensures, two-bytes-of n (s .pre .1))) w)
+    (omega (arith, p .ensures .0, q .ensures .0), wrote-as (cc (c7 .before .low .ensures, c .before .before .before .low2 .ensures, two-bytes-of n (s .pre .1))) w)
 
 pub put2-spec : {M : Type 1} → statement M
 put2-spec =

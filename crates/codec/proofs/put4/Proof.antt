@@ -36,18 +36,20 @@ same-length c = search needs
 
 returns : tie.Need-returns
 returns c =
-    let p = c .before .before .before .before .before .before .before .before .before .before .before .before .before .before .before .before .before .put1 in
-    let q = c .before .before .before .before .before .before .before .before .before .before .before .before .put12 in
-    let r = c .before .before .before .before .before .before .before .put13 in
+    let c7 = c .before .before .before .before .before .before .before in
+    let c14 = c7 .before .before .before .before .before .before .before in
+    let p = c14 .before .before .before .put1 in
+    let q = c7 .before .before .before .before .before .put12 in
+    let r = c7 .put13 in
     let t = c .before .before .put14 in
-    let s = c .before .before .before .before .before .before .before .before .before .before .before .before .before .before .before .before .before .before .before .before .before in
+    let s = c14 .before .before .before .before .before .before .before in
     let n = s .args .n in
     let h : s .args .i ≤ length (s .args .d .now) = omega (arith, s .pre .0) in
     let v = put-more (p .ensures .1) (q .ensures .1) h (p .ensures .0) in
     let w = put-more v (r .ensures .1) h (omega (arith, p .ensures .0, q .ensures .0)) in
     let x = put-more w (t .ensures .1) h (omega (arith, p .ensures .0, q .ensures .0, r .ensures .0)) in (
       omega (arith, p .ensures .0, q .ensures .0, r .ensures .0, t .ensures .0),
-      wrote-as (cc (c .before .before .before .before .before .before .before .before .before .before .before .before .before .before .before .before .before .before .low .ensures, c .before .before .before .before .before .before .before .before .before .before .before .before .before .low2 .ensures, c .before .before .before .before .before .before .before .before .low3 .ensures, c .before .before .before .low4 .ensures, four-bytes-of n (s .pre .1))) x,
+      wrote-as (cc (c14 .before .before .before .before .low .ensures, c7 .before .before .before .before .before .before .low2 .ensures, c7 .before .low3 .ensures, c .before .before .before .low4 .ensures, four-bytes-of n (s .pre .1))) x,
     )
 
 pub put4-spec : {M : Type 1} → statement M

@@ -147,20 +147,24 @@ eval-returns-7 t c =
 
 eval-returns-8 : (t : ℕ) → eval-lts.Need-returns-8 (calls t) (eval-at t) eval.Post
 eval-returns-8 t c =
-    let a = c .before .before .before .before .before .before .before .before .before .before .before .args in
-    found-says (step-operation (a .vars .now) (a .s .now) (a .at) (a .depth) (c .before .before .before .before .before .before .before .before .before .if1 .left) (c .before .before .before .before .before .before .before .before .if2 .left) (c .operate .result) (c .before .before .before .eval3 .result) (c .before .before .before .eval3 .ensures .is) (c .before .before .next-of .result) (c .before .eval4 .result) (c .before .before .next-of .ensures) (c .before .eval4 .ensures .is)
+    let c7 = c .before .before .before .before .before .before .before in
+    let a = c7 .before .before .before .before .args in
+    found-says (step-operation (a .vars .now) (a .s .now) (a .at) (a .depth) (c7 .before .before .if1 .left) (c7 .before .if2 .left) (c .operate .result) (c .before .before .before .eval3 .result) (c .before .before .before .eval3 .ensures .is) (c .before .before .next-of .result) (c .before .eval4 .result) (c .before .before .next-of .ensures) (c .before .eval4 .ensures .is)
     (c .before .before .before .before .before .if3 .left) (c .before .before .before .before .if4 .taken) (c .operate .ensures))
 
 eval-returns-9 : (t : ℕ) → eval-lts.Need-returns-9 (calls t) (eval-at t) eval.Post
 eval-returns-9 t c =
-    let a = c .before .before .before .before .before .before .before .before .before .before .before .before .before .args in
-    found-says (step-comparison (a .vars .now) (a .s .now) (a .at) (a .depth) (c .before .before .before .before .before .before .before .before .before .before .before .if1 .left) (c .before .before .before .before .before .before .before .before .before .before .if2 .left) (c .relate .result) (c .before .before .before .eval5 .result) (c .before .before .before .eval5 .ensures .is) (c .before .before .next-of2 .result) (c .before .eval6 .result) (c .before .before .next-of2 .ensures) (c .before .eval6 .ensures .is)
+    let c7 = c .before .before .before .before .before .before .before in
+    let a = c7 .before .before .before .before .before .before .args in
+    found-says (step-comparison (a .vars .now) (a .s .now) (a .at) (a .depth) (c7 .before .before .before .before .if1 .left) (c7 .before .before .before .if2 .left) (c .relate .result) (c .before .before .before .eval5 .result) (c .before .before .before .eval5 .ensures .is) (c .before .before .next-of2 .result) (c .before .eval6 .result) (c .before .before .next-of2 .ensures) (c .before .eval6 .ensures .is)
     (c .before .before .before .before .before .if5 .left) (c .before .before .before .before .if6 .taken) (c .relate .ensures))
 
 eval-returns-10 : (t : ℕ) → eval-lts.Need-returns-10 (calls t) (eval-at t) eval.Post
 eval-returns-10 t c =
-    let a = c .before .before .before .before .before .before .before .before .before .before .before .before .before .before .before .args in
-    found-says (step-connective (a .vars .now) (a .s .now) (a .at) (a .depth) (c .before .before .before .before .before .before .before .before .before .before .before .before .before .if1 .left) (c .before .before .before .before .before .before .before .before .before .before .before .before .if2 .left) (c .join .result) (c .before .before .before .eval7 .result) (c .before .before .before .eval7 .ensures .is) (c .before .before .next-of3 .result) (c .before .eval8 .result) (c .before .before .next-of3 .ensures) (c .before .eval8 .ensures .is)
+    let c7 = c .before .before .before .before .before .before .before in
+    let c14 = c7 .before .before .before .before .before .before .before in
+    let a = c14 .before .args in
+    found-says (step-connective (a .vars .now) (a .s .now) (a .at) (a .depth) (c7 .before .before .before .before .before .before .if1 .left) (c7 .before .before .before .before .before .if2 .left) (c .join .result) (c .before .before .before .eval7 .result) (c .before .before .before .eval7 .ensures .is) (c .before .before .next-of3 .result) (c .before .eval8 .result) (c .before .before .next-of3 .ensures) (c .before .eval8 .ensures .is)
     (c .before .before .before .before .before .if7 .left) (c .before .before .before .before .if8 .taken) (c .join .ensures))
 
 eval-returns-11 : (t : ℕ) → eval-lts.Need-returns-11 (calls t) (eval-at t) eval.Post
@@ -179,16 +183,18 @@ eval-returns-12 t c =
 
 eval-returns-13 : (t : ℕ) → eval-lts.Need-returns-13 (calls t) (eval-at t) eval.Post
 eval-returns-13 t c =
-    let a = c .before .before .before .before .before .before .before .before .before .before .args in
+    let c7 = c .before .before .before .before .before .before .before in
+    let a = c7 .before .before .before .args in
     let u = c .before .before .before .before .before .match .rest in
-    found-says (step-unknown (a .vars .now) (a .s .now) (a .at) (a .depth) (c .before .before .before .before .before .before .before .before .if1 .left) (c .before .before .before .before .before .before .before .if2 .left)
+    found-says (step-unknown (a .vars .now) (a .s .now) (a .at) (a .depth) (c7 .before .if1 .left) (c7 .if2 .left)
     (form-unknown (getD (a .s .now) (a .at) 0) (u .0 .0 .0 .0 .1) (u .0 .0 .0 .1) (u .0 .0 .1) (u .0 .1) (u .1) (λ l h. omega arith) (λ l h. omega arith) (λ l h. omega arith)))
 
 eval-returns-14 : (t : ℕ) → eval-lts.Need-returns-14 (calls t) (eval-at t) eval.Post
 eval-returns-14 t c =
-    let a = c .before .before .before .before .before .before .before .before .before .before .before .args in
+    let c7 = c .before .before .before .before .before .before .before in
+    let a = c7 .before .before .before .before .args in
     let u = c .before .before .before .before .before .before .match .rest in
-    found-says (step-unknown (a .vars .now) (a .s .now) (a .at) (a .depth) (c .before .before .before .before .before .before .before .before .before .if1 .left) (c .before .before .before .before .before .before .before .before .if2 .left)
+    found-says (step-unknown (a .vars .now) (a .s .now) (a .at) (a .depth) (c7 .before .before .if1 .left) (c7 .before .if2 .left)
     (form-unknown (getD (a .s .now) (a .at) 0) (u .0 .0 .0 .0 .1) (u .0 .0 .0 .1) (u .0 .0 .1) (u .0 .1) (u .1) (λ l h. omega arith) (λ l h. omega arith) (λ l h. omega arith)))
 
 pub +eval-spec : {M : Type 1} → statement M

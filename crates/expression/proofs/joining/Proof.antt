@@ -51,14 +51,16 @@ plain-truth-requires c κs = search needs
 
 returns-7 : tie.Need-returns-7
 returns-7 c =
-    let s = c .before .before .before .before .before .before .before .before .before .before .before .before .before .before .before .before .args in
-    let A = c .before .before .before .before .before .before .before .before .a .given in
+    let c7 = c .before .before .before .before .before .before .before in
+    let c14 = c7 .before .before .before .before .before .before .before in
+    let s = c14 .before .before .args in
+    let A = c7 .before .a .given in
     let D = c .before .before .before .before .b .given in
-    let l = sym (A .1) ∙ c .before .before .before .before .before .before .before .before .before .before .compared-at .ensures (no-truth-broken (A .1)) in
+    let l = sym (A .1) ∙ c7 .before .before .before .compared-at .ensures (no-truth-broken (A .1)) in
     let r = sym (D .1) ∙ c .before .before .before .before .before .before .compared-at2 .ensures (no-truth-broken (D .1)) in
     λ h.
     c .plain-truth .ensures ∙ ap (λ (b : Bool). truthOf (ok b)) (c .before .connective .ensures)
-    ∙ truth-whole (s .vars .now) (s .s .now) _ (D .0 .1 .0) (c .before .before .if4 .left) (two-joined (s .vars .now) (s .s .now) (omega (arith, c .before .before .before .before .before .before .before .before .before .before .before .before .before .before .if1 .left)) (A .0 .0) (D .0 .0) (A .0 .1 .0) (D .0 .1 .0) l r (c .before .before .before .before .before .before .before .before .before .before .before .before .if2 .left) (c .before .before .before .before .before .before .before .before .before .before .before .if3 .left))
+    ∙ truth-whole (s .vars .now) (s .s .now) _ (D .0 .1 .0) (c .before .before .if4 .left) (two-joined (s .vars .now) (s .s .now) (omega (arith, c14 .if1 .left)) (A .0 .0) (D .0 .0) (A .0 .1 .0) (D .0 .1 .0) l r (c7 .before .before .before .before .before .if2 .left) (c7 .before .before .before .before .if3 .left))
 
 pub joining-spec : {M : Type 1} → statement M
 joining-spec =

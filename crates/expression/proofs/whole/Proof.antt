@@ -52,15 +52,17 @@ arithmetic-requires c κs = search needs
 
 returns-4 : tie.Need-returns-4
 returns-4 c =
-    let s = c .before .before .before .before .before .before .before .before .before .before .before .before .before .before .args in
-    let A = c .before .before .before .before .before .before .before .before .a .given in
+    let c7 = c .before .before .before .before .before .before .before in
+    let c14 = c7 .before .before .before .before .before .before .before in
+    let s = c14 .args in
+    let A = c7 .before .a .given in
     let D = c .before .before .before .before .b .given in
-    let l = sym (c .before .before .before .before .before .before .before .before .before .before .leaf .ensures) ∙ A .1 in
+    let l = sym (c7 .before .before .before .leaf .ensures) ∙ A .1 in
     let r = sym (c .before .before .before .before .before .before .leaf2 .ensures) ∙ D .1 in
-    let x = toZ-ofZ w32 (A .0 .0) (record { sfits = c .before .before .before .before .before .before .before .known-told .given .0 .1 }) in
+    let x = toZ-ofZ w32 (A .0 .0) (record { sfits = c7 .known-told .given .0 .1 }) in
     let y = toZ-ofZ w32 (D .0 .0) (record { sfits = c .before .before .before .known-told2 .given .0 .1 }) in
     found-says (c .arithmetic .ensures ∙ ap₂ (λ (v w : ℤ). numberAt (D .0 .1 .0) (result (applied (operationOf (getD (s .s .now) 0 0)) v w))) x y
-    ∙ two-operated (s .vars .now) (s .s .now) (omega (arith, c .before .before .before .before .before .before .before .before .before .before .before .before .if1 .left)) (A .0 .0) (D .0 .0) (A .0 .1 .0) (D .0 .1 .0) l r (c .before .before .if2 .taken) (ltb-true _ _ (c .before .if3 .taken)))
+    ∙ two-operated (s .vars .now) (s .s .now) (omega (arith, c7 .before .before .before .before .before .if1 .left)) (A .0 .0) (D .0 .0) (A .0 .1 .0) (D .0 .1 .0) l r (c .before .before .if2 .taken) (ltb-true _ _ (c .before .if3 .taken)))
 
 eval-requires-3 : tie.Need-eval-requires-3
 eval-requires-3 c κs = search needs

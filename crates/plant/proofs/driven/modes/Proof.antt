@@ -48,8 +48,9 @@ shared-slice-read-past c = mode-between (c .before .before .before .before .befo
 
 cast-past : tie.Need-cast-past Inv-loop μ-loop
 cast-past c =
+    let c7 = c .before .before .before .before .before .before .before in
     let p = c .before .before .before .before .before .before .loop .p in
-    omega (arith, c .shared-slice-known3 .given (p + 1 + 5 * getD (c .before .before .before .before .before .before .before .before .args .s .now) p 0))
+    omega (arith, c .shared-slice-known3 .given (p + 1 + 5 * getD (c7 .before .args .s .now) p 0))
 
 past-requires : tie.Need-past-requires Inv-loop μ-loop
 past-requires c κs = switches-there (c .before .before .before .before .before .before .loop .inv .1) (omega arith)

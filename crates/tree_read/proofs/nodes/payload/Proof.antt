@@ -1,9 +1,9 @@
 -- By the kind: always a node, never one, or as the law of its payload's form says (NodeForms).
-use mathlib.Core.Path.{refl, _∙_}
+use mathlib.Core.Path.{refl}
 use borrow.Author.Tests.{ne-eqb}
 use Rattle.semantics.specs.Bytes.{isSome}
 use Rattle.schedules.specs.Nodes.{kindOf, nodeOf}
-use Rattle.tree_read.proofs.NodeForms.{count-form, rest-form, two-form, no-form}
+use Rattle.tree_read.proofs.NodeForms.{rest-form, two-form, no-form}
 use borrow.Author.Needs.{needs}
 use Rattle.tree_read.proofs.nodes.payload.Statement.{statement}
 use Rattle.tree_read.proofs.nodes.payload.Tie as tie
@@ -16,11 +16,11 @@ one-count-requires-2 c κs = search needs
 
 returns : tie.Need-returns
 unfolding kindOf nodeOf
-returns c = rw (c .before .match .keys1) (c .one-count .ensures ∙ count-form _ (c .before .before .before .args .b .now))
+returns c = rw (c .before .match .keys1) (c .one-count .ensures _)
 
 returns-2 : tie.Need-returns-2
 unfolding kindOf nodeOf
-returns-2 c = rw (c .before .match .keys2) (c .one-count2 .ensures ∙ count-form _ (c .before .before .before .args .b .now))
+returns-2 c = rw (c .before .match .keys2) (c .one-count2 .ensures _)
 
 returns-3 : tie.Need-returns-3
 unfolding kindOf nodeOf isSome

@@ -68,9 +68,11 @@ forest-same-length t c =
 
 forest-returns-2 : (t : ℕ) → forest-lts.Need-returns-2 (forest-calls t) (forest-at t) forest.Post
 forest-returns-2 t c =
-    let b = c .before .before .before .before .before .before .before .before .before .node .ensures .0 .within _ (next-is (c .before .before .before .before .before .w .given .1)) in (
+    let c7 = c .before .before .before .before .before .before .before in
+    let c14 = c7 .before .before .before .before .before .before .before in
+    let b = c7 .before .before .node .ensures .0 .within _ (next-is (c .before .before .before .before .before .w .given .1)) in (
       bound-wider (omega arith) (c .before .before .forest .ensures .0),
-      λ ns k f l. forest-more ns _ _ _ _ _ _ _ _ (c .before .before .before .before .before .before .before .before .before .before .before .if1 .left) (omega (arith, c .before .before .before .before .before .before .before .before .before .before .before .before .before .before .pre)) (c .before .before .before .before .before .before .before .before .before .node .ensures .1 ns k f l) (c .before .before .before .before .before .w .given .1) (c .before .before .forest .ensures .1 ns k f (omega arith)),
+      λ ns k f l. forest-more ns _ _ _ _ _ _ _ _ (c7 .before .before .before .before .if1 .left) (omega (arith, c14 .pre)) (c7 .before .before .node .ensures .1 ns k f l) (c .before .before .before .before .before .w .given .1) (c .before .before .forest .ensures .1 ns k f (omega arith)),
     )
 
 forest-same-length-2 : (t : ℕ) → forest-lts.Need-same-length-2 (forest-calls t) (forest-at t) forest.Post
@@ -108,9 +110,10 @@ node-same-length t c = simp length-set (c .before .before .before .before .befor
 
 node-returns-2 : (t : ℕ) → node-lts.Need-returns-2 (node-calls t) (node-at t) node.Post
 node-returns-2 t c =
+    let c7 = c .before .before .before .before .before .before .before in
     let b = c .before .before .before .before .before .forest .ensures .0 .within _ (next-is (c .before .w .given .1)) in (
       bound-next (b .0) (b .1),
-      λ ns k. tree-read _ ns _ k _ _ _ (c .before .before .before .before .before .before .before .before .if1 .left) (omega (arith, c .before .before .before .before .before .before .before .before .before .before .before .pre)) (c .before .before .before .before .before .forest .ensures .1 ns k) (c .before .w .given .1),
+      λ ns k. tree-read _ ns _ k _ _ _ (c7 .before .if1 .left) (omega (arith, c7 .before .before .before .before .pre)) (c .before .before .before .before .before .forest .ensures .1 ns k) (c .before .w .given .1),
     )
 
 node-same-length-2 : (t : ℕ) → node-lts.Need-same-length-2 (node-calls t) (node-at t) node.Post

@@ -9,7 +9,7 @@ use Rattle.semantics.specs.Editions.{edition1}
 use Rattle.schedules.specs.Nodes.{Node, nodesIn}
 use Rattle.schedules.specs.Trees.{children}
 use Rattle.codec.specs.Padding.{pad}
-use Rattle.tree_read.proofs.ChildCounts.{few, starts-inside, counts-start, counts-next, counts-end}
+use Rattle.tree_read.proofs.ChildCounts.{few, node-made, counts-start, counts-next, counts-end}
 use Rattle.tree_read.proofs.tree.child_counts.Statement.{statement}
 use Rattle.tree_read.proofs.tree.child_counts.Tie as tie
 
@@ -32,7 +32,7 @@ array-read-children-of-2 : tie.Need-array-read-children-of-2 Inv-loop μ-loop
 array-read-children-of-2 c = omega (arith, few (c .before .before .before .before .before .args .s .now) (c .before .before .before .before .before .args .n) (c .before .before .before .before .before .pre))
 
 children-of-requires : tie.Need-children-of-requires Inv-loop μ-loop
-children-of-requires c κs = starts-inside _ _ (c .before .before .before .before .before .pre) _ (c .loop-test .taken)
+children-of-requires c κs = node-made _ _ (c .before .before .before .before .before .pre) _ (c .loop-test .taken)
 
 array-write-counts : tie.Need-array-write-counts Inv-loop μ-loop
 array-write-counts c = omega (arith, few (c .before .before .before .before .before .before .args .s .now) (c .before .before .before .before .before .before .args .n) (c .before .before .before .before .before .before .pre))
