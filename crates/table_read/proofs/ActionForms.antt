@@ -11,7 +11,7 @@ use lib.ListN.{length, getD, take, drop, length-drop}
 use Rattle.semantics.specs.Bytes.{widthOf, isSome, Reader, read, from, _>>=_, noBytes, twoBytes, byteAndRest}
 use Rattle.semantics.specs.Editions.{edition1}
 use Rattle.semantics.specs.Run.{Action, assign, switch, stop}
-use Rattle.semantics.specs.TableFile.{NodeAction, ActionKind, a-test, a-wait, an-assignment, a-switch, a-stop, no-kind, actionKind, actionOfKind, readAction}
+use Rattle.semantics.specs.TableFile.{NodeAction, ActionKind, a-test, a-wait, an-assignment, a-switch, a-stop, no-kind, actionKind, actionOfKind, kindNumber, readAction}
 use Rattle.semantics.proofs.Facts.{within-both, within-low, true-not-false, none-not-some}
 use Rattle.semantics.proofs.Readers.{guarded, from-some, split, given, given-rest}
 use Rattle.codec.specs.Reading.{Took, Reads}
@@ -131,7 +131,7 @@ codeOf a-stop = 5
 codeOf no-kind = 0
 
 coded : (k : ActionKind) (b : List ℕ) {a : Action} → actionOfKind k b ≡ some a → kindCode (some a) ≡ codeOf k
-unfolding actionOfKind byteAndRest twoBytes noBytes kindCode codeOf
+unfolding actionOfKind byteAndRest twoBytes noBytes kindCode kindNumber codeOf
 coded a-test b h = ap kindCode (sym h)
 coded a-wait b h = ap kindCode (sym h)
 coded an-assignment [] h = none-not-some h
