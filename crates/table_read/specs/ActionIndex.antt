@@ -77,7 +77,7 @@ unfoldable pub indexRead : List ℕ → Judged (List NodeAction) → Actions
 indexRead s (refused n) = noActions n
 indexRead s (accepted l) = actionIndex s l
 
--- the section alone: its operands are not looked at
+-- the index of the section, or the number that judging it alone gives; operands are not looked at
 unfoldable pub actionsOf : List ℕ → Actions
 actionsOf s = indexRead s (judgeActions edition1 s)
 

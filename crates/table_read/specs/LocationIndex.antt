@@ -54,7 +54,7 @@ unfoldable pub locationsRead : List ℕ → Judged (List (List Entry)) → Locat
 locationsRead s (refused n) = noLocations n
 locationsRead s (accepted ls) = locationIndex s (length ls)
 
--- the section, for these actions
+-- where each location stands, or the number that judging the section by these actions gives
 unfoldable pub locationsOf : List NodeAction → List ℕ → Locations
 locationsOf l s = locationsRead s (judgeLocations edition1 l s)
 

@@ -53,7 +53,7 @@ unfoldable pub partsRead : Judged TableSections → Parts
 partsRead (refused n) = noParts n
 partsRead (accepted s) = partsIn s
 
--- the number of the first condition that the layout breaks, or where the sections stand
+-- where the sections stand, or the number of the first condition that their layout breaks
 unfoldable pub partsOf : List ℕ → Parts
 partsOf t = partsRead (judgeTableLayout edition1 t)
 

@@ -25,6 +25,6 @@ pub record Gathered (s : List ℕ) (p : ℕ) (ws : List ℕ) : Type 0 where
   pub words : Words ws
   pub are : (es : List Entry) → Listed s p es → members ws ≡ entryNodes es
 
--- t is where node n goes
+-- t is the target of node n's entry, on done or true, or on false
 pub record Found (s : List ℕ) (p : ℕ) (n : ℕ) (b : Bool) (t : ℕ) : Type 0 where
   pub is : (es : List Entry) → Listed s p es → t ≡ entryTarget es n b
