@@ -11,7 +11,7 @@ use lib.ListN.{length, getD, take, drop, length-drop}
 use Rattle.semantics.specs.Bytes.{widthOf, isSome, Reader, read, from, _>>=_, noBytes, twoBytes, byteAndRest}
 use Rattle.semantics.specs.Editions.{edition1}
 use Rattle.semantics.specs.Run.{Action, assign, switch, stop}
-use Rattle.semantics.specs.TableFile.{NodeAction, ActionKind, a-test, a-wait, an-assignment, a-switch, a-stop, no-kind, actionKind, actionOfKind, readAction}
+use Rattle.semantics.specs.TableFile.{NodeAction, ActionKind, a-test, a-wait, an-assignment, a-switch, a-stop, no-kind, TEST, WAIT, ASSIGN, SWITCH, STOP, actionKind, actionOfKind, kindNumber, readAction}
 use Rattle.semantics.proofs.Facts.{within-both, within-low, true-not-false, none-not-some}
 use Rattle.semantics.proofs.Readers.{guarded, from-some, split, given, given-rest}
 use Rattle.codec.specs.Reading.{Took, Reads}
@@ -123,15 +123,15 @@ ends {s = s} {p = p} {q = q} t w =
 
 -- ---- the kind that was read is the action's
 codeOf : ActionKind → ℕ
-codeOf a-test = 1
-codeOf a-wait = 2
-codeOf an-assignment = 3
-codeOf a-switch = 4
-codeOf a-stop = 5
+codeOf a-test = TEST
+codeOf a-wait = WAIT
+codeOf an-assignment = ASSIGN
+codeOf a-switch = SWITCH
+codeOf a-stop = STOP
 codeOf no-kind = 0
 
 coded : (k : ActionKind) (b : List ℕ) {a : Action} → actionOfKind k b ≡ some a → kindCode (some a) ≡ codeOf k
-unfolding actionOfKind byteAndRest twoBytes noBytes kindCode codeOf
+unfolding actionOfKind byteAndRest twoBytes noBytes kindCode kindNumber codeOf
 coded a-test b h = ap kindCode (sym h)
 coded a-wait b h = ap kindCode (sym h)
 coded an-assignment [] h = none-not-some h
@@ -146,16 +146,16 @@ coded no-kind b h = none-not-some h
 
 known : (k : ℕ) (b : List ℕ) {a : Action} → actionOfKind (actionKind k) b ≡ some a → codeOf (actionKind k) ≡ k
 unfolding actionKind actionOfKind codeOf
-known k b {a} h = go (eqb k 1) (eqb k 2) (eqb k 3) (eqb k 4) (eqb k 5) refl refl refl refl refl h
+known k b {a} h = go (eqb k TEST) (eqb k WAIT) (eqb k ASSIGN) (eqb k SWITCH) (eqb k STOP) refl refl refl refl refl h
   where
-    go : (c d e f g : Bool) → eqb k 1 ≡ c → eqb k 2 ≡ d → eqb k 3 ≡ e → eqb k 4 ≡ f → eqb k 5 ≡ g →
+    go : (c d e f g : Bool) → eqb k TEST ≡ c → eqb k WAIT ≡ d → eqb k ASSIGN ≡ e → eqb k SWITCH ≡ f → eqb k STOP ≡ g →
         actionOfKind (cond c a-test (cond d a-wait (cond e an-assignment (cond f a-switch (cond g a-stop no-kind))))) b ≡ some a →
         codeOf (cond c a-test (cond d a-wait (cond e an-assignment (cond f a-switch (cond g a-stop no-kind))))) ≡ k
-    go true d e f g i j l m n h = sym (eqb-true k 1 i)
-    go false true e f g i j l m n h = sym (eqb-true k 2 j)
-    go false false true f g i j l m n h = sym (eqb-true k 3 l)
-    go false false false true g i j l m n h = sym (eqb-true k 4 m)
-    go false false false false true i j l m n h = sym (eqb-true k 5 n)
+    go true d e f g i j l m n h = sym (eqb-true k TEST i)
+    go false true e f g i j l m n h = sym (eqb-true k WAIT j)
+    go false false true f g i j l m n h = sym (eqb-true k ASSIGN l)
+    go false false false true g i j l m n h = sym (eqb-true k SWITCH m)
+    go false false false false true i j l m n h = sym (eqb-true k STOP n)
     go false false false false false i j l m n h = none-not-some h
 
 pub kind-is : (k : ℕ) (b : List ℕ) {a : Action} → actionOfKind (actionKind k) b ≡ some a → kindCode (some a) ≡ k

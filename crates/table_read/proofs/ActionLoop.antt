@@ -1,6 +1,6 @@
 -- The loop over the actions: what is read so far, and what the code answers.
 use mathlib.Core.Path.{_≡_, refl, sym, ap, subst, _∙_}
-use mathlib.Core.Bool.{Bool, true, false, cond, and-false}
+use mathlib.Core.Bool.{true, false, and-false}
 use mathlib.Core.List.{List, [], _∷_, _++_}
 use mathlib.Core.Option.{Option, none, some}
 use Prim.Native.Nat.{ℕ, _+_, _≤_, _<_}
@@ -11,9 +11,11 @@ use lib.Dec.{leb, ltb}
 use lib.ListN.{length, getD, set, drop, replicate, length-drop}
 use Rattle.semantics.specs.Bytes.{number, broken, read, andThen, _>>=_, byte, give, guard, times, just, whole}
 use Rattle.semantics.specs.Editions.{edition1}
+use Rattle.semantics.specs.Refusals.{Judged, accepted}
 use Rattle.semantics.specs.TableFile.{NodeAction, readAction, readActions, actionsIn}
-use Rattle.semantics.specs.Tables.{actionNodes, actionAt, nodeExists, actionsNumbered}
+use Rattle.semantics.specs.Tables.{actionNodes, actionAt, nodeExists, actionsNumbered, judgeActions}
 use Rattle.semantics.proofs.Facts.{and-left, and-right, and-both, within-both, none-not-some}
+use Rattle.semantics.proofs.Judging.{go-need, go-ensure}
 use Rattle.semantics.proofs.Readers.{broken-not-read, read-rest, guarded, whole-read}
 use Rattle.codec.specs.Reading.{Took}
 use Rattle.codec.specs.Places.{placesFrom}
@@ -25,6 +27,7 @@ use Rattle.table_read.specs.declared.actions.Actions.{Actions}
 use Rattle.table_read.specs.Ends.{anything, follows, EndsWith, good-at, good-none}
 use Rattle.table_read.specs.ActionIndex.{kindCode, kindAt, nodeOf, placeAt, operandStart, operandEnd, byNode, noActions, actionIndex, indexRead, actionsOf, Counted, counted, miscounted}
 use Rattle.table_read.proofs.Early.{early}
+use Rattle.table_read.proofs.Fitted.{Fitted, fit, unfit, fitted}
 use Rattle.table_read.proofs.Rising.{laid, Laid, laid-none, laid-more, laid-true, not-laid, laid-fronts}
 use Rattle.table_read.proofs.ActionForms.{was, ends, kind-is}
 use Rattle.table_read.proofs.ByNode.{listed-set, listed-zero, action-other, action-new, place-other, place-new, place-none, not-yet}
@@ -33,21 +36,22 @@ abbrev placesTo : List ℕ → ℕ → List ℕ
 placesTo s i = placesFrom (length s) (readAction edition1) i (drop 1 s)
 
 -- ---- refusals
-pub refuse : (s : List ℕ) → ((l : List NodeAction) → actionsIn edition1 s ≡ some l → actionsNumbered edition1 l ≡ true → ⊥) → noActions ≡ actionsOf s
-unfolding actionsOf indexRead
-refuse s h = go (actionsIn edition1 s) (λ l e. h l e)
+pub refuse : (s : List ℕ) → ((l : List NodeAction) → actionsIn edition1 s ≡ some l → actionsNumbered edition1 l ≡ true → ⊥) → noActions 18 ≡ actionsOf s
+unfolding actionsOf judgeActions indexRead
+refuse s h = go (fitted 18 (actionsIn edition1 s) (actionsNumbered edition1))
   where
-    pick : (b : Bool) (a : Actions) → (b ≡ true → ⊥) → noActions ≡ cond b a noActions
-    pick true a h = absurd (h refl)
-    pick false a h = refl
+    go : {j : Judged (List NodeAction)} → Fitted 18 (actionsIn edition1 s) (actionsNumbered edition1) j → noActions 18 ≡ indexRead s j
+    go (fit {a = l} e k) = absurd (h l e k)
+    go (unfit k) = refl
 
-    go : (o : Option (List NodeAction)) → ((l : List NodeAction) → o ≡ some l → actionsNumbered edition1 l ≡ true → ⊥) → noActions ≡ indexRead s o
-    go none h = refl
-    go (some l) h = pick (actionsNumbered edition1 l) (actionIndex s l) (h l refl)
+module _ (s : List ℕ) {l : List NodeAction} (e : actionsIn edition1 s ≡ some l) (h : actionsNumbered edition1 l ≡ true) where
+  pub judged : judgeActions edition1 s ≡ accepted l
+  unfolding judgeActions
+  judged = go-need 18 _ e ∙ go-ensure 18 _ h
 
-pub accept : (s : List ℕ) {l : List NodeAction} → actionsIn edition1 s ≡ some l → actionsNumbered edition1 l ≡ true → actionsOf s ≡ actionIndex s l
-unfolding actionsOf indexRead
-accept s e h = rw (e, h) refl
+  pub accept : actionsOf s ≡ actionIndex s l
+  unfolding actionsOf indexRead
+  accept = rw judged refl
 
 -- ---- the count
 pub no-count : (s : List ℕ) → length s ≤ 0 → Counted s 0
@@ -62,7 +66,7 @@ pub count-is : (s : List ℕ) → 0 < length s → getD s 0 0 ≤ 64 → Counted
 unfolding actionsIn readActions
 count-is s i h = either 0 (getD s 0 0) (λ k. counted i refl k h) (λ k. miscounted (omega arith) (none-kept {K = anything} (then-number _ i (no-guard _ _ (within-below 1 64 _ (omega arith)))) refl))
 
-pub refuse-count : {s : List ℕ} {n : ℕ} → Counted s n → n ≡ 0 → noActions ≡ actionsOf s
+pub refuse-count : {s : List ℕ} {n : ℕ} → Counted s n → n ≡ 0 → noActions 18 ≡ actionsOf s
 refuse-count (counted i e l h) k = absurd (omega arith)
 refuse-count {s} (miscounted e h) k = refuse s (λ l i g. none-not-some (sym h ∙ i))
 
@@ -188,7 +192,7 @@ laid-is : (l : List NodeAction) → actionsNumbered edition1 l ≡ laid nodeOf (
 unfolding actionsNumbered actionNodes laid
 laid-is l = refl
 
-pub index-stop : {s : List ℕ} {i p low n : ℕ} {ks ss es : List ℕ} (x : Indexing s i p low ks ss es) → Count s n → i < n → ((a : NodeAction) (e : List ℕ) → readAction edition1 (drop p s) ≡ read a e → follows nodeOf (nodeExists edition1) low a ≡ false) → noActions ≡ actionsOf s
+pub index-stop : {s : List ℕ} {i p low n : ℕ} {ks ss es : List ℕ} (x : Indexing s i p low ks ss es) → Count s n → i < n → ((a : NodeAction) (e : List ℕ) → readAction edition1 (drop p s) ≡ read a e → follows nodeOf (nodeExists edition1) low a ≡ false) → noActions 18 ≡ actionsOf s
 index-stop {s} {i} x c h bad =
     refuse s (λ l e g. early (readAction edition1) (laid nodeOf (nodeExists edition1)) (laid-fronts nodeOf (nodeExists edition1)) i (x .took) h (λ a r k. not-laid nodeOf (nodeExists edition1) a (x .sound) (bad a r k)) (in-times c e) (sym (laid-is l) ∙ g))
 
@@ -197,7 +201,7 @@ module _ {s : List ℕ} {i p low n : ℕ} {ks ss es : List ℕ} (x : Indexing s 
   all : times n (readAction edition1) (drop 1 s) ≡ read (x .took .value) (drop p s)
   all = subst (λ n. times n (readAction edition1) (drop 1 s) ≡ read (x .took .value) (drop p s)) e (x .took .got)
 
-  pub index-over : p < length s → noActions ≡ actionsOf s
+  pub index-over : p < length s → noActions 18 ≡ actionsOf s
   index-over h = refuse s (λ l k g. let n : length (drop p s) ≡ 0 = ap length (read-rest (sym all ∙ in-times c k)) in omega (arith, length-drop p s))
 
   all-read : length s ≤ p → actionsIn edition1 s ≡ some (x .took .value)

@@ -1,6 +1,6 @@
 -- What the index of the actions says of each node.
 use mathlib.Core.Path.{_≡_, refl, sym, ap, subst, _∙_}
-use mathlib.Core.Bool.{Bool, true, false, cond}
+use mathlib.Core.Bool.{Bool, true, false}
 use mathlib.Core.List.{List, [], _∷_}
 use mathlib.Core.Option.{Option, none, some}
 use Prim.Native.Nat.{ℕ, zero, suc, _+_, _-_, _≤_, _<_}
@@ -11,9 +11,10 @@ use lib.ListN.{length, getD, take, drop, length-drop, List·getD-eq-default}
 use lib.Seq.{drop-drop}
 use Rattle.semantics.specs.Bytes.{every, read, give, times}
 use Rattle.semantics.specs.Editions.{edition1}
+use Rattle.semantics.specs.Refusals.{Judged, refused}
 use Rattle.semantics.specs.Run.{Action, test, wait, assign, switch, stop}
-use Rattle.semantics.specs.TableFile.{NodeAction, actionKind, actionOfKind, readAction, readActions, actionsIn}
-use Rattle.semantics.specs.Tables.{risingFrom, actionNodes, actionAt, nodeExists, actionsNumbered}
+use Rattle.semantics.specs.TableFile.{NodeAction, actionKind, actionOfKind, kindNumber, readAction, readActions, actionsIn}
+use Rattle.semantics.specs.Tables.{risingFrom, actionNodes, actionAt, nodeExists, actionsNumbered, judgeActions}
 use Rattle.semantics.proofs.Facts.{All, all-nil, all-cons, every-all, none-not-some, some-is, and-right}
 use Rattle.semantics.proofs.Readers.{read-value, guarded, whole-read}
 use Rattle.codec.specs.Places.{placesFrom}
@@ -21,36 +22,29 @@ use Rattle.codec.proofs.Known.{cons, times-length, after-number, not-number}
 use Rattle.codec.proofs.Reading.{either}
 use Rattle.codec.proofs.Places.{Takes, takes-then, takes-guard, takes-byte, takes-number, takes-bytes, takes-from, takes-give, places-next}
 use Rattle.table_read.specs.declared.actions.Actions.{Actions}
-use Rattle.table_read.specs.ActionIndex.{kindCode, kindAt, KindsSay, placeAt, operandStart, operandEnd, byNode, noActions, actionIndex, indexRead, actionsOf}
+use Rattle.table_read.specs.ActionIndex.{kindCode, kindAt, KindsSay, placeAt, operandStart, operandEnd, byNode, actionIndex, indexRead, actionsOf}
 use Rattle.table_read.proofs.ActionForms.{was, kind-is}
+use Rattle.table_read.proofs.Fitted.{Fitted, fit, unfit, fitted}
 use Rattle.table_read.proofs.ByNode.{listed-length, listed-at}
 use Rattle.table_read.proofs.ActionLoop.{accept}
 
 -- ---- where nothing is refused
 pub accepted-actions : (s : List ℕ) → actionsOf s .refusal ≡ 0 → (l : List NodeAction) × (actionsIn edition1 s ≡ some l) × (actionsNumbered edition1 l ≡ true)
-unfolding actionsOf indexRead
-accepted-actions s h = go (actionsIn edition1 s) refl h
+unfolding actionsOf judgeActions indexRead
+accepted-actions s h = go (fitted 18 (actionsIn edition1 s) (actionsNumbered edition1)) h
   where
-    pick : (l : List NodeAction) (b : Bool) → actionsIn edition1 s ≡ some l → actionsNumbered edition1 l ≡ b → cond b (actionIndex s l) noActions .refusal ≡ 0 → (l : List NodeAction) × (actionsIn edition1 s ≡ some l) × (actionsNumbered edition1 l ≡ true)
-    pick l true e k h = (l, e, k)
-    pick l false e k h = absurd (omega arith)
-
-    go : (o : Option (List NodeAction)) → actionsIn edition1 s ≡ o → indexRead s o .refusal ≡ 0 → (l : List NodeAction) × (actionsIn edition1 s ≡ some l) × (actionsNumbered edition1 l ≡ true)
-    go none e h = absurd (omega arith)
-    go (some l) e h = pick l (actionsNumbered edition1 l) e refl h
+    go : {j : Judged (List NodeAction)} → Fitted 18 (actionsIn edition1 s) (actionsNumbered edition1) j → indexRead s j .refusal ≡ 0 → (l : List NodeAction) × (actionsIn edition1 s ≡ some l) × (actionsNumbered edition1 l ≡ true)
+    go (fit {a = l} e k) h = (l, e, k)
+    go (unfit k) h = absurd (omega arith)
 
 -- where something is
-pub refused-actions : (s : List ℕ) → (actionsOf s .refusal ≡ 0 → ⊥) → (actionsOf s .refusal ≡ 18) × ((l : List NodeAction) → actionsIn edition1 s ≡ some l → actionsNumbered edition1 l ≡ false)
-unfolding actionsOf indexRead actionIndex
-refused-actions s h = go (actionsIn edition1 s) h
+pub refused-actions : (s : List ℕ) → (actionsOf s .refusal ≡ 0 → ⊥) → judgeActions edition1 s ≡ refused 18
+unfolding actionsOf judgeActions indexRead actionIndex
+refused-actions s h = go (fitted 18 (actionsIn edition1 s) (actionsNumbered edition1)) h
   where
-    pick : (l : List NodeAction) (b : Bool) → actionsNumbered edition1 l ≡ b → (cond b (actionIndex s l) noActions .refusal ≡ 0 → ⊥) → (cond b (actionIndex s l) noActions .refusal ≡ 18) × ((k : List NodeAction) → some l ≡ some k → actionsNumbered edition1 k ≡ false)
-    pick l true e h = absurd (h refl)
-    pick l false e h = (refl, λ k i. ap (actionsNumbered edition1) (sym (some-is i)) ∙ e)
-
-    go : (o : Option (List NodeAction)) → (indexRead s o .refusal ≡ 0 → ⊥) → (indexRead s o .refusal ≡ 18) × ((l : List NodeAction) → o ≡ some l → actionsNumbered edition1 l ≡ false)
-    go none h = (refl, λ l e. none-not-some e)
-    go (some l) h = pick l (actionsNumbered edition1 l) refl h
+    go : {j : Judged (List NodeAction)} → Fitted 18 (actionsIn edition1 s) (actionsNumbered edition1) j → (indexRead s j .refusal ≡ 0 → ⊥) → j ≡ refused 18
+    go (fit e k) h = absurd (h refl)
+    go (unfit k) h = refl
 
 pub laid-actions : (s : List ℕ) {l : List NodeAction} → actionsIn edition1 s ≡ some l → actionsOf s .refusal ≡ 0 → actionsNumbered edition1 l ≡ true
 laid-actions s {l} e h =
@@ -159,7 +153,7 @@ action-here s {l} e h n k = subst (λ x. Here s x (actionAt l n) n) (sym (index-
 
 -- a kind is never 0
 code-some : (a : Action) → 1 ≤ kindCode (some a)
-unfolding kindCode
+unfolding kindCode kindNumber
 code-some (test t) = omega arith
 code-some (wait t) = omega arith
 code-some (assign v b) = omega arith

@@ -1,5 +1,6 @@
 pub mod Ended
 pub mod Early
+pub mod Fitted
 pub mod Rising
 pub mod PartsStand
 pub mod ActionForms

@@ -1,6 +1,6 @@
 -- Whether targets fit depends on the kinds of the actions alone.
 use mathlib.Core.Path.{_≡_, refl, sym, ap, fun-ext, _∙_}
-use mathlib.Core.Bool.{Bool, false, _&&_, cond}
+use mathlib.Core.Bool.{Bool, false, _&&_}
 use mathlib.Core.List.{List, [], _∷_}
 use mathlib.Core.Option.{Option, none, some}
 use Prim.Native.Nat.{ℕ, zero, suc, _+_, _<_}
@@ -10,11 +10,13 @@ use lib.Dec.{eqb}
 use lib.ListN.{length, getD}
 use Rattle.semantics.specs.Bytes.{every}
 use Rattle.semantics.specs.Editions.{edition1}
+use Rattle.semantics.specs.Refusals.{accepted, ensure, need, _>>_}
 use Rattle.semantics.specs.Run.{Action, test, wait, assign, switch, stop}
-use Rattle.semantics.specs.TableFile.{NodeAction, Entry, HALTED, NONE, no-kind, actionKind, locationsIn}
-use Rattle.semantics.specs.Tables.{risingFrom, actionAt, goesOn, targetsFit, entryFits, entryNodes, locationFits, locationsFit}
+use Rattle.semantics.specs.TableFile.{NodeAction, Entry, HALTED, NONE, no-kind, actionKind, kindNumber, locationsIn}
+use Rattle.semantics.specs.Tables.{risingFrom, actionAt, goesOn, targetsFit, entryFits, entryNodes, locationFits, locationsFit, judgeLocations}
+use Rattle.semantics.proofs.Judging.{then-same}
 use Rattle.table_read.specs.ActionIndex.{kindCode, kindAt, KindsSay}
-use Rattle.table_read.specs.LocationIndex.{likeKind, actionsFrom, actionsLike, kindFits, noLocations, locationIndex, locationsRead, locationsOf}
+use Rattle.table_read.specs.LocationIndex.{likeKind, actionsFrom, actionsLike, kindFits, locationsRead, locationsOf}
 
 -- ---- what the code tests, kind by kind
 module _ (n k t u : ℕ) where
@@ -81,7 +83,7 @@ unfolding entryFits kindFits
 entry-like n ks e = rw (entryFits, kind-like ks (e .node)) refl
 
 fits-code : (n t u : ℕ) (o : Option Action) → _≡_ {A = Bool} (elim o [ none ↦ false | some a ↦ targetsFit n a t u ]) (kindFits n (kindCode o) t u)
-unfolding kindFits kindCode likeKind actionKind targetsFit
+unfolding kindFits kindCode kindNumber likeKind actionKind targetsFit
 fits-code n t u none = refl
 fits-code n t u (some (test c)) = refl
 fits-code n t u (some (wait c)) = refl
@@ -102,9 +104,5 @@ fit-like l ks ls k =
 
 -- the answer for kinds is the answer for actions
 pub locations-like : (l : List NodeAction) (ks s : List ℕ) → KindsSay l ks → locationsOf (actionsLike ks) s ≡ locationsOf l s
-unfolding locationsOf locationsRead
-locations-like l ks s k = go (locationsIn edition1 s)
-  where
-    go : (o : Option (List (List Entry))) → locationsRead (actionsLike ks) s o ≡ locationsRead l s o
-    go none = refl
-    go (some ls) = ap (λ b. cond b (locationIndex s (length ls)) noLocations) (fit-like l ks ls k)
+unfolding locationsOf judgeLocations
+locations-like l ks s k = ap (locationsRead s) (then-same (need 19 (locationsIn edition1 s)) (λ ls. ap (λ b. ensure 19 b >> accepted ls) (fit-like l ks ls k)))

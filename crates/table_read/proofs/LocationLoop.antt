@@ -1,17 +1,19 @@
 -- The loop over the locations: what is read so far, and what the code answers.
 use mathlib.Core.Path.{_≡_, refl, sym, ap, subst, _∙_}
-use mathlib.Core.Bool.{Bool, true, false, cond, and-false}
+use mathlib.Core.Bool.{true, false, and-false}
 use mathlib.Core.List.{List, [], _∷_, _++_}
-use mathlib.Core.Option.{Option, none, some}
+use mathlib.Core.Option.{some}
 use Prim.Native.Nat.{ℕ, _+_, _≤_, _<_}
 use native.Mathlib.Numerals.{add-one}
 use native.Mathlib.Omega.{arith}
 use lib.ListN.{length, set, drop, replicate, length-drop}
 use Rattle.semantics.specs.Bytes.{every, read, andThen, _>>=_, give, guard, times, just, whole}
 use Rattle.semantics.specs.Editions.{edition1}
+use Rattle.semantics.specs.Refusals.{Judged, accepted}
 use Rattle.semantics.specs.TableFile.{NodeAction, Entry, readLocation, readLocations, locationsIn}
-use Rattle.semantics.specs.Tables.{locationFits, locationsFit}
+use Rattle.semantics.specs.Tables.{locationFits, locationsFit, judgeLocations}
 use Rattle.semantics.proofs.Facts.{and-both, within-both, none-not-some}
+use Rattle.semantics.proofs.Judging.{go-need, go-ensure}
 use Rattle.semantics.proofs.Readers.{read-rest, guarded, whole-read}
 use Rattle.codec.specs.Reading.{Took}
 use Rattle.codec.specs.Places.{placesFrom}
@@ -25,24 +27,26 @@ use Rattle.table_read.specs.declared.locations.Locations.{Locations}
 use Rattle.table_read.specs.Ends.{anything}
 use Rattle.table_read.specs.LocationIndex.{noLocations, locationIndex, locationsRead, locationsOf, LocationsCounted, locations-counted, locations-miscounted}
 use Rattle.table_read.proofs.Early.{early}
+use Rattle.table_read.proofs.Fitted.{Fitted, fit, unfit, fitted}
 use Rattle.table_read.proofs.Rising.{every-append}
 
 -- ---- refusals
-pub refuse : (acts : List NodeAction) (s : List ℕ) → ((ls : List (List Entry)) → locationsIn edition1 s ≡ some ls → locationsFit acts ls ≡ true → ⊥) → noLocations ≡ locationsOf acts s
-unfolding locationsOf locationsRead
-refuse acts s h = go (locationsIn edition1 s) (λ l e. h l e)
+pub refuse : (acts : List NodeAction) (s : List ℕ) → ((ls : List (List Entry)) → locationsIn edition1 s ≡ some ls → locationsFit acts ls ≡ true → ⊥) → noLocations 19 ≡ locationsOf acts s
+unfolding locationsOf judgeLocations locationsRead
+refuse acts s h = go (fitted 19 (locationsIn edition1 s) (locationsFit acts))
   where
-    pick : (b : Bool) (a : Locations) → (b ≡ true → ⊥) → noLocations ≡ cond b a noLocations
-    pick true a h = absurd (h refl)
-    pick false a h = refl
+    go : {j : Judged (List (List Entry))} → Fitted 19 (locationsIn edition1 s) (locationsFit acts) j → noLocations 19 ≡ locationsRead s j
+    go (fit {a = ls} e k) = absurd (h ls e k)
+    go (unfit k) = refl
 
-    go : (o : Option (List (List Entry))) → ((ls : List (List Entry)) → o ≡ some ls → locationsFit acts ls ≡ true → ⊥) → noLocations ≡ locationsRead acts s o
-    go none h = refl
-    go (some ls) h = pick (locationsFit acts ls) (locationIndex s (length ls)) (h ls refl)
+module _ (acts : List NodeAction) (s : List ℕ) {ls : List (List Entry)} (e : locationsIn edition1 s ≡ some ls) (h : locationsFit acts ls ≡ true) where
+  pub judged : judgeLocations edition1 acts s ≡ accepted ls
+  unfolding judgeLocations
+  judged = go-need 19 _ e ∙ go-ensure 19 _ h
 
-pub accept : (acts : List NodeAction) (s : List ℕ) {ls : List (List Entry)} → locationsIn edition1 s ≡ some ls → locationsFit acts ls ≡ true → locationsOf acts s ≡ locationIndex s (length ls)
-unfolding locationsOf locationsRead
-accept acts s e h = rw (e, h) refl
+  pub accept : locationsOf acts s ≡ locationIndex s (length ls)
+  unfolding locationsOf locationsRead
+  accept = rw judged refl
 
 -- ---- the count
 pub no-count : (s : List ℕ) → length s < 2 → LocationsCounted s 0
@@ -67,7 +71,7 @@ pub count-of : {s : List ℕ} {n : ℕ} → LocationsCounted s n → (n ≡ 0 �
 count-of (locations-counted i e l h) k = record { room = i; is = e; low = l; high = h }
 count-of (locations-miscounted e h) k = absurd (k e)
 
-pub refuse-count : (acts : List NodeAction) {s : List ℕ} {n : ℕ} → LocationsCounted s n → n ≡ 0 → noLocations ≡ locationsOf acts s
+pub refuse-count : (acts : List NodeAction) {s : List ℕ} {n : ℕ} → LocationsCounted s n → n ≡ 0 → noLocations 19 ≡ locationsOf acts s
 refuse-count acts (locations-counted i e l h) k = absurd (omega arith)
 refuse-count acts {s} (locations-miscounted e h) k = refuse acts s (λ l i g. none-not-some (sym h ∙ i))
 
@@ -118,7 +122,7 @@ module _ (acts : List NodeAction) {n : ℕ} {s : List ℕ} where
       unfolding locationsFit
       fits-count ls e = rw e refl
 
-      pub located-stop : i < n → ((a : List Entry) (e : List ℕ) → readLocation edition1 (drop p s) ≡ read a e → locationFits n acts a ≡ false) → noLocations ≡ locationsOf acts s
+      pub located-stop : i < n → ((a : List Entry) (e : List ℕ) → readLocation edition1 (drop p s) ≡ read a e → locationFits n acts a ≡ false) → noLocations 19 ≡ locationsOf acts s
       located-stop h bad = refuse acts s (λ ls e g. early (readLocation edition1) (every (locationFits n acts)) (every-append (locationFits n acts)) i (x .took) h
           (λ a r k. rw (every-snoc (locationFits n acts) (x .took .value) a, bad a r k, and-false (every (locationFits n acts) (x .took .value))) refl)
           (in-times c e) (sym (fits-count ls (in-count e)) ∙ g))
@@ -127,7 +131,7 @@ module _ (acts : List NodeAction) {n : ℕ} {s : List ℕ} where
         all : times n (readLocation edition1) (drop 2 s) ≡ read (x .took .value) (drop p s)
         all = subst (λ n. times n (readLocation edition1) (drop 2 s) ≡ read (x .took .value) (drop p s)) e (x .took .got)
 
-        pub located-over : p < length s → noLocations ≡ locationsOf acts s
+        pub located-over : p < length s → noLocations 19 ≡ locationsOf acts s
         located-over h = refuse acts s (λ l k g. let n : length (drop p s) ≡ 0 = ap length (read-rest (sym all ∙ in-times c k)) in omega (arith, length-drop p s))
 
         pub located-end : length s ≤ p → _≡_ {A = Locations} (record { refusal = 0; count = n; places = places }) (locationsOf acts s)

@@ -1,16 +1,17 @@
 -- What the index of the locations says of each, and where its entries stand.
 use mathlib.Core.Path.{_≡_, refl, sym, ap, subst, _∙_}
-use mathlib.Core.Bool.{Bool, true, false, cond}
+use mathlib.Core.Bool.{true}
 use mathlib.Core.List.{List, [], _∷_}
-use mathlib.Core.Option.{Option, none, some}
+use mathlib.Core.Option.{some}
 use Prim.Native.Nat.{ℕ, zero, suc, _+_, _-_, _*_, _≤_, _<_}
 use native.Mathlib.Omega.{arith}
 use borrow.Author.Tests.{leb-true}
 use lib.ListN.{length, getD, drop, replicate, getElem?, length-append, length-replicate, List·getD-append}
 use Rattle.semantics.specs.Bytes.{read, broken, byte, andThen, _>>=_, give, times}
 use Rattle.semantics.specs.Editions.{edition1}
+use Rattle.semantics.specs.Refusals.{Judged, refused}
 use Rattle.semantics.specs.TableFile.{NodeAction, Entry, readEntry, readLocation, readLocations, locationsIn}
-use Rattle.semantics.specs.Tables.{locationsFit}
+use Rattle.semantics.specs.Tables.{locationsFit, judgeLocations}
 use Rattle.semantics.proofs.Facts.{none-not-some, some-is, within-low, within-high}
 use Rattle.semantics.proofs.Readers.{read-value, read-rest, guarded, whole-read}
 use Rattle.codec.specs.Places.{placesFrom}
@@ -18,36 +19,29 @@ use Rattle.codec.specs.Padding.{pad}
 use Rattle.codec.proofs.Reading.{either, nat2At}
 use Rattle.codec.proofs.Known.{cons, times-length, after-byte, not-past, after-nat2, not-nat2}
 use Rattle.codec.proofs.Places.{Takes, takes-then, takes-guard, takes-byte, takes-number, takes-nat2, takes-give, takes-times, places-length, placed, placed-before}
-use Rattle.table_read.specs.LocationIndex.{entryAt, noLocations, locationIndex, locationsRead, locationsOf}
+use Rattle.table_read.specs.LocationIndex.{entryAt, locationIndex, locationsRead, locationsOf}
 use Rattle.table_read.specs.Promised.{EntriesAt}
+use Rattle.table_read.proofs.Fitted.{Fitted, fit, unfit, fitted}
 use Rattle.table_read.proofs.EntryLoop.{entry-is, entry-took}
 use Rattle.table_read.proofs.LocationLoop.{accept}
 
 -- ---- where nothing is refused
 pub accepted-locations : (acts : List NodeAction) (s : List ℕ) → locationsOf acts s .refusal ≡ 0 → (ls : List (List Entry)) × (locationsIn edition1 s ≡ some ls) × (locationsFit acts ls ≡ true)
-unfolding locationsOf locationsRead
-accepted-locations acts s h = go (locationsIn edition1 s) refl h
+unfolding locationsOf judgeLocations locationsRead
+accepted-locations acts s h = go (fitted 19 (locationsIn edition1 s) (locationsFit acts)) h
   where
-    pick : (ls : List (List Entry)) (b : Bool) → locationsIn edition1 s ≡ some ls → locationsFit acts ls ≡ b → cond b (locationIndex s (length ls)) noLocations .refusal ≡ 0 → (ls : List (List Entry)) × (locationsIn edition1 s ≡ some ls) × (locationsFit acts ls ≡ true)
-    pick ls true e k h = (ls, e, k)
-    pick ls false e k h = absurd (omega arith)
-
-    go : (o : Option (List (List Entry))) → locationsIn edition1 s ≡ o → locationsRead acts s o .refusal ≡ 0 → (ls : List (List Entry)) × (locationsIn edition1 s ≡ some ls) × (locationsFit acts ls ≡ true)
-    go none e h = absurd (omega arith)
-    go (some ls) e h = pick ls (locationsFit acts ls) e refl h
+    go : {j : Judged (List (List Entry))} → Fitted 19 (locationsIn edition1 s) (locationsFit acts) j → locationsRead s j .refusal ≡ 0 → (ls : List (List Entry)) × (locationsIn edition1 s ≡ some ls) × (locationsFit acts ls ≡ true)
+    go (fit {a = ls} e k) h = (ls, e, k)
+    go (unfit k) h = absurd (omega arith)
 
 -- where something is
-pub refused-locations : (acts : List NodeAction) (s : List ℕ) → (locationsOf acts s .refusal ≡ 0 → ⊥) → (locationsOf acts s .refusal ≡ 19) × ((ls : List (List Entry)) → locationsIn edition1 s ≡ some ls → locationsFit acts ls ≡ false)
-unfolding locationsOf locationsRead locationIndex
-refused-locations acts s h = go (locationsIn edition1 s) h
+pub refused-locations : (acts : List NodeAction) (s : List ℕ) → (locationsOf acts s .refusal ≡ 0 → ⊥) → judgeLocations edition1 acts s ≡ refused 19
+unfolding locationsOf judgeLocations locationsRead locationIndex
+refused-locations acts s h = go (fitted 19 (locationsIn edition1 s) (locationsFit acts)) h
   where
-    pick : (ls : List (List Entry)) (b : Bool) → locationsFit acts ls ≡ b → (cond b (locationIndex s (length ls)) noLocations .refusal ≡ 0 → ⊥) → (cond b (locationIndex s (length ls)) noLocations .refusal ≡ 19) × ((k : List (List Entry)) → some ls ≡ some k → locationsFit acts k ≡ false)
-    pick ls true e h = absurd (h refl)
-    pick ls false e h = (refl, λ k i. ap (locationsFit acts) (sym (some-is i)) ∙ e)
-
-    go : (o : Option (List (List Entry))) → (locationsRead acts s o .refusal ≡ 0 → ⊥) → (locationsRead acts s o .refusal ≡ 19) × ((ls : List (List Entry)) → o ≡ some ls → locationsFit acts ls ≡ false)
-    go none h = (refl, λ l e. none-not-some e)
-    go (some ls) h = pick ls (locationsFit acts ls) refl h
+    go : {j : Judged (List (List Entry))} → Fitted 19 (locationsIn edition1 s) (locationsFit acts) j → (locationsRead s j .refusal ≡ 0 → ⊥) → j ≡ refused 19
+    go (fit e k) h = absurd (h refl)
+    go (unfit k) h = refl
 
 pub fit-locations : (acts : List NodeAction) (s : List ℕ) {ls : List (List Entry)} → locationsIn edition1 s ≡ some ls → locationsOf acts s .refusal ≡ 0 → locationsFit acts ls ≡ true
 fit-locations acts s {ls} e h =

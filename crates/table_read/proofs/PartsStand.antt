@@ -1,6 +1,6 @@
 -- The four sections of a table, and where they stand.
 use mathlib.Core.Path.{_≡_, refl, sym, ap, subst, _∙_}
-use mathlib.Core.Bool.{Bool, true, false, cond}
+use mathlib.Core.Bool.{Bool, true, false}
 use mathlib.Core.List.{List}
 use mathlib.Core.Option.{Option, none, some}
 use Prim.Native.Nat.{ℕ, _+_, _-_, _≤_, _<_}
@@ -11,9 +11,11 @@ use lib.ListN.{length, getD, take, drop, length-drop}
 use lib.Seq.{drop-drop}
 use Rattle.semantics.specs.Bytes.{broken, read, andThen, _>>=_, give, section2, section4, just, whole}
 use Rattle.semantics.specs.Editions.{edition1}
+use Rattle.semantics.specs.Refusals.{accepted, ensure, need, _>>_}
 use Rattle.semantics.specs.TableFile.{TableSections, readTableSections, tableSectionsIn}
-use Rattle.semantics.specs.Tables.{tableHeader}
+use Rattle.semantics.specs.Tables.{tableHeader, judgeTableLayout}
 use Rattle.semantics.proofs.Facts.{and-left}
+use Rattle.semantics.proofs.Judging.{go-ensure}
 use Rattle.semantics.proofs.Readers.{split, given, whole-read}
 use Rattle.codec.specs.Reading.{Took}
 use Rattle.codec.proofs.Reading.{drop-past, drop-some, nat4At}
@@ -62,16 +64,20 @@ module _ (t : List ℕ) where
 
   -- ---- what the code answers
   pub refused-15 : tableHeader edition1 t ≡ false → partsOf t ≡ noParts 15
-  unfolding partsOf
+  unfolding partsOf partsRead judgeTableLayout ensure _>>_
   refused-15 h = rw h refl
 
   pub refused-16 : tableHeader edition1 t ≡ true → tableSectionsIn (drop 5 t) ≡ none → partsOf t ≡ noParts 16
-  unfolding partsOf partsRead
+  unfolding partsOf partsRead judgeTableLayout ensure need _>>_
   refused-16 h e = rw (h, e) refl
 
-  pub read-parts : {s : TableSections} → tableHeader edition1 t ≡ true → tableSectionsIn (drop 5 t) ≡ some s → partsOf t ≡ partsIn s
+  pub layout-is : {s : TableSections} → tableHeader edition1 t ≡ true → tableSectionsIn (drop 5 t) ≡ some s → judgeTableLayout edition1 t ≡ accepted s
+  unfolding judgeTableLayout need
+  layout-is h e = go-ensure 15 _ h ∙ ap (need 16) e
+
+  pub read-parts : {s : TableSections} → judgeTableLayout edition1 t ≡ accepted s → partsOf t ≡ partsIn s
   unfolding partsOf partsRead
-  read-parts h e = rw (h, e) refl
+  read-parts e = rw e refl
 
 broken-sections : (l : List ℕ) → readTableSections l ≡ broken → tableSectionsIn l ≡ none
 unfolding tableSectionsIn whole just
@@ -116,7 +122,7 @@ module _ (t : List ℕ) where
           pub parts-found : 5 ≤ length t → tableHeader edition1 t ≡ true → length t ≤ l → partsAt v e a l ≡ partsOf t
           unfolding partsIn sections
           parts-found h k i =
-              same _ _ _ _ (end2-is h vs) (end2-is (vs .inside) es) (end2-is (es .inside) acts) (end4-is (acts .inside) ls) ∙ sym (read-parts t k (filled i))
+              same _ _ _ _ (end2-is h vs) (end2-is (vs .inside) es) (end2-is (es .inside) acts) (end4-is (acts .inside) ls) ∙ sym (read-parts t (layout-is t k (filled i)))
             where
               same : {v e a l : ℕ} (w x y z : ℕ) → v ≡ 7 + w → e ≡ v + 2 + x → a ≡ e + 2 + y → l ≡ a + 4 + z → partsAt v e a l ≡ partsAt (7 + w) (7 + w + 2 + x) (7 + w + 2 + x + 2 + y) (7 + w + 2 + x + 2 + y + 4 + z)
               same w x y z h i j k = cc
@@ -172,24 +178,24 @@ sections-stand t {s} h e =
     subst (λ s. AllStand t (partsIn s) s) (given _ (d .rest) (d .then)) (chain t (a .value) (b .value) (c .value) (d .value) h (a .first) (b .first) (c .first) (d .first))
 
 -- where nothing is refused, the four parts are the sections
-pub accepted-parts : (t : List ℕ) → partsOf t .refusal ≡ 0 → (s : TableSections) × (tableHeader edition1 t ≡ true) × (tableSectionsIn (drop 5 t) ≡ some s) × AllStand t (partsOf t) s
-unfolding partsOf partsRead
+accepted-parts : (t : List ℕ) → partsOf t .refusal ≡ 0 → (s : TableSections) × (judgeTableLayout edition1 t ≡ accepted s) × AllStand t (partsOf t) s
+unfolding partsOf partsRead judgeTableLayout ensure need _>>_
 accepted-parts t h = header (tableHeader edition1 t) refl h
   where
-    sections-of : (o : Option TableSections) → tableHeader edition1 t ≡ true → tableSectionsIn (drop 5 t) ≡ o → partsRead o .refusal ≡ 0 → (s : TableSections) × (tableHeader edition1 t ≡ true) × (tableSectionsIn (drop 5 t) ≡ some s) × AllStand t (partsOf t) s
+    sections-of : (o : Option TableSections) → tableHeader edition1 t ≡ true → tableSectionsIn (drop 5 t) ≡ o → partsRead (need 16 o) .refusal ≡ 0 → (s : TableSections) × (judgeTableLayout edition1 t ≡ accepted s) × AllStand t (partsOf t) s
     sections-of none e k i = absurd (omega arith)
-    sections-of (some s) e k i = (s, e, k, rw (read-parts t e k) (sections-stand t (header-room t e) k))
+    sections-of (some s) e k i = let l = layout-is t e k in (s, l, rw (read-parts t l) (sections-stand t (header-room t e) k))
 
-    header : (b : Bool) → tableHeader edition1 t ≡ b → cond b (partsRead (tableSectionsIn (drop 5 t))) (noParts 15) .refusal ≡ 0 → (s : TableSections) × (tableHeader edition1 t ≡ true) × (tableSectionsIn (drop 5 t) ≡ some s) × AllStand t (partsOf t) s
+    header : (b : Bool) → tableHeader edition1 t ≡ b → partsRead (ensure 15 b >> need 16 (tableSectionsIn (drop 5 t))) .refusal ≡ 0 → (s : TableSections) × (judgeTableLayout edition1 t ≡ accepted s) × AllStand t (partsOf t) s
     header true e k = sections-of (tableSectionsIn (drop 5 t)) e refl k
     header false e k = absurd (omega arith)
 
-pub parts-are : (t : List ℕ) → partsOf t .refusal ≡ 0 → tableSectionsIn (drop 5 t) ≡ some (sectionsAt t (partsOf t))
+pub parts-are : (t : List ℕ) → partsOf t .refusal ≡ 0 → (judgeTableLayout edition1 t ≡ accepted (sectionsAt t (partsOf t))) × AllStand t (partsOf t) (sectionsAt t (partsOf t))
 unfolding sectionsAt
 parts-are t h =
     let k = accepted-parts t h in
-    let st = k .3 in
-    k .2 ∙ ap some (same (sym (st .variables .is)) (sym (st .equations .is)) (sym (st .actions .is)) (sym (st .locations .is)))
+    let st = k .2 in
+    subst (λ s. (judgeTableLayout edition1 t ≡ accepted s) × AllStand t (partsOf t) s) (same (sym (st .variables .is)) (sym (st .equations .is)) (sym (st .actions .is)) (sym (st .locations .is))) (k .1, st)
   where
     same : {x x′ y y′ z z′ w w′ : List ℕ} → x ≡ x′ → y ≡ y′ → z ≡ z′ → w ≡ w′ → _≡_ {A = TableSections} (record { variables = x; equations = y; actions = z; locations = w }) (record { variables = x′; equations = y′; actions = z′; locations = w′ })
     same h i j k = cc

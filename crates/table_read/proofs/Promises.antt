@@ -16,8 +16,8 @@ use Rattle.semantics.specs.Run.{Action, test, wait, assign, switch, stop, isTes
 use Rattle.semantics.specs.TableFile.{NodeAction, Entry, FINISHED, HALTED, NONE, actionKind, actionOfKind, actionsIn, locationsIn}
 use Rattle.semantics.specs.Tables.{actionsFit, Table, risingFrom, operandFits, actionNodes, actionAt, goesOn, targetsFit, entryFits, entryNodes, locationFits, locationsFit, judgeTable, operandsFit, nodeExists, actionsNumbered}
 use Rattle.semantics.specs.Conditions.{Condition, First, here, further, Firsts, refuses, accepts, _if_, is15, is16, is17, is18, is19, tableConditions}
-use Rattle.semantics.proofs.Facts.{All, all-nil, all-cons, all-map, every-all, by-cases, true-not-false, none-not-some, some-is, and-left, and-right}
-use Rattle.semantics.proofs.Judging.{refused-not-accepted, refused-is}
+use Rattle.semantics.proofs.Facts.{All, all-nil, all-cons, all-map, every-all, by-cases, true-not-false, none-not-some, and-left, and-right}
+use Rattle.semantics.proofs.Judging.{refused-not-accepted, refused-is, accepted-is}
 use Rattle.semantics.proofs.TablePassed.{table-passed}
 use Rattle.semantics.proofs.FirstNumber.{table-first}
 use Rattle.plant.specs.PlantRead.{plantOf}
@@ -31,7 +31,7 @@ use Rattle.table_read.specs.ActionIndex.{actionIndex, byNode, actionsOf}
 use Rattle.table_read.specs.LocationIndex.{locationIndex, locationsOf}
 use Rattle.table_read.specs.Promised.{LocationPromised, Leads, leads-to, finishes, halts}
 use Rattle.table_read.specs.TableIndex.{indexOf, tableIndex}
-use Rattle.table_read.proofs.PartsStand.{AllStand, accepted-parts, read-parts, parts-are}
+use Rattle.table_read.proofs.PartsStand.{AllStand, layout-is, read-parts, parts-are}
 use Rattle.table_read.proofs.ByNode.{listed-length}
 use Rattle.table_read.proofs.ActionLoop.{accept as actions-accept}
 use Rattle.table_read.proofs.LocationLoop.{accept as locations-accept}
@@ -105,16 +105,16 @@ pub opened : (t : List ℕ) {tb : Table} → judgeTable edition1 t ≡ accepted 
 unfolding partsIn actionIndex locationIndex actionsFit
 opened t {tb} e =
     let k = table-passed edition1 t e in
-    let z : partsOf t .refusal ≡ 0 = ap (λ (p : Parts). p .refusal) (read-parts t (k .header) (k .is-parts)) in
-    let s = some-is (sym (k .is-parts) ∙ parts-are t z) in
+    let l = layout-is t (k .header) (k .is-parts) in
+    let z : partsOf t .refusal ≡ 0 = ap (λ (p : Parts). p .refusal) (read-parts t l) in
+    let s : k .parts ≡ sectionsAt t (partsOf t) = accepted-is (sym l ∙ parts-are t z .0) in
     let f = k .acts-fit in
     let laid = and-left (actionsNumbered edition1 (tb .actions)) (operandsFit edition1 (tb .plant) (tb .actions)) f in
     let acts : actionsIn edition1 (sectionsAt t (partsOf t) .actions) ≡ some (tb .actions) = ap (λ s. actionsIn edition1 (s .actions)) (sym s) ∙ k .acts in
     let locs : locationsIn edition1 (sectionsAt t (partsOf t) .locations) ≡ some (tb .locations) = ap (λ s. locationsIn edition1 (s .locations)) (sym s) ∙ k .locs in
-    let a = accepted-parts t z in
     record {
-      stand = subst (AllStand t (partsOf t)) (some-is (sym (a .2) ∙ parts-are t z)) (a .3);
-      plant = ap (λ s. judgePlant edition1 (s .variables) (s .equations)) (sym s) ∙ k .plant;
+      stand = parts-are t z .1;
+      plant = subst (λ s. judgePlant edition1 (s .variables) (s .equations) ≡ accepted (tb .plant)) s (k .plant);
       switches = k .switches;
       actions = acts;
       actions-passed = ap (λ (x : Actions). x .refusal) (actions-accept _ acts laid);

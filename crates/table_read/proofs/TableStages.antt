@@ -1,19 +1,19 @@
 -- A table judged in order: what the answers about its parts make of the whole.
 use mathlib.Core.Path.{_≡_, refl, sym, ap, subst, _∙_}
-use mathlib.Core.Bool.{Bool, true, false, _&&_}
+use mathlib.Core.Bool.{Bool, true, false}
 use mathlib.Core.List.{List}
-use mathlib.Core.Option.{Option, none, some}
+use mathlib.Core.Option.{some}
 use Prim.Native.Nat.{ℕ, _-_, _≤_}
 use native.Mathlib.Omega.{arith}
 use lib.ListN.{length, take, drop}
 use Rattle.semantics.specs.Bytes.{every}
 use Rattle.semantics.specs.Editions.{edition1}
-use Rattle.semantics.specs.Refusals.{Judged, refused, accepted, oneNumber, need, ensure, _>>=_, _>>_}
+use Rattle.semantics.specs.Refusals.{Judged, refused, accepted, oneNumber, ensure, _>>=_, _>>_}
 use Rattle.semantics.specs.Sections.{Equation, equationsIn}
 use Rattle.semantics.specs.Plant.{Plant, judgePlant, switchesRead, equationReads, selectors}
-use Rattle.semantics.specs.TableFile.{NodeAction, Entry, TableSections, tableSectionsIn, actionsIn, locationsIn}
-use Rattle.semantics.specs.Tables.{Table, tableHeader, actionsFit, locationsFit, judgeTableSections, judgeTable, operandsFit, actionsNumbered}
-use Rattle.semantics.proofs.Judging.{go-then, go-need, go-ensure, go-only}
+use Rattle.semantics.specs.TableFile.{NodeAction, TableSections, actionsIn}
+use Rattle.semantics.specs.Tables.{Table, operandsFit, judgeActions, judgeTableSections, judgeTableLayout, judgeTable}
+use Rattle.semantics.proofs.Judging.{go-then, go-ensure, go-only}
 use Rattle.plant.specs.ModeCounts.{ModesAt}
 use Rattle.plant.specs.Sound.{There}
 use Rattle.plant.specs.PlantRead.{refusedPlant, acceptedPlant, plantAnswer, plantOf}
@@ -29,9 +29,11 @@ use Rattle.table_read.specs.ActionIndex.{noActions, actionsOf}
 use Rattle.table_read.specs.OperandForms.{AllFit}
 use Rattle.table_read.specs.LocationIndex.{noLocations, actionsLike, locationsOf}
 use Rattle.table_read.specs.TableIndex.{noTable, indexOf, tableIndex, sectionsFrom, sectionsIndex}
-use Rattle.table_read.proofs.PartsStand.{AllStand, refused-15, refused-16, accepted-parts, parts-are}
+use Rattle.table_read.proofs.PartsStand.{AllStand, read-parts, parts-are}
+use Rattle.table_read.proofs.ActionLoop.{judged as actions-judged}
 use Rattle.table_read.proofs.ActionsFound.{accepted-actions, refused-actions, kinds-say}
 use Rattle.table_read.proofs.LikeKinds.{locations-like}
+use Rattle.table_read.proofs.LocationLoop.{judged as locations-judged}
 use Rattle.table_read.proofs.LocationsFound.{accepted-locations, refused-locations}
 
 index-refused : (p : Parts) (s : TableSections) {j : Judged Table} {n : ℕ} → j ≡ refused n → noTable n ≡ indexOf p s j
@@ -45,27 +47,23 @@ module _ (t : List ℕ) {p : Parts} (h : p ≡ partsOf t) where
   said e k = ap (λ (p : Parts). noTable (p .refusal)) (h ∙ e) ∙ index-refused (partsOf t) (sectionsAt t (partsOf t)) k
 
   pub by-parts : (p .refusal ≡ 0 → ⊥) → noTable (p .refusal) ≡ tableIndex t
-  unfolding judgeTable partsOf partsRead partsIn ensure need _>>_ _>>=_
-  by-parts z = first (tableHeader edition1 t) refl
+  unfolding judgeTable partsOf partsRead partsIn _>>=_
+  by-parts z = go (judgeTableLayout edition1 t) refl
     where
-      second : tableHeader edition1 t ≡ true → (o : Option TableSections) → tableSectionsIn (drop 5 t) ≡ o → noTable (p .refusal) ≡ tableIndex t
-      second a none e = said (refused-16 t a e) (rw (a, e) refl)
-      second a (some s) e = absurd (z (ap (λ (p : Parts). p .refusal) h ∙ rw (a, e) refl))
-
-      first : (b : Bool) → tableHeader edition1 t ≡ b → noTable (p .refusal) ≡ tableIndex t
-      first true e = second e (tableSectionsIn (drop 5 t)) refl
-      first false e = said (refused-15 t e) (rw e refl)
+      go : (j : Judged TableSections) → judgeTableLayout edition1 t ≡ j → noTable (p .refusal) ≡ tableIndex t
+      go (refused n) e = said (ap partsRead e) (rw e refl)
+      go (accepted s) e = absurd (z (ap (λ (p : Parts). p .refusal) (h ∙ read-parts t e)))
 
   module _ (z : p .refusal ≡ 0) where
     not-refused : partsOf t .refusal ≡ 0
     not-refused = sym (ap (λ (p : Parts). p .refusal) h) ∙ z
 
-    pub parts-stand : (s : TableSections) × AllStand t p s
-    parts-stand = let a = accepted-parts t not-refused in (a .0, subst (λ p. AllStand t p (a .0)) (sym h) (a .3))
+    pub parts-stand : AllStand t p (sectionsAt t (partsOf t))
+    parts-stand = subst (λ p. AllStand t p (sectionsAt t (partsOf t))) (sym h) (parts-are t not-refused .1)
 
     after-16 : judgeTable edition1 t ≡ judgeTableSections edition1 (sectionsAt t (partsOf t))
     unfolding judgeTable
-    after-16 = go-ensure 15 _ (accepted-parts t not-refused .1) ∙ go-need 16 _ (parts-are t not-refused)
+    after-16 = go-then _ (parts-are t not-refused .0)
 
     pub by-sections : sectionsIndex p (take (p .«variables_end» - p .variables) (drop (p .variables) t)) (take (p .«equations_end» - p .equations) (drop (p .equations) t)) (take (p .«actions_end» - p .actions) (drop (p .actions) t)) (take (p .«locations_end» - p .locations) (drop (p .locations) t)) ≡ tableIndex t
     unfolding sectionsIndex tableIndex sectionsAt
@@ -137,15 +135,9 @@ module _ (p : Parts) (vs es ops locs : List ℕ) {q : PlantRead} (h : q ≡ plan
 
         module _ {a : Actions} (i : a ≡ actionsOf ops) where
           pub by-actions : (a .refusal ≡ 0 → ⊥) → noTable 18 ≡ sectionsIndex p vs es ops locs
-          unfolding judgeTableSections actionsFit need ensure _>>=_ _>>_
-          by-actions y = go (actionsIn edition1 ops) refl
-            where
-              unfit : (l : List NodeAction) → actionsIn edition1 ops ≡ some l → actionsFit edition1 own l ≡ false
-              unfit l f = ap (λ b. b && operandsFit edition1 own l) (refused-actions ops (λ w. y (ap (λ (a : Actions). a .refusal) i ∙ w)) .1 l f)
-
-              go : (o : Option (List NodeAction)) → actionsIn edition1 ops ≡ o → noTable 18 ≡ sectionsIndex p vs es ops locs
-              go none f = refuses (go-then _ (go-only 17 passed-plant) ∙ go-ensure 17 _ passed-17 ∙ rw f refl)
-              go (some l) f = refuses (go-then _ (go-only 17 passed-plant) ∙ go-ensure 17 _ passed-17 ∙ go-need 18 _ f ∙ rw (unfit l f) refl)
+          unfolding judgeTableSections _>>=_
+          by-actions y =
+              refuses (go-then _ (go-only 17 passed-plant) ∙ go-ensure 17 _ passed-17 ∙ rw (refused-actions ops (λ w. y (ap (λ (a : Actions). a .refusal) i ∙ w))) refl)
 
           module _ (y : a .refusal ≡ 0) where
             index-passed : actionsOf ops .refusal ≡ 0
@@ -158,21 +150,17 @@ module _ (p : Parts) (vs es ops locs : List ℕ) {q : PlantRead} (h : q ≡ plan
             unfolding acts
             acts-are = accepted-actions ops index-passed .1
 
-            acts-laid : actionsNumbered edition1 acts ≡ true
+            acts-judged : judgeActions edition1 ops ≡ accepted acts
             unfolding acts
-            acts-laid = accepted-actions ops index-passed .2
+            acts-judged = actions-judged ops (accepted-actions ops index-passed .1) (accepted-actions ops index-passed .2)
 
             module _ {r : Bool} (j : AllFit ops (q .variables) (q .selectors) (q .modes) r) where
               operands-are : r ≡ operandsFit edition1 own acts
               operands-are = j own (variables-are vs es h z) (counts-at vs es h z) acts acts-are
 
-              fit-is : actionsFit edition1 own acts ≡ r
-              unfolding actionsFit
-              fit-is = ap (λ b. b && operandsFit edition1 own acts) acts-laid ∙ sym operands-are
-
               pub by-operands : r ≡ false → noTable 18 ≡ sectionsIndex p vs es ops locs
               unfolding judgeTableSections ensure _>>_
-              by-operands f = refuses (go-then _ (go-only 17 passed-plant) ∙ go-ensure 17 _ passed-17 ∙ go-need 18 _ acts-are ∙ rw (fit-is ∙ f) refl)
+              by-operands f = refuses (go-then _ (go-only 17 passed-plant) ∙ go-ensure 17 _ passed-17 ∙ go-then _ acts-judged ∙ rw (sym operands-are ∙ f) refl)
 
               -- ---- 19
               module _ (f : r ≡ true) {l : Locations} (w : l ≡ locationsOf (actionsLike (a .kinds)) locs) where
@@ -183,22 +171,17 @@ module _ (p : Parts) (vs es ops locs : List ℕ) {q : PlantRead} (h : q ≡ plan
                 locations-are = w ∙ by-kinds
 
                 pub by-locations : (l .refusal ≡ 0 → ⊥) → noTable 19 ≡ sectionsIndex p vs es ops locs
-                unfolding judgeTableSections need ensure _>>=_ _>>_
-                by-locations x = go (locationsIn edition1 locs) refl
-                  where
-                    unfit : (ls : List (List Entry)) → locationsIn edition1 locs ≡ some ls → locationsFit acts ls ≡ false
-                    unfit ls g = refused-locations acts locs (λ u. x (ap (λ (l : Locations). l .refusal) locations-are ∙ u)) .1 ls g
-
-                    go : (o : Option (List (List Entry))) → locationsIn edition1 locs ≡ o → noTable 19 ≡ sectionsIndex p vs es ops locs
-                    go none g = refuses (go-then _ (go-only 17 passed-plant) ∙ go-ensure 17 _ passed-17 ∙ go-need 18 _ acts-are ∙ go-ensure 18 _ (fit-is ∙ f) ∙ rw g refl)
-                    go (some ls) g = refuses (go-then _ (go-only 17 passed-plant) ∙ go-ensure 17 _ passed-17 ∙ go-need 18 _ acts-are ∙ go-ensure 18 _ (fit-is ∙ f) ∙ go-need 19 _ g ∙ rw (unfit ls g) refl)
+                unfolding judgeTableSections _>>=_
+                by-locations x =
+                    refuses (go-then _ (go-only 17 passed-plant) ∙ go-ensure 17 _ passed-17 ∙ go-then _ acts-judged ∙ go-ensure 18 _ (sym operands-are ∙ f) ∙
+                    rw (refused-locations acts locs (λ u. x (ap (λ (l : Locations). l .refusal) locations-are ∙ u))) refl)
 
                 pub all-passed : l .refusal ≡ 0 → record { refusal = 0; parts = p; plant = q; actions = a; locations = l } ≡ sectionsIndex p vs es ops locs
                 unfolding sectionsIndex indexOf judgeTableSections
                 all-passed x =
                     let g = accepted-locations acts locs (sym (ap (λ (l : Locations). l .refusal) locations-are) ∙ x) in
-                    found h i locations-are ∙ sym (ap (indexOf p (sectionsFrom vs es ops locs)) (go-then _ (go-only 17 passed-plant) ∙ go-ensure 17 _ passed-17 ∙ go-need 18 _ acts-are ∙ go-ensure 18 _ (fit-is ∙ f) ∙ go-need 19 _ (g .1) ∙ go-ensure 19 _ (g .2)))
+                    found h i locations-are ∙ sym (ap (indexOf p (sectionsFrom vs es ops locs)) (go-then _ (go-only 17 passed-plant) ∙ go-ensure 17 _ passed-17 ∙ go-then _ acts-judged ∙ go-ensure 18 _ (sym operands-are ∙ f) ∙ go-then _ (locations-judged acts locs (g .1) (g .2))))
 
 -- ---- the answers
-pub refused-is : {n : ℕ} {p : Parts} {q : PlantRead} {a : Actions} {l : Locations} → p ≡ noParts n → q ≡ refusedPlant n → a ≡ noActions → l ≡ noLocations → record { refusal = n; parts = p; plant = q; actions = a; locations = l } ≡ noTable n
+pub refused-is : {n : ℕ} {p : Parts} {q : PlantRead} {a : Actions} {l : Locations} → p ≡ noParts n → q ≡ refusedPlant n → a ≡ noActions n → l ≡ noLocations n → record { refusal = n; parts = p; plant = q; actions = a; locations = l } ≡ noTable n
 refused-is e f g h = cc

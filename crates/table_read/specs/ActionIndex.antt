@@ -1,26 +1,23 @@
 -- The actions of a table by node: kind, and where the operand stands.
 use mathlib.Core.Path.{_≡_}
-use mathlib.Core.Bool.{true, false, cond}
+use mathlib.Core.Bool.{true, false}
 use mathlib.Core.List.{List, [], _∷_}
 use mathlib.Core.Option.{Option, none, some}
 use Prim.Native.Nat.{ℕ, zero, suc, _+_, _≤_, _<_}
 use lib.Dec.{eqb}
 use lib.ListN.{length, getD, drop, replicate}
 use Rattle.semantics.specs.Editions.{edition1}
-use Rattle.semantics.specs.Run.{Action, test, wait, assign, switch, stop}
-use Rattle.semantics.specs.TableFile.{NodeAction, readAction, actionsIn}
-use Rattle.semantics.specs.Tables.{actionsNumbered, actionAt}
+use Rattle.semantics.specs.Refusals.{Judged, refused, accepted}
+use Rattle.semantics.specs.Run.{Action}
+use Rattle.semantics.specs.TableFile.{NodeAction, kindNumber, readAction, actionsIn}
+use Rattle.semantics.specs.Tables.{actionAt, judgeActions}
 use Rattle.codec.specs.Places.{placesFrom}
 use Rattle.table_read.specs.declared.actions.Actions.{Actions}
 
--- "kind (1 test, 2 wait, 3 assign, 4 switch, 5 stop)"; 0 where there is no action
+-- the number of an action's kind; 0 where there is no action
 unfoldable pub kindCode : Option Action → ℕ
 kindCode none = 0
-kindCode (some (test t)) = 1
-kindCode (some (wait t)) = 2
-kindCode (some (assign v e)) = 3
-kindCode (some (switch s m)) = 4
-kindCode (some stop) = 5
+kindCode (some a) = kindNumber a
 
 unfoldable pub kindAt : List NodeAction → ℕ → ℕ
 kindAt l n = kindCode (actionAt l n)
@@ -55,8 +52,15 @@ byNode f = listed (edition1 .nodes) f
 abbrev pub nodeOf : NodeAction → ℕ
 nodeOf a = a .node
 
-abbrev pub noActions : Actions
-noActions = record { refusal = 18; count = 0; kinds = replicate 64 0; starts = replicate 64 0; ends = replicate 64 0 }
+-- a refusal
+abbrev pub noActions : ℕ → Actions
+noActions n = record {
+  refusal = n;
+  count = 0;
+  kinds = replicate (edition1 .nodes) 0;
+  starts = replicate (edition1 .nodes) 0;
+  ends = replicate (edition1 .nodes) 0;
+}
 
 unfoldable pub actionIndex : List ℕ → List NodeAction → Actions
 actionIndex s l =
@@ -69,15 +73,15 @@ actionIndex s l =
       ends = byNode (λ n. operandEnd s (placeAt l ps n));
     }
 
-unfoldable pub indexRead : List ℕ → Option (List NodeAction) → Actions
-indexRead s none = noActions
-indexRead s (some l) = cond (actionsNumbered edition1 l) (actionIndex s l) noActions
+unfoldable pub indexRead : List ℕ → Judged (List NodeAction) → Actions
+indexRead s (refused n) = noActions n
+indexRead s (accepted l) = actionIndex s l
 
--- 18 for the layout of the section and its node numbers, or the index; 11 and 12 are not looked at
+-- the index of the section, or the number that judging it alone gives; operands are not looked at
 unfoldable pub actionsOf : List ℕ → Actions
-actionsOf s = indexRead s (actionsIn edition1 s)
+actionsOf s = indexRead s (judgeActions edition1 s)
 
 -- the count at the front of the section, or 0 where that is outside its bounds
 pub data Counted (s : List ℕ) (n : ℕ) : Type 0 where
-  counted : 0 < length s → n ≡ getD s 0 0 → 1 ≤ n → n ≤ 64 → Counted s n
+  counted : 0 < length s → n ≡ getD s 0 0 → 1 ≤ n → n ≤ edition1 .nodes → Counted s n
   miscounted : n ≡ 0 → actionsIn edition1 s ≡ none → Counted s n

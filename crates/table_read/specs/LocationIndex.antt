@@ -1,15 +1,16 @@
 -- The locations of a table: whether they fit the kinds of the actions, and where each stands.
 use mathlib.Core.Path.{_≡_}
-use mathlib.Core.Bool.{Bool, false, cond}
+use mathlib.Core.Bool.{Bool, false}
 use mathlib.Core.List.{List, [], _∷_}
 use mathlib.Core.Option.{Option, none, some}
 use Prim.Native.Nat.{ℕ, suc, _+_, _≤_}
 use lib.ListN.{length, getD, drop, replicate}
 use Rattle.semantics.specs.Bytes.{be2}
 use Rattle.semantics.specs.Editions.{edition1}
+use Rattle.semantics.specs.Refusals.{Judged, refused, accepted}
 use Rattle.semantics.specs.Run.{Action, test, wait, assign, switch, stop}
 use Rattle.semantics.specs.TableFile.{NodeAction, Entry, ActionKind, a-test, a-wait, an-assignment, a-switch, a-stop, no-kind, actionKind, locationLimit, readLocation, locationsIn}
-use Rattle.semantics.specs.Tables.{targetsFit, locationsFit}
+use Rattle.semantics.specs.Tables.{targetsFit, judgeLocations}
 use Rattle.codec.specs.Places.{placesFrom}
 use Rattle.codec.specs.Padding.{pad}
 use Rattle.table_read.specs.declared.locations.Locations.{Locations}
@@ -42,19 +43,20 @@ actionsLike ks = actionsFrom 0 ks
 unfoldable pub kindFits : ℕ → ℕ → ℕ → ℕ → Bool
 kindFits n k t u = elim (likeKind (actionKind k)) [ none ↦ false | some a ↦ targetsFit n a t u ]
 
-abbrev pub noLocations : Locations
-noLocations = record { refusal = 19; count = 0; places = replicate 1024 0 }
+-- a refusal
+abbrev pub noLocations : ℕ → Locations
+noLocations n = record { refusal = n; count = 0; places = replicate locationLimit 0 }
 
 unfoldable pub locationIndex : List ℕ → ℕ → Locations
 locationIndex s n = record { refusal = 0; count = n; places = pad locationLimit 0 (placesFrom (length s) (readLocation edition1) n (drop 2 s)) }
 
-unfoldable pub locationsRead : List NodeAction → List ℕ → Option (List (List Entry)) → Locations
-locationsRead l s none = noLocations
-locationsRead l s (some ls) = cond (locationsFit l ls) (locationIndex s (length ls)) noLocations
+unfoldable pub locationsRead : List ℕ → Judged (List (List Entry)) → Locations
+locationsRead s (refused n) = noLocations n
+locationsRead s (accepted ls) = locationIndex s (length ls)
 
--- 19, or where each location stands
+-- where each location stands, or the number that judging the section by these actions gives
 unfoldable pub locationsOf : List NodeAction → List ℕ → Locations
-locationsOf l s = locationsRead l s (locationsIn edition1 s)
+locationsOf l s = locationsRead s (judgeLocations edition1 l s)
 
 -- the count at the front of the section, or 0 where that is outside its bounds
 pub data LocationsCounted (s : List ℕ) (n : ℕ) : Type 0 where

@@ -20,7 +20,7 @@ tableNumbers r = record { refusal = r .refusal; variables = r .variables; select
 
 -- a refusal
 abbrev pub noTable : ℕ → TableIndex
-noTable n = record { refusal = n; parts = noParts n; plant = refusedPlant n; actions = noActions; locations = noLocations }
+noTable n = record { refusal = n; parts = noParts n; plant = refusedPlant n; actions = noActions n; locations = noLocations n }
 
 -- what stands in the sections s, themselves at the places p
 unfoldable pub indexOf : Parts → TableSections → Judged Table → TableIndex

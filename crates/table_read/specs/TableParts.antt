@@ -1,12 +1,11 @@
 -- Where the four sections of a table stand.
-use mathlib.Core.Bool.{cond}
 use mathlib.Core.List.{List}
-use mathlib.Core.Option.{Option, none, some}
 use Prim.Native.Nat.{ℕ, _+_, _-_, _≤_}
 use lib.ListN.{length, take, drop}
 use Rattle.semantics.specs.Editions.{edition1}
-use Rattle.semantics.specs.TableFile.{TableSections, tableSectionsIn}
-use Rattle.semantics.specs.Tables.{tableHeader}
+use Rattle.semantics.specs.Refusals.{Judged, refused, accepted}
+use Rattle.semantics.specs.TableFile.{TableSections}
+use Rattle.semantics.specs.Tables.{judgeTableLayout}
 use Rattle.table_read.specs.declared.parts.Parts.{Parts}
 
 -- a refusal
@@ -50,13 +49,13 @@ partsIn s =
     let a = e + 2 + length (s .actions) in
     partsAt v e a (a + 4 + length (s .locations))
 
-unfoldable pub partsRead : Option TableSections → Parts
-partsRead none = noParts 16
-partsRead (some s) = partsIn s
+unfoldable pub partsRead : Judged TableSections → Parts
+partsRead (refused n) = noParts n
+partsRead (accepted s) = partsIn s
 
--- 15, 16, or where the sections stand
+-- where the sections stand, or the number of the first condition that their layout breaks
 unfoldable pub partsOf : List ℕ → Parts
-partsOf t = cond (tableHeader edition1 t) (partsRead (tableSectionsIn (drop 5 t))) (noParts 15)
+partsOf t = partsRead (judgeTableLayout edition1 t)
 
 -- the sections that stand there
 unfoldable pub sectionsAt : List ℕ → Parts → TableSections

@@ -12,7 +12,7 @@ ghost use Rattle.table_read.specs.ActionIndex.{nodeOf, Counted, actionsO
 // The most actions, as their count's byte.
 const MOST: u8 = paper::NODES as u8;
 
-// 0 or 18; how many actions there are; by node, the kind of its action and where the operand starts and ends, or 0, 0 and 0
+// 0, or the number of the condition that is broken; how many actions there are; by node, the kind of its action and where the operand starts and ends, or 0, 0 and 0
 pub struct Actions {
     pub refusal: u8,
     pub count: usize,
@@ -21,14 +21,14 @@ pub struct Actions {
     pub ends: [usize; paper::NODES],
 }
 
-pub fn refused() -> Actions
-    ensures { λ r. ⌜ r ≡ noActions ⌝ }
+pub fn refused(n: u8) -> Actions
+    ensures { λ r. ⌜ r ≡ noActions n ⌝ }
 {
     let kinds = [0u8; paper::NODES];
     let starts = [0usize; paper::NODES];
     let ends = [0usize; paper::NODES];
     Actions {
-        refusal: 18,
+        refusal: n,
         count: 0,
         kinds,
         starts,
@@ -114,7 +114,7 @@ pub fn read(s: &[u8]) -> Actions
 {
     let n = count(s);
     if n == 0 {
-        return refused();
+        return refused(18);
     }
     let mut kinds = [0u8; paper::NODES];
     let mut starts = [0usize; paper::NODES];
@@ -125,7 +125,7 @@ pub fn read(s: &[u8]) -> Actions
     while i < n {
         let q = next(s, p, low);
         if q == 0 {
-            return refused();
+            return refused(18);
         }
         let node = s[p + 1] as usize;
         kinds[node] = s[p + 1 + 1];
@@ -136,7 +136,7 @@ pub fn read(s: &[u8]) -> Actions
         i += 1;
     }
     if p < s.len() {
-        return refused();
+        return refused(18);
     }
     Actions {
         refusal: 0,

@@ -35,8 +35,8 @@ fn refused(n: u8) -> TableIndex
 {
     let parts = parts::refused(n);
     let plant = plant::sections::refused(n);
-    let actions = actions::refused();
-    let locations = locations::refused();
+    let actions = actions::refused(n);
+    let locations = locations::refused(n);
     TableIndex {
         refusal: n,
         parts,

@@ -9,19 +9,19 @@ ghost use Rattle.semantics.specs.Tables.{goesOn, entryFits, locationFits};
 ghost use Rattle.table_read.specs.Ends.{EndsWith, follows};
 ghost use Rattle.table_read.specs.LocationIndex.{entryNode, actionsLike, kindFits, LocationsCounted, noLocations, locationsOf};
 
-// 0 or 19; how many locations there are; the place of each, and then 0
+// 0, or the number of the condition that is broken; how many locations there are; the place of each, and then 0
 pub struct Locations {
     pub refusal: u8,
     pub count: usize,
     pub places: [usize; paper::LOCATIONS],
 }
 
-pub fn refused() -> Locations
-    ensures { λ r. ⌜ r ≡ noLocations ⌝ }
+pub fn refused(n: u8) -> Locations
+    ensures { λ r. ⌜ r ≡ noLocations n ⌝ }
 {
     let places = [0usize; paper::LOCATIONS];
     Locations {
-        refusal: 19,
+        refusal: n,
         count: 0,
         places,
     }
@@ -131,7 +131,7 @@ pub fn read(s: &[u8], kinds: &[u8]) -> Locations
 {
     let n = count(s);
     if n == 0 {
-        return refused();
+        return refused(19);
     }
     let mut places = [0usize; paper::LOCATIONS];
     let mut p = 2;
@@ -139,14 +139,14 @@ pub fn read(s: &[u8], kinds: &[u8]) -> Locations
     while i < n {
         let q = location(s, p, n, kinds);
         if q == 0 {
-            return refused();
+            return refused(19);
         }
         places[i] = p;
         p = q;
         i += 1;
     }
     if p < s.len() {
-        return refused();
+        return refused(19);
     }
     Locations {
         refusal: 0,

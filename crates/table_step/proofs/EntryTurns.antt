@@ -11,8 +11,8 @@ use lib.Dec.{eqb}
 use lib.ListN.{length, getD, getElem?, take, drop}
 use Rattle.semantics.specs.Plant.{among}
 use Rattle.semantics.specs.Run.{Action, possible}
-use Rattle.semantics.specs.TableFile.{NodeAction, Entry, FINISHED, HALTED, NONE}
-use Rattle.semantics.specs.Tables.{actionAt, actionOrStop, entryNodes, goingTo, entryNext}
+use Rattle.semantics.specs.TableFile.{NodeAction, Entry, NONE}
+use Rattle.semantics.specs.Tables.{actionAt, actionOrStop, entryNodes, entryTarget}
 use Rattle.semantics.proofs.Facts.{All, all-nil, all-cons, none-not-some, some-is, true-not-false}
 use Rattle.codec.proofs.Reading.{nat2At}
 use Rattle.nodeset.specs.Sets.{mem, emptySet, inserted, Words}
@@ -21,7 +21,7 @@ use Rattle.nodeset.proofs.Membership.{mem-empty, mem-inserted, words-empty}
 use Rattle.table_read.specs.LocationIndex.{entryAt}
 use Rattle.table_read.specs.Promised.{LocationPromised, Leads}
 use Rattle.table_read.proofs.Promises.{EntryPromised, entries-promised, nodes-rise, leads}
-use Rattle.table_step.specs.Entries.{Counted, Listed, Gathered, targetOf, Found}
+use Rattle.table_step.specs.Entries.{Counted, Listed, Gathered, Found}
 
 -- ---- lists
 data Split {A : Type 0} (l : List A) (j : ℕ) (x : A) : Type 0 where
@@ -98,29 +98,29 @@ gather-end s p {j} {q} {ws} g h = record {
 -- ---- a node's entry: none among the first j
 pub record Looking (s : List ℕ) (p : ℕ) (n : ℕ) (b : Bool) (j q : ℕ) : Type 0 where
   pub place : q ≡ p + 1 + 5 * j
-  pub later : (es : List Entry) → Listed s p es → targetOf es n b ≡ targetOf (drop j es) n b
+  pub later : (es : List Entry) → Listed s p es → entryTarget es n b ≡ entryTarget (drop j es) n b
 
 pub look-start : (s : List ℕ) (p n : ℕ) (b : Bool) → Looking s p n b 0 (p + 1)
 look-start s p n b = record { place = omega arith; later = λ es l. all es }
   where
-    all : (es : List Entry) → targetOf es n b ≡ targetOf (drop 0 es) n b
+    all : (es : List Entry) → entryTarget es n b ≡ entryTarget (drop 0 es) n b
     all [] = refl
     all (x ∷ es) = refl
 
 module _ (s : List ℕ) (p n : ℕ) (b : Bool) {j q m : ℕ} (g : Looking s p n b j q) (h : j < getD s p 0) (e : m ≡ getD s q 0) where
   pub look-next : (m ≡ n → ⊥) → Looking s p n b (j + 1) (q + 5)
-  unfolding targetOf
+  unfolding entryTarget
   look-next d = record { place = omega (arith, g .place); later = λ es l. go es l (split-here es j (entry-here l (g .place) h)) }
     where
-      go : (es : List Entry) → Listed s p es → Split es j (entryAt s q) → targetOf es n b ≡ targetOf (drop (j + 1) es) n b
-      go es l (split-at a f) = g .later es l ∙ ap (λ z. targetOf z n b) f ∙ rw (targetOf, ne-eqb (getD s q 0) n (λ i. d (e ∙ i))) (ap (λ z. targetOf (drop z es) n b) (sym (add-one j)))
+      go : (es : List Entry) → Listed s p es → Split es j (entryAt s q) → entryTarget es n b ≡ entryTarget (drop (j + 1) es) n b
+      go es l (split-at a f) = g .later es l ∙ ap (λ z. entryTarget z n b) f ∙ rw (entryTarget, ne-eqb (getD s q 0) n (λ i. d (e ∙ i))) (ap (λ z. entryTarget (drop z es) n b) (sym (add-one j)))
 
-  look-found : m ≡ n → (es : List Entry) → Listed s p es → targetOf es n b ≡ cond b (entryAt s q .target) (entryAt s q .other)
-  unfolding targetOf
+  look-found : m ≡ n → (es : List Entry) → Listed s p es → entryTarget es n b ≡ cond b (entryAt s q .target) (entryAt s q .other)
+  unfolding entryTarget
   look-found d es l = go (split-here es j (entry-here l (g .place) h))
     where
-      go : Split es j (entryAt s q) → targetOf es n b ≡ cond b (entryAt s q .target) (entryAt s q .other)
-      go (split-at a f) = g .later es l ∙ ap (λ z. targetOf z n b) f ∙ rw (targetOf, eq-eqb (getD s q 0) n (sym e ∙ d)) refl
+      go : Split es j (entryAt s q) → entryTarget es n b ≡ cond b (entryAt s q .target) (entryAt s q .other)
+      go (split-at a f) = g .later es l ∙ ap (λ z. entryTarget z n b) f ∙ rw (entryTarget, eq-eqb (getD s q 0) n (sym e ∙ d)) refl
 
   pub look-true : m ≡ n → b ≡ true → {t : ℕ} → t ≡ nat2At s (q + 1) → Found s p n b t
   look-true d i k = record { is = λ es l. k ∙ sym (look-found d es l ∙ ap (λ b. cond b (entryAt s q .target) (entryAt s q .other)) i) }
@@ -129,8 +129,8 @@ module _ (s : List ℕ) (p n : ℕ) (b : Bool) {j q m : ℕ} (g : Looking s p n 
   look-false d i k = record { is = λ es l. k ∙ sym (look-found d es l ∙ ap (λ b. cond b (entryAt s q .target) (entryAt s q .other)) i) }
 
 pub look-end : (s : List ℕ) (p n : ℕ) (b : Bool) {j q : ℕ} → Looking s p n b j q → getD s p 0 ≤ j → Found s p n b 65535
-unfolding targetOf NONE
-look-end s p n b {j} g h = record { is = λ es l. sym (g .later es l ∙ ap (λ z. targetOf z n b) (drop-whole es j (omega (arith, l .counted)))) }
+unfolding entryTarget NONE
+look-end s p n b {j} g h = record { is = λ es l. sym (g .later es l ∙ ap (λ z. entryTarget z n b) (drop-whole es j (omega (arith, l .counted)))) }
 
 -- ---- what an accepted table promises of its entries
 pub listed-of : {s : List ℕ} {p n : ℕ} {acts : List NodeAction} {es : List Entry} → LocationPromised s p n acts es → Listed s p es
@@ -138,16 +138,6 @@ listed-of {n = n} {acts = acts} {es = es} l = record { counted = l .counted; ent
 
 pub counted-of : {s : List ℕ} {p n : ℕ} {acts : List NodeAction} {es : List Entry} → LocationPromised s p n acts es → Counted s p
 counted-of l = record { before-end = l .before-end; inside = let i = l .entries .inside in omega (arith, l .counted) }
-
--- the move of the definition
-pub next-is : (es : List Entry) (n : ℕ) (b : Bool) → entryNext es n b ≡ goingTo (targetOf es n b)
-unfolding entryNext targetOf goingTo FINISHED HALTED NONE
-next-is [] n b = refl
-next-is (e ∷ es) n b = go (eqb (e .node) n) (next-is es n b)
-  where
-    go : (t : Bool) → entryNext es n b ≡ goingTo (targetOf es n b) → elim t [ true ↦ goingTo (cond b (e .target) (e .other)) | false ↦ entryNext es n b ] ≡ goingTo (elim t [ true ↦ cond b (e .target) (e .other) | false ↦ targetOf es n b ])
-    go true h = refl
-    go false h = h
 
 or-stop : (acts : List NodeAction) (n : ℕ) {a : Action} → actionAt acts n ≡ some a → actionOrStop acts n ≡ a
 unfolding actionOrStop
@@ -166,12 +156,12 @@ all-acting {n} {acts} (all-cons {x = e} {l = es} p a) k h = go (eqb (e .node) k)
     go false i m f = f m
 
 -- and its move leads to a location or to an end
-all-leading : {n : ℕ} {acts : List NodeAction} {es : List Entry} → All (EntryPromised n acts) es → (k : ℕ) (b : Bool) → among k (entryNodes es) ≡ true → possible (actionOrStop acts k) b ≡ true → Leads n (targetOf es k b)
-unfolding among entryNodes targetOf
+all-leading : {n : ℕ} {acts : List NodeAction} {es : List Entry} → All (EntryPromised n acts) es → (k : ℕ) (b : Bool) → among k (entryNodes es) ≡ true → possible (actionOrStop acts k) b ≡ true → Leads n (entryTarget es k b)
+unfolding among entryNodes entryTarget
 all-leading all-nil k b h i = true-not-false (sym h)
 all-leading {n} {acts} (all-cons {x = e} {l = es} p a) k b h i = go (eqb (e .node) k) refl h (λ q. all-leading a k b q i)
   where
-    go : (t : Bool) → eqb (e .node) k ≡ t → elim t [ true ↦ true | false ↦ among k (entryNodes es) ] ≡ true → (among k (entryNodes es) ≡ true → Leads n (targetOf es k b)) → Leads n (elim t [ true ↦ cond b (e .target) (e .other) | false ↦ targetOf es k b ])
+    go : (t : Bool) → eqb (e .node) k ≡ t → elim t [ true ↦ true | false ↦ among k (entryNodes es) ] ≡ true → (among k (entryNodes es) ≡ true → Leads n (entryTarget es k b)) → Leads n (elim t [ true ↦ cond b (e .target) (e .other) | false ↦ entryTarget es k b ])
     go true m q f =
         let same : actionOrStop acts k ≡ p .action = ap (actionOrStop acts) (sym (eqb-true (e .node) k m)) ∙ or-stop acts (e .node) (p .is) in
         leads n (p .action) (e .target) (e .other) b (p .fits) (ap (λ x. possible x b) (sym same) ∙ i)
@@ -181,5 +171,5 @@ module _ {s : List ℕ} {p n : ℕ} {acts : List NodeAction} {es : List Entry} (
   pub acting-action : (k : ℕ) → among k (entryNodes es) ≡ true → actionAt acts k ≡ some (actionOrStop acts k)
   acting-action = all-acting (entries-promised n acts es (l .fits))
 
-  pub acting-leads : (k : ℕ) (b : Bool) → among k (entryNodes es) ≡ true → possible (actionOrStop acts k) b ≡ true → Leads n (targetOf es k b)
+  pub acting-leads : (k : ℕ) (b : Bool) → among k (entryNodes es) ≡ true → possible (actionOrStop acts k) b ≡ true → Leads n (entryTarget es k b)
   acting-leads = all-leading (entries-promised n acts es (l .fits))

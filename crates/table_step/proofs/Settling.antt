@@ -14,7 +14,7 @@ use Rattle.semantics.specs.Events.{eventIn}
 use Rattle.semantics.specs.Run as Run
 use Rattle.semantics.specs.Run.{Next, to, finished, halted, arrive, judge}
 use Rattle.semantics.specs.TableFile.{FINISHED, HALTED, NONE}
-use Rattle.semantics.specs.Tables.{Table, actionOrStop, entryNodes, goingTo, entriesAt, tableControl}
+use Rattle.semantics.specs.Tables.{Table, actionOrStop, entryNodes, goingTo, entryTarget, entryNext, entriesAt, tableControl}
 use Rattle.semantics.proofs.Facts.{true-not-false, mem-among}
 use Rattle.semantics.proofs.Verdicts.{judged-possible}
 use Rattle.nodeset.specs.Sets.{members, emptySet, Words}
@@ -29,11 +29,11 @@ use Rattle.effects.specs.declared.Verdict.{Verdict}
 use Rattle.effects.specs.declared.Verdict.the-variants.{Away, Above, Below, Stay, Move}
 use Rattle.execution.proofs.Outcomes.{heard-move}
 use Rattle.execution.proofs.Stepping.{stepped-over, stepped-away, stepped-above, stepped-below, stepped-stay, stepped-move, fits-left}
-use Rattle.table_step.specs.Entries.{Counted, Gathered, targetOf, Found}
+use Rattle.table_step.specs.Entries.{Counted, Gathered, Found}
 use Rattle.table_step.specs.Situations.{goingOn, ended, StandsFor, at-location, at-end, Here, Movable, Moving, Arrives, TableLent, Promised, Steps}
 use Rattle.table_step.specs.declared.steps.Situation.{Situation}
 use Rattle.table_step.specs.declared.steps.Answered.{Answered}
-use Rattle.table_step.proofs.EntryTurns.{listed-of, counted-of, next-is, acting-action, acting-leads}
+use Rattle.table_step.proofs.EntryTurns.{listed-of, counted-of, acting-action, acting-leads}
 
 -- ---- answers
 pub over-empty : (n : ℕ) {s : NodeSet} → s .words ≡ emptySet → _≡_ {A = Answered} (record { answer = n; situation = record { over = true; place = 0; acting = s } }) (ended n)
@@ -80,18 +80,18 @@ module _ {locs places : List ℕ} {x : ℕ} where
 
   -- ---- a move to y
   module _ {n : ℕ} {b : Bool} {y : ℕ} (f : Found locs (getD places x 0) n b y) where
-    target-is : (t : Table) → Movable t locs places x (Move n b) → y ≡ targetOf (entriesAt t x) n b
+    target-is : (t : Table) → Movable t locs places x (Move n b) → y ≡ entryTarget (entriesAt t x) n b
     target-is t m = f .is (entriesAt t x) (listed-of (m .lent .at x (m .below) .promised))
 
     next-goes : (t : Table) → Movable t locs places x (Move n b) → tableControl t .next x n b ≡ goingTo y
-    unfolding tableControl
-    next-goes t m = next-is (entriesAt t x) n b ∙ ap goingTo (sym (target-is t m))
+    unfolding tableControl entryNext
+    next-goes t m = ap goingTo (sym (target-is t m))
 
     goes-on : (t : Table) → Movable t locs places x (Move n b) → (y ≡ 65534 → ⊥) → (y ≡ 65533 → ⊥) → y < length (t .locations)
     unfolding FINISHED HALTED
     goes-on t m d h = go (m .leads n b refl)
       where
-        go : Leads (length (t .locations)) (targetOf (entriesAt t x) n b) → y < length (t .locations)
+        go : Leads (length (t .locations)) (entryTarget (entriesAt t x) n b) → y < length (t .locations)
         go (leads-to i) = omega (arith, target-is t m)
         go (finishes e) = absurd (d (target-is t m ∙ e))
         go (halts e) = absurd (h (target-is t m ∙ e))

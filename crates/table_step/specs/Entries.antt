@@ -1,12 +1,11 @@
 -- The entries of a location, as the code finds them.
 use mathlib.Core.Path.{_≡_}
-use mathlib.Core.Bool.{Bool, true, false, cond}
-use mathlib.Core.List.{List, [], _∷_}
+use mathlib.Core.Bool.{Bool, true}
+use mathlib.Core.List.{List}
 use Prim.Native.Nat.{ℕ, _+_, _*_, _≤_, _<_}
-use lib.Dec.{eqb}
 use lib.ListN.{length, getD}
-use Rattle.semantics.specs.TableFile.{Entry, NONE}
-use Rattle.semantics.specs.Tables.{risingFrom, entryNodes}
+use Rattle.semantics.specs.TableFile.{Entry}
+use Rattle.semantics.specs.Tables.{risingFrom, entryNodes, entryTarget}
 use Rattle.nodeset.specs.Sets.{members, Words}
 use Rattle.table_read.specs.Promised.{EntriesAt}
 
@@ -26,10 +25,6 @@ pub record Gathered (s : List ℕ) (p : ℕ) (ws : List ℕ) : Type 0 where
   pub words : Words ws
   pub are : (es : List Entry) → Listed s p es → members ws ≡ entryNodes es
 
--- "A taken pick goes to its entry's target, a false test to the second one."
-unfoldable pub targetOf : List Entry → ℕ → Bool → ℕ
-targetOf [] n b = NONE
-targetOf (e ∷ es) n b = elim (eqb (e .node) n) [ true ↦ cond b (e .target) (e .other) | false ↦ targetOf es n b ]
-
+-- t is the target of node n's entry, on done or true, or on false
 pub record Found (s : List ℕ) (p : ℕ) (n : ℕ) (b : Bool) (t : ℕ) : Type 0 where
-  pub is : (es : List Entry) → Listed s p es → t ≡ targetOf es n b
+  pub is : (es : List Entry) → Listed s p es → t ≡ entryTarget es n b

@@ -11,7 +11,7 @@ use Rattle.semantics.specs.Run as Run
 use Rattle.semantics.specs.Events.{eventIn}
 use Rattle.semantics.specs.Run.{Action, Next, arrive, step, judge}
 use Rattle.semantics.specs.TableFile.{locationLimit}
-use Rattle.semantics.specs.Tables.{Table, actionAt, entryNodes, entriesAt, tableControl}
+use Rattle.semantics.specs.Tables.{Table, actionAt, entryNodes, entryTarget, entriesAt, tableControl}
 use Rattle.nodeset.specs.Sets.{members, emptySet, Words}
 use Rattle.nodeset.specs.declared.NodeSet.{NodeSet}
 use Rattle.table_read.specs.Promised.{LocationPromised, Leads}
@@ -19,7 +19,6 @@ use Rattle.execution.specs.Ready.{Lent, PlantLent, NodeLent, Fits}
 use Rattle.effects.specs.Verdicts.{Left}
 use Rattle.effects.specs.declared.Verdict.{Verdict}
 use Rattle.effects.specs.declared.Verdict.the-variants.{Move}
-use Rattle.table_step.specs.Entries.{targetOf}
 use Rattle.table_step.specs.declared.steps.Situation.{Situation}
 use Rattle.table_step.specs.declared.steps.Answered.{Answered}
 
@@ -60,7 +59,7 @@ pub record Here (t : Table) (locs places : List ℕ) (x : ℕ) (ws : List ℕ) :
 pub record Movable (t : Table) (locs places : List ℕ) (x : ℕ) (v : Verdict) : Type 0 where
   pub lent : LocationsLent t locs places
   pub below : x < length (t .locations)
-  pub leads : (n : ℕ) (b : Bool) → v ≡ Move n b → Leads (length (t .locations)) (targetOf (entriesAt t x) n b)
+  pub leads : (n : ℕ) (b : Bool) → v ≡ Move n b → Leads (length (t .locations)) (entryTarget (entriesAt t x) n b)
 
 -- there is such a table
 pub record Moving (locs places : List ℕ) (x : ℕ) (v : Verdict) : Type 0 where
