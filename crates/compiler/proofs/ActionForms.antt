@@ -13,7 +13,7 @@ use lib.Seq.{take-all, length-take-le}
 use Rattle.semantics.specs.Bytes.{noBytes, twoBytes, byteAndRest}
 use Rattle.semantics.specs.Editions.{edition1}
 use Rattle.semantics.specs.Run.{Action, stop, isTest, test}
-use Rattle.semantics.specs.TableFile.{NodeAction, actionBytes, kindNumber, operandBytes, writeAction, actionKind, actionOfKind}
+use Rattle.semantics.specs.TableFile.{NodeAction, TEST, actionBytes, kindNumber, operandBytes, writeAction, actionKind, actionOfKind}
 use Rattle.semantics.specs.Tables.{actionAt, actionOrStop}
 use Rattle.semantics.proofs.Facts.{none-not-some, some-is, at-exists, at-mem, all-mem}
 use Rattle.schedules.specs.Nodes.{Node, sequence, parallel, Kind, a-sequence, a-parallel, a-while, an-if, a-continue, a-reset, a-reinitial, a-switch, a-stop, no-kind, kindOf, childCount, nodeOf, nodesIn, actionOf, listed, actionsFrom, actionsOf}
@@ -30,7 +30,7 @@ use Rattle.table_write.specs.ActionTable.{operandAt, actionHere, actionsTo, Cod
 -- ---- a node's action, by the number of its kind and its operand bytes
 data Formed (c : ℕ) (b : List ℕ) : Option Action → Type 0 where
   no-action : c ≡ 0 → Formed c b none
-  an-action : {y : Action} → actionBytes y ≡ c ∷ b → eqb c 1 ≡ isTest y → Formed c b (some y)
+  an-action : {y : Action} → actionBytes y ≡ c ∷ b → eqb c TEST ≡ isTest y → Formed c b (some y)
 
 counts-formed : (f : ℕ → Node) → ((k : ℕ) → actionOf (f k) ≡ none) → (b : List ℕ) {x : Node} → childCount f b ≡ some x → Formed 0 b (actionOf x)
 unfolding childCount
@@ -66,7 +66,7 @@ formed-coded (no-action e) r h z = absurd (z e)
 formed-coded (an-action {y = y} f g) r h z = record { action = y; read = r; bytes = f; short = omega (arith, h y refl, ap length f) }
 
 -- nodes without an action are no tests
-formed-test : {c : ℕ} {b : List ℕ} {o : Option Action} → Formed c b o → eqb c 1 ≡ isTest (elim o [ none ↦ stop | some a ↦ a ])
+formed-test : {c : ℕ} {b : List ℕ} {o : Option Action} → Formed c b o → eqb c TEST ≡ isTest (elim o [ none ↦ stop | some a ↦ a ])
 unfolding isTest
 formed-test (no-action e) = rw e refl
 formed-test (an-action f g) = g
@@ -151,7 +151,7 @@ module _ {s kinds starts ends : List ℕ} {count : ℕ} {ns : List Node} (d : No
   unfolding testsIn testsOf actionOrStop isTest bind
   tests-are = fun-ext (λ n. go n (decLt n count))
     where
-      go : (n : ℕ) → Dec (n < count) → eqb (getD acts n 0) 1 ≡ isTest (elim (actionAt (actionsOf ns) n) [ none ↦ stop | some a ↦ a ])
+      go : (n : ℕ) → Dec (n < count) → eqb (getD acts n 0) TEST ≡ isTest (elim (actionAt (actionsOf ns) n) [ none ↦ stop | some a ↦ a ])
       go n (yes h) =
           let x = stood n h in
           formed-test (x .form) ∙ ap (λ (o : Option Action). isTest (elim o [ none ↦ stop | some a ↦ a ])) (sym (action-of-node ns n ∙ ap (λ o. bind o actionOf) (x .is)))

@@ -168,7 +168,6 @@ plan-made p g e l n b k = record {
   actions = acts-listed g e;
   list = l;
   rows = plan-rows g e n b;
-  long = k .0;
   fits = k .1;
   whole = omega (arith, k .0, b, plan-long g e l);
 }
