@@ -6,13 +6,14 @@ use mathlib.Core.Option.{Option, none, some, bind}
 use Prim.Native.Nat.{ℕ, _-_, _<_, _≤_}
 use native.Mathlib.Omega.{arith}
 use lib.ListN.{length, getD, getElem?, take, drop}
+use Rattle.semantics.specs.Bytes.{every}
 use Rattle.semantics.specs.Editions.{edition1}
 use Rattle.semantics.specs.Plant.{selectors}
 use Rattle.semantics.specs.Run.{Action, stop}
 use Rattle.semantics.specs.TableFile as TableFile
 use Rattle.semantics.specs.TableFile.{actionKind}
 use Rattle.semantics.specs.Tables.{operandFits, actionAt, actionOrStop}
-use Rattle.semantics.proofs.Facts.{none-not-some, among-mem, every-all, all-mem, at-mem}
+use Rattle.semantics.proofs.Facts.{and-left, none-not-some, among-mem, every-all, all-mem, at-mem}
 use Rattle.schedules.specs.Nodes.{Node, nodeNamed, nodeReads, actionOf, nodeAction, actionsOf}
 use Rattle.schedules.specs.Residuals.{acting}
 use Rattle.schedules.specs.Files.{Schedule}
@@ -52,7 +53,9 @@ module _ {f : List ℕ} {ix : ScheduleIndex} {s : Schedule} (p : Promised f ix s
       go (some x) e =
           let i : actionOf x ≡ some a = sym (action-of-node (s .nodes) n ∙ ap (λ o. bind o actionOf) e) ∙ h in
           let m = at-mem (s .nodes) n e in
-          operand-fits edition1 _ _ x a i (all-mem (every-all (nodeNamed (length (s .plant .variables)) (selectors (s .plant))) (s .nodes) (p .named)) m) (all-mem (every-all (nodeReads edition1 (length (s .plant .variables))) (s .nodes) (p .reads)) m)
+          let j = passed edition1 f s (p .judged) in
+          let reads = and-left (every (nodeReads edition1 (length (s .plant .variables))) (s .nodes)) _ (j .reads) in
+          operand-fits edition1 _ _ x a i (all-mem (every-all (nodeNamed (length (s .plant .variables)) (selectors (s .plant))) (s .nodes) (j .named)) m) (all-mem (every-all (nodeReads edition1 (length (s .plant .variables))) (s .nodes) reads) m)
 
   module _ {l : Lent} (q : LentFrom f ix l) where
     equations-are : l .equations ≡ s .sections .equations
