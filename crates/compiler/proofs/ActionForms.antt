@@ -1,26 +1,24 @@
 -- The actions that kinds and operands of the index make are those of the nodes.
-use mathlib.Core.Path.{_≡_, refl, sym, ap, ap₂, subst, fun-ext, _∙_}
-use mathlib.Core.Bool.{Bool, true, false, cond}
-use mathlib.Core.List.{List, [], _∷_, _++_, map}
+use mathlib.Core.Path.{_≡_, refl, sym, ap, ap₂, fun-ext, _∙_}
+use mathlib.Core.List.{List, [], _∷_, _++_}
 use mathlib.Core.Option.{Option, none, some, bind}
-use Prim.Native.Nat.{ℕ, zero, suc, _+_, _-_, _≤_, _<_}
+use Prim.Native.Nat.{ℕ, zero, suc, _+_, _≤_, _<_}
 use native.Mathlib.Decide.{decLt}
 use native.Mathlib.Nat.{zero-add}
 use native.Mathlib.Omega.{arith}
-use lib.Dec.{leb, eqb}
-use lib.ListN.{length, getD, getElem?, take, replicate, length-append, length-map}
+use lib.Dec.{eqb}
+use lib.ListN.{length, getD, getElem?, take}
 use lib.Seq.{take-all, length-take-le}
 use Rattle.semantics.specs.Bytes.{noBytes, twoBytes, byteAndRest}
 use Rattle.semantics.specs.Editions.{edition1}
 use Rattle.semantics.specs.Run.{Action, stop, isTest, test}
-use Rattle.semantics.specs.TableFile.{NodeAction, TEST, actionBytes, kindNumber, operandBytes, writeAction, actionKind, actionOfKind}
+use Rattle.semantics.specs.TableFile.{NodeAction, TEST, actionBytes, kindNumber, operandBytes, actionKind, actionOfKind}
 use Rattle.semantics.specs.Tables.{actionAt, actionOrStop}
 use Rattle.semantics.proofs.Facts.{none-not-some, some-is, at-exists, at-mem, all-mem}
-use Rattle.schedules.specs.Nodes.{Node, sequence, parallel, Kind, a-sequence, a-parallel, a-while, an-if, a-continue, a-reset, a-reinitial, a-switch, a-stop, no-kind, kindOf, childCount, nodeOf, nodesIn, actionOf, listed, actionsFrom, actionsOf}
+use Rattle.schedules.specs.Nodes.{Node, sequence, parallel, Kind, a-sequence, a-parallel, a-while, an-if, a-continue, a-reset, a-reinitial, a-switch, a-stop, no-kind, nodeOf, nodesIn, actionOf, listed, actionsFrom, actionsOf}
 use Rattle.schedules.specs.Compiling.{testsOf}
 use Rattle.schedules.proofs.NodesRead.{nodes-counted}
-use Rattle.schedules.proofs.Places.{flat-append, take-next}
-use Rattle.codec.specs.Padding.{pad}
+use Rattle.schedules.proofs.Places.{take-next}
 use Rattle.schedule_read.specs.Indexed.{NodesAt}
 use Rattle.schedule_read.specs.Actions.{actionNumber, ActionKinds}
 use Rattle.schedule_read.proofs.NodeActions.{action-made, action-of-node, action-beyond}

@@ -1,18 +1,18 @@
 -- What is planned before a table is written, a law for each return.
 use mathlib.Core.Path.{_≡_, refl, sym, ap, _∙_}
-use mathlib.Core.Bool.{Bool, true, false}
+use mathlib.Core.Bool.{true, false}
 use mathlib.Core.List.{List}
 use mathlib.Core.Option.{some}
-use Prim.Native.Nat.{ℕ, suc, _+_, _-_, _*_, _≤_, _<_}
+use Prim.Native.Nat.{ℕ, _+_, _-_, _*_, _≤_, _<_}
 use native.Mathlib.Nat.{mul-le-mul}
 use native.Mathlib.Omega.{arith}
 use lib.Dec.{leb}
-use lib.ListN.{length, getD, take, drop, length-drop}
+use lib.ListN.{length, getD, drop, length-drop}
 use lib.Seq.{length-take-le}
 use borrow.Author.Tests.{le-leb, lt-leb, leb-true, ltb-true, ltb-false, eqb-true}
 use Rattle.semantics.specs.Bytes.{be2, out, widthOf}
 use Rattle.semantics.specs.Editions.{edition1}
-use Rattle.semantics.specs.Refusals.{Judged, refused, accepted, _>>=_, _>>_, ensure}
+use Rattle.semantics.specs.Refusals.{Judged, refused, _>>=_, _>>_, ensure}
 use Rattle.semantics.specs.TableFile.{NodeAction, locationLimit, writeActions}
 use Rattle.semantics.proofs.Judging.{go-then, go-ensure}
 use Rattle.schedules.specs.Trees.{treeOf}
@@ -29,7 +29,7 @@ use Rattle.schedules.proofs.TableLength.{rows-length, table-of-length}
 use Rattle.schedule_read.specs.ScheduleFile.{scheduleIndex}
 use Rattle.schedule_read.specs.declared.call.ScheduleIndex.{ScheduleIndex}
 use Rattle.schedule_read.specs.Actions.{ActionKinds}
-use Rattle.schedule_read.specs.Promised.{Slice, Promised}
+use Rattle.schedule_read.specs.Promised.{Slice}
 use Rattle.schedule_read.proofs.Promises.{index-refused}
 use Rattle.numbering.specs.Meeting.{testsIn}
 use Rattle.numbering.specs.Located.{rowBytes}

@@ -42,7 +42,7 @@ unfoldable pub partsRead : Judged FileSections → Parts
 partsRead (refused n) = noParts n
 partsRead (accepted s) = partsIn s
 
--- the number that refuses the layout, or where the sections stand
+-- the number of the first condition that the layout breaks, or where the sections stand
 unfoldable pub partsOf : List ℕ → Parts
 partsOf f = partsRead (judgeFileLayout edition1 f)
 
