@@ -1,51 +1,40 @@
 -- The actions that kinds and operands of the index make are those of the nodes.
-use mathlib.Core.Path.{_≡_, refl, sym, ap, ap₂, subst, fun-ext, _∙_}
-use mathlib.Core.Bool.{Bool, true, false, cond}
-use mathlib.Core.List.{List, [], _∷_, _++_, map}
+use mathlib.Core.Path.{_≡_, refl, sym, ap, ap₂, fun-ext, _∙_}
+use mathlib.Core.List.{List, [], _∷_, _++_}
 use mathlib.Core.Option.{Option, none, some, bind}
-use Prim.Native.Nat.{ℕ, zero, suc, _+_, _-_, _≤_, _<_}
+use Prim.Native.Nat.{ℕ, zero, suc, _+_, _≤_, _<_}
 use native.Mathlib.Decide.{decLt}
 use native.Mathlib.Nat.{zero-add}
 use native.Mathlib.Omega.{arith}
-use lib.Dec.{leb, eqb}
-use lib.ListN.{length, getD, getElem?, take, replicate, length-append, length-map}
+use lib.Dec.{eqb}
+use lib.ListN.{length, getD, getElem?, take}
 use lib.Seq.{take-all, length-take-le}
 use Rattle.semantics.specs.Bytes.{noBytes, twoBytes, byteAndRest}
 use Rattle.semantics.specs.Editions.{edition1}
 use Rattle.semantics.specs.Run.{Action, stop, isTest, test}
-use Rattle.semantics.specs.TableFile.{NodeAction, actionBytes, kindNumber, operandBytes, writeAction, actionKind, actionOfKind}
+use Rattle.semantics.specs.TableFile.{NodeAction, TEST, actionBytes, kindNumber, operandBytes, actionKind, actionOfKind}
 use Rattle.semantics.specs.Tables.{actionAt, actionOrStop}
 use Rattle.semantics.proofs.Facts.{none-not-some, some-is, at-exists, at-mem, all-mem}
-use Rattle.schedules.specs.Nodes.{Node, sequence, parallel, Kind, a-sequence, a-parallel, a-while, an-if, a-continue, a-reset, a-reinitial, a-switch, a-stop, no-kind, kindOf, childCount, nodeOf, nodesIn, actionOf, listed, actionsFrom, actionsOf}
+use Rattle.schedules.specs.Nodes.{Node, sequence, parallel, Kind, a-sequence, a-parallel, a-while, an-if, a-continue, a-reset, a-reinitial, a-switch, a-stop, no-kind, nodeOf, nodesIn, actionOf, listed, actionsFrom, actionsOf}
 use Rattle.schedules.specs.Compiling.{testsOf}
 use Rattle.schedules.proofs.NodesRead.{nodes-counted}
-use Rattle.schedules.proofs.Places.{flat-append, take-next}
-use Rattle.codec.specs.Padding.{pad}
+use Rattle.schedules.proofs.Places.{take-next}
 use Rattle.schedule_read.specs.Indexed.{NodesAt}
-use Rattle.schedule_read.specs.Actions.{actionNumber, actionNumbers}
-use Rattle.schedule_read.proofs.NodeActions.{action-made, kind-number, numbers-long, action-of-node, action-beyond}
+use Rattle.schedule_read.specs.Actions.{actionNumber, ActionKinds}
+use Rattle.schedule_read.proofs.NodeActions.{action-made, action-of-node, action-beyond}
+use Rattle.schedule_read.proofs.Payloads.{counted}
 use Rattle.numbering.specs.Meeting.{testsIn}
 use Rattle.table_write.specs.ActionTable.{operandAt, actionHere, actionsTo, Coded, Operands}
 
 -- ---- a node's action, by the number of its kind and its operand bytes
 data Formed (c : ℕ) (b : List ℕ) : Option Action → Type 0 where
   no-action : c ≡ 0 → Formed c b none
-  an-action : {y : Action} → actionBytes y ≡ c ∷ b → eqb c 1 ≡ isTest y → Formed c b (some y)
+  an-action : {y : Action} → actionBytes y ≡ c ∷ b → eqb c TEST ≡ isTest y → Formed c b (some y)
 
-counts-formed : (f : ℕ → Node) → ((k : ℕ) → actionOf (f k) ≡ none) → (b : List ℕ) {x : Node} → childCount f b ≡ some x → Formed 0 b (actionOf x)
-unfolding childCount
-counts-formed f h [] e = none-not-some e
-counts-formed f h (k ∷ []) {x} e = go (leb 1 k) e
-  where
-    go : (t : Bool) → cond t (some (f k)) none ≡ some x → Formed 0 (k ∷ []) (actionOf x)
-    go true e = subst (Formed 0 (k ∷ [])) (sym (h k) ∙ ap actionOf (some-is e)) (no-action refl)
-    go false e = none-not-some e
-counts-formed f h (k ∷ l ∷ b) e = none-not-some e
-
-formed : (j : Kind) (b : List ℕ) {x : Node} → nodeOf j b ≡ some x → Formed (actionNumber j) b (actionOf x)
+formed : (j : Kind) (b : List ℕ) {x : Node} → nodeOf j b ≡ some x → Formed (actionNumber x) b (actionOf x)
 unfolding nodeOf actionOf actionNumber actionBytes kindNumber operandBytes isTest byteAndRest twoBytes noBytes
-formed a-sequence b e = counts-formed sequence (λ k. refl) b e
-formed a-parallel b e = counts-formed parallel (λ k. refl) b e
+formed a-sequence b e = rw (← counted sequence b e .1) (no-action refl)
+formed a-parallel b e = rw (← counted parallel b e .1) (no-action refl)
 formed a-while b e = rw (← some-is e) (an-action refl refl)
 formed an-if b e = rw (← some-is e) (an-action refl refl)
 formed a-continue b e = rw (← some-is e) (an-action refl refl)
@@ -66,26 +55,10 @@ formed-coded (no-action e) r h z = absurd (z e)
 formed-coded (an-action {y = y} f g) r h z = record { action = y; read = r; bytes = f; short = omega (arith, h y refl, ap length f) }
 
 -- nodes without an action are no tests
-formed-test : {c : ℕ} {b : List ℕ} {o : Option Action} → Formed c b o → eqb c 1 ≡ isTest (elim o [ none ↦ stop | some a ↦ a ])
+formed-test : {c : ℕ} {b : List ℕ} {o : Option Action} → Formed c b o → eqb c TEST ≡ isTest (elim o [ none ↦ stop | some a ↦ a ])
 unfolding isTest
 formed-test (no-action e) = rw e refl
 formed-test (an-action f g) = g
-
--- ---- 0 beyond the nodes
-zeros : (k n : ℕ) → _≡_ {A = ℕ} (getD (replicate k 0) n 0) 0
-zeros zero n = refl
-zeros (suc k) zero = refl
-zeros (suc k) (suc n) = zeros k n
-
-zero-beyond : (l : List ℕ) (k n : ℕ) → length l ≤ n → getD (l ++ replicate k 0) n 0 ≡ 0
-zero-beyond [] k n h = zeros k n
-zero-beyond (x ∷ l) k zero h = absurd (omega arith)
-zero-beyond (x ∷ l) k (suc n) h = zero-beyond l k n (omega arith)
-
-numbers-beyond : (kinds : List ℕ) (count n : ℕ) → count ≤ length kinds → count ≤ n → getD (actionNumbers kinds count) n 0 ≡ 0
-unfolding actionNumbers pad
-numbers-beyond kinds count n f h = zero-beyond (map (λ k. actionNumber (kindOf k)) (take count kinds)) (64 - length (map (λ k. actionNumber (kindOf k)) (take count kinds))) n
-    (omega (arith, length-map (take count kinds) (λ k. actionNumber (kindOf k)), length-take-le count kinds f))
 
 -- ---- the actions of more nodes
 actions-append : (m : ℕ) (l k : List Node) → actionsFrom m (l ++ k) ≡ actionsFrom m l ++ actionsFrom (m + length l) k
@@ -104,10 +77,7 @@ actions-next ns n {x} e h =
     ap (actionsFrom 0) (take-next ns n e) ∙ actions-append 0 (take n ns) (x ∷ [])
     ∙ ap (λ (i : ℕ). actionsFrom 0 (take n ns) ++ listed i (actionOf x) []) (zero-add (length (take n ns)) ∙ length-take-le n ns h)
 
-module _ {s kinds starts ends : List ℕ} {count : ℕ} {ns : List Node} (d : NodesAt s kinds starts ends count ns) where
-  abbrev acts : List ℕ
-  acts = actionNumbers kinds count
-
+module _ {s kinds starts ends acts : List ℕ} {count : ℕ} {ns : List Node} (d : NodesAt s kinds starts ends count ns) (a : ActionKinds kinds count acts) where
   record Stood (n : ℕ) : Type 0 where
     node : Node
     is : getElem? ns n ≡ some node
@@ -119,7 +89,7 @@ module _ {s kinds starts ends : List ℕ} {count : ℕ} {ns : List Node} (d : No
   stood n h =
       let x = at-exists ns n (omega (arith, d .counted)) in
       let e = d .entries n h .node ∙ x .1 in
-      let k = kind-number kinds count (d .few) (omega (arith, d .few, d .kinds-full)) n h in
+      let k = a .each n h .made _ .of (x .0) e in
       record { node = x .0; is = x .1; form = rw k (formed _ _ e); read = rw k (action-made _ _ e) }
 
   actions-are : (n : ℕ) → n ≤ count → actionsTo s acts starts ends n ≡ actionsOf (take n ns)
@@ -137,7 +107,7 @@ module _ {s kinds starts ends : List ℕ} {count : ℕ} {ns : List Node} (d : No
   operands h = record {
     few = d .few;
     each = λ i q. let x = stood i q in record {
-      in-acts = omega (arith, numbers-long kinds count (d .few) (omega (arith, d .few, d .kinds-full)), d .few);
+      in-acts = omega (arith, a .full, d .few);
       in-starts = omega (arith, d .few, d .starts-full);
       in-ends = omega (arith, d .few, d .ends-full);
       ordered = d .entries i q .ordered;
@@ -151,10 +121,9 @@ module _ {s kinds starts ends : List ℕ} {count : ℕ} {ns : List Node} (d : No
   unfolding testsIn testsOf actionOrStop isTest bind
   tests-are = fun-ext (λ n. go n (decLt n count))
     where
-      go : (n : ℕ) → Dec (n < count) → eqb (getD acts n 0) 1 ≡ isTest (elim (actionAt (actionsOf ns) n) [ none ↦ stop | some a ↦ a ])
+      go : (n : ℕ) → Dec (n < count) → eqb (getD acts n 0) TEST ≡ isTest (elim (actionAt (actionsOf ns) n) [ none ↦ stop | some a ↦ a ])
       go n (yes h) =
           let x = stood n h in
           formed-test (x .form) ∙ ap (λ (o : Option Action). isTest (elim o [ none ↦ stop | some a ↦ a ])) (sym (action-of-node ns n ∙ ap (λ o. bind o actionOf) (x .is)))
       go n (no h) =
-          let z = numbers-beyond kinds count n (omega (arith, d .few, d .kinds-full)) (omega arith) in
-          rw (z, action-beyond d n (omega arith)) refl
+          rw (a .behind n (omega arith), action-beyond d n (omega arith)) refl

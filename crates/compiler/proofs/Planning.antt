@@ -1,18 +1,18 @@
 -- What is planned before a table is written, a law for each return.
 use mathlib.Core.Path.{_≡_, refl, sym, ap, _∙_}
-use mathlib.Core.Bool.{Bool, true, false}
+use mathlib.Core.Bool.{true, false}
 use mathlib.Core.List.{List}
 use mathlib.Core.Option.{some}
-use Prim.Native.Nat.{ℕ, suc, _+_, _-_, _*_, _≤_, _<_}
+use Prim.Native.Nat.{ℕ, _+_, _-_, _*_, _≤_, _<_}
 use native.Mathlib.Nat.{mul-le-mul}
 use native.Mathlib.Omega.{arith}
 use lib.Dec.{leb}
-use lib.ListN.{length, getD, take, drop, length-drop}
+use lib.ListN.{length, getD, drop, length-drop}
 use lib.Seq.{length-take-le}
 use borrow.Author.Tests.{le-leb, lt-leb, leb-true, ltb-true, ltb-false, eqb-true}
 use Rattle.semantics.specs.Bytes.{be2, out, widthOf}
 use Rattle.semantics.specs.Editions.{edition1}
-use Rattle.semantics.specs.Refusals.{Judged, refused, accepted, _>>=_, _>>_, ensure}
+use Rattle.semantics.specs.Refusals.{Judged, refused, _>>=_, _>>_, ensure}
 use Rattle.semantics.specs.TableFile.{NodeAction, locationLimit, writeActions}
 use Rattle.semantics.proofs.Judging.{go-then, go-ensure}
 use Rattle.schedules.specs.Trees.{treeOf}
@@ -28,10 +28,9 @@ use Rattle.schedules.proofs.LocationCount.{entriesAt, locations-counted, few-lo
 use Rattle.schedules.proofs.TableLength.{rows-length, table-of-length}
 use Rattle.schedule_read.specs.ScheduleFile.{scheduleIndex}
 use Rattle.schedule_read.specs.declared.call.ScheduleIndex.{ScheduleIndex}
-use Rattle.schedule_read.specs.Actions.{actionNumbers}
-use Rattle.schedule_read.specs.Promised.{Slice, Promised}
+use Rattle.schedule_read.specs.Actions.{ActionKinds}
+use Rattle.schedule_read.specs.Promised.{Slice}
 use Rattle.schedule_read.proofs.Promises.{index-refused}
-use Rattle.schedule_read.proofs.NodeActions.{numbers-long}
 use Rattle.numbering.specs.Meeting.{testsIn}
 use Rattle.numbering.specs.Located.{rowBytes}
 use Rattle.sizes.specs.Rows.{Measures, Exact}
@@ -103,24 +102,21 @@ module _ {f : List ℕ} {ix : ScheduleIndex} (g : Indexed f ix) {m : Sizes} (x :
       }
 
 -- ---- its plan
-module _ {f : List ℕ} {ix : ScheduleIndex} {m : Sizes} (g : Found f ix m) {acts : List ℕ} (e : acts ≡ actionNumbers (ix .nodes .kinds) (ix .nodes .count)) where
+module _ {f : List ℕ} {ix : ScheduleIndex} {m : Sizes} (g : Found f ix m) {acts : List ℕ} (e : ActionKinds (ix .nodes .kinds) (ix .nodes .count) acts) where
   abbrev t : Schedule
   t = g .schedule
 
   tree-read : treeOf (t .nodes) ≡ some (t .root)
   tree-read = passed edition1 f t (g .promise .judged) .tree
 
-  acts-full : length acts ≡ 64
-  acts-full = let d = g .promise .nodes in ap length e ∙ numbers-long (ix .nodes .kinds) (ix .nodes .count) (d .few) (omega (arith, d .few, d .kinds-full))
-
   acts-operands : Operands (t .sections .schedule) acts (ix .nodes .starts) (ix .nodes .ends) (ix .nodes .count)
-  acts-operands = rw e (operands (g .promise .nodes) (passed edition1 f t (g .promise .judged) .nodes))
+  acts-operands = operands (g .promise .nodes) e (passed edition1 f t (g .promise .judged) .nodes)
 
   acts-tests : testsIn acts ≡ testsOf (t .nodes)
-  acts-tests = rw e (tests-are (g .promise .nodes))
+  acts-tests = tests-are (g .promise .nodes) e
 
   acts-listed : actionsTo (t .sections .schedule) acts (ix .nodes .starts) (ix .nodes .ends) (ix .nodes .count) ≡ actionsOf (t .nodes)
-  acts-listed = rw e (actions-listed (g .promise .nodes))
+  acts-listed = actions-listed (g .promise .nodes) e
 
   pub listed : Listed acts (ix .nodes .starts) (ix .nodes .ends) (ix .nodes .count)
   listed = record { section = t .sections .schedule; operands = acts-operands }
@@ -153,7 +149,7 @@ module _ {f : List ℕ} {ix : ScheduleIndex} {m : Sizes} (g : Found f ix m) {act
       let w = ap (λ (z : List NodeAction). length (writeActions edition1 z)) acts-listed in
       omega (arith, table-of-length edition1 t tree-read few, slice-length (g .promise .variables), slice-length (g .promise .equations), b, w, g .locations, g .entries)
 
-pub plan-made : {f : List ℕ} {m : Sizes} (p : Plan) (g : Found f (p .index) m) → p .acts ≡ actionNumbers (p .index .nodes .kinds) (p .index .nodes .count) →
+pub plan-made : {f : List ℕ} {m : Sizes} (p : Plan) (g : Found f (p .index) m) → ActionKinds (p .index .nodes .kinds) (p .index .nodes .count) (p .acts) →
     Measured (p .acts) (p .index .nodes .starts) (p .index .nodes .ends) (p .index .nodes .count) (p .list .count) (p .list .at) →
     p .rows .count ≡ m .locations → p .rows .at ≡ m .locations + m .entries * 5 →
     (p .length ≡ copied (p .index .parts) + p .list .at + p .rows .at + 18) × (p .length < 4294967296) → Planned f p
@@ -162,13 +158,12 @@ plan-made p g e l n b k = record {
   promise = g .promise;
   judged = g .judged;
   short = g .short;
-  full = acts-full g e;
+  full = e .full;
   tests = acts-tests g e;
   operands = acts-operands g e;
   actions = acts-listed g e;
   list = l;
   rows = plan-rows g e n b;
-  long = k .0;
   fits = k .1;
   whole = omega (arith, k .0, b, plan-long g e l);
 }

@@ -1,13 +1,13 @@
 -- The table that was planned, written section by section.
-use mathlib.Core.Path.{_≡_, refl, sym, ap, _∙_}
-use mathlib.Core.List.{List, _∷_, _++_, append-assoc}
-use Prim.Native.Nat.{ℕ, _+_, _-_, _≤_, _<_}
+use mathlib.Core.Path.{_≡_, sym, ap, _∙_}
+use mathlib.Core.List.{List, _++_, append-assoc}
+use Prim.Native.Nat.{ℕ, _+_, _-_, _<_}
 use native.Mathlib.Omega.{arith}
 use lib.ListN.{length, take, drop, length-append}
 use Rattle.semantics.specs.Bytes.{out4}
 use Rattle.semantics.specs.Editions.{edition1}
 use Rattle.semantics.specs.Refusals.{accepted}
-use Rattle.semantics.specs.TableFile.{inSection2, tableBytes, tableBody}
+use Rattle.semantics.specs.TableFile.{inSection2, tableHead, tableBytes, tableBody}
 use Rattle.semantics.proofs.Judging.{accepted-is}
 use Rattle.semantics.proofs.WrittenTables.{section2-length, table-length}
 use Rattle.schedules.specs.Compiling.{scheduleLocations, tableOf, judgeTableOf}
@@ -16,7 +16,7 @@ use Rattle.numbering.specs.Meeting.{testsIn}
 use Rattle.table_write.specs.ActionTable.{actionSection, Operands}
 use Rattle.table_write.specs.LocationTable.{locationSection, Counted, LocationsPut}
 use Rattle.table_write.specs.Pieces.{Put, front}
-use Rattle.table_write.proofs.TableBytes.{put-then, put-as, actions-long}
+use Rattle.table_write.proofs.TableBytes.{put-then, put-as, actions-long, locations-long}
 use Rattle.compiler.specs.Plans.{Planned}
 use Rattle.compiler.specs.declared.call.Plan.{Plan}
 use Rattle.compiler.proofs.Planning.{slice-length}
@@ -55,12 +55,9 @@ module _ {f : List ℕ} {p : Plan} (g : Planned f p) where
   counted = record { tree = g .schedule .root; has = g .rows }
 
   -- where they stand
-  pub planned-long : p .length ≡ length vs + length es + p .list .at + p .rows .at + 18
-  planned-long = omega (arith, g .long, between-length (g .promise .variables), between-length (g .promise .equations))
-
   pub front-long : length (front (p .length) vs es) ≡ length vs + length es + 9
   unfolding out4
-  front-long = omega (arith, length-append ((1 ∷ out4 (p .length)) ++ inSection2 vs) (inSection2 es), length-append (1 ∷ out4 (p .length)) (inSection2 vs), section2-length vs, section2-length es)
+  front-long = omega (arith, length-append (tableHead edition1 (p .length) ++ inSection2 vs) (inSection2 es), length-append (tableHead edition1 (p .length)) (inSection2 vs), section2-length vs, section2-length es)
 
   pub list-long : length (actionSection sch (p .acts) (p .index .nodes .starts) (p .index .nodes .ends) (p .index .nodes .count)) ≡ p .list .at + 3
   list-long = actions-long operands (g .list)
@@ -70,7 +67,21 @@ module _ {f : List ℕ} {p : Plan} (g : Planned f p) where
       ++ locationSection (testsIn (p .acts)) (g .schedule .root) ≡
       tableOf edition1 (g .schedule)
   unfolding tableOf tableBytes tableBody scheduleLocations
-  table-is = rw (g .promise .variables .is, g .promise .equations .is, g .promise .schedule .is, g .actions, g .tests, g .whole ∙ table-length edition1 _ _ _ _) (regroup (1 ∷ out4 _) _ _ _ _)
+  table-is = rw (g .promise .variables .is, g .promise .equations .is, g .promise .schedule .is, g .actions, g .tests, g .whole ∙ table-length edition1 _ _ _ _) (regroup (tableHead edition1 _) _ _ _ _)
+
+  pub planned-long : p .length ≡ length vs + length es + p .list .at + p .rows .at + 18
+  planned-long =
+      let l = actionSection sch (p .acts) (p .index .nodes .starts) (p .index .nodes .ends) (p .index .nodes .count) in
+      omega (
+        arith,
+        g .whole,
+        ap length table-is,
+        length-append (front (p .length) vs es ++ l) (locationSection (testsIn (p .acts)) (g .schedule .root)),
+        length-append (front (p .length) vs es) l,
+        front-long,
+        list-long,
+        locations-long (g .rows),
+      )
 
   pub table-written : {d d₁ d₂ d′ : List ℕ} {i j r : ℕ} → Put d 0 (front (p .length) vs es) d₁ i →
       Put d₁ i (actionSection sch (p .acts) (p .index .nodes .starts) (p .index .nodes .ends) (p .index .nodes .count)) d₂ j →

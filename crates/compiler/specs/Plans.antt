@@ -51,6 +51,5 @@ pub record Planned (f : List ℕ) (p : Plan) : Type 0 where
   pub actions : actionsTo (schedule .sections .schedule) (p .acts) (p .index .nodes .starts) (p .index .nodes .ends) (p .index .nodes .count) ≡ actionsOf (schedule .nodes)
   pub list : Measured (p .acts) (p .index .nodes .starts) (p .index .nodes .ends) (p .index .nodes .count) (p .list .count) (p .list .at)
   pub rows : Counts (p .index .nodes .kinds) (p .index .subtrees .ends) (p .acts) (p .rows .count) (p .rows .at) (schedule .root)
-  pub long : p .length ≡ copied (p .index .parts) + p .list .at + p .rows .at + 18
   pub fits : p .length < 4294967296
   pub whole : p .length ≡ length (tableOf edition1 schedule)

@@ -15,7 +15,7 @@ use Rattle.schedules.specs.Files.{Schedule, judgeFile, ruleControl}
 use Rattle.schedules.specs.Calls.{ruleProgram, ruleRun}
 use Rattle.plant.specs.declared.sections.PlantRead.{PlantRead}
 use Rattle.plant.proofs.PlantLaws.{variables-of, selectors-of}
-use Rattle.schedule_read.specs.Actions.{actionNumbers}
+use Rattle.schedule_read.specs.Actions.{ActionKinds}
 use Rattle.schedule_read.specs.ScheduleFile.{scheduleIndex}
 use Rattle.schedule_read.specs.declared.call.ScheduleIndex.{ScheduleIndex}
 use Rattle.schedule_read.proofs.PartsStand.{Inside}
@@ -57,7 +57,7 @@ pub record Sized (f : List ℕ) (ix : ScheduleIndex) (asked : Admitted) : Type 0
   pub modes : ix .plant .selectors ≤ length (asked .modes)
 
 -- ---- the arrays that are lent
-pub lent-from : (f : List ℕ) (ix : ScheduleIndex) {acts : List ℕ} → acts ≡ actionNumbers (ix .nodes .kinds) (ix .nodes .count) →
+pub lent-from : (f : List ℕ) (ix : ScheduleIndex) {acts : List ℕ} → ActionKinds (ix .nodes .kinds) (ix .nodes .count) acts →
     LentFrom f ix (lent (take (ix .parts .«equations_to» - ix .parts .«equations_from») (drop (ix .parts .«equations_from») f)) (ix .plant .«mode_offsets») (ix .plant .steady) (take (ix .plant .variables) (ix .plant .lows)) (take (ix .plant .variables) (ix .plant .highs))
     (take (ix .parts .«schedule_to» - ix .parts .«schedule_from») (drop (ix .parts .«schedule_from») f)) acts (ix .nodes .starts) (ix .nodes .ends))
 lent-from f ix e = record { equations = refl; places = refl; steady = refl; lows = refl; highs = refl; operands = refl; kinds = e; starts = refl; ends = refl }

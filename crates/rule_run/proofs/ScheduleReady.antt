@@ -6,22 +6,23 @@ use mathlib.Core.Option.{Option, none, some, bind}
 use Prim.Native.Nat.{ℕ, _-_, _<_, _≤_}
 use native.Mathlib.Omega.{arith}
 use lib.ListN.{length, getD, getElem?, take, drop}
+use Rattle.semantics.specs.Bytes.{every}
 use Rattle.semantics.specs.Editions.{edition1}
 use Rattle.semantics.specs.Plant.{selectors}
 use Rattle.semantics.specs.Run.{Action, stop}
 use Rattle.semantics.specs.TableFile as TableFile
 use Rattle.semantics.specs.TableFile.{actionKind}
 use Rattle.semantics.specs.Tables.{operandFits, actionAt, actionOrStop}
-use Rattle.semantics.proofs.Facts.{none-not-some, among-mem, every-all, all-mem, at-mem}
+use Rattle.semantics.proofs.Facts.{and-left, none-not-some, among-mem, every-all, all-mem, at-mem}
 use Rattle.schedules.specs.Nodes.{Node, nodeNamed, nodeReads, actionOf, nodeAction, actionsOf}
 use Rattle.schedules.specs.Residuals.{acting}
 use Rattle.schedules.specs.Files.{Schedule}
 use Rattle.schedules.proofs.NodeActions.{node-action}
 use Rattle.schedules.proofs.ActionsListed.{operand-fits}
 use Rattle.schedules.proofs.FirstNumber.{passed}
-use Rattle.schedule_read.specs.Actions.{actionNumbers}
+use Rattle.schedule_read.specs.Actions.{ActionKinds}
 use Rattle.schedule_read.specs.declared.call.ScheduleIndex.{ScheduleIndex}
-use Rattle.schedule_read.proofs.NodeActions.{action-of-node, numbers-long, action-is, action-beyond, acting-action}
+use Rattle.schedule_read.proofs.NodeActions.{action-of-node, action-is, action-beyond, acting-action}
 use Rattle.schedule_read.proofs.Promises.{Promised}
 use Rattle.plant.specs.declared.sections.PlantRead.{PlantRead}
 use Rattle.execution.specs.Operands.{Cut, cutAt}
@@ -37,7 +38,7 @@ pub record LentFrom (f : List ℕ) (ix : ScheduleIndex) (l : Lent) : Type 0 wher
   pub lows : l .lows ≡ take (ix .plant .variables) (ix .plant .lows)
   pub highs : l .highs ≡ take (ix .plant .variables) (ix .plant .highs)
   pub operands : l .operands ≡ take (ix .parts .«schedule_to» - ix .parts .«schedule_from») (drop (ix .parts .«schedule_from») f)
-  pub kinds : l .kinds ≡ actionNumbers (ix .nodes .kinds) (ix .nodes .count)
+  pub kinds : ActionKinds (ix .nodes .kinds) (ix .nodes .count) (l .kinds)
   pub starts : l .starts ≡ ix .nodes .starts
   pub ends : l .ends ≡ ix .nodes .ends
 
@@ -52,7 +53,9 @@ module _ {f : List ℕ} {ix : ScheduleIndex} {s : Schedule} (p : Promised f ix s
       go (some x) e =
           let i : actionOf x ≡ some a = sym (action-of-node (s .nodes) n ∙ ap (λ o. bind o actionOf) e) ∙ h in
           let m = at-mem (s .nodes) n e in
-          operand-fits edition1 _ _ x a i (all-mem (every-all (nodeNamed (length (s .plant .variables)) (selectors (s .plant))) (s .nodes) (p .named)) m) (all-mem (every-all (nodeReads edition1 (length (s .plant .variables))) (s .nodes) (p .reads)) m)
+          let j = passed edition1 f s (p .judged) in
+          let reads = and-left (every (nodeReads edition1 (length (s .plant .variables))) (s .nodes)) _ (j .reads) in
+          operand-fits edition1 _ _ x a i (all-mem (every-all (nodeNamed (length (s .plant .variables)) (selectors (s .plant))) (s .nodes) (j .named)) m) (all-mem (every-all (nodeReads edition1 (length (s .plant .variables))) (s .nodes) reads) m)
 
   module _ {l : Lent} (q : LentFrom f ix l) where
     equations-are : l .equations ≡ s .sections .equations
@@ -76,18 +79,18 @@ module _ {f : List ℕ} {ix : ScheduleIndex} {s : Schedule} (p : Promised f ix s
         let e = d .entries n i in
         record {
           below = omega (arith, d .few);
-          kind = omega (arith, ap length (q .kinds), numbers-long (ix .nodes .kinds) (ix .nodes .count) (d .few) (omega (arith, d .few, d .kinds-full)), d .few);
+          kind = omega (arith, q .kinds .full, d .few);
           cut = cut-at (e .ordered) (e .inside) (omega (arith, d .few, d .starts-full)) (omega (arith, d .few, d .ends-full));
-          is = payload-is (action-is d n i ∙ h);
+          is = payload-is (action-is d (q .kinds) n i ∙ h);
           fits = action-fits n h;
         }
       where
         cut-at : getD (ix .nodes .starts) n 0 ≤ getD (ix .nodes .ends) n 0 → getD (ix .nodes .ends) n 0 ≤ length (s .sections .schedule) → n < length (ix .nodes .starts) → n < length (ix .nodes .ends) → Cut (l .operands) (l .starts) (l .ends) n
         cut-at a b c d = rw (operands-are, q .starts, q .ends) (record { start = c; end = d; low = a; high = b })
 
-        payload-is : TableFile.actionOfKind (actionKind (getD (actionNumbers (ix .nodes .kinds) (ix .nodes .count)) n 0)) (cutAt (s .sections .schedule) (ix .nodes .starts) (ix .nodes .ends) n) ≡ some a →
+        payload-is : TableFile.actionOfKind (actionKind (getD (l .kinds) n 0)) (cutAt (s .sections .schedule) (ix .nodes .starts) (ix .nodes .ends) n) ≡ some a →
             TableFile.actionOfKind (actionKind (getD (l .kinds) n 0)) (cutAt (l .operands) (l .starts) (l .ends) n) ≡ some a
-        payload-is e = rw (q .kinds, operands-are, q .starts, q .ends) e
+        payload-is e = rw (operands-are, q .starts, q .ends) e
 
     or-stop : (n : ℕ) {a : Action} → actionAt (actionsOf (s .nodes)) n ≡ some a → a ≡ nodeAction (s .nodes) n
     unfolding actionOrStop

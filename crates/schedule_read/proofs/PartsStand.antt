@@ -1,6 +1,6 @@
 -- The three sections of a schedule file, and where they stand.
 use mathlib.Core.Path.{_≡_, refl, sym, ap, subst, _∙_}
-use mathlib.Core.Bool.{Bool, true, false, not, cond}
+use mathlib.Core.Bool.{Bool, true, false, not}
 use mathlib.Core.List.{List}
 use mathlib.Core.Option.{Option, none, some}
 use Prim.Native.Nat.{ℕ, _+_, _-_, _≤_, _<_}
@@ -10,10 +10,12 @@ use lib.Dec.{leb, eqb}
 use lib.ListN.{length, getD, take, drop}
 use Rattle.semantics.specs.Bytes.{broken, read, andThen, _>>=_, give, section2, just, whole}
 use Rattle.semantics.specs.Editions.{edition1}
+use Rattle.semantics.specs.Refusals.{refused, accepted, ensure, need, _>>_}
 use Rattle.semantics.proofs.Facts.{and-left}
+use Rattle.semantics.proofs.Judging.{refused-not-accepted, accepted-is, refused-is, passed-ensure}
 use Rattle.semantics.proofs.Readers.{read-value, read-rest, split, given, whole-read}
 use Rattle.schedules.specs.FileSections.{FileSections, readFileSections, fileSectionsIn}
-use Rattle.schedules.specs.Files.{fileHeader, fileLength}
+use Rattle.schedules.specs.Files.{fileHeader, fileLength, judgeFileLayout}
 use Rattle.codec.proofs.Reading.{drop-past, drop-some, nat2At}
 use Rattle.codec.proofs.Sections.{Section, cuts2, section-of}
 pub use Rattle.schedule_read.specs.Promised.{Inside}
@@ -51,20 +53,24 @@ module _ (f : List ℕ) where
 
   -- ---- what the code answers
   pub refused-1 : fileHeader edition1 f ≡ false → noParts 1 ≡ partsOf f
-  unfolding partsOf
+  unfolding partsOf partsRead judgeFileLayout ensure _>>_
   refused-1 h = rw h refl
 
   pub refused-2 : fileHeader edition1 f ≡ true → fileLength f ≡ false → noParts 2 ≡ partsOf f
-  unfolding partsOf
+  unfolding partsOf partsRead judgeFileLayout ensure _>>_
   refused-2 h k = rw (h, k) refl
 
   pub refused-3 : Opened f → fileSectionsIn (drop 3 f) ≡ none → noParts 3 ≡ partsOf f
-  unfolding partsOf partsRead
+  unfolding partsOf partsRead judgeFileLayout ensure need _>>_
   refused-3 o e = rw (o .header, o .length-field, e) refl
 
-  read-parts : {s : FileSections} → Opened f → fileSectionsIn (drop 3 f) ≡ some s → partsIn s ≡ partsOf f
+  pub laid-out : {s : FileSections} → Opened f → fileSectionsIn (drop 3 f) ≡ some s → judgeFileLayout edition1 f ≡ accepted s
+  unfolding judgeFileLayout ensure need _>>_
+  laid-out o e = rw (o .header, o .length-field, e) refl
+
+  parts-read : {s : FileSections} → judgeFileLayout edition1 f ≡ accepted s → partsIn s ≡ partsOf f
   unfolding partsOf partsRead
-  read-parts o e = rw (o .header, o .length-field, e) refl
+  parts-read e = rw e refl
 
 -- ---- 3
 pub some-left : (a b : ℕ) {n : ℕ} → n < a - b → b < a
@@ -107,15 +113,14 @@ module _ (f : List ℕ) where
 
         pub parts-found : Opened f → length f - s ≤ 0 → partsAt v e s ≡ partsOf f
         unfolding partsIn sections
-        parts-found o h = same _ _ _ (vs .is) (es .is) (ns .is) ∙ read-parts f o (filled (omega arith))
+        parts-found o h = same _ _ _ (vs .is) (es .is) (ns .is) ∙ parts-read f (laid-out f o (filled (omega arith)))
           where
             same : {v e s : ℕ} (x y z : ℕ) → v ≡ 5 + x → e ≡ v + 2 + y → s ≡ e + 2 + z → partsAt v e s ≡ partsAt (5 + x) (5 + x + 2 + y) (5 + x + 2 + y + 2 + z)
             same x y z h i j = cc
 
 -- where nothing is refused, the three parts are the sections
 pub record Accepted (f : List ℕ) (p : Parts) : Type 0 where
-  pub opened : Opened f
-  pub are : fileSectionsIn (drop 3 f) ≡ some (sectionsAt f p)
+  pub are : judgeFileLayout edition1 f ≡ accepted (sectionsAt f p)
   pub variables : Inside f (p .«variables_from») (p .«variables_to»)
   pub equations : Inside f (p .«equations_from») (p .«equations_to»)
   pub schedule : Inside f (p .«schedule_from») (p .«schedule_to»)
@@ -132,7 +137,7 @@ stood s e =
 abbrev joined : List ℕ → List ℕ → List ℕ → FileSections
 joined x y z = record { variables = x; equations = y; schedule = z }
 
-chain : (f x y z : List ℕ) {m n u : List ℕ} → Opened f → fileSectionsIn (drop 3 f) ≡ some (joined x y z) → section2 (drop 3 f) ≡ read x m → section2 m ≡ read y n → section2 n ≡ read z u → Accepted f (partsIn (joined x y z))
+chain : (f x y z : List ℕ) {m n u : List ℕ} → Opened f → judgeFileLayout edition1 f ≡ accepted (joined x y z) → section2 (drop 3 f) ≡ read x m → section2 m ≡ read y n → section2 n ≡ read z u → Accepted f (partsIn (joined x y z))
 unfolding partsIn sectionsAt
 chain f x y z o w a b c =
     let v = 5 + length x in
@@ -145,8 +150,7 @@ chain f x y z o w a b c =
     let c′ = ap section2 (sym (j .1)) ∙ c in
     let ns = section-of cuts2 f e (es .inside) c′ in
     record {
-      opened = o;
-      are = w ∙ ap some (same (i .0) (j .0) ((stood ns c′) .0));
+      are = w ∙ ap accepted (same (i .0) (j .0) ((stood ns c′) .0));
       variables = spans vs;
       equations = spans es;
       schedule = spans ns;
@@ -162,20 +166,27 @@ sections-stand f {s} o e =
     let b = split section2 _ (a .then) in
     let c = split section2 _ (b .then) in
     let g = given _ (c .rest) (c .then) in
-    subst (λ s. Accepted f (partsIn s)) g (chain f (a .value) (b .value) (c .value) o (e ∙ ap some (sym g)) (a .first) (b .first) (c .first))
+    subst (λ s. Accepted f (partsIn s)) g (chain f (a .value) (b .value) (c .value) o (laid-out f o (e ∙ ap some (sym g))) (a .first) (b .first) (c .first))
 
-pub accepted-parts : (f : List ℕ) → partsOf f .refusal ≡ 0 → Accepted f (partsOf f)
-unfolding partsOf partsRead
-accepted-parts f h = first (fileHeader edition1 f) refl h
+needed : {A : Type 0} (n : ℕ) {a : A} (o : Option A) → need n o ≡ accepted a → o ≡ some a
+unfolding need
+needed n none e = refused-not-accepted e
+needed n (some b) e = ap some (accepted-is e)
+
+pub accepted-parts : (f : List ℕ) {s : FileSections} → judgeFileLayout edition1 f ≡ accepted s → Accepted f (partsOf f)
+unfolding judgeFileLayout
+accepted-parts f e =
+    let a = passed-ensure 1 _ _ e in
+    let b = passed-ensure 2 _ _ (a .1) in
+    subst (Accepted f) (parts-read f e) (sections-stand f (record { header = a .0; length-field = b .0 }) (needed 3 _ (b .1)))
+
+-- no refusal of the layout is 0
+pub layout-number : (f : List ℕ) {n : ℕ} → judgeFileLayout edition1 f ≡ refused n → 1 ≤ n
+unfolding judgeFileLayout ensure need _>>_
+layout-number f h = go (fileHeader edition1 f) (fileLength f) (fileSectionsIn (drop 3 f)) h
   where
-    third : (o : Option FileSections) → Opened f → fileSectionsIn (drop 3 f) ≡ o → partsRead o .refusal ≡ 0 → Accepted f (partsOf f)
-    third none a e k = absurd (omega arith)
-    third (some s) a e k = subst (Accepted f) (read-parts f a e) (sections-stand f a e)
-
-    second : (b : Bool) → fileHeader edition1 f ≡ true → fileLength f ≡ b → cond b (partsRead (fileSectionsIn (drop 3 f))) (noParts 2) .refusal ≡ 0 → Accepted f (partsOf f)
-    second true e i k = third (fileSectionsIn (drop 3 f)) (record { header = e; length-field = i }) refl k
-    second false e i k = absurd (omega arith)
-
-    first : (b : Bool) → fileHeader edition1 f ≡ b → cond b (cond (fileLength f) (partsRead (fileSectionsIn (drop 3 f))) (noParts 2)) (noParts 1) .refusal ≡ 0 → Accepted f (partsOf f)
-    first true e k = second (fileLength f) e refl k
-    first false e k = absurd (omega arith)
+    go : (a b : Bool) (o : Option FileSections) {n : ℕ} → (ensure 1 a >> (ensure 2 b >> need 3 o)) ≡ refused n → 1 ≤ n
+    go true true (some s) h = refused-not-accepted (sym h)
+    go true true none h = let i = refused-is h in omega arith
+    go true false o h = let i = refused-is h in omega arith
+    go false b o h = let i = refused-is h in omega arith

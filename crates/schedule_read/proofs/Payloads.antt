@@ -34,7 +34,7 @@ pub record Headed (f : ℕ → List ℕ → Node) (b : List ℕ) (x : Node) : Ty
   pub long : 1 ≤ length b
   pub is : f (getD b 0 0) (drop 1 b) ≡ x
 
-headed : (f : ℕ → List ℕ → Node) (b : List ℕ) {x : Node} → byteAndRest f b ≡ some x → Headed f b x
+pub headed : (f : ℕ → List ℕ → Node) (b : List ℕ) {x : Node} → byteAndRest f b ≡ some x → Headed f b x
 unfolding byteAndRest
 headed f [] e = none-not-some e
 headed f (a ∷ b) e = record { long = omega arith; is = some-is e }
@@ -43,27 +43,33 @@ pub record Paired (f : ℕ → ℕ → Node) (b : List ℕ) (x : Node) : Type 0 
   pub long : length b ≡ 2
   pub is : f (getD b 0 0) (getD b 1 0) ≡ x
 
-paired : (f : ℕ → ℕ → Node) (b : List ℕ) {x : Node} → twoBytes f b ≡ some x → Paired f b x
+pub paired : (f : ℕ → ℕ → Node) (b : List ℕ) {x : Node} → twoBytes f b ≡ some x → Paired f b x
 unfolding twoBytes
 paired f [] e = none-not-some e
 paired f (a ∷ []) e = none-not-some e
 paired f (a ∷ c ∷ []) e = record { long = refl; is = some-is e }
 paired f (a ∷ c ∷ d ∷ b) e = none-not-some e
 
-count-passes : (P : Node → Bool) (f : ℕ → Node) → ((n : ℕ) → true ≡ P (f n)) → (b : List ℕ) {x : Node} → childCount f b ≡ some x → true ≡ P x
+pub counted : (f : ℕ → Node) (b : List ℕ) {x : Node} → childCount f b ≡ some x → (k : ℕ) × (f k ≡ x)
 unfolding childCount
-count-passes P f h [] e = none-not-some e
-count-passes P f h (k ∷ []) {x} e = go (leb 1 k) e
+counted f [] e = none-not-some e
+counted f (k ∷ []) {x} e = go (leb 1 k) e
   where
-    go : (t : Bool) → cond t (some (f k)) none ≡ some x → true ≡ P x
-    go true e = h k ∙ ap P (some-is e)
+    go : (t : Bool) → cond t (some (f k)) none ≡ some x → (k : ℕ) × (f k ≡ x)
+    go true e = (k, some-is e)
     go false e = none-not-some e
-count-passes P f h (k ∷ i ∷ b) e = none-not-some e
+counted f (k ∷ i ∷ b) e = none-not-some e
+
+pub emptied : (y : Node) (b : List ℕ) {x : Node} → noBytes y b ≡ some x → y ≡ x
+unfolding noBytes
+emptied y [] e = some-is e
+emptied y (a ∷ b) e = none-not-some e
+
+count-passes : (P : Node → Bool) (f : ℕ → Node) → ((n : ℕ) → true ≡ P (f n)) → (b : List ℕ) {x : Node} → childCount f b ≡ some x → true ≡ P x
+count-passes P f h b e = let q = counted f b e in h (q .0) ∙ ap P (q .1)
 
 stop-passes : (P : Node → Bool) (y : Node) → true ≡ P y → (b : List ℕ) {x : Node} → noBytes y b ≡ some x → true ≡ P x
-unfolding noBytes
-stop-passes P y h [] e = h ∙ ap P (some-is e)
-stop-passes P y h (a ∷ b) e = none-not-some e
+stop-passes P y h b e = h ∙ ap P (emptied y b e)
 
 -- ---- the nodes that a test looks at
 module _ {k : ℕ} {b : List ℕ} where

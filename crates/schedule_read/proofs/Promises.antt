@@ -4,21 +4,20 @@ use mathlib.Core.List.{List}
 use Prim.Native.Nat.{ℕ, suc}
 use native.Mathlib.Omega.{arith}
 use lib.ListN.{length}
-use Rattle.semantics.specs.Bytes.{every}
 use Rattle.semantics.specs.Editions.{edition1}
 use Rattle.semantics.specs.Refusals.{Judged, refused, accepted, refusalOf}
 use Rattle.semantics.specs.Conditions.{Condition}
-use Rattle.semantics.proofs.Facts.{All, all-nil, all-cons, some-is, and-left, and-right}
+use Rattle.semantics.proofs.Facts.{All, all-nil, all-cons}
+use Rattle.semantics.proofs.Judging.{accepted-is}
 use Rattle.semantics.proofs.CallsHold.{accepted-of}
-use Rattle.schedules.specs.Nodes.{nodeReads}
 use Rattle.schedules.specs.Laid.{Laid, Lies}
-use Rattle.schedules.specs.Files.{Schedule, judgeFile}
+use Rattle.schedules.specs.Files.{Schedule, judgeFileLayout, judgeFile}
 use Rattle.schedules.specs.FileSections.{FileSections}
 use Rattle.schedules.specs.Conditions.{fileConditions}
 use Rattle.schedules.proofs.FirstNumber.{passed, file-first}
 use Rattle.plant.specs.PlantRead.{plantOf}
 pub use Rattle.schedule_read.specs.Promised.{Slice, Promised}
-use Rattle.schedule_read.specs.FileParts.{partsIn, partsRead, partsOf, sectionsAt}
+use Rattle.schedule_read.specs.FileParts.{partsOf, sectionsAt}
 use Rattle.tree_read.specs.Index.{nodesOf}
 use Rattle.tree_read.specs.Ends.{treeIn}
 use Rattle.schedule_read.specs.ScheduleFile.{indexAt, scheduleIndex}
@@ -27,7 +26,7 @@ use Rattle.schedule_read.specs.declared.parts.Parts.{Parts}
 use Rattle.tree_read.specs.declared.nodes.Nodes.{Nodes}
 use Rattle.schedule_read.proofs.FoundNodes.{found-nodes}
 use Rattle.tree_read.proofs.LaidTree.{laid, lies, tree-size, ends-long}
-use Rattle.schedule_read.proofs.PartsStand.{Inside, accepted-parts}
+use Rattle.schedule_read.proofs.PartsStand.{Inside, laid-out, accepted-parts}
 
 -- ---- refused or not
 numbers-not-0 : (f : List ℕ) → All (λ (c : Condition). c .refusal ≡ 0 → ⊥) (fileConditions edition1 f)
@@ -77,24 +76,23 @@ module _ (f : List ℕ) {ix : ScheduleIndex} (h : ix ≡ scheduleIndex f) where
     ends-are : ix .subtrees .ends ≡ treeIn (s .sections .schedule) .ends
     ends-are = ap (λ (x : ScheduleIndex). x .subtrees .ends) opened
 
-    accepted-0 : partsOf f .refusal ≡ 0
-    unfolding partsOf partsRead partsIn
-    accepted-0 = let a = passed edition1 f s e in rw (a .header, a .own-length, a .parts) refl
+    layout : judgeFileLayout edition1 f ≡ accepted (s .sections)
+    layout = let a = passed edition1 f s e in laid-out f (record { header = a .header; length-field = a .own-length }) (a .parts)
 
     sections-at : sectionsAt f (ix .parts) ≡ s .sections
-    sections-at = ap (sectionsAt f) parts-are ∙ some-is (sym (accepted-parts f accepted-0 .are) ∙ passed edition1 f s e .parts)
+    sections-at = ap (sectionsAt f) parts-are ∙ accepted-is (sym (accepted-parts f layout .are) ∙ layout)
 
     variables-slice : Slice f (ix .parts .«variables_from») (ix .parts .«variables_to») (s .sections .variables)
     unfolding sectionsAt
-    variables-slice = record { inside = subst (λ (p : Parts). Inside f (p .«variables_from») (p .«variables_to»)) (sym parts-are) (accepted-parts f accepted-0 .variables); is = ap (λ (x : FileSections). x .variables) sections-at }
+    variables-slice = record { inside = subst (λ (p : Parts). Inside f (p .«variables_from») (p .«variables_to»)) (sym parts-are) (accepted-parts f layout .variables); is = ap (λ (x : FileSections). x .variables) sections-at }
 
     equations-slice : Slice f (ix .parts .«equations_from») (ix .parts .«equations_to») (s .sections .equations)
     unfolding sectionsAt
-    equations-slice = record { inside = subst (λ (p : Parts). Inside f (p .«equations_from») (p .«equations_to»)) (sym parts-are) (accepted-parts f accepted-0 .equations); is = ap (λ (x : FileSections). x .equations) sections-at }
+    equations-slice = record { inside = subst (λ (p : Parts). Inside f (p .«equations_from») (p .«equations_to»)) (sym parts-are) (accepted-parts f layout .equations); is = ap (λ (x : FileSections). x .equations) sections-at }
 
     schedule-slice : Slice f (ix .parts .«schedule_from») (ix .parts .«schedule_to») (s .sections .schedule)
     unfolding sectionsAt
-    schedule-slice = record { inside = subst (λ (p : Parts). Inside f (p .«schedule_from») (p .«schedule_to»)) (sym parts-are) (accepted-parts f accepted-0 .schedule); is = ap (λ (x : FileSections). x .schedule) sections-at }
+    schedule-slice = record { inside = subst (λ (p : Parts). Inside f (p .«schedule_from») (p .«schedule_to»)) (sym parts-are) (accepted-parts f layout .schedule); is = ap (λ (x : FileSections). x .schedule) sections-at }
 
     pub promised : Promised f ix s
     promised =
@@ -112,9 +110,6 @@ module _ (f : List ℕ) {ix : ScheduleIndex} (h : ix ≡ scheduleIndex f) where
           tree-laid = laying kinds-are ends-are (at .counted) (laid _ (a .nodes) (a .tree));
           tree-count = tree-size _ (a .nodes) (a .tree) ∙ at .counted;
           ends-full = ap length ends-are ∙ ends-long _ (a .nodes) (a .tree);
-          named = a .named;
-          reads = and-left (every (nodeReads edition1 (length (s .plant .variables))) (s .nodes)) _ (a .reads);
-          switches-read = and-right (every (nodeReads edition1 (length (s .plant .variables))) (s .nodes)) _ (a .reads);
         }
       where
         lying : {ks es ks′ es′ : List ℕ} → ks ≡ ks′ → es ≡ es′ → Lies ks′ es′ (s .root) → Lies ks es (s .root)

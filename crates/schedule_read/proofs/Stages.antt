@@ -12,11 +12,11 @@ use Rattle.semantics.specs.Refusals.{Judged, refused, accepted, refusalOf, need
 use Rattle.semantics.specs.Sections.{Selector, Equation, equationsIn}
 use Rattle.semantics.specs.Plant.{Plant, judgePlant, switchesRead, equationReads, selectors}
 use Rattle.semantics.proofs.Facts.{true-not-false}
-use Rattle.semantics.proofs.Judging.{refused-not-accepted, refused-is, go-then, go-need, go-ensure}
-use Rattle.schedules.specs.FileSections.{FileSections, fileSectionsIn}
+use Rattle.semantics.proofs.Judging.{refused-not-accepted, refused-is, go-then, go-need}
+use Rattle.schedules.specs.FileSections.{FileSections}
 use Rattle.schedules.specs.Nodes.{Node, nodesIn, nodeNamed, nodeReads}
 use Rattle.schedules.specs.Trees.{Tree, treeOf}
-use Rattle.schedules.specs.Files.{Schedule, fileHeader, fileLength, judgeFile, judgeFileSections, judgeNodes}
+use Rattle.schedules.specs.Files.{Schedule, judgeFileLayout, judgeFile, judgeFileSections, judgeNodes}
 use Rattle.schedules.specs.Calls.{scheduleCounts, readSchedule}
 use Rattle.schedules.proofs.FirstNumber as FirstNumber
 use Rattle.plant.specs.ModeCounts.{ModesAt}
@@ -35,7 +35,7 @@ use Rattle.schedule_read.specs.declared.call.ScheduleIndex.{ScheduleInde
 use Rattle.schedule_read.specs.declared.parts.Parts.{Parts}
 use Rattle.tree_read.specs.declared.nodes.Nodes.{Nodes}
 use Rattle.tree_read.specs.declared.tree.Subtrees.{Subtrees}
-use Rattle.schedule_read.proofs.PartsStand.{Opened, Accepted, refused-1, refused-2, refused-3, accepted-parts}
+use Rattle.schedule_read.proofs.PartsStand.{Accepted, accepted-parts, layout-number}
 use Rattle.tree_read.proofs.NodeIndex.{nodes-accepted, nodes-refused, indexed}
 use Rattle.schedule_read.proofs.FoundNodes.{found-nodes}
 use Rattle.tree_read.proofs.WholeTree.{of-nodes}
@@ -48,38 +48,27 @@ pub nothing-else : (r : ℕ) {q : Parts} {p : PlantRead} {n : Nodes} {t : Subtre
 nothing-else r e f g h = cc
 
 -- ---- 1 to 3
-after-3 : (f : List ℕ) {parts : FileSections} → Opened f → fileSectionsIn (drop 3 f) ≡ some parts → judgeFile edition1 f ≡ judgeFileSections edition1 parts
-unfolding judgeFile
-after-3 f o e = go-ensure 1 _ (o .header) ∙ go-ensure 2 _ (o .length-field) ∙ go-need 3 _ e
-
 module _ (f : List ℕ) {p : Parts} (h : p ≡ partsOf f) where
-  said : {n : ℕ} → noParts n ≡ partsOf f → judgeFile edition1 f ≡ refused n → noSchedule (p .refusal) ≡ scheduleIndex f
-  unfolding scheduleIndex
-  said e k = ap (λ (p : Parts). noSchedule (p .refusal)) (h ∙ sym e) ∙ answer-refused _ k
-
   pub by-parts : (p .refusal ≡ 0 → ⊥) → noSchedule (p .refusal) ≡ scheduleIndex f
-  unfolding judgeFile partsOf partsRead partsIn ensure need _>>_ _>>=_
-  by-parts z = first (fileHeader edition1 f) refl
+  unfolding scheduleIndex judgeFile partsOf partsRead partsIn _>>=_
+  by-parts z = go (judgeFileLayout edition1 f) refl
     where
-      third : fileHeader edition1 f ≡ true → fileLength f ≡ true → (o : Option FileSections) → fileSectionsIn (drop 3 f) ≡ o → noSchedule (p .refusal) ≡ scheduleIndex f
-      third a b none e = said (refused-3 f (record { header = a; length-field = b }) e) (rw (a, b, e) refl)
-      third a b (some s) e = absurd (z (ap (λ (p : Parts). p .refusal) h ∙ rw (a, b, e) refl))
-
-      second : fileHeader edition1 f ≡ true → (b : Bool) → fileLength f ≡ b → noSchedule (p .refusal) ≡ scheduleIndex f
-      second a true e = third a e (fileSectionsIn (drop 3 f)) refl
-      second a false e = said (refused-2 f a e) (rw (a, e) refl)
-
-      first : (b : Bool) → fileHeader edition1 f ≡ b → noSchedule (p .refusal) ≡ scheduleIndex f
-      first true e = second e (fileLength f) refl
-      first false e = said (refused-1 f e) (rw e refl)
+      go : (j : Judged FileSections) → judgeFileLayout edition1 f ≡ j → noSchedule (p .refusal) ≡ scheduleIndex f
+      go (refused n) e = ap (λ (p : Parts). noSchedule (p .refusal)) (h ∙ ap partsRead e) ∙ answer-refused _ (rw e refl)
+      go (accepted s) e = absurd (z (ap (λ (p : Parts). p .refusal) (h ∙ ap partsRead e)))
 
   pub parts-stand : p .refusal ≡ 0 → Accepted f p
-  parts-stand z = subst (Accepted f) (sym h) (accepted-parts f (sym (ap (λ (p : Parts). p .refusal) h) ∙ z))
+  unfolding partsOf partsRead
+  parts-stand z = go (judgeFileLayout edition1 f) refl
+    where
+      go : (j : Judged FileSections) → judgeFileLayout edition1 f ≡ j → Accepted f p
+      go (refused n) e = let i : p .refusal ≡ n = ap (λ (p : Parts). p .refusal) (h ∙ ap partsRead e) in absurd (omega (arith, layout-number f e))
+      go (accepted s) e = subst (Accepted f) (sym h) (accepted-parts f e)
 
   pub by-sections : p .refusal ≡ 0 →
       sectionsIndex p (take (p .«variables_to» - p .«variables_from») (drop (p .«variables_from») f)) (take (p .«equations_to» - p .«equations_from») (drop (p .«equations_from») f)) (take (p .«schedule_to» - p .«schedule_from») (drop (p .«schedule_from») f)) ≡ scheduleIndex f
-  unfolding scheduleIndex sectionsIndex sectionsAt
-  by-sections z = let a = parts-stand z in ap (indexAt p) (sym (after-3 f (a .opened) (a .are))) ∙ ap (λ q. indexAt q (judgeFile edition1 f)) h
+  unfolding scheduleIndex sectionsIndex sectionsAt judgeFile
+  by-sections z = ap (indexAt p) (sym (go-then _ (parts-stand z .are))) ∙ ap (λ q. indexAt q (judgeFile edition1 f)) h
 
 -- ---- 11 and 12
 then-refused : {j : Judged (Unit {0})} {n : ℕ} (k : Judged Schedule) → j ≡ refused n → (j >> k) ≡ refused n

@@ -1,23 +1,24 @@
 -- The kinds of the nodes' actions, by node.
-use mathlib.Core.List.{List, map}
-use Prim.Native.Nat.{ℕ}
-use lib.ListN.{take}
-use Rattle.schedules.specs.Nodes.{Kind, a-sequence, a-parallel, a-while, an-if, a-continue, a-reset, a-reinitial, a-switch, a-stop, no-kind, kindOf}
-use Rattle.codec.specs.Padding.{pad}
+use mathlib.Core.Path.{_≡_}
+use mathlib.Core.List.{List}
+use mathlib.Core.Option.{none, some}
+use Prim.Native.Nat.{ℕ, _≤_, _<_}
+use lib.ListN.{length, getD}
+use Rattle.semantics.specs.TableFile.{kindNumber}
+use Rattle.schedules.specs.Nodes.{Node, no-kind, kindOf, actionOf}
+use Rattle.schedule_read.specs.Indexed.{Tells}
 
--- the number of an action's kind in a table, "kind (1 test, 2 wait, 3 assign, 4 switch, 5 stop)"; 0 of a node without an action
-unfoldable pub actionNumber : Kind → ℕ
-actionNumber a-sequence = 0
-actionNumber a-parallel = 0
-actionNumber a-while = 1
-actionNumber an-if = 1
-actionNumber a-continue = 2
-actionNumber a-reset = 3
-actionNumber a-reinitial = 3
-actionNumber a-switch = 4
-actionNumber a-stop = 5
-actionNumber no-kind = 0
+-- the number of the kind of a node's action in a table; 0 of a node without an action
+unfoldable pub actionNumber : Node → ℕ
+actionNumber x = elim (actionOf x) [ none ↦ 0 | some a ↦ kindNumber a ]
 
--- of the first nodes, by their kinds in the file; 0 behind them
-unfoldable pub actionNumbers : List ℕ → ℕ → List ℕ
-actionNumbers kinds count = pad 64 0 (map (λ k. actionNumber (kindOf k)) (take count kinds))
+-- r is that of every node of kind k, whatever its payload; 0 where there is no such kind
+pub record ActsAs (k r : ℕ) : Type 0 where
+  pub made : (b : List ℕ) → Tells actionNumber k b r
+  pub no-node : kindOf k ≡ no-kind → r ≡ 0
+
+-- acts has it of the first nodes, by their kinds in the file, and 0 behind them
+pub record ActionKinds (kinds : List ℕ) (count : ℕ) (acts : List ℕ) : Type 0 where
+  pub full : length acts ≡ 64
+  pub each : (n : ℕ) → n < count → ActsAs (getD kinds n 0) (getD acts n 0)
+  pub behind : (n : ℕ) → count ≤ n → getD acts n 0 ≡ 0

@@ -1,12 +1,11 @@
 -- Where the three sections of a schedule file stand.
-use mathlib.Core.Bool.{cond}
 use mathlib.Core.List.{List}
-use mathlib.Core.Option.{Option, none, some}
 use Prim.Native.Nat.{ℕ, _+_, _-_}
 use lib.ListN.{length, take, drop}
 use Rattle.semantics.specs.Editions.{edition1}
-use Rattle.schedules.specs.FileSections.{FileSections, fileSectionsIn}
-use Rattle.schedules.specs.Files.{fileHeader, fileLength}
+use Rattle.semantics.specs.Refusals.{Judged, refused, accepted}
+use Rattle.schedules.specs.FileSections.{FileSections}
+use Rattle.schedules.specs.Files.{judgeFileLayout}
 use Rattle.schedule_read.specs.declared.parts.Parts.{Parts}
 
 -- a refusal
@@ -39,13 +38,13 @@ partsIn s =
     let e = v + 2 + length (s .equations) in
     partsAt v e (e + 2 + length (s .schedule))
 
-unfoldable pub partsRead : Option FileSections → Parts
-partsRead none = noParts 3
-partsRead (some s) = partsIn s
+unfoldable pub partsRead : Judged FileSections → Parts
+partsRead (refused n) = noParts n
+partsRead (accepted s) = partsIn s
 
--- 1, 2, 3, or where the sections stand
+-- the number of the first condition that the layout breaks, or where the sections stand
 unfoldable pub partsOf : List ℕ → Parts
-partsOf f = cond (fileHeader edition1 f) (cond (fileLength f) (partsRead (fileSectionsIn (drop 3 f))) (noParts 2)) (noParts 1)
+partsOf f = partsRead (judgeFileLayout edition1 f)
 
 -- the sections that stand there
 unfoldable pub sectionsAt : List ℕ → Parts → FileSections

@@ -35,8 +35,8 @@ pub record Made (k : ℕ) (b : List ℕ) : Type 0 where
   pub is : nodeOf (kindOf k) b ≡ some node
 
 -- ---- tests
--- r answers whether the node of this kind and payload passes P
-pub record Tells (P : Node → Bool) (k : ℕ) (b : List ℕ) (r : Bool) : Type 0 where
+-- r is what P says of the node of this kind and payload
+pub record Tells {A : Type 0} (P : Node → A) (k : ℕ) (b : List ℕ) (r : A) : Type 0 where
   pub of : (x : Node) → nodeOf (kindOf k) b ≡ some x → r ≡ P x
 
 -- r answers whether each of the nodes of which this is the index passes P

@@ -1,14 +1,11 @@
 -- What the index of a schedule file promises to those that run or compile it.
 use mathlib.Core.Path.{_≡_}
-use mathlib.Core.Bool.{true}
 use mathlib.Core.List.{List}
 use Prim.Native.Nat.{ℕ, _-_, _≤_}
 use lib.ListN.{length, take, drop}
-use Rattle.semantics.specs.Bytes.{every}
 use Rattle.semantics.specs.Editions.{edition1}
 use Rattle.semantics.specs.Refusals.{accepted}
-use Rattle.semantics.specs.Plant.{judgePlant, selectors, switchesRead}
-use Rattle.schedules.specs.Nodes.{nodeNamed, nodeReads}
+use Rattle.semantics.specs.Plant.{judgePlant}
 use Rattle.schedules.specs.Laid.{Laid, Lies}
 use Rattle.schedules.specs.Files.{Schedule, judgeFile}
 use Rattle.plant.specs.PlantRead.{plantOf}
@@ -39,6 +36,3 @@ pub record Promised (f : List ℕ) (ix : ScheduleIndex) (s : Schedule) : Type 0 
   pub tree-laid : Laid (ix .nodes .kinds) (ix .subtrees .ends) (s .root) 0 (ix .nodes .count)
   pub tree-count : treeSize (s .root) ≡ ix .nodes .count
   pub ends-full : length (ix .subtrees .ends) ≡ 64
-  pub named : every (nodeNamed (length (s .plant .variables)) (selectors (s .plant))) (s .nodes) ≡ true
-  pub reads : every (nodeReads edition1 (length (s .plant .variables))) (s .nodes) ≡ true
-  pub switches-read : switchesRead edition1 (s .plant) ≡ true

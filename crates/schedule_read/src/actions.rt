@@ -1,13 +1,11 @@
 // By node the kind of its action, as a table has it.
-ghost use mathlib.Core.Path.{_≡_};
 ghost use Prim.Native.Nat.{_≤_};
 ghost use lib.ListN.{length};
-ghost use Rattle.schedules.specs.Nodes.{kindOf};
-ghost use Rattle.schedule_read.specs.Actions.{actionNumber, actionNumbers};
+ghost use Rattle.schedule_read.specs.Actions.{ActsAs, ActionKinds};
 
 // of a node of kind k; 0 where it has no action
 fn kind(k: u8) -> u8
-    ensures { λ r. ⌜ r ≡ actionNumber (kindOf k) ⌝ }
+    ensures { λ r. ⌜ ActsAs k r ⌝ }
 {
     match k {
         3 => 1,
@@ -23,7 +21,7 @@ fn kind(k: u8) -> u8
 
 pub fn kinds(kinds: &[u8], count: usize) -> [u8; paper::NODES]
     requires { ⌜ (count ≤ 64) × (count ≤ length (now kinds)) ⌝ }
-    ensures { λ r. ⌜ r ≡ actionNumbers (now (kinds .entry)) count ⌝ }
+    ensures { λ r. ⌜ ActionKinds (now (kinds .entry)) count r ⌝ }
 {
     let mut acts = [0u8; paper::NODES];
     let mut i = 0;

@@ -20,7 +20,7 @@ use Rattle.semantics.specs.Refusals.{accepted, need, ensure, _>>=_, _>>_}
 use Rattle.semantics.specs.Expressions.{Value, ok, fault, ranged, thenValue}
 use Rattle.semantics.specs.Sections.{Variable, Selector}
 use Rattle.semantics.specs.Plant.{Plant, selectors, declared, allDeclared}
-use Rattle.semantics.specs.Starts.{Start, readStart, startIn, isOk, modesFit, startFits}
+use Rattle.semantics.specs.Starts.{Start, readStart, startIn, isOk, valuesFit, modesFit, startFits}
 use Rattle.semantics.specs.Calls.{judgeStart}
 use Rattle.semantics.proofs.Admission.{start-judged}
 use Rattle.semantics.proofs.Facts.{and-both}
@@ -55,9 +55,6 @@ module _ (low high z : ℤ) where
   pub in-range : ltZ z low ≡ false → ltZ high z ≡ false → true ≡ isOk (ranged low high z)
   unfolding ranged isOk
   in-range h k = rw (h, k) refl
-
-abbrev pub valuesFit : List Variable → List ℤ → Bool
-valuesFit xs zs = isOk (allDeclared xs zs)
 
 abbrev pub valueFits : Variable → ℤ → Bool
 valueFits x z = isOk (declared x z)

@@ -10,13 +10,13 @@ use mir.Syntax.{w32}
 use mir.Val.{SFits}
 use mir.ValLaws.{toZ-ofZ}
 use Rattle.semantics.specs.Expressions.{ranged}
-use Rattle.semantics.specs.Starts.{isOk, modesFit}
+use Rattle.semantics.specs.Starts.{isOk, valuesFit, modesFit}
 use Rattle.semantics.proofs.Facts.{true-not-false}
 use Rattle.codec.specs.Padding.{pad}
 use Rattle.plant.specs.ModeCounts.{ModesAt}
 use Rattle.start_read.specs.StartRead.{Ranges, valueAt, modeAt, ValuesOf, ModesOf}
 use Rattle.start_read.proofs.StartLoop.{Going, going-start, going-next, stopped, ended, filled-all}
-use Rattle.start_read.proofs.StartBytes.{held, valuesFit, valueFits, modeFits, values-step, values-none, modes-step, modes-none, value-at, mode-at}
+use Rattle.start_read.proofs.StartBytes.{held, valueFits, modeFits, values-step, values-none, modes-step, modes-none, value-at, mode-at}
 
 -- a test of numbers that are read back from their bits
 pub inside-held : (low high : ℤ) {z v : ℤ} {b : Bool} → SFits w32 low → SFits w32 high → SFits w32 z → z ≡ v → b ≡ isOk (ranged (held low) (held high) (held z)) → isOk (ranged low high v) ≡ b

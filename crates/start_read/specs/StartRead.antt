@@ -8,8 +8,8 @@ use lib.ListN.{length, getD, getElem?}
 use lib.IntN.{ℤ, pos}
 use Rattle.semantics.specs.Bytes.{be4, signed}
 use Rattle.semantics.specs.Sections.{Variable, Selector}
-use Rattle.semantics.specs.Plant.{Plant, selectors, allDeclared}
-use Rattle.semantics.specs.Starts.{isOk, modesFit}
+use Rattle.semantics.specs.Plant.{Plant, selectors}
+use Rattle.semantics.specs.Starts.{valuesFit, modesFit}
 use Rattle.codec.specs.Padding.{pad}
 use Rattle.plant.specs.ModeCounts.{ModesAt}
 use Rattle.plant.specs.declared.sections.PlantRead.{PlantRead}
@@ -56,7 +56,7 @@ pub record RoomForValues (s : List ℕ) (n : ℕ) (lows highs : List ℤ) : Type
   pub highs-there : n ≤ length highs
 
 pub record ValuesOf (s : List ℕ) (n : ℕ) (lows highs : List ℤ) (r : Values) : Type 0 where
-  pub fit : (xs : List Variable) → Ranges xs n lows highs → isOk (allDeclared xs (entries (valueAt s) 0 n)) ≡ r .ok
+  pub fit : (xs : List Variable) → Ranges xs n lows highs → valuesFit xs (entries (valueAt s) 0 n) ≡ r .ok
   pub are : r .ok ≡ true → r .values ≡ pad 32 (pos 0) (entries (valueAt s) 0 n)
 
 pub record RoomForModes (s : List ℕ) (n : ℕ) (counts : List ℕ) : Type 0 where

@@ -1,14 +1,14 @@
 -- The location section of a table, from the arrays of the tree.
 use mathlib.Core.Path.{_≡_}
 use mathlib.Core.Bool.{Bool}
-use mathlib.Core.List.{List, map}
-use Prim.Native.Nat.{ℕ, _+_, _*_, _≤_}
+use mathlib.Core.List.{List}
+use Prim.Native.Nat.{ℕ, _*_, _≤_}
 use lib.ListN.{length}
 use Rattle.semantics.specs.Editions.{edition1}
 use Rattle.semantics.specs.TableFile.{inSection4, locationLimit, writeLocations}
 use Rattle.schedules.specs.Trees.{Tree}
 use Rattle.schedules.specs.Numbering.{locations}
-use Rattle.schedules.specs.Compiling.{entriesOf}
+use Rattle.schedules.specs.Compiling.{rowsOf}
 use Rattle.schedules.specs.Laid.{Lies}
 use Rattle.numbering.specs.Meeting.{testsIn}
 use Rattle.numbering.specs.Located.{allRows}
@@ -16,7 +16,7 @@ use Rattle.table_write.specs.Pieces.{Put}
 
 -- the section of the tree's locations, with its length
 abbrev pub locationSection : (ℕ → Bool) → Tree → List ℕ
-locationSection tests t = inSection4 (writeLocations edition1 (map (entriesOf tests (locations tests t)) (locations tests t)))
+locationSection tests t = inSection4 (writeLocations edition1 (rowsOf tests (locations tests t)))
 
 -- the tree of at most 64 nodes that lies in the arrays has n locations, no more than a table may hold, whose rows take so many bytes; a row has at most 321
 pub record Counts (ks es acts : List ℕ) (n size : ℕ) (t : Tree) : Type 0 where

@@ -1,10 +1,17 @@
 -- Three pieces, whose lengths are those that were planned.
 use mathlib.Core.Path.{sym}
 use native.Mathlib.Omega.{arith}
-use Rattle.compiler.proofs.Written.{operands, counted, planned-long, front-long, list-long, table-written}
+use Rattle.compiler.proofs.Written.{front-fits, operands, counted, planned-long, front-long, list-long, table-written}
 use borrow.Author.Needs.{needs}
 use Rattle.compiler.proofs.call.write.Statement.{statement}
 use Rattle.compiler.proofs.call.write.Tie as tie
+
+put-front-requires : tie.Need-put-front-requires
+put-front-requires c κs =
+    let h = c .before .before .before .before .before .before .before .before in
+    let s = h .before .before .before .before .before .before .before .before in
+    let g = s .pre .0 in
+    (front-fits g, omega (arith, planned-long g, s .pre .1))
 
 put-actions-requires : tie.Need-put-actions-requires
 put-actions-requires c κs =
@@ -46,7 +53,7 @@ write-spec =
     (λ c. search needs)
     (λ c. search needs)
     (λ c. search needs)
-    (λ c κs. search needs)
+    put-front-requires
     (λ c. search needs)
     (λ c. search needs)
     (λ c. search needs)
