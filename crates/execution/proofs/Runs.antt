@@ -7,7 +7,6 @@ use Prim.Native.Nat.{ℕ, suc, _+_, _-_, _*_, _/_, _^_, _≤_, _<_}
 use native.Mathlib.Nat.{zero-add, sub-zero, suc-mul, zero-mul, mul-le-mul-right}
 use native.Mathlib.Numerals.{add-one}
 use native.Mathlib.Omega.{arith}
-use borrow.Author.Tests.{leb-true}
 use lib.IntN.{ℤ}
 use lib.ListN.{length, getD, take, drop, length-append}
 use lib.Seq.{drop-drop}
@@ -30,6 +29,7 @@ use Rattle.execution.specs.Ready.{Fits}
 use Rattle.execution.specs.Runs.{leaves, Reports, RunSoFar}
 use Rattle.records.specs.declared.Counts.{Counts}
 use Rattle.records.proofs.Books.{counts-none, counts-more, counts-room}
+use Rattle.records.proofs.Records.{room-for}
 use Rattle.execution.proofs.Outcomes.{record-is}
 
 -- ---- one more at the end
@@ -74,10 +74,6 @@ one-more k r = ap (λ j. j * r) (add-one k) ∙ suc-mul k r
 whole-events : (events : List ℕ) → 3 * eventCount edition1 events ≤ length events
 unfolding eventCount
 whole-events events = omega arith
-
-room-is : (p : Plant) (events d : List ℕ) → roomForRecords edition1 p events d ≡ true → eventCount edition1 events * recordSize edition1 p ≤ length d
-unfolding roomForRecords
-room-is p events d h = leb-true _ (length d) h
 
 -- ---- answers
 answers-cons : {S : Type 0} (p : Plant) (c : Control S) (st : Situation S) (e : List ℕ) (es : List (List ℕ)) {o : Answered S} → step edition1 p c st e ≡ o → answers edition1 p c st (e ∷ es) ≡ o ∷ answers edition1 p c (o .left) es
@@ -133,7 +129,7 @@ module _ {S : Type 0} (g : Program S) (st₀ : Start) (events d₀ : List ℕ) w
       run-length =
           let r = recordSize edition1 (g .plant) in
           let a : k * r ≤ eventCount edition1 events * r = mul-le-mul-right r (x .few) in
-          wrote-length (wrote (x .reports)) (omega (arith, x .size, room-is (g .plant) events d₀ room))
+          wrote-length (wrote (x .reports)) (omega (arith, x .size, room-for (g .plant) events d₀ room))
 
       -- 22 has left room for the next record
       pub run-room : k < length events / 3 → {vs : List ℤ} {ms : List ℕ} → Fits (g .plant) vs ms → i + recordLength edition1 (length vs) (length ms) ≤ length d
@@ -142,7 +138,7 @@ module _ {S : Type 0} (g : Program S) (st₀ : Start) (events d₀ : List ℕ) w
           let r = recordSize edition1 (g .plant) in
           let a : (k + 1) * r ≤ length events / 3 * r = mul-le-mul-right r (omega arith) in
           let b = one-more k r in
-          let c : length events / 3 * r ≤ length d₀ = room-is (g .plant) events d₀ room in
+          let c : length events / 3 * r ≤ length d₀ = room-for (g .plant) events d₀ room in
           omega (arith, size-fits (g .plant) f, x .place, run-length)
 
     -- an event more: its step, its record and its count
