@@ -1,19 +1,15 @@
 -- What the contracts of the code cite.
 use mathlib.Core.Path.{_≡_}
-use mathlib.Core.Bool.{false}
+use mathlib.Core.Bool.{true}
 use mathlib.Core.List.{List}
-use Prim.Native.Nat.{ℕ, _*_, _/_, _≤_}
+use Prim.Native.Nat.{ℕ}
 use Rattle.semantics.specs.Editions.{edition1}
 use Rattle.semantics.specs.Refusals.{accepted}
-use Rattle.semantics.specs.Calls.{recordSize}
+use Rattle.semantics.specs.Calls.{roomForRecords}
 use Rattle.schedules.specs.Files.{Schedule, judgeFile}
 use Rattle.schedules.specs.Exam as Exam
-use Rattle.records.specs.Reported.{noCounts, told}
+use Rattle.records.specs.Reported.{told}
 use Rattle.exam.specs.declared.Examined.{Examined}
-
--- a refusal
-abbrev pub noExam : ℕ → Examined
-noExam n = record { refusal = n; length = 0; counts = noCounts; «table_counts» = noCounts; agree = false }
 
 -- all that the call gives: its numbers, and the three lent buffers afterwards
 unfoldable pub examinedWith : Examined → (table records others : List ℕ) → Exam.Examined
@@ -28,8 +24,8 @@ examinedWith r table records others = record {
   others = others;
 }
 
--- the file is a schedule, and there is room for the records of so many event bytes
-pub record Room (file : List ℕ) (events room : ℕ) : Type 0 where
+-- the file is a schedule, and there is room for the records of its run
+pub record Room (file events records : List ℕ) : Type 0 where
   pub schedule : Schedule
   pub schedule-read : judgeFile edition1 file ≡ accepted schedule
-  pub enough : events / 3 * recordSize edition1 (schedule .plant) ≤ room
+  pub enough : roomForRecords edition1 (schedule .plant) events records ≡ true

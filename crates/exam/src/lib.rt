@@ -4,16 +4,16 @@ use records::Ran;
 ghost use mathlib.Core.Path.{_≡_};
 ghost use mathlib.Core.Bool.{_&&_};
 ghost use mathlib.Core.List.{List};
-ghost use Prim.Native.Nat.{ℕ, _*_, _/_};
+ghost use Prim.Native.Nat.{ℕ, _*_};
 ghost use lib.ListN.{length};
 ghost use Rattle.semantics.specs.Editions.{edition1};
 ghost use Rattle.semantics.specs.Refusals.{refusalOf, accepted};
-ghost use Rattle.semantics.specs.Calls.{recordSize};
+ghost use Rattle.semantics.specs.Calls.{eventCount, recordSize};
 ghost use Rattle.schedules.specs.Files.{Schedule, judgeFile};
 ghost use Rattle.records.specs.Reported.{told, ranWith};
 ghost use Rattle.schedules.specs.Exam as Exam;
-ghost use Rattle.schedules.specs.Exam.{judgeExam, sameBytes, sameCounts, sameNumbers, examOf};
-ghost use Rattle.exam.specs.Examining.{noExam, examinedWith, Room};
+ghost use Rattle.schedules.specs.Exam.{judgeExam, sameBytes, sameCounts, sameNumbers, refusedExam, examOf};
+ghost use Rattle.exam.specs.Examining.{examinedWith, Room};
 
 // 0, or the number of the first condition that is broken; the other numbers are 0 then
 pub struct Examined {
@@ -28,7 +28,7 @@ pub struct Examined {
 }
 
 fn refused(n: u8) -> Examined
-    ensures { λ r. ⌜ r ≡ noExam n ⌝ }
+    ensures { λ r. ⌜ ((ts rs os : List ℕ) → examinedWith r ts rs os ≡ refusedExam n ts rs os) ⌝ }
 {
     let none = records::none();
     Examined {
@@ -69,12 +69,12 @@ fn judged(
 }
 
 // the length of a run's records, for which there is room
-fn records_length(file: &[u8], events: usize, room: usize) -> usize
-    requires { ⌜ Room (now file) events room ⌝ }
-    ensures { λ r. ⌜ ((s : Schedule) → judgeFile edition1 (now (file .entry)) ≡ accepted s → r ≡ events / 3 * recordSize edition1 (s .plant)) ⌝ }
+fn records_length(file: &[u8], events: &[u8], records: &[u8]) -> usize
+    requires { ⌜ Room (now file) (now events) (now records) ⌝ }
+    ensures { λ r. ⌜ ((s : Schedule) → judgeFile edition1 (now (file .entry)) ≡ accepted s → r ≡ eventCount edition1 (now (events .entry)) * recordSize edition1 (s .plant)) ⌝ }
 {
     let s = schedule_read::call::read(file);
-    events / paper::EVENT_BYTES * (9 + 4 * s.variables + s.selectors)
+    events.len() / paper::EVENT_BYTES * (9 + 4 * s.variables + s.selectors)
 }
 
 fn same_counts(a: Counts, b: Counts) -> bool
@@ -99,12 +99,12 @@ fn agreed(r: Ran, t: Ran, a: &[u8], b: &[u8]) -> bool
 }
 
 // the same of the whole record buffers
-fn compared(file: &[u8], events: usize, r: Ran, t: Ran, a: &[u8], b: &[u8]) -> bool
-    requires { ⌜ Room (now file) events (length (now a)) × Room (now file) events (length (now b)) ⌝ }
+fn compared(file: &[u8], events: &[u8], r: Ran, t: Ran, a: &[u8], b: &[u8]) -> bool
+    requires { ⌜ Room (now file) (now events) (now a) × Room (now file) (now events) (now b) ⌝ }
     ensures { λ q. ⌜ ((s : Schedule) → judgeFile edition1 (now (file .entry)) ≡ accepted s
-        → q ≡ Exam.agreed (events / 3 * recordSize edition1 (s .plant)) (ranWith r (now (a .entry))) (ranWith t (now (b .entry)))) ⌝ }
+        → q ≡ Exam.agreed (eventCount edition1 (now (events .entry)) * recordSize edition1 (s .plant)) (ranWith r (now (a .entry))) (ranWith t (now (b .entry)))) ⌝ }
 {
-    let size = records_length(file, events, a.len());
+    let size = records_length(file, events, a);
     agreed(r, t, &a[..size], &b[..size])
 }
 
@@ -134,7 +134,7 @@ pub fn examine(
     let length = c.length;
     let r = rule_run::call::run(file, start, events, records);
     let t = table_run::call::run(&table[..length], start, events, others);
-    let same = compared(file, events.len(), r, t, records, others);
+    let same = compared(file, events, r, t, records, others);
     let counts = r.counts;
     let table_counts = t.counts;
     Examined {

@@ -4,6 +4,7 @@ use mathlib.Core.List.{List}
 use Prim.Native.Nat.{ℕ, _-_, _≤_, _<_}
 use lib.Dec.{eqb}
 use lib.ListN.{length, getD, take, drop}
+use Rattle.semantics.specs.TableFile.{WAIT}
 
 -- ---- where operands lie
 abbrev pub cutAt : List ℕ → List ℕ → List ℕ → ℕ → List ℕ
@@ -17,4 +18,4 @@ pub record Cut (ops starts ends : List ℕ) (n : ℕ) : Type 0 where
 
 -- ---- is node n a wait?
 abbrev pub isWaitKind : List ℕ → ℕ → Bool
-isWaitKind kinds n = eqb (getD kinds n 0) 2
+isWaitKind kinds n = eqb (getD kinds n 0) WAIT

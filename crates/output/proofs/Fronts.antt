@@ -9,6 +9,8 @@ use borrow.Author.Tests.{le-leb, lt-leb}
 use lib.Dec.{leb}
 use lib.ListN.{length}
 use lib.Seq.{length-take-le}
+use Rattle.semantics.specs.Editions.{edition1}
+use Rattle.semantics.specs.Calls.{recordLength}
 use Rattle.io.specs.Counts.{Counts}
 use Rattle.output.specs.Written.{recordsLength}
 
@@ -36,7 +38,9 @@ module _ (e v s : ℕ) where
 
   pub records-are : e ≤ 30000 → v ≤ 32 → s ≤ 16 → e / 3 * (9 + 4 * v + s) ≡ recordsLength e v s
   unfolding recordsLength
-  records-are h i j = rw (le-leb e 30000 h, le-leb v 32 i, le-leb s 16 j) refl
+  records-are h i j =
+      let k : 9 + 4 * v + s ≡ recordLength edition1 v s = omega arith in
+      rw (le-leb e 30000 h, le-leb v 32 i, le-leb s 16 j, k) refl
 
   pub records-few : e ≤ 30000 → v ≤ 32 → s ≤ 16 → e / 3 * (9 + 4 * v + s) ≤ 1530000
   records-few h i j =

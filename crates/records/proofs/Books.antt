@@ -1,5 +1,5 @@
 -- Answers booked one by one are counted.
-use mathlib.Core.Path.{_≡_, refl, sym, ap, _∙_}
+use mathlib.Core.Path.{_≡_, refl, ap, _∙_}
 use mathlib.Core.Bool.{Bool, true, false, _&&_}
 use mathlib.Core.List.{List, [], _∷_, _++_}
 use Prim.Native.Nat.{ℕ, suc, _+_, _^_, _≤_, _<_}
@@ -8,8 +8,10 @@ use borrow.Author.Tests.{lt-leb, le-leb, leb-true, eqb-true, eqb-false}
 use lib.Dec.{eqb, leb}
 use lib.ListN.{length}
 use Rattle.semantics.specs.Bytes.{within}
-use Rattle.semantics.specs.Run.{isTaken, isTurnedAway, isFaulted, howMany}
-use Rattle.records.specs.Booking.{bumped, bookedOf, countsOf, Room}
+use Rattle.semantics.specs.Run as Run
+use Rattle.semantics.specs.Run.{isTaken, isTurnedAway, isFaulted, howMany, noCounts, countsOf}
+use Rattle.records.specs.Booking.{bumped, bookedOf, Room}
+use Rattle.records.specs.Reported.{told}
 use Rattle.records.specs.declared.Counts.{Counts}
 
 -- ---- bounds
@@ -66,15 +68,27 @@ module _ (f : ℕ → Bool) where
       go false h = omega arith
 
 -- no answer is counted yet
-pub counts-none : countsOf [] ≡ record { taken = 0; «turned_away» = 0; faulted = 0 }
+pub counts-none : noCounts ≡ countsOf []
 unfolding countsOf howMany
 counts-none = refl
 
-pub counts-more : (l : List ℕ) (a : ℕ) → countsOf (l ++ (a ∷ [])) ≡ bookedOf (countsOf l) a
-unfolding countsOf bookedOf
-counts-more l a = let t = more isTaken l a in let u = more isTurnedAway l a in let v = more isFaulted l a in cc
+module _ {c : Counts} (l : List ℕ) (e : told c ≡ countsOf l) where
+  pub counts-more : (a : ℕ) → told (bookedOf c a) ≡ countsOf (l ++ (a ∷ []))
+  unfolding countsOf bookedOf
+  counts-more a =
+      let t = more isTaken l a in
+      let u = more isTurnedAway l a in
+      let v = more isFaulted l a in
+      let x : c .taken ≡ howMany isTaken l = ap (λ (n : Run.Counts). n .taken) e in
+      let y : c .«turned_away» ≡ howMany isTurnedAway l = ap (λ (n : Run.Counts). n .turned-away) e in
+      let z : c .faulted ≡ howMany isFaulted l = ap (λ (n : Run.Counts). n .faulted) e in
+      cc
 
--- a run of so many events has room for its counts
-pub counts-room : (l : List ℕ) → length l + 1 < 2 ^ 64 → Room (countsOf l)
-unfolding countsOf
-counts-room l h = record { taken = omega (arith, at-most isTaken l); turned-away = omega (arith, at-most isTurnedAway l); faulted = omega (arith, at-most isFaulted l) }
+  -- a run of so many events has room for its counts
+  pub counts-room : length l + 1 < 2 ^ 64 → Room c
+  unfolding countsOf
+  counts-room h = record {
+    taken = omega (arith, ap (λ (n : Run.Counts). n .taken) e, at-most isTaken l);
+    turned-away = omega (arith, ap (λ (n : Run.Counts). n .turned-away) e, at-most isTurnedAway l);
+    faulted = omega (arith, ap (λ (n : Run.Counts). n .faulted) e, at-most isFaulted l);
+  }

@@ -1,18 +1,21 @@
--- The bytes of a record.
+-- The bytes of a record, and the room for all of a run.
 use mathlib.Core.Path.{_≡_, refl, sym, ap, ap₂, _∙_}
 use mathlib.Core.Bool.{Bool, true, false}
 use mathlib.Core.List.{List, [], _∷_, _++_, flatMap, append-assoc, append-nil}
-use Prim.Native.Nat.{ℕ, zero, suc, _+_, _*_, _/_, _%_, _^_, _<_}
+use Prim.Native.Nat.{ℕ, zero, suc, _+_, _*_, _/_, _%_, _^_, _≤_, _<_}
 use native.Mathlib.Nat.{pow-suc, div-eq-of-lt, div-one, div-div-eq-div-mul}
 use native.Mathlib.Omega.{arith}
-use borrow.Author.Tests.{eqb-true, eqb-false}
+use borrow.Author.Tests.{eqb-true, eqb-false, leb-true}
 use lib.IntN.{ℤ, pos}
 use lib.Pow.{shr-shr}
 use lib.ListN.{length, getD, take}
 use lib.Seq.{take-suc}
 use native.Mathlib.Numerals.{add-one}
 use Rattle.semantics.specs.Bytes.{bigEndian, out4, unsigned}
+use Rattle.semantics.specs.Editions.{edition1}
+use Rattle.semantics.specs.Plant.{Plant}
 use Rattle.semantics.specs.Run.{setNumber, valueBytes}
+use Rattle.semantics.specs.Calls.{eventCount, recordSize, roomForRecords}
 use Rattle.nodeset.specs.Sets.{bit, mem, membersFrom, members}
 use Rattle.nodeset.proofs.Members.{no-more}
 
@@ -115,3 +118,8 @@ values-length (v ∷ l) = let ih = values-length l in omega arith
 pub set-length : (n : ℕ) → length (bigEndian 8 n) ≡ 8
 unfolding bigEndian
 set-length n = refl
+
+-- ---- 22 has left room for the records of all events
+pub room-for : (p : Plant) (events records : List ℕ) → roomForRecords edition1 p events records ≡ true → eventCount edition1 events * recordSize edition1 p ≤ length records
+unfolding roomForRecords
+room-for p events records h = leb-true _ (length records) h

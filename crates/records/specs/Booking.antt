@@ -1,8 +1,7 @@
 -- The counts of a run.
 use mathlib.Core.Bool.{Bool, true, false}
-use mathlib.Core.List.{List}
 use Prim.Native.Nat.{ℕ, _+_, _^_, _<_}
-use Rattle.semantics.specs.Run.{isTaken, isTurnedAway, isFaulted, howMany}
+use Rattle.semantics.specs.Run.{isTaken, isTurnedAway, isFaulted}
 use Rattle.records.specs.declared.Counts.{Counts}
 
 unfoldable pub bumped : ℕ → Bool → ℕ
@@ -12,10 +11,6 @@ bumped n false = n
 -- the counts with one answer more
 unfoldable pub bookedOf : Counts → ℕ → Counts
 bookedOf c a = record { taken = bumped (c .taken) (isTaken a); «turned_away» = bumped (c .«turned_away») (isTurnedAway a); faulted = bumped (c .faulted) (isFaulted a) }
-
--- the counts of a list of answers
-unfoldable pub countsOf : List ℕ → Counts
-countsOf l = record { taken = howMany isTaken l; «turned_away» = howMany isTurnedAway l; faulted = howMany isFaulted l }
 
 -- each count may be one more
 pub record Room (c : Counts) : Type 0 where

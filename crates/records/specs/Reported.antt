@@ -10,14 +10,6 @@ use Rattle.records.specs.declared.Ran.{Ran}
 abbrev pub told : Counts → Run.Counts
 told c = record { taken = c .taken; turned-away = c .«turned_away»; faulted = c .faulted }
 
--- no answer is counted
-abbrev pub noCounts : Counts
-noCounts = record { taken = 0; «turned_away» = 0; faulted = 0 }
-
--- a refusal
-abbrev pub notRun : ℕ → Ran
-notRun n = record { refusal = n; counts = noCounts }
-
 -- all that a call gives: its number and counts, and the lent record buffer afterwards
 unfoldable pub ranWith : Ran → List ℕ → Calls.Ran
 ranWith r d = record { refusal = r .refusal; counts = told (r .counts); records = d }

@@ -2,16 +2,18 @@
 use nodeset::NodeSet;
 ghost use mathlib.Core.Path.{_≡_};
 ghost use mathlib.Core.Bool.{true};
-ghost use mathlib.Core.List.{flatMap};
+ghost use mathlib.Core.List.{List, flatMap};
 ghost use Prim.Native.Nat.{ℕ, _+_, _*_, _^_, _≤_, _<_};
 ghost use lib.ListN.{length};
 ghost use Rattle.semantics.specs.Bytes.{within, bigEndian};
 ghost use Rattle.semantics.specs.Editions.{edition1};
-ghost use Rattle.semantics.specs.Run.{setNumber, valueBytes, recordBytes};
+ghost use Rattle.semantics.specs.Refusals.{refused};
+ghost use Rattle.semantics.specs.Run.{setNumber, valueBytes, recordBytes, noCounts};
+ghost use Rattle.semantics.specs.Calls.{recordLength, report};
 ghost use Rattle.codec.specs.Writing.{Wrote};
 ghost use Rattle.nodeset.specs.Sets.{mem, members};
 ghost use Rattle.records.specs.Booking.{bumped, bookedOf, Room};
-ghost use Rattle.records.specs.Reported.{noCounts, notRun};
+ghost use Rattle.records.specs.Reported.{told, ranWith};
 
 // Of the answers of a run: taken 200..202, turned away 23..31, faulted 203.
 pub struct Counts {
@@ -28,7 +30,7 @@ pub struct Ran {
 
 // Before the first event.
 pub fn none() -> Counts
-    ensures { λ r. ⌜ r ≡ noCounts ⌝ }
+    ensures { λ r. ⌜ told r ≡ noCounts ⌝ }
 {
     Counts {
         taken: 0,
@@ -39,7 +41,7 @@ pub fn none() -> Counts
 
 // Of a run that does not start.
 pub fn refused(n: u8) -> Ran
-    ensures { λ r. ⌜ r ≡ notRun n ⌝ }
+    ensures { λ r. ⌜ ((d : List ℕ) → ranWith r d ≡ report d (refused n)) ⌝ }
 {
     let counts = none();
     Ran { refusal: n, counts }
@@ -133,8 +135,8 @@ pub fn put_record(
     values: &[i32],
     modes: &[u8],
 ) -> usize
-    requires { ⌜ (i + (9 + 4 * length (now values) + length (now modes)) ≤ length (now d)) × ((n : ℕ) → mem (acting .words) n ≡ true → n < 64) ⌝ }
-    ensures { λ r. ⌜ (r ≡ i + (9 + 4 * length (now (values .entry)) + length (now (modes .entry)))) ×
+    requires { ⌜ (i + recordLength edition1 (length (now values)) (length (now modes)) ≤ length (now d)) × ((n : ℕ) → mem (acting .words) n ≡ true → n < 64) ⌝ }
+    ensures { λ r. ⌜ (r ≡ i + recordLength edition1 (length (now (values .entry))) (length (now (modes .entry)))) ×
         Wrote (now (d .entry)) i (recordBytes edition1 answer (setNumber (members (acting .words))) (now (values .entry)) (now (modes .entry))) (now (d .exit)) ⌝ }
 {
     let j = codec::put1(d, i, answer);

@@ -1,18 +1,16 @@
 -- The call of a run by the rules: what the index, the admission and the events make of it.
 use mathlib.Core.Path.{_≡_, refl, sym, ap, _∙_}
 use mathlib.Core.List.{List}
-use Prim.Native.Nat.{ℕ, zero, suc, _+_, _-_, _*_, _≤_}
+use Prim.Native.Nat.{ℕ, zero, suc, _-_, _≤_}
 use native.Mathlib.Omega.{arith}
 use lib.ListN.{length, take, drop}
 use Rattle.semantics.specs.Editions.{edition1}
 use Rattle.semantics.specs.Refusals.{Judged, refused, accepted, _>>=_, refusalOf}
 use Rattle.semantics.specs.Plant.{Plant, selectors}
-use Rattle.semantics.specs.Starts.{Start}
-use Rattle.semantics.specs.Calls as Calls
-use Rattle.semantics.specs.Calls.{Program, Outcome, judgeAdmission, judgeRun, report, runFrom}
+use Rattle.semantics.specs.Calls.{Outcome, judgeAdmission, judgeRun, report, runFrom, outcomeOf}
 use Rattle.schedules.specs.Residuals.{Residual}
 use Rattle.schedules.specs.Files.{Schedule, judgeFile, ruleControl}
-use Rattle.schedules.specs.Calls.{ruleProgram, ruleRun}
+use Rattle.schedules.specs.Calls.{programOf, ruleProgram, ruleRun}
 use Rattle.plant.specs.declared.sections.PlantRead.{PlantRead}
 use Rattle.plant.proofs.PlantLaws.{variables-of, selectors-of}
 use Rattle.schedule_read.specs.Actions.{ActionKinds}
@@ -26,22 +24,15 @@ use Rattle.start_read.specs.declared.admission.Admitted.{Admitted}
 use Rattle.start_read.proofs.PlantStart.{arrays-held, room-held}
 use Rattle.start_read.proofs.AdmissionLaws.{run-unread, run-refused, run-admitted}
 use Rattle.execution.specs.Ready.{Lent, lent}
-use Rattle.execution.specs.Runs.{RunDone}
-use Rattle.records.specs.Reported.{notRun, ranWith}
+use Rattle.records.specs.Reported.{ranWith}
 use Rattle.records.specs.declared.Counts.{Counts}
-use Rattle.records.specs.declared.Ran.{Ran}
 use Rattle.execution.proofs.Lengths.{take-full, places-full}
 use Rattle.execution.proofs.PlantReady.{fits-start}
-use Rattle.execution.proofs.Runs.{not-run, reported}
 use Rattle.rule_run.specs.Runs.{Asked, Asking, Whole}
 use Rattle.rule_run.specs.Called.{Admits, Admitting, Carried}
 use Rattle.rule_run.proofs.ScheduleReady.{LentFrom, schedule-lent}
 
--- ---- the lengths of the arrays
-room-as : {x y : PlantRead} → x ≡ y → Room y → Room x
-room-as e a = rw e a
-
--- of all that is lent
+-- ---- the lengths of all that is lent
 pub record Sized (f : List ℕ) (ix : ScheduleIndex) (asked : Admitted) : Type 0 where
   pub equations : Inside f (ix .parts .«equations_from») (ix .parts .«equations_to»)
   pub schedule : Inside f (ix .parts .«schedule_from») (ix .parts .«schedule_to»)
@@ -92,7 +83,7 @@ module _ (f : List ℕ) {ix : ScheduleIndex} (h : ix ≡ scheduleIndex f) {asked
   sized g =
       let a = g .admits in
       let p = promised-of a in
-      let r = room-as (p .plant) (room-held _ _ (p .plant-judged)) in
+      let r = room-held _ _ (p .plant) (p .plant-judged) in
       record {
         equations = p .equations .inside;
         schedule = p .schedule .inside;
@@ -109,36 +100,24 @@ module _ (f : List ℕ) {ix : ScheduleIndex} (h : ix ≡ scheduleIndex f) {asked
       }
 
 -- ---- the call
-arrays-as : {x y : PlantRead} {p : Plant} → x ≡ y → Arrays p y → Arrays p x
-arrays-as e a = rw e a
-
 program-refused : (f : List ℕ) {n : ℕ} → judgeFile edition1 f ≡ refused n → ruleProgram edition1 f ≡ refused n
 unfolding ruleProgram _>>=_
 program-refused f e = rw e refl
-
-abbrev programOf : Schedule → Program Residual
-programOf s = record { plant = s .plant; control = ruleControl s }
 
 program-accepted : (f : List ℕ) {s : Schedule} → judgeFile edition1 f ≡ accepted s → ruleProgram edition1 f ≡ accepted (programOf s)
 unfolding ruleProgram _>>=_
 program-accepted f e = rw e refl
 
--- the events of the program
-whole-from : (s : Schedule) (events : List ℕ) {asked x : Admitted} {d d' : List ℕ} {cs : Counts} → asked ≡ x → Whole s (take (length (s .plant .variables)) (asked .values)) (take (length (selectors (s .plant))) (asked .modes)) events d cs d' →
-    RunDone (ruleControl s) (runFrom edition1 (programOf s) (record { values = take (length (s .plant .variables)) (x .values); modes = take (length (selectors (s .plant))) (x .modes) }) events) d cs d'
-unfolding runFrom Calls.eventCount
-whole-from s events e v = rw (← e) v
-
 module _ (f start events d : List ℕ) {ix : ScheduleIndex} (h : ix ≡ scheduleIndex f) where
-  not-ran : {n : ℕ} {r : Ran} → judgeRun edition1 (ruleProgram edition1 f) start events d ≡ refused n → r ≡ notRun n → ranWith r d ≡ ruleRun edition1 f start events d
-  unfolding ruleRun ranWith
-  not-ran {n} e k = ap (λ (r : Ran). ranWith r d) k ∙ sym (ap (report d) e ∙ not-run d n)
+  not-run : {n : ℕ} → judgeRun edition1 (ruleProgram edition1 f) start events d ≡ refused n → report d (refused n) ≡ ruleRun edition1 f start events d
+  unfolding ruleRun
+  not-run e = sym (ap (report d) e)
 
   file-judged : (ix .refusal ≡ 0 → ⊥) → judgeRun edition1 (ruleProgram edition1 f) start events d ≡ refused (ix .refusal)
   file-judged z = ap (λ j. judgeRun edition1 j start events d) (program-refused f (index-refused f h z)) ∙ run-unread Residual (ix .refusal) start events d
 
-  pub by-file : {r : Ran} → (ix .refusal ≡ 0 → ⊥) → r ≡ notRun (ix .refusal) → ranWith r d ≡ ruleRun edition1 f start events d
-  by-file z k = not-ran (file-judged z) k
+  pub by-file : (ix .refusal ≡ 0 → ⊥) → report d (refused (ix .refusal)) ≡ ruleRun edition1 f start events d
+  by-file z = not-run (file-judged z)
 
   -- the number alone
   pub check-file : (ix .refusal ≡ 0 → ⊥) → ix .refusal ≡ refusalOf (judgeRun edition1 (ruleProgram edition1 f) start events d)
@@ -158,10 +137,10 @@ module _ (f start events d : List ℕ) {ix : ScheduleIndex} (h : ix ≡ schedule
 
     -- what admission asks
     pub room-of : Room (ix .plant)
-    room-of = room-as (vows .plant) (room-held _ _ (vows .plant-judged))
+    room-of = room-held _ _ (vows .plant) (vows .plant-judged)
 
     arrays-of : Arrays (schedule .plant) (ix .plant)
-    arrays-of = arrays-as (vows .plant) (arrays-held _ _ (vows .plant-judged))
+    arrays-of = arrays-held _ _ (vows .plant) (vows .plant-judged)
 
     run-is : {j : Judged Outcome} → judgeRun edition1 (accepted (programOf schedule)) start events d ≡ j → judgeRun edition1 (ruleProgram edition1 f) start events d ≡ j
     run-is e = ap (λ j. judgeRun edition1 j start events d) (program-accepted f judged) ∙ e
@@ -175,8 +154,8 @@ module _ (f start events d : List ℕ) {ix : ScheduleIndex} (h : ix ≡ schedule
           let e = ap (λ (a : Admitted). a .refusal) asked-is in
           run-is (run-refused (programOf schedule) start events d (λ i. y (e ∙ i)) ∙ ap refused (sym e))
 
-      pub by-admission : {r : Ran} → (asked .refusal ≡ 0 → ⊥) → r ≡ notRun (asked .refusal) → ranWith r d ≡ ruleRun edition1 f start events d
-      by-admission y k = not-ran (admission-refused y) k
+      pub by-admission : (asked .refusal ≡ 0 → ⊥) → report d (refused (asked .refusal)) ≡ ruleRun edition1 f start events d
+      by-admission y = not-run (admission-refused y)
 
       pub check-admission : asked .refusal ≡ refusalOf (judgeRun edition1 (ruleProgram edition1 f) start events d)
       unfolding refusalOf
@@ -199,13 +178,10 @@ module _ (f start events d : List ℕ) {ix : ScheduleIndex} (h : ix ≡ schedule
         pub admitting : Admitting f asked events d
         admitting = record { schedule = schedule; admits = admits }
 
-        pub by-events : {r : Ran} {cs : Counts} {d' : List ℕ} →
-            Carried f asked events d cs d' →
-            r ≡ record { refusal = 0; counts = cs } → ranWith r d' ≡ ruleRun edition1 f start events d
-        unfolding ruleRun ranWith
-        by-events {r} {cs} {d'} w k =
+        pub by-events : {cs : Counts} {d' : List ℕ} → Carried f asked events d cs d' → ranWith (record { refusal = 0; counts = cs }) d' ≡ ruleRun edition1 f start events d
+        unfolding ruleRun
+        by-events w =
             let a = run-admitted (programOf schedule) start events d (sym (ap (λ (a : Admitted). a .refusal) asked-is) ∙ y) in
-            let x = admitted (judgeAdmission edition1 (schedule .plant) start events d) in
-            let st : Start = record { values = take (length (schedule .plant .variables)) (x .values); modes = take (length (selectors (schedule .plant))) (x .modes) } in
-            let done : RunDone (ruleControl schedule) (runFrom edition1 (programOf schedule) st events) d cs d' = whole-from schedule events asked-is (w schedule admits) in
-            ap (λ (r : Ran). ranWith r d') k ∙ sym (ap (report d) (run-is (a .judged)) ∙ reported (ruleControl schedule) _ d done)
+            w schedule admits .is
+            ∙ ap (λ (x : Admitted). report d (accepted (outcomeOf edition1 (ruleControl schedule) (runFrom edition1 (programOf schedule) (record { values = take (length (schedule .plant .variables)) (x .values); modes = take (length (selectors (schedule .plant))) (x .modes) }) events)))) asked-is
+            ∙ sym (ap (report d) (run-is (a .judged)))

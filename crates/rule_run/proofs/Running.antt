@@ -4,32 +4,30 @@ use mathlib.Core.Bool.{true, false}
 use mathlib.Core.List.{List}
 use mathlib.Core.Option.{Option, some}
 use Prim.Native.Nat.{ℕ, _+_, _*_, _/_, _^_, _≤_, _<_}
-use native.Mathlib.Nat.{mul-le-mul-right}
-use native.Mathlib.Omega.{arith}
 use lib.IntN.{ℤ}
 use lib.ListN.{length}
 use Rattle.semantics.specs.Editions.{edition1}
 use Rattle.semantics.specs.Plant.{among}
-use Rattle.semantics.specs.Run.{setNumber, actingSet, recordBytes}
-use Rattle.semantics.specs.Calls.{recordSize}
+use Rattle.semantics.specs.Run.{setNumber, actingSet, recordBytes, noCounts}
+use Rattle.semantics.specs.Calls.{recordLength}
 use Rattle.semantics.proofs.Facts.{true-not-false}
 use Rattle.schedules.specs.Residuals.{Residual, fresh, acting}
 use Rattle.schedules.specs.Files.{Schedule, ruleControl}
+use Rattle.schedules.specs.Calls.{programOf}
 use Rattle.schedules.proofs.ResidualsKept.{of-fresh}
 use Rattle.nodeset.specs.Sets.{mem, members, Words}
 use Rattle.nodeset.specs.declared.NodeSet.{NodeSet}
 use Rattle.nodeset.proofs.Members.{among-set}
 use Rattle.moves.specs.Contracts.{Planted, Charted}
 use Rattle.codec.specs.Writing.{Wrote}
-use Rattle.codec.proofs.Writing.{wrote-length}
 use Rattle.records.specs.Booking.{bookedOf, Room}
 use Rattle.execution.specs.Ready.{Lent, Fits}
-use Rattle.records.specs.Reported.{noCounts}
+use Rattle.records.specs.Reported.{told}
 use Rattle.records.specs.declared.Counts.{Counts}
-use Rattle.execution.proofs.Runs.{eventAt, run-start, run-counts, run-room, run-next, run-end}
+use Rattle.execution.proofs.Runs.{eventAt, run-start, run-counts, run-length, run-room, run-next, run-end}
 use Rattle.execution.proofs.Stepping.{set-at, set-over}
 use Rattle.rule_step.specs.Situations.{StandsFor, at-residual, at-end, ScheduleLent, Promised, Steps}
-use Rattle.rule_run.specs.Runs.{Asked, Asking, begins, Going, Whole}
+use Rattle.rule_run.specs.Runs.{Asked, Asking, Going, Whole}
 use Rattle.rule_step.specs.declared.steps.Situation.{Situation}
 use Rattle.rule_step.specs.declared.steps.Answered.{Answered}
 
@@ -50,13 +48,13 @@ module _ {l : Lent} {ks es : List ℕ} {vs₀ : List ℤ} {ms₀ events d₀ : L
   pub planted : Asking l ks es vs₀ ms₀ events d₀ → Planted ks es
   planted q = record { tree = q .schedule .root; lies = q .asked .tree }
 
-  pub going-start : {set : NodeSet} {cs : Counts} (s : Schedule) → cs ≡ noCounts → Asked s l ks es vs₀ ms₀ events d₀ → Words (set .words) → members (set .words) ≡ acting (fresh (s .root)) →
+  pub going-start : {set : NodeSet} {cs : Counts} (s : Schedule) → told cs ≡ noCounts → Asked s l ks es vs₀ ms₀ events d₀ → Words (set .words) → members (set .words) ≡ acting (fresh (s .root)) →
       Going s vs₀ ms₀ events d₀ 0 0 (record { over = false; acting = set }) cs vs₀ ms₀ d₀
   unfolding ruleControl
   going-start s e a w b = record {
     place = some (fresh (s .root));
     stands = at-residual refl (of-fresh (s .root)) b w;
-    so-far = rw e (run-start (s .plant) (ruleControl s) (begins s vs₀ ms₀) events (length events / 3) d₀ (a .fits));
+    so-far = run-start (programOf s) (record { values = vs₀; modes = ms₀ }) events d₀ e (a .fits);
   }
 
   module _ {k i : ℕ} {x : Situation} {cs : Counts} {vs : List ℤ} {ms d : List ℕ} where
@@ -65,8 +63,8 @@ module _ {l : Lent} {ks es : List ℕ} {vs₀ : List ℤ} {ms₀ events d₀ : L
     going-promised q h g = record { schedule = q .schedule; lent = q .asked .lent; charted = h; place = g .place; stands = g .stands; fits = g .so-far .fits }
 
     -- what the record asks
-    pub going-room : (s : Schedule) → Asked s l ks es vs₀ ms₀ events d₀ → Going s vs₀ ms₀ events d₀ k i x cs vs ms d → k < length events / 3 → {vs' : List ℤ} {ms' : List ℕ} → Fits (s .plant) vs' ms' → i + (9 + 4 * length vs' + length ms') ≤ length d
-    going-room s q g h f = run-room (s .plant) (ruleControl s) (begins s vs₀ ms₀) events (length events / 3) d₀ (g .so-far) h (q .room) f
+    pub going-room : (s : Schedule) → Asked s l ks es vs₀ ms₀ events d₀ → Going s vs₀ ms₀ events d₀ k i x cs vs ms d → k < length events / 3 → {vs' : List ℤ} {ms' : List ℕ} → Fits (s .plant) vs' ms' → i + recordLength edition1 (length vs') (length ms') ≤ length d
+    going-room s q g h f = run-room (programOf s) (record { values = vs₀; modes = ms₀ }) events d₀ (g .so-far) (q .room) h f
 
     -- what is lent keeps its length
     pub going-values : (q : Asking l ks es vs₀ ms₀ events d₀) → Going (q .schedule) vs₀ ms₀ events d₀ k i x cs vs ms d → length vs ≡ length vs₀
@@ -76,25 +74,22 @@ module _ {l : Lent} {ks es : List ℕ} {vs₀ : List ℤ} {ms₀ events d₀ : L
     going-modes q g = g .so-far .fits .modes ∙ sym (q .asked .fits .modes)
 
     pub going-records : (q : Asking l ks es vs₀ ms₀ events d₀) → Going (q .schedule) vs₀ ms₀ events d₀ k i x cs vs ms d → length d ≡ length d₀
-    going-records q g =
-        let r = recordSize edition1 (q .schedule .plant) in
-        let b : k * r ≤ length events / 3 * r = mul-le-mul-right r (g .so-far .few) in
-        wrote-length (g .so-far .wrote) (omega (arith, g .so-far .size, q .asked .room))
+    going-records q g = run-length (programOf (q .schedule)) (record { values = vs₀; modes = ms₀ }) events d₀ (g .so-far) (q .asked .room)
 
 -- ---- an event
 module _ {vs₀ : List ℤ} {ms₀ events d₀ : List ℕ} {k i : ℕ} {x : Situation} {cs : Counts} {vs : List ℤ} {ms d : List ℕ} (s : Schedule) (g : Going s vs₀ ms₀ events d₀ k i x cs vs ms d) where
   pub going-counts : k < length events / 3 → length events < 2 ^ 64 → Room cs
-  going-counts h m = run-counts (s .plant) (ruleControl s) (begins s vs₀ ms₀) events (length events / 3) d₀ (g .so-far) h (omega arith)
+  going-counts h m = run-counts (programOf s) (record { values = vs₀; modes = ms₀ }) events d₀ (g .so-far) h m
 
   pub going-next : k < length events / 3 → {e : List ℕ} {a : Answered} {vs' : List ℤ} {ms' : List ℕ} → e ≡ eventAt events (3 * k) → Steps s (g .place) vs ms e a vs' ms' → Fits (s .plant) vs' ms' → {i' : ℕ} {cs' : Counts} {d' : List ℕ} →
-      Wrote d i (recordBytes edition1 (a .answer) (setNumber (members (a .situation .acting .words))) vs' ms') d' → i' ≡ i + (9 + 4 * length vs' + length ms') → cs' ≡ bookedOf cs (a .answer) →
+      Wrote d i (recordBytes edition1 (a .answer) (setNumber (members (a .situation .acting .words))) vs' ms') d' → i' ≡ i + recordLength edition1 (length vs') (length ms') → cs' ≡ bookedOf cs (a .answer) →
       Going s vs₀ ms₀ events d₀ (k + 1) i' (a .situation) cs' vs' ms' d'
   going-next h {a = a} {vs' = vs'} {ms' = ms'} q t f w j b = record {
     place = t .place;
     stands = t .stands;
     so-far =
-        run-next (s .plant) (ruleControl s) (begins s vs₀ ms₀) events (length events / 3) d₀ (g .so-far) h (omega arith) (a .answer) (t .place) vs' ms' (a .situation .acting .words) q (t .is) (shown s (t .stands)) f w j b;
+        run-next (programOf s) (record { values = vs₀; modes = ms₀ }) events d₀ (g .so-far) h (a .answer) (t .place) vs' ms' (a .situation .acting .words) q (t .is) (shown s (t .stands)) f w j b;
   }
 
   pub going-end : k ≡ length events / 3 → Whole s vs₀ ms₀ events d₀ cs d
-  going-end h = run-end (s .plant) (ruleControl s) (begins s vs₀ ms₀) events (length events / 3) d₀ (g .so-far) h
+  going-end h = run-end (programOf s) (record { values = vs₀; modes = ms₀ }) events d₀ (g .so-far) h

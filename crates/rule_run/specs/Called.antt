@@ -1,12 +1,13 @@
 -- The call "running a schedule by the rules", as the code answers it.
 use mathlib.Core.Path.{_≡_}
+use mathlib.Core.Bool.{true}
 use mathlib.Core.List.{List}
-use Prim.Native.Nat.{ℕ, _*_, _/_, _≤_}
+use Prim.Native.Nat.{ℕ}
 use lib.ListN.{length, take}
 use Rattle.semantics.specs.Editions.{edition1}
 use Rattle.semantics.specs.Refusals.{accepted}
 use Rattle.semantics.specs.Plant.{selectors}
-use Rattle.semantics.specs.Calls.{recordSize}
+use Rattle.semantics.specs.Calls.{roomForRecords}
 use Rattle.schedules.specs.Files.{Schedule, judgeFile}
 use Rattle.execution.specs.Ready.{Fits}
 use Rattle.start_read.specs.declared.admission.Admitted.{Admitted}
@@ -17,7 +18,7 @@ use Rattle.rule_run.specs.Runs.{Whole}
 pub record Admits (f : List ℕ) (asked : Admitted) (events d : List ℕ) (s : Schedule) : Type 0 where
   pub judged : judgeFile edition1 f ≡ accepted s
   pub fits : Fits (s .plant) (take (length (s .plant .variables)) (asked .values)) (take (length (selectors (s .plant))) (asked .modes))
-  pub room : length events / 3 * recordSize edition1 (s .plant) ≤ length d
+  pub room : roomForRecords edition1 (s .plant) events d ≡ true
 
 -- there is such a schedule
 pub record Admitting (f : List ℕ) (asked : Admitted) (events d : List ℕ) : Type 0 where

@@ -19,6 +19,7 @@ use Rattle.nodeset.specs.Sets.{members, emptySet, Words}
 use Rattle.nodeset.specs.declared.NodeSet.{NodeSet}
 use Rattle.moves.specs.Contracts.{Charted, Standing}
 use Rattle.execution.specs.Ready.{Lent, PlantLent, NodeLent, Fits}
+use Rattle.execution.specs.Runs.{leaves}
 use Rattle.effects.specs.Verdicts.{Left}
 use Rattle.effects.specs.declared.Verdict.{Verdict}
 use Rattle.effects.specs.declared.Verdict.the-variants.{Move}
@@ -46,9 +47,6 @@ pub record Here (ls fs : List ℕ) (t : Tree) (ws : List ℕ) (r : Residual) : T
   pub of : Of t r
   pub stands : members ws ≡ acting r
   pub words : Words ws
-
-abbrev pub leaves : ℕ → Option Residual → List ℤ → List ℕ → Run.Answered Residual
-leaves n o vs ms = record { answer = n; left = record { place = o; values = vs; modes = ms } }
 
 -- ---- one event, part by part
 -- a move that leads there is answered so

@@ -6,7 +6,7 @@ use mathlib.Core.Option.{some}
 use Prim.Native.Nat.{ℕ, suc, _+_, _*_, _/_, _%_, _≤_, _<_}
 use native.Mathlib.Nat.{le-div-iff-mul-le}
 use native.Mathlib.Omega.{arith}
-use borrow.Author.Tests.{eqb-true, ne-eqb, eq-eqb, leb-true, le-leb, lt-leb}
+use borrow.Author.Tests.{ne-eqb, eq-eqb, le-leb, lt-leb}
 use lib.Dec.{leb}
 use lib.IntN.{pos}
 use lib.ListN.{length, take}
@@ -106,15 +106,14 @@ module _ {S : Type 0} (g : Program S) (start events buffer : List ℕ) where
     pub values : length (startAsked .values) ≡ length (g .plant .variables)
     pub modes : length (startAsked .modes) ≡ length (selectors (g .plant))
     pub fits : startFits (g .plant) startAsked ≡ true
-    pub whole : length events % 3 ≡ 0
-    pub room : length events / 3 * recordSize edition1 (g .plant) ≤ length buffer
+    pub room : roomForRecords edition1 (g .plant) events buffer ≡ true
 
   numbers : All (λ (c : Condition). c .refusal ≡ 0 → ⊥) (runConditions edition1 (some (g .plant)) start events buffer)
   unfolding runConditions
   numbers = all-cons (not-0 19) (all-cons (not-0 20) (all-cons (not-0 21) all-nil))
 
   pub run-admitted : asked .refusal ≡ 0 → RunAdmitted
-  unfolding judgeRun admitted wholeEvents roomForRecords eventCount
+  unfolding judgeRun admitted
   run-admitted h =
       let j = accepted-of (admission-first edition1 start events buffer refl) numbers (sym (refusal-is judged) ∙ h) in
       let a = admission-passed edition1 (g .plant) start events buffer (j .1) in
@@ -127,6 +126,5 @@ module _ {S : Type 0} (g : Program S) (start events buffer : List ℕ) where
         values = ap (λ (st : Start). length (st .values)) same ∙ c .0;
         modes = ap (λ (st : Start). length (st .modes)) same ∙ c .1;
         fits = ap (startFits (g .plant)) same ∙ a .starts .fits;
-        whole = eqb-true (length events % 3) 0 (a .whole);
-        room = leb-true (length events / 3 * recordSize edition1 (g .plant)) (length buffer) (a .room);
+        room = a .room;
       }

@@ -1,16 +1,13 @@
 -- The call of a run of a table: what the index, the admission and the events make of it.
 use mathlib.Core.Path.{_≡_, refl, sym, ap, _∙_}
 use mathlib.Core.List.{List}
-use Prim.Native.Nat.{ℕ, zero, suc, _+_, _-_, _*_, _≤_}
-use native.Mathlib.Omega.{arith}
+use Prim.Native.Nat.{ℕ, _≤_}
 use lib.ListN.{length, take}
 use Rattle.semantics.specs.Editions.{edition1}
 use Rattle.semantics.specs.Refusals.{Judged, refused, accepted, _>>=_}
 use Rattle.semantics.specs.Plant.{Plant, selectors}
-use Rattle.semantics.specs.Starts.{Start}
 use Rattle.semantics.specs.Tables.{Table, judgeTable, tableControl}
-use Rattle.semantics.specs.Calls as Calls
-use Rattle.semantics.specs.Calls.{Program, Outcome, judgeAdmission, judgeRun, report, runFrom, tableProgram, tableRun}
+use Rattle.semantics.specs.Calls.{Outcome, judgeAdmission, judgeRun, report, runFrom, outcomeOf, programOfTable, tableProgram, tableRun}
 use Rattle.plant.specs.declared.sections.PlantRead.{PlantRead}
 use Rattle.plant.proofs.PlantLaws.{variables-of, selectors-of}
 use Rattle.table_read.specs.TableIndex.{tableIndex}
@@ -22,24 +19,15 @@ use Rattle.start_read.specs.declared.admission.Admitted.{Admitted}
 use Rattle.start_read.proofs.PlantStart.{arrays-held, room-held}
 use Rattle.start_read.proofs.AdmissionLaws.{run-unread, run-refused, run-admitted}
 use Rattle.execution.specs.Ready.{Lent, lent}
-use Rattle.execution.specs.Runs.{RunDone}
-use Rattle.records.specs.Reported.{notRun, ranWith}
+use Rattle.records.specs.Reported.{ranWith}
 use Rattle.records.specs.declared.Counts.{Counts}
-use Rattle.records.specs.declared.Ran.{Ran}
 use Rattle.execution.proofs.Lengths.{take-full, places-full}
 use Rattle.execution.proofs.PlantReady.{fits-start}
-use Rattle.execution.proofs.Runs.{not-run, reported}
 use Rattle.table_run.specs.Runs.{Asked, Asking, Whole}
 use Rattle.table_run.specs.Called.{Admits, Admitting, Carried}
 use Rattle.table_run.proofs.TableReady.{cutFrom, LentFrom, plant-is, plant-judged, equations-stand, actions-stand, locations-stand, kinds-full, starts-full, ends-full, locations-held, table-lent}
 
 -- ---- the lengths of the arrays
-room-as : {x y : PlantRead} → x ≡ y → Room y → Room x
-room-as e a = rw e a
-
-arrays-as : {x y : PlantRead} {p : Plant} → x ≡ y → Arrays p y → Arrays p x
-arrays-as e a = rw e a
-
 -- from a place of the bytes to another
 pub record Inside (f : List ℕ) (a b : ℕ) : Type 0 where
   pub ordered : a ≤ b
@@ -95,7 +83,7 @@ module _ (f : List ℕ) {ix : TableIndex} (h : ix ≡ tableIndex f) {asked : Adm
   sized g =
       let a = g .admits in
       let j = a .judged in
-      let r = room-as (plant-is f h j) (room-held _ _ (plant-judged f h j)) in
+      let r = room-held _ _ (plant-is f h j) (plant-judged f h j) in
       let x = equations-stand f h j in
       let y = actions-stand f h j in
       let z = locations-stand f h j in
@@ -119,26 +107,17 @@ program-refused : (f : List ℕ) {n : ℕ} → judgeTable edition1 f ≡ refused
 unfolding tableProgram _>>=_
 program-refused f e = rw e refl
 
-abbrev programOf : Table → Program ℕ
-programOf t = record { plant = t .plant; control = tableControl t }
-
-program-accepted : (f : List ℕ) {t : Table} → judgeTable edition1 f ≡ accepted t → tableProgram edition1 f ≡ accepted (programOf t)
+program-accepted : (f : List ℕ) {t : Table} → judgeTable edition1 f ≡ accepted t → tableProgram edition1 f ≡ accepted (programOfTable t)
 unfolding tableProgram _>>=_
 program-accepted f e = rw e refl
 
--- the events of the program
-whole-from : (t : Table) (events : List ℕ) {asked x : Admitted} {d d' : List ℕ} {cs : Counts} → asked ≡ x → Whole t (take (length (t .plant .variables)) (asked .values)) (take (length (selectors (t .plant))) (asked .modes)) events d cs d' →
-    RunDone (tableControl t) (runFrom edition1 (programOf t) (record { values = take (length (t .plant .variables)) (x .values); modes = take (length (selectors (t .plant))) (x .modes) }) events) d cs d'
-unfolding runFrom Calls.eventCount
-whole-from t events e v = rw (← e) v
-
 module _ (f start events d : List ℕ) {ix : TableIndex} (h : ix ≡ tableIndex f) where
-  not-ran : {n : ℕ} {r : Ran} → judgeRun edition1 (tableProgram edition1 f) start events d ≡ refused n → r ≡ notRun n → ranWith r d ≡ tableRun edition1 f start events d
-  unfolding tableRun ranWith
-  not-ran {n} e k = ap (λ (r : Ran). ranWith r d) k ∙ sym (ap (report d) e ∙ not-run d n)
+  not-run : {n : ℕ} → judgeRun edition1 (tableProgram edition1 f) start events d ≡ refused n → report d (refused n) ≡ tableRun edition1 f start events d
+  unfolding tableRun
+  not-run e = sym (ap (report d) e)
 
-  pub by-table : {r : Ran} → (ix .refusal ≡ 0 → ⊥) → r ≡ notRun (ix .refusal) → ranWith r d ≡ tableRun edition1 f start events d
-  by-table z k = not-ran (ap (λ j. judgeRun edition1 j start events d) (program-refused f (refused-table f h z)) ∙ run-unread ℕ (ix .refusal) start events d) k
+  pub by-table : (ix .refusal ≡ 0 → ⊥) → report d (refused (ix .refusal)) ≡ tableRun edition1 f start events d
+  by-table z = not-run (ap (λ j. judgeRun edition1 j start events d) (program-refused f (refused-table f h z)) ∙ run-unread ℕ (ix .refusal) start events d)
 
   module _ (z : ix .refusal ≡ 0) where
     table : Table
@@ -150,27 +129,27 @@ module _ (f start events d : List ℕ) {ix : TableIndex} (h : ix ≡ tableIndex 
 
     -- what admission asks
     pub room-of : Room (ix .plant)
-    room-of = room-as (plant-is f h judged) (room-held _ _ (plant-judged f h judged))
+    room-of = room-held _ _ (plant-is f h judged) (plant-judged f h judged)
 
     arrays-of : Arrays (table .plant) (ix .plant)
-    arrays-of = arrays-as (plant-is f h judged) (arrays-held _ _ (plant-judged f h judged))
+    arrays-of = arrays-held _ _ (plant-is f h judged) (plant-judged f h judged)
 
-    run-is : {j : Judged Outcome} → judgeRun edition1 (accepted (programOf table)) start events d ≡ j → judgeRun edition1 (tableProgram edition1 f) start events d ≡ j
+    run-is : {j : Judged Outcome} → judgeRun edition1 (accepted (programOfTable table)) start events d ≡ j → judgeRun edition1 (tableProgram edition1 f) start events d ≡ j
     run-is e = ap (λ j. judgeRun edition1 j start events d) (program-accepted f judged) ∙ e
 
     module _ {asked : Admitted} (g : (p : Plant) → Arrays p (ix .plant) → asked ≡ admitted (judgeAdmission edition1 p start events d)) where
       asked-is : asked ≡ admitted (judgeAdmission edition1 (table .plant) start events d)
       asked-is = g (table .plant) arrays-of
 
-      pub by-admission : {r : Ran} → (asked .refusal ≡ 0 → ⊥) → r ≡ notRun (asked .refusal) → ranWith r d ≡ tableRun edition1 f start events d
-      by-admission y k =
+      pub by-admission : (asked .refusal ≡ 0 → ⊥) → report d (refused (asked .refusal)) ≡ tableRun edition1 f start events d
+      by-admission y =
           let e = ap (λ (a : Admitted). a .refusal) asked-is in
-          not-ran (run-is (run-refused (programOf table) start events d (λ i. y (e ∙ i)) ∙ ap refused (sym e))) k
+          not-run (run-is (run-refused (programOfTable table) start events d (λ i. y (e ∙ i)) ∙ ap refused (sym e)))
 
       module _ (y : asked .refusal ≡ 0) where
         admits : Admits f asked events d table
         admits =
-            let a = run-admitted (programOf table) start events d (sym (ap (λ (a : Admitted). a .refusal) asked-is) ∙ y) in
+            let a = run-admitted (programOfTable table) start events d (sym (ap (λ (a : Admitted). a .refusal) asked-is) ∙ y) in
             record {
               judged = judged;
               fits = rw asked-is (fits-start (table .plant) _ (a .values) (a .modes) (a .fits));
@@ -180,13 +159,10 @@ module _ (f start events d : List ℕ) {ix : TableIndex} (h : ix ≡ tableIndex 
         pub admitting : Admitting f asked events d
         admitting = record { table = table; admits = admits }
 
-        pub by-events : {r : Ran} {cs : Counts} {d' : List ℕ} →
-            Carried f asked events d cs d' →
-            r ≡ record { refusal = 0; counts = cs } → ranWith r d' ≡ tableRun edition1 f start events d
-        unfolding tableRun ranWith
-        by-events {r} {cs} {d'} w k =
-            let a = run-admitted (programOf table) start events d (sym (ap (λ (a : Admitted). a .refusal) asked-is) ∙ y) in
-            let x = admitted (judgeAdmission edition1 (table .plant) start events d) in
-            let st : Start = record { values = take (length (table .plant .variables)) (x .values); modes = take (length (selectors (table .plant))) (x .modes) } in
-            let done : RunDone (tableControl table) (runFrom edition1 (programOf table) st events) d cs d' = whole-from table events asked-is (w table admits) in
-            ap (λ (r : Ran). ranWith r d') k ∙ sym (ap (report d) (run-is (a .judged)) ∙ reported (tableControl table) _ d done)
+        pub by-events : {cs : Counts} {d' : List ℕ} → Carried f asked events d cs d' → ranWith (record { refusal = 0; counts = cs }) d' ≡ tableRun edition1 f start events d
+        unfolding tableRun
+        by-events w =
+            let a = run-admitted (programOfTable table) start events d (sym (ap (λ (a : Admitted). a .refusal) asked-is) ∙ y) in
+            w table admits .is
+            ∙ ap (λ (x : Admitted). report d (accepted (outcomeOf edition1 (tableControl table) (runFrom edition1 (programOfTable table) (record { values = take (length (table .plant .variables)) (x .values); modes = take (length (selectors (table .plant))) (x .modes) }) events)))) asked-is
+            ∙ sym (ap (report d) (run-is (a .judged)))

@@ -1,13 +1,14 @@
 -- The call "running a table", as the code answers it.
 use mathlib.Core.Path.{_≡_}
+use mathlib.Core.Bool.{true}
 use mathlib.Core.List.{List}
-use Prim.Native.Nat.{ℕ, _*_, _/_, _≤_}
+use Prim.Native.Nat.{ℕ}
 use lib.ListN.{length, take}
 use Rattle.semantics.specs.Editions.{edition1}
 use Rattle.semantics.specs.Refusals.{accepted}
 use Rattle.semantics.specs.Plant.{selectors}
 use Rattle.semantics.specs.Tables.{Table, judgeTable}
-use Rattle.semantics.specs.Calls.{recordSize}
+use Rattle.semantics.specs.Calls.{roomForRecords}
 use Rattle.execution.specs.Ready.{Fits}
 use Rattle.start_read.specs.declared.admission.Admitted.{Admitted}
 use Rattle.records.specs.declared.Counts.{Counts}
@@ -17,7 +18,7 @@ use Rattle.table_run.specs.Runs.{Whole}
 pub record Admits (f : List ℕ) (asked : Admitted) (events d : List ℕ) (t : Table) : Type 0 where
   pub judged : judgeTable edition1 f ≡ accepted t
   pub fits : Fits (t .plant) (take (length (t .plant .variables)) (asked .values)) (take (length (selectors (t .plant))) (asked .modes))
-  pub room : length events / 3 * recordSize edition1 (t .plant) ≤ length d
+  pub room : roomForRecords edition1 (t .plant) events d ≡ true
 
 -- there is such a table
 pub record Admitting (f : List ℕ) (asked : Admitted) (events d : List ℕ) : Type 0 where

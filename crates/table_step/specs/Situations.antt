@@ -16,6 +16,7 @@ use Rattle.nodeset.specs.Sets.{members, emptySet, Words}
 use Rattle.nodeset.specs.declared.NodeSet.{NodeSet}
 use Rattle.table_read.specs.Promised.{LocationPromised, Leads}
 use Rattle.execution.specs.Ready.{Lent, PlantLent, NodeLent, Fits}
+use Rattle.execution.specs.Runs.{leaves}
 use Rattle.effects.specs.Verdicts.{Left}
 use Rattle.effects.specs.declared.Verdict.{Verdict}
 use Rattle.effects.specs.declared.Verdict.the-variants.{Move}
@@ -67,9 +68,6 @@ pub record Moving (locs places : List ℕ) (x : ℕ) (v : Verdict) : Type 0 wher
   pub movable : Movable table locs places x v
 
 -- ---- one event, part by part
-abbrev pub leaves : ℕ → Option ℕ → List ℤ → List ℕ → Run.Answered ℕ
-leaves n o vs ms = record { answer = n; left = record { place = o; values = vs; modes = ms } }
-
 -- a move that leads there is answered so
 pub record Arrives (t : Table) (x : Next ℕ) (a : Answered) : Type 0 where
   pub place : Option ℕ

@@ -17,7 +17,7 @@ returns : tie.Need-returns
 returns c =
     let c7 = c .before .before .before .before .before .before .before in
     let start = c7 .before .before in
-    let a = start .args in none-told (a .file .now) (a .start .now) (a .events .now) (a .table .now) (a .records .now) (a .others .now) (c .before .before .judged .ensures (a .events .now) (a .table .now) (a .records .now) (a .others .now) refl refl refl refl) (c .before .if1 .taken) (c .refused .ensures)
+    let a = start .args in c .refused .ensures _ _ _ ∙ none-told (a .file .now) (a .start .now) (a .events .now) (a .table .now) (a .records .now) (a .others .now) (c .before .before .judged .ensures (a .events .now) (a .table .now) (a .records .now) (a .others .now) refl refl refl refl) (c .before .if1 .taken)
 
 compile-requires : tie.Need-compile-requires
 compile-requires c κs = search needs

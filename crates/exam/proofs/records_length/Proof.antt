@@ -1,7 +1,11 @@
--- The counts that were read are those of the schedule and are small (`counts`); they make a record's size (`length-of`).
-use Prim.Native.Nat.{_/_}
+-- The counts that were read are those of the schedule and are small (`counts`); they make a record's size (`length-of`), and there is room (`room-for`).
+use Prim.Native.Nat.{_*_, _/_, _≤_}
 use native.Mathlib.Omega.{arith}
 use borrow.Author.Needs.{needs}
+use lib.ListN.{length}
+use Rattle.semantics.specs.Editions.{edition1}
+use Rattle.semantics.specs.Calls.{eventCount, recordSize}
+use Rattle.records.proofs.Records.{room-for}
 use Rattle.exam.proofs.Sizes.{counts, length-of}
 use Rattle.exam.proofs.records_length.Statement.{statement}
 use Rattle.exam.proofs.records_length.Tie as tie
@@ -10,19 +14,34 @@ read-requires : tie.Need-read-requires
 read-requires c κs = search needs
 
 mul-result : tie.Need-mul-result
-mul-result c = let k = counts (c .before .before .before .args .file .now) (c .before .read .ensures) (c .before .before .before .pre .schedule-read) in omega (arith, k .few)
+mul-result c =
+    let start = c .before .before .before .before .before in
+    let k = counts (start .args .file .now) (c .before .read .ensures) (start .pre .schedule-read) in omega (arith, k .few)
 
 add-result : tie.Need-add-result
-add-result c = let k = counts (c .before .before .before .args .file .now) (c .before .read .ensures) (c .before .before .before .pre .schedule-read) in omega (arith, k .few)
+add-result c =
+    let start = c .before .before .before .before .before in
+    let k = counts (start .args .file .now) (c .before .read .ensures) (start .pre .schedule-read) in omega (arith, k .few)
 
 add-result-2 : tie.Need-add-result-2
-add-result-2 c = let k = counts (c .before .before .before .before .args .file .now) (c .before .before .read .ensures) (c .before .before .before .before .pre .schedule-read) in omega (arith, k .few, k .few-selectors)
+add-result-2 c =
+    let start = c .before .before .before .before .before .before in
+    let k = counts (start .args .file .now) (c .before .before .read .ensures) (start .pre .schedule-read) in omega (arith, k .few, k .few-selectors)
 
 mul-result-2 : tie.Need-mul-result-2
-mul-result-2 c = let k = length-of (c .before .before .before .before .args .file .now) (c .before .before .before .before .args .events / 3) (c .before .before .read .ensures) (c .before .before .before .before .pre .schedule-read) in omega (arith, k, c .before .before .before .before .pre .enough)
+unfolding eventCount
+mul-result-2 c =
+    let start = c .before .before .before .before .before .before in
+    let a = start .args in
+    let k = length-of (a .file .now) (length (a .events .now) / 3) (c .before .before .read .ensures) (start .pre .schedule-read) in
+    let r : length (a .events .now) / 3 * recordSize edition1 (start .pre .schedule .plant) ≤ length (a .records .now) = room-for (start .pre .schedule .plant) (a .events .now) (a .records .now) (start .pre .enough) in
+    omega (arith, k, r, start .good)
 
 returns : tie.Need-returns
-returns c = λ s h. length-of (c .before .before .before .before .args .file .now) _ (c .before .before .read .ensures) h
+unfolding eventCount
+returns c =
+    let start = c .before .before .before .before .before .before in
+    λ s h. length-of (start .args .file .now) _ (c .before .before .read .ensures) h
 
 pub records-length-spec : {M : Type 1} → statement M
 records-length-spec =

@@ -1,5 +1,5 @@
 -- One law for each return: `by-file`, `by-admission`, `by-events` (Calling).
-use mathlib.Core.Path.{refl}
+use mathlib.Core.Path.{refl, _∙_}
 use Rattle.rule_run.proofs.Calling.{by-file, room-of, by-admission, admitting, by-events}
 use borrow.Author.Needs.{needs}
 use Rattle.rule_run.proofs.call.run.Statement.{statement}
@@ -12,7 +12,7 @@ refused-requires : tie.Need-refused-requires
 refused-requires c κs = search needs
 
 returns : tie.Need-returns
-returns c = by-file (c .before .before .before .before .before .before .before .args .file .now) (c .before .before .before .before .before .before .before .args .start .now) (c .before .before .before .before .before .before .before .args .events .now) (c .before .before .before .before .before .before .before .args .records .now) (c .before .before .index .ensures) (c .before .if1 .taken) (c .refused .ensures)
+returns c = c .refused .ensures _ ∙ by-file (c .before .before .before .before .before .before .before .args .file .now) (c .before .before .before .before .before .before .before .args .start .now) (c .before .before .before .before .before .before .before .args .events .now) (c .before .before .before .before .before .before .before .args .records .now) (c .before .before .index .ensures) (c .before .if1 .taken)
 
 admit-requires : tie.Need-admit-requires
 admit-requires c κs = room-of (c .before .before .before .before .before .before .before .args .file .now) (c .before .before .before .before .before .before .before .args .start .now) (c .before .before .before .before .before .before .before .args .events .now) (c .before .before .before .before .before .before .before .args .records .now) (c .before .before .index .ensures) (c .before .if1 .left)
@@ -24,7 +24,7 @@ returns-2 : tie.Need-returns-2
 returns-2 c =
     let c7 = c .before .before .before .before .before .before .before in
     let start = c7 .before .before .before in
-    by-admission (start .args .file .now) (start .args .start .now) (start .args .events .now) (start .args .records .now) (c .before .before .before .before .before .index .ensures) (c .before .before .before .before .if1 .left) (λ p k. c .before .before .admit .ensures p k _ _ refl refl) (c .before .if2 .taken) (c .refused2 .ensures)
+    c .refused2 .ensures _ ∙ by-admission (start .args .file .now) (start .args .start .now) (start .args .events .now) (start .args .records .now) (c .before .before .before .before .before .index .ensures) (c .before .before .before .before .if1 .left) (λ p k. c .before .before .admit .ensures p k _ _ refl refl) (c .before .if2 .taken)
 
 lend-requires : tie.Need-lend-requires
 lend-requires c κs =
@@ -40,7 +40,7 @@ returns-3 c =
     let c7 = c .before .before .before .before .before .before .before in
     let index-then = c7 .before in
     let start = index-then .before .before .before .before .before in
-    by-events (start .args .file .now) (start .args .start .now) (start .args .events .now) (start .args .records .now) (index-then .index .ensures) (c .before .before .before .before .before .before .before .if1 .left) (λ p k. c .before .before .before .before .before .admit .ensures p k _ _ refl refl) (c .before .before .before .before .if2 .left) (c .before .before .lend .ensures) refl
+    by-events (start .args .file .now) (start .args .start .now) (start .args .events .now) (start .args .records .now) (index-then .index .ensures) (c .before .before .before .before .before .before .before .if1 .left) (λ p k. c .before .before .before .before .before .admit .ensures p k _ _ refl refl) (c .before .before .before .before .if2 .left) (c .before .before .lend .ensures)
 
 pub run-spec : {M : Type 1} → statement M
 run-spec =
