@@ -19,12 +19,13 @@ use Rattle.schedules.specs.Nodes.{Node, sequence, parallel, Kind, a-sequence, a
 use Rattle.schedules.specs.Compiling.{testsOf}
 use Rattle.schedules.proofs.NodesRead.{nodes-counted}
 use Rattle.schedules.proofs.Places.{take-next}
-use Rattle.schedule_read.specs.Indexed.{NodesAt}
+use Rattle.tree_read.specs.Index.{NodesAt}
 use Rattle.schedule_read.specs.Actions.{actionNumber, ActionKinds}
 use Rattle.schedule_read.proofs.NodeActions.{action-made, action-of-node, action-beyond}
 use Rattle.schedule_read.proofs.Payloads.{counted}
 use Rattle.numbering.specs.Meeting.{testsIn}
-use Rattle.table_write.specs.ActionTable.{operandAt, actionHere, actionsTo, Coded, Operands}
+use Rattle.codec.specs.Parts.{partAt}
+use Rattle.table_write.specs.ActionTable.{actionHere, actionsTo, Coded, Operands}
 
 -- ---- a node's action, by the number of its kind and its operand bytes
 data Formed (c : ℕ) (b : List ℕ) : Option Action → Type 0 where
@@ -81,11 +82,10 @@ module _ {s kinds starts ends acts : List ℕ} {count : ℕ} {ns : List Node} (d
   record Stood (n : ℕ) : Type 0 where
     node : Node
     is : getElem? ns n ≡ some node
-    form : Formed (getD acts n 0) (operandAt s starts ends n) (actionOf node)
-    read : actionOfKind (actionKind (getD acts n 0)) (operandAt s starts ends n) ≡ actionOf node
+    form : Formed (getD acts n 0) (partAt s starts ends n) (actionOf node)
+    read : actionOfKind (actionKind (getD acts n 0)) (partAt s starts ends n) ≡ actionOf node
 
   stood : (n : ℕ) → n < count → Stood n
-  unfolding operandAt
   stood n h =
       let x = at-exists ns n (omega (arith, d .counted)) in
       let e = d .entries n h .node ∙ x .1 in

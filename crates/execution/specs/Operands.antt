@@ -1,15 +1,12 @@
 -- Where the operands of the nodes lie, and which nodes are waits.
 use mathlib.Core.Bool.{Bool}
 use mathlib.Core.List.{List}
-use Prim.Native.Nat.{ℕ, _-_, _≤_, _<_}
+use Prim.Native.Nat.{ℕ, _≤_, _<_}
 use lib.Dec.{eqb}
-use lib.ListN.{length, getD, take, drop}
+use lib.ListN.{length, getD}
 use Rattle.semantics.specs.TableFile.{WAIT}
 
 -- ---- where operands lie
-abbrev pub cutAt : List ℕ → List ℕ → List ℕ → ℕ → List ℕ
-cutAt ops starts ends n = take (getD ends n 0 - getD starts n 0) (drop (getD starts n 0) ops)
-
 pub record Cut (ops starts ends : List ℕ) (n : ℕ) : Type 0 where
   pub start : n < length starts
   pub end : n < length ends

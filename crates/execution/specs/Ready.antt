@@ -16,7 +16,8 @@ use Rattle.semantics.specs.Run.{Action, judge}
 use Rattle.semantics.specs.TableFile.{actionKind, actionOfKind}
 use Rattle.semantics.specs.Tables.{operandFits}
 use Rattle.nodeset.specs.Sets.{mem, members}
-use Rattle.execution.specs.Operands.{cutAt, Cut}
+use Rattle.codec.specs.Parts.{partAt}
+use Rattle.execution.specs.Operands.{Cut}
 use Rattle.modes.specs.Modes.{Stands, RatesIn}
 use Rattle.effects.specs.Verdicts.{Left}
 use Rattle.effects.specs.declared.Verdict.{Verdict}
@@ -67,7 +68,7 @@ pub record PlantLent (p : Plant) (l : Lent) : Type 0 where
 
 -- ---- a node
 abbrev pub operandAt : Lent → ℕ → List ℕ
-operandAt l n = cutAt (l .operands) (l .starts) (l .ends) n
+operandAt l n = partAt (l .operands) (l .starts) (l .ends) n
 
 pub record NodeLent (p : Plant) (a : Action) (l : Lent) (n : ℕ) : Type 0 where
   pub below : n < 64

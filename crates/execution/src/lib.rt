@@ -14,7 +14,8 @@ ghost use Rattle.semantics.specs.Run.{walk};
 ghost use Rattle.nodeset.specs.Sets.{mem, members};
 ghost use Rattle.effects.specs.Verdicts.{stepVerdict, truthVerdict};
 ghost use Rattle.effects.specs.declared.Verdict.the-variants.{Away, Stay};
-ghost use Rattle.execution.specs.Operands.{cutAt, Cut, isWaitKind};
+ghost use Rattle.codec.specs.Parts.{partAt};
+ghost use Rattle.execution.specs.Operands.{Cut, isWaitKind};
 ghost use Rattle.execution.specs.Ready.{Promised, Judges, lent};
 ghost use Rattle.execution.specs.Sense.{Sense, eventOf};
 
@@ -36,7 +37,7 @@ fn all_wait(kinds: &[u8], acting: NodeSet) -> bool
 // The truth of the wait n.
 fn still(ops: &[u8], starts: &[usize], ends: &[usize], values: &[i32], n: usize) -> Verdict
     requires { ⌜ Cut (now ops) (now starts) (now ends) n ⌝ }
-    ensures { λ r. ⌜ r ≡ truthVerdict (Away 31) Stay (truthValue edition1 (now (values .entry)) (cutAt (now (ops .entry)) (now (starts .entry)) (now (ends .entry)) n)) ⌝ }
+    ensures { λ r. ⌜ r ≡ truthVerdict (Away 31) Stay (truthValue edition1 (now (values .entry)) (partAt (now (ops .entry)) (now (starts .entry)) (now (ends .entry)) n)) ⌝ }
 {
     let b = starts[n];
     let e = ends[n];
@@ -52,7 +53,7 @@ fn all_still(
     values: &[i32],
 ) -> Verdict
     requires { ⌜ ((n : ℕ) → mem (acting .words) n ≡ true → (n < 64) × Cut (now ops) (now starts) (now ends) n) ⌝ }
-    ensures { λ r. ⌜ r ≡ stepVerdict (walk edition1 31 (now (values .entry)) (map (cutAt (now (ops .entry)) (now (starts .entry)) (now (ends .entry))) (members (acting .words)))) ⌝ }
+    ensures { λ r. ⌜ r ≡ stepVerdict (walk edition1 31 (now (values .entry)) (map (partAt (now (ops .entry)) (now (starts .entry)) (now (ends .entry))) (members (acting .words)))) ⌝ }
 {
     let mut n = nodeset::next(acting, 0);
     while n < paper::NODES {

@@ -33,7 +33,8 @@ use Rattle.table_read.specs.TableParts.{partsOf, sectionsAt}
 use Rattle.table_read.specs.declared.call.TableIndex.{TableIndex}
 use Rattle.table_read.proofs.Promises.{Opened, opened, parts-read}
 use Rattle.initial_start.specs.Initial.{initialValues, initialModes, initialStart, startOf, sectionsStart, scheduleStart, tableStart}
-use Rattle.initial_start.specs.Held.{held, part, Between}
+use Rattle.codec.specs.Parts as Parts
+use Rattle.initial_start.specs.Held.{held, Between}
 use Rattle.initial_start.specs.declared.Start.{Start}
 use Rattle.records.proofs.Records.{values-length}
 
@@ -109,7 +110,7 @@ module _ (vs es : List ℕ) {q : PlantRead} (e : q ≡ plantOf vs es) where
 -- two sections that stand in it, and the start that they give
 pub record Gives (f : List ℕ) (a b c d : ℕ) (start : List ℕ) : Type 0 where
   pub stand : Between f a b c d
-  pub is : sectionsStart (part f a b) (part f c d) ≡ start
+  pub is : sectionsStart (Parts.between a b f) (Parts.between c d f) ≡ start
 
 -- a refused file has none
 none-stand : (f : List ℕ) → Gives f 0 0 0 0 []

@@ -1,7 +1,7 @@
 -- A start as the code answers it.
 use mathlib.Core.List.{List}
-use Prim.Native.Nat.{ℕ, _-_, _≤_}
-use lib.ListN.{length, take, drop, replicate}
+use Prim.Native.Nat.{ℕ, _≤_}
+use lib.ListN.{length, replicate}
 use Rattle.semantics.specs.Bytes.{overwrite}
 use Rattle.initial_start.specs.declared.Start.{Start}
 
@@ -10,10 +10,6 @@ unfoldable pub held : List ℕ → Start
 held s = record { length = length s; bytes = overwrite s (replicate 144 0) }
 
 -- ---- for the code's own contract
--- the bytes from a place on to another
-abbrev pub part : List ℕ → ℕ → ℕ → List ℕ
-part f a b = take (b - a) (drop a f)
-
 -- a section from a to b, and one from c to d
 pub record Between (f : List ℕ) (a b c d : ℕ) : Type 0 where
   pub first-ordered : a ≤ b

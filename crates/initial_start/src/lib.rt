@@ -9,7 +9,8 @@ ghost use lib.ListN.{length};
 ghost use Rattle.plant.specs.Equations.{SectionStands};
 ghost use Rattle.codec.specs.Writing.{Wrote};
 ghost use Rattle.initial_start.specs.Initial.{initialModes, sectionsStart};
-ghost use Rattle.initial_start.specs.Held.{held, part, Between};
+ghost use Rattle.codec.specs.Parts as Parts;
+ghost use Rattle.initial_start.specs.Held.{held, Between};
 
 // the initial mode of each CASE of a section whose layout is right, at a place; the next place
 fn put_modes(d: &mut [u8], i: usize, es: &[u8]) -> usize
@@ -65,7 +66,7 @@ pub fn of(vs: &[u8], es: &[u8]) -> Start
 // of the sections from a to b and from c to d
 fn between(file: &[u8], a: usize, b: usize, c: usize, d: usize) -> Start
     requires { ⌜ Between (now file) a b c d ⌝ }
-    ensures { λ r. ⌜ r ≡ held (sectionsStart (part (now (file .entry)) a b) (part (now (file .entry)) c d)) ⌝ }
+    ensures { λ r. ⌜ r ≡ held (sectionsStart (Parts.between a b (now (file .entry))) (Parts.between c d (now (file .entry)))) ⌝ }
 {
     of(&file[a..b], &file[c..d])
 }

@@ -25,7 +25,8 @@ use Rattle.schedule_read.specs.declared.call.ScheduleIndex.{ScheduleIndex}
 use Rattle.schedule_read.proofs.NodeActions.{action-of-node, action-is, action-beyond, acting-action}
 use Rattle.schedule_read.proofs.Promises.{Promised}
 use Rattle.plant.specs.declared.sections.PlantRead.{PlantRead}
-use Rattle.execution.specs.Operands.{Cut, cutAt}
+use Rattle.codec.specs.Parts.{partAt}
+use Rattle.execution.specs.Operands.{Cut}
 use Rattle.execution.specs.Ready.{Lent, PlantLent, NodeLent}
 use Rattle.execution.proofs.PlantReady.{plant-lent}
 use Rattle.rule_step.specs.Situations.{ScheduleLent}
@@ -88,8 +89,8 @@ module _ {f : List ℕ} {ix : ScheduleIndex} {s : Schedule} (p : Promised f ix s
         cut-at : getD (ix .nodes .starts) n 0 ≤ getD (ix .nodes .ends) n 0 → getD (ix .nodes .ends) n 0 ≤ length (s .sections .schedule) → n < length (ix .nodes .starts) → n < length (ix .nodes .ends) → Cut (l .operands) (l .starts) (l .ends) n
         cut-at a b c d = rw (operands-are, q .starts, q .ends) (record { start = c; end = d; low = a; high = b })
 
-        payload-is : TableFile.actionOfKind (actionKind (getD (l .kinds) n 0)) (cutAt (s .sections .schedule) (ix .nodes .starts) (ix .nodes .ends) n) ≡ some a →
-            TableFile.actionOfKind (actionKind (getD (l .kinds) n 0)) (cutAt (l .operands) (l .starts) (l .ends) n) ≡ some a
+        payload-is : TableFile.actionOfKind (actionKind (getD (l .kinds) n 0)) (partAt (s .sections .schedule) (ix .nodes .starts) (ix .nodes .ends) n) ≡ some a →
+            TableFile.actionOfKind (actionKind (getD (l .kinds) n 0)) (partAt (l .operands) (l .starts) (l .ends) n) ≡ some a
         payload-is e = rw (operands-are, q .starts, q .ends) e
 
     or-stop : (n : ℕ) {a : Action} → actionAt (actionsOf (s .nodes)) n ≡ some a → a ≡ nodeAction (s .nodes) n

@@ -22,7 +22,7 @@ use Rattle.schedules.specs.Residuals.{Residual, acting}
 use Rattle.schedules.proofs.ActingDetermines.{Of}
 use Rattle.schedules.proofs.MovesFit.{move-fits}
 use Rattle.schedules.proofs.ReadShapes.{root-shapes}
-use Rattle.schedule_read.specs.Indexed.{NodesAt}
+use Rattle.tree_read.specs.Index.{NodesAt}
 use Rattle.schedule_read.specs.Actions.{actionNumber, ActsAs, ActionKinds}
 use Rattle.codec.proofs.Padding.{repeated}
 use Rattle.schedule_read.proofs.Payloads.{by-kind, headed, paired, counted, emptied}

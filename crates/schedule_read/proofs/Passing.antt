@@ -10,7 +10,8 @@ use lib.ListN.{length, getD, take, drop, getElem?}
 use Rattle.semantics.specs.Bytes.{every}
 use Rattle.semantics.proofs.Facts.{none-not-some, some-is, at-exists}
 use Rattle.schedules.specs.Nodes.{Node}
-use Rattle.schedule_read.specs.Indexed.{NodesAt, Indexed, Made, Tells, Passes}
+use Rattle.tree_read.specs.Index.{NodesAt}
+use Rattle.schedule_read.specs.Indexed.{Indexed, Made, Tells, Passes}
 
 -- ---- every element from number i on
 every-next : {A : Type 0} (P : A → Bool) (l : List A) (i : ℕ) {x : A} → getElem? l i ≡ some x → P x ≡ true → every P (drop i l) ≡ every P (drop (suc i) l)

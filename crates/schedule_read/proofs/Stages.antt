@@ -26,7 +26,8 @@ use Rattle.plant.specs.declared.sections.PlantRead.{PlantRead}
 use Rattle.plant.proofs.ModeCounts.{modes-held, modes-full, modes-room}
 use Rattle.plant.proofs.PlantLaws.{passed-all, passes, variables-of, variables-high, selectors-of}
 use Rattle.schedule_read.specs.FileParts.{noParts, partsIn, partsRead, partsOf, sectionsAt}
-use Rattle.schedule_read.specs.Indexed.{NodesAt, Indexed, Passes}
+use Rattle.tree_read.specs.Index.{NodesAt}
+use Rattle.schedule_read.specs.Indexed.{Indexed, Passes}
 use Rattle.tree_read.specs.Index.{notNodes, nodesOf}
 use Rattle.tree_read.specs.Ends.{noTree, subtreesOf, treeIn}
 use Rattle.schedule_read.specs.ScheduleFile.{numbers, noSchedule, indexAt, scheduleIndex, sectionsIndex, PlantAt, Planted, NodesJudged}

@@ -1,11 +1,12 @@
 -- Where the three sections of a schedule file stand.
 use mathlib.Core.List.{List}
-use Prim.Native.Nat.{ℕ, _+_, _-_}
-use lib.ListN.{length, take, drop}
+use Prim.Native.Nat.{ℕ, _+_}
+use lib.ListN.{length}
 use Rattle.semantics.specs.Editions.{edition1}
 use Rattle.semantics.specs.Refusals.{Judged, refused, accepted}
 use Rattle.schedules.specs.FileSections.{FileSections}
 use Rattle.schedules.specs.Files.{judgeFileLayout}
+use Rattle.codec.specs.Parts.{between}
 use Rattle.schedule_read.specs.declared.parts.Parts.{Parts}
 
 -- a refusal
@@ -49,7 +50,7 @@ partsOf f = partsRead (judgeFileLayout edition1 f)
 -- the sections that stand there
 unfoldable pub sectionsAt : List ℕ → Parts → FileSections
 sectionsAt f p = record {
-  variables = take (p .«variables_to» - p .«variables_from») (drop (p .«variables_from») f);
-  equations = take (p .«equations_to» - p .«equations_from») (drop (p .«equations_from») f);
-  schedule = take (p .«schedule_to» - p .«schedule_from») (drop (p .«schedule_from») f);
+  variables = between (p .«variables_from») (p .«variables_to») f;
+  equations = between (p .«equations_from») (p .«equations_to») f;
+  schedule = between (p .«schedule_from») (p .«schedule_to») f;
 }

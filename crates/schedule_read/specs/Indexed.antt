@@ -3,26 +3,10 @@ use mathlib.Core.Path.{_≡_}
 use mathlib.Core.Bool.{Bool}
 use mathlib.Core.List.{List}
 use mathlib.Core.Option.{some}
-use Prim.Native.Nat.{ℕ, _-_, _≤_, _<_}
-use lib.ListN.{length, getD, take, drop, getElem?}
+use Prim.Native.Nat.{ℕ}
 use Rattle.semantics.specs.Bytes.{every}
 use Rattle.schedules.specs.Nodes.{Node, kindOf, nodeOf}
-
--- ---- nodes
--- entry i has the kind of node i, and where its payload starts and ends in s
-pub record NodeAt (s kinds starts ends : List ℕ) (ns : List Node) (i : ℕ) : Type 0 where
-  pub node : nodeOf (kindOf (getD kinds i 0)) (take (getD ends i 0 - getD starts i 0) (drop (getD starts i 0) s)) ≡ getElem? ns i
-  pub ordered : getD starts i 0 ≤ getD ends i 0
-  pub inside : getD ends i 0 ≤ length s
-
--- ns are the nodes of which this is the index
-pub record NodesAt (s kinds starts ends : List ℕ) (count : ℕ) (ns : List Node) : Type 0 where
-  pub counted : length ns ≡ count
-  pub few : count ≤ 64
-  pub kinds-full : length kinds ≡ 64
-  pub starts-full : length starts ≡ 64
-  pub ends-full : length ends ≡ 64
-  pub entries : (i : ℕ) → i < count → NodeAt s kinds starts ends ns i
+use Rattle.tree_read.specs.Index.{NodesAt}
 
 -- it is the index of some nodes
 pub record Indexed (s kinds starts ends : List ℕ) (count : ℕ) : Type 0 where

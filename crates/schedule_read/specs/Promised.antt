@@ -1,16 +1,17 @@
 -- What the index of a schedule file promises to those that run or compile it.
 use mathlib.Core.Path.{_≡_}
 use mathlib.Core.List.{List}
-use Prim.Native.Nat.{ℕ, _-_, _≤_}
-use lib.ListN.{length, take, drop}
+use Prim.Native.Nat.{ℕ, _≤_}
+use lib.ListN.{length}
 use Rattle.semantics.specs.Editions.{edition1}
 use Rattle.semantics.specs.Refusals.{accepted}
 use Rattle.semantics.specs.Plant.{judgePlant}
 use Rattle.schedules.specs.Laid.{Laid, Lies}
 use Rattle.schedules.specs.Files.{Schedule, judgeFile}
+use Rattle.codec.specs.Parts.{between}
 use Rattle.plant.specs.PlantRead.{plantOf}
 use Rattle.tree_read.specs.Ends.{treeSize}
-use Rattle.schedule_read.specs.Indexed.{NodesAt}
+use Rattle.tree_read.specs.Index.{NodesAt}
 use Rattle.schedule_read.specs.declared.call.ScheduleIndex.{ScheduleIndex}
 
 -- ---- where the sections stand
@@ -21,7 +22,7 @@ pub record Inside (f : List ℕ) (start stop : ℕ) : Type 0 where
 -- a section of the file is what stands between two places
 pub record Slice (f : List ℕ) (start stop : ℕ) (x : List ℕ) : Type 0 where
   pub inside : Inside f start stop
-  pub is : take (stop - start) (drop start f) ≡ x
+  pub is : between start stop f ≡ x
 
 -- ix is the index of an accepted file, and s its schedule
 pub record Promised (f : List ℕ) (ix : ScheduleIndex) (s : Schedule) : Type 0 where

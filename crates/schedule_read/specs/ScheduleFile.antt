@@ -13,7 +13,7 @@ use Rattle.schedules.specs.Files.{Schedule, judgeFile, judgeFileSections, judge
 use Rattle.schedules.specs.Calls.{ScheduleRead}
 use Rattle.plant.specs.ModeCounts.{ModesAt}
 use Rattle.plant.specs.PlantRead.{refusedPlant, plantOf}
-use Rattle.schedule_read.specs.Indexed.{NodesAt}
+use Rattle.tree_read.specs.Index.{NodesAt}
 use Rattle.schedule_read.specs.FileParts.{noParts, partsOf}
 use Rattle.tree_read.specs.Index.{notNodes, nodesOf}
 use Rattle.tree_read.specs.Ends.{noTree, treeIn}

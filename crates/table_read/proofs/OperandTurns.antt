@@ -18,6 +18,7 @@ use Rattle.semantics.specs.Run.{Action}
 use Rattle.semantics.specs.TableFile.{NodeAction, an-assignment, a-switch, a-stop, no-kind, actionKind, actionOfKind, actionsIn}
 use Rattle.semantics.specs.Tables.{operandFits, operandsFit, actionAt}
 use Rattle.semantics.proofs.Facts.{true-not-false, by-cases}
+use Rattle.codec.specs.Parts.{partAt}
 use Rattle.codec.proofs.Reading.{either}
 use Rattle.table_read.specs.declared.actions.Actions.{Actions}
 use Rattle.table_read.specs.ActionIndex.{actionsOf}
@@ -91,7 +92,7 @@ module _ (v : ℕ) (cs : List Selector) where
 
 -- ---- the action of a node, by its kind and its operand
 abbrev pub operandOf : List ℕ → Actions → ℕ → List ℕ
-operandOf s x n = take (getD (x .ends) n 0 - getD (x .starts) n 0) (drop (getD (x .starts) n 0) s)
+operandOf s x n = partAt s (x .starts) (x .ends) n
 
 module _ (s : List ℕ) {x : Actions} (q : x ≡ actionsOf s) (z : x .refusal ≡ 0) (n : ℕ) (k : n < 64) where
   here : {l : List NodeAction} → actionsIn edition1 s ≡ some l → Here s x (actionAt l n) n

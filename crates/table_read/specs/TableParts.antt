@@ -1,11 +1,12 @@
 -- Where the four sections of a table stand.
 use mathlib.Core.List.{List}
-use Prim.Native.Nat.{ℕ, _+_, _-_, _≤_}
-use lib.ListN.{length, take, drop}
+use Prim.Native.Nat.{ℕ, _+_, _≤_}
+use lib.ListN.{length}
 use Rattle.semantics.specs.Editions.{edition1}
 use Rattle.semantics.specs.Refusals.{Judged, refused, accepted}
 use Rattle.semantics.specs.TableFile.{TableSections}
 use Rattle.semantics.specs.Tables.{judgeTableLayout}
+use Rattle.codec.specs.Parts.{between}
 use Rattle.table_read.specs.declared.parts.Parts.{Parts}
 
 -- a refusal
@@ -60,8 +61,8 @@ partsOf t = partsRead (judgeTableLayout edition1 t)
 -- the sections that stand there
 unfoldable pub sectionsAt : List ℕ → Parts → TableSections
 sectionsAt t p = record {
-  variables = take (p .«variables_end» - p .variables) (drop (p .variables) t);
-  equations = take (p .«equations_end» - p .equations) (drop (p .equations) t);
-  actions = take (p .«actions_end» - p .actions) (drop (p .actions) t);
-  locations = take (p .«locations_end» - p .locations) (drop (p .locations) t);
+  variables = between (p .variables) (p .«variables_end») t;
+  equations = between (p .equations) (p .«equations_end») t;
+  actions = between (p .actions) (p .«actions_end») t;
+  locations = between (p .locations) (p .«locations_end») t;
 }

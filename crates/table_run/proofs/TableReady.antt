@@ -23,7 +23,8 @@ use Rattle.table_read.specs.declared.call.TableIndex.{TableIndex}
 use Rattle.table_read.proofs.OperandTurns.{operandOf}
 use Rattle.table_read.proofs.PartsStand.{Stands}
 use Rattle.table_read.proofs.Promises.{Opened, opened, parts-read, plant-read, actions-read, locations-read, action-promised, lengths-of, location-promised, LocationsPromised, locations-promised}
-use Rattle.execution.specs.Operands.{Cut, cutAt}
+use Rattle.codec.specs.Parts.{partAt}
+use Rattle.execution.specs.Operands.{Cut}
 use Rattle.execution.specs.Ready.{Lent, PlantLent, NodeLent}
 use Rattle.execution.proofs.PlantReady.{plant-lent}
 use Rattle.table_step.specs.Situations.{LocationLent, TableLent}
@@ -132,7 +133,7 @@ module _ (f : List ℕ) {ix : TableIndex} (h : ix ≡ tableIndex f) {t : Table} 
         cut-at : getD (ix .actions .starts) n 0 ≤ getD (ix .actions .ends) n 0 → getD (ix .actions .ends) n 0 ≤ length (sections .actions) → n < length (ix .actions .starts) → n < length (ix .actions .ends) → Cut (l .operands) (l .starts) (l .ends) n
         cut-at a b c d = rw (operands-are, q .starts, q .ends) (record { start = c; end = d; low = a; high = b })
 
-        operand-is : actionOfKind (actionKind (getD (ix .actions .kinds) n 0)) (operandOf (sections .actions) (ix .actions) n) ≡ some a → actionOfKind (actionKind (getD (l .kinds) n 0)) (cutAt (l .operands) (l .starts) (l .ends) n) ≡ some a
+        operand-is : actionOfKind (actionKind (getD (ix .actions .kinds) n 0)) (operandOf (sections .actions) (ix .actions) n) ≡ some a → actionOfKind (actionKind (getD (l .kinds) n 0)) (partAt (l .operands) (l .starts) (l .ends) n) ≡ some a
         operand-is e = rw (q .kinds, operands-are, q .starts, q .ends) e
 
     pub table-lent : TableLent t l (cutFrom f (ix .parts .locations) (ix .parts .«locations_end»)) (ix .locations .places)

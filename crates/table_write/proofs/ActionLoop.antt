@@ -12,12 +12,12 @@ use Rattle.semantics.specs.Editions.{edition1}
 use Rattle.semantics.specs.TableFile.{actionKind, actionOfKind, writeAction}
 use Rattle.schedules.specs.Nodes.{listed}
 use Rattle.schedules.proofs.Places.{flat-append}
-use Rattle.table_write.specs.ActionTable.{operandAt, actionHere, actionsTo, rowHere, rowsTo, Coded, OperandOf, Listed, Measured}
+use Rattle.codec.specs.Parts.{partAt}
+use Rattle.table_write.specs.ActionTable.{actionHere, actionsTo, rowHere, rowsTo, Coded, OperandOf, Listed, Measured}
 use Rattle.table_write.specs.Pieces.{Put}
 use Rattle.table_write.proofs.TableBytes.{put-none}
 
-pub operand-long : {s acts starts ends : List ℕ} {n : ℕ} → OperandOf s acts starts ends n → length (operandAt s starts ends n) ≡ getD ends n 0 - getD starts n 0
-unfolding operandAt
+pub operand-long : {s acts starts ends : List ℕ} {n : ℕ} → OperandOf s acts starts ends n → length (partAt s starts ends n) ≡ getD ends n 0 - getD starts n 0
 operand-long {s} {acts} {starts} {ends} {n} h =
     length-take-le (getD ends n 0 - getD starts n 0) (drop (getD starts n 0) s) (omega (arith, length-drop (getD starts n 0) s, h .ordered, h .inside))
 
@@ -48,7 +48,7 @@ module _ (s acts starts ends : List ℕ) where
   rows-length : (n : ℕ) → length (rowsTo s acts starts ends (n + 1)) ≡ length (rowsTo s acts starts ends n) + length (rowHere s acts starts ends n)
   rows-length n = ap length (sym (rows-next n)) ∙ length-append (rowsTo s acts starts ends n) (rowHere s acts starts ends n)
 
-  actions-length : (n : ℕ) → length (actionsTo s acts starts ends (n + 1)) ≡ length (actionsTo s acts starts ends n) + length (actionHere n (getD acts n 0) (operandAt s starts ends n))
+  actions-length : (n : ℕ) → length (actionsTo s acts starts ends (n + 1)) ≡ length (actionsTo s acts starts ends n) + length (actionHere n (getD acts n 0) (partAt s starts ends n))
   unfolding actionsTo
   actions-length n = rw (add-one n) (length-append (actionsTo s acts starts ends n) _)
 
@@ -71,7 +71,7 @@ module _ {acts starts ends : List ℕ} where
   measured-none = record { few = omega arith; short = omega arith; counts = λ s h. refl; sizes = λ s h. refl }
 
   measured-more : {n c size c′ size′ : ℕ} (a b : ℕ) → Measured acts starts ends n c size → c′ ≡ c + a → size′ ≡ size + b → a ≤ 1 → b ≤ 202 →
-      ((s : List ℕ) → OperandOf s acts starts ends n → (length (actionHere n (getD acts n 0) (operandAt s starts ends n)) ≡ a) × (length (rowHere s acts starts ends n) ≡ b)) →
+      ((s : List ℕ) → OperandOf s acts starts ends n → (length (actionHere n (getD acts n 0) (partAt s starts ends n)) ≡ a) × (length (rowHere s acts starts ends n) ≡ b)) →
       Measured acts starts ends (n + 1) c′ size′
   measured-more {n} a b x d e u v f = record {
     few = omega (arith, x .few);
@@ -82,7 +82,7 @@ module _ {acts starts ends : List ℕ} where
 
   pub measured-skip : {n c size c′ size′ : ℕ} → Measured acts starts ends n c size → getD acts n 0 ≡ 0 → c′ ≡ c → size′ ≡ size → Measured acts starts ends (n + 1) c′ size′
   unfolding flatMap
-  measured-skip {n} x z d e = measured-more 0 0 x (omega arith) (omega arith) (omega arith) (omega arith) (λ s o. rw (here-none n (operandAt s starts ends n) z) (refl, refl))
+  measured-skip {n} x z d e = measured-more 0 0 x (omega arith) (omega arith) (omega arith) (omega arith) (λ s o. rw (here-none n (partAt s starts ends n) z) (refl, refl))
 
   pub measured-row : {n c size c′ size′ : ℕ} → Measured acts starts ends n c size → (getD acts n 0 ≡ 0 → ⊥) → getD ends n 0 - getD starts n 0 ≤ 199 →
       c′ ≡ c + 1 → size′ ≡ size + (getD ends n 0 - getD starts n 0 + 3) → Measured acts starts ends (n + 1) c′ size′

@@ -3,16 +3,13 @@
 use mathlib.Core.Path.{_≡_}
 use mathlib.Core.List.{List, [], _∷_, _++_, flatMap}
 use mathlib.Core.Option.{some}
-use Prim.Native.Nat.{ℕ, zero, suc, _+_, _-_, _*_, _≤_, _<_}
-use lib.ListN.{length, getD, take, drop}
+use Prim.Native.Nat.{ℕ, zero, suc, _+_, _*_, _≤_, _<_}
+use lib.ListN.{length, getD}
 use Rattle.semantics.specs.Editions.{edition1}
 use Rattle.semantics.specs.Run.{Action}
 use Rattle.semantics.specs.TableFile.{NodeAction, actionKind, actionOfKind, actionBytes, inSection2, writeAction, writeActions}
 use Rattle.schedules.specs.Nodes.{listed}
-
--- the operand bytes of node n, between two places of the schedule section
-unfoldable pub operandAt : List ℕ → List ℕ → List ℕ → ℕ → List ℕ
-operandAt s starts ends n = take (getD ends n 0 - getD starts n 0) (drop (getD starts n 0) s)
+use Rattle.codec.specs.Parts.{partAt}
 
 -- the action of node n, of this kind and operand; none of kind 0
 unfoldable pub actionHere : ℕ → ℕ → List ℕ → List NodeAction
@@ -22,10 +19,10 @@ module _ (s acts starts ends : List ℕ) where
   -- those of the first n nodes
   unfoldable pub actionsTo : ℕ → List NodeAction
   actionsTo zero = []
-  actionsTo (suc n) = actionsTo n ++ actionHere n (getD acts n 0) (operandAt s starts ends n)
+  actionsTo (suc n) = actionsTo n ++ actionHere n (getD acts n 0) (partAt s starts ends n)
 
   abbrev pub rowHere : ℕ → List ℕ
-  rowHere n = flatMap (writeAction edition1) (actionHere n (getD acts n 0) (operandAt s starts ends n))
+  rowHere n = flatMap (writeAction edition1) (actionHere n (getD acts n 0) (partAt s starts ends n))
 
   abbrev pub rowsTo : ℕ → List ℕ
   rowsTo n = flatMap (writeAction edition1) (actionsTo n)
@@ -48,7 +45,7 @@ pub record OperandOf (s acts starts ends : List ℕ) (n : ℕ) : Type 0 where
   pub in-ends : n < length ends
   pub ordered : getD starts n 0 ≤ getD ends n 0
   pub inside : getD ends n 0 ≤ length s
-  pub coded : (getD acts n 0 ≡ 0 → ⊥) → Coded (getD acts n 0) (operandAt s starts ends n)
+  pub coded : (getD acts n 0 ≡ 0 → ⊥) → Coded (getD acts n 0) (partAt s starts ends n)
 
 -- so many nodes do
 pub record Operands (s acts starts ends : List ℕ) (count : ℕ) : Type 0 where

@@ -47,7 +47,7 @@ few-nodes s = go (nodesIn edition1 s) refl
   where
     go : (o : Option (List Node)) → nodesIn edition1 s ≡ o → nodesOf s .count ≤ 64
     go none e = let z : nodesOf s .count ≡ 0 = ap (λ (r : Nodes). r .count) (nodes-none s e) in omega arith
-    go (some ns) e = indexed s e .few-nodes
+    go (some ns) e = indexed s e .few
 
 -- ---- a payload's first byte
 part-begins : (s : List ℕ) (b e : ℕ) → 1 ≤ length (between b e s) → (0 < e - b) × (b < length s)
@@ -80,7 +80,7 @@ counts-more : (s cs : List ℕ) (i v : ℕ) {ns : List Node} (h : nodesIn editio
     ((x : Node) → Makes s (getD (nodesOf s .kinds) i 0) (getD (nodesOf s .starts) i 0) x → v ≡ children x) → set cs i v ≡ pad 64 0 (map children (take (i + 1) ns))
 counts-more s cs i v {ns} h l e k =
     let n = indexed s h .counted in
-    let b = indexed s h .few-nodes in
+    let b = indexed s h .few in
     let j : i < length ns = omega arith in
     let x = known s h i j in
     let m : length (take i ns) ≡ i = length-take-le i ns (omega arith) in

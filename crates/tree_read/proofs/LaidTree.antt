@@ -142,13 +142,13 @@ module _ (s : List ℕ) {ns : List Node} {t : Tree} (h : nodesIn edition1 s ≡ 
   kinds-held =
       let x = indexed s h in
       let n = x .counted in
-      held-map kindNumber ns (nodesOf s .kinds) 0 (omega (arith, x .few-nodes, x .kinds-full)) (λ i y e.
+      held-map kindNumber ns (nodesOf s .kinds) 0 (omega (arith, x .few, x .kinds-full)) (λ i y e.
       let k = known s h i (at-below ns i e) in
       ap (λ j. getD (nodesOf s .kinds) j 0) (zero-add i) ∙ said (k .made) .number ∙ ap kindNumber (some-is (sym (k .is) ∙ e)))
 
   ends-held : Held (treeIn s .ends) 0 (treeEnds t 0)
   ends-held =
-      let l : length (treeEnds t 0) ≤ 64 = omega (arith, length-tree-ends t 0, written-size ((one-tree ns t) .0 g), indexed s h .counted, indexed s h .few-nodes) in
+      let l : length (treeEnds t 0) ≤ 64 = omega (arith, length-tree-ends t 0, written-size ((one-tree ns t) .0 g), indexed s h .counted, indexed s h .few) in
       let k = length-pad 64 0 (treeEnds t 0) l in
       let a = held-at (pad 64 0 (treeEnds t 0)) 0 (treeEnds t 0) (omega arith) (λ i b. ap (λ j. getD (pad 64 0 (treeEnds t 0)) j 0) (zero-add i) ∙ getD-pad 64 0 (treeEnds t 0) i 0 b) in
       subst (λ (r : Subtrees). Held (r .ends) 0 (treeEnds t 0)) (sym tree-is) a
@@ -160,7 +160,7 @@ module _ (s : List ℕ) {ns : List Node} {t : Tree} (h : nodesIn edition1 s ≡ 
   tree-size = written-size ((one-tree ns t) .0 g)
 
   pub ends-long : length (treeIn s .ends) ≡ 64
-  ends-long = ap (λ (r : Subtrees). length (r .ends)) tree-is ∙ length-pad 64 0 (treeEnds t 0) (omega (arith, length-tree-ends t 0, tree-size, indexed s h .counted, indexed s h .few-nodes))
+  ends-long = ap (λ (r : Subtrees). length (r .ends)) tree-is ∙ length-pad 64 0 (treeEnds t 0) (omega (arith, length-tree-ends t 0, tree-size, indexed s h .counted, indexed s h .few))
 
   pub lies : Lies (nodesOf s .kinds) (treeIn s .ends) t
   lies = record {

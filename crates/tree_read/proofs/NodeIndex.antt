@@ -17,7 +17,7 @@ use Rattle.codec.proofs.Reading.{drop-past, drop-some, within-below, within-abo
 use Rattle.codec.proofs.Known.{snoc-none, times-length}
 use Rattle.codec.proofs.Loops.{loop-start, loop-next, counted}
 use Rattle.codec.proofs.Places.{places-start, places-length, places-more, places-count, placed}
-use Rattle.tree_read.specs.Index.{kindAt, startAt, endAt, nodePlaces, notNodes, index, nodesOf, isRead, Entry, IndexOf}
+use Rattle.tree_read.specs.Index.{kindAt, startAt, endAt, nodePlaces, notNodes, index, nodesOf, isRead, NodeAt, NodesAt}
 use Rattle.tree_read.specs.declared.nodes.Nodes.{Nodes}
 use Rattle.codec.proofs.Padding.{pad-none, pad-map-snoc, pad-map, length-pad}
 use Rattle.tree_read.proofs.NodeForms.{was, takes-node}
@@ -147,7 +147,7 @@ module _ (s : List ℕ) (n : ℕ) {ns : List Node} {m : List ℕ} (a : 1 ≤ len
   unfolding nodePlaces place
   entry-of f = pad-map 64 0 f (nodePlaces s n) i (omega (arith, places-length (length s) (readNode edition1) n (drop 1 s) t))
 
-  pub entry : Entry s (index s n) ns i
+  pub entry : NodeAt s (index s n .kinds) (index s n .starts) (index s n .ends) ns i
   unfolding index nodePlaces kindAt startAt endAt place
   entry =
       let p = placed takes-node s n i 1 a t h in
@@ -187,9 +187,9 @@ section s {ns} h =
       got = rw n (ap (λ l. times (o .value) (readNode edition1) (drop 1 l)) e ∙ g .1);
     }
 
-pub indexed : (s : List ℕ) {ns : List Node} → nodesIn edition1 s ≡ some ns → IndexOf s (nodesOf s) ns
+pub indexed : (s : List ℕ) {ns : List Node} → nodesIn edition1 s ≡ some ns → NodesAt s (nodesOf s .kinds) (nodesOf s .starts) (nodesOf s .ends) (nodesOf s .count) ns
 unfolding nodePlaces index
-indexed s {ns} h = subst (λ r. IndexOf s r ns) (sym (nodes-some s h)) (go (section s h))
+indexed s {ns} h = subst Stand (sym (nodes-some s h)) (go (section s h))
   where
     filled : (f : ℕ → ℕ) → Section s ns → length (pad 64 0 (map f (nodePlaces s (length ns)))) ≡ 64
     filled f k =
@@ -197,12 +197,13 @@ indexed s {ns} h = subst (λ r. IndexOf s r ns) (sym (nodes-some s h)) (go (sect
         let high = k .high in
         length-pad 64 0 _ (omega (arith, length-map (nodePlaces s (length ns)) f))
 
-    go : Section s ns → IndexOf s (index s (length ns)) ns
+    Stand : Nodes → Type 0
+    Stand r = NodesAt s (r .kinds) (r .starts) (r .ends) (r .count) ns
+
+    go : Section s ns → Stand (index s (length ns))
     go k = record {
-      accepted = refl;
       counted = refl;
-      some-nodes = k .low;
-      few-nodes = k .high;
+      few = k .high;
       kinds-full = filled (kindAt s) k;
       starts-full = filled startAt k;
       ends-full = filled (endAt s) k;
@@ -221,8 +222,9 @@ nodes-accepted s h = go (nodesIn edition1 s) refl
     go (some ns) e = (ns, refl)
 
 pub nodes-refused : (s : List ℕ) → (nodesOf s .refusal ≡ 0 → ⊥) → nodesIn edition1 s ≡ none
+unfolding index
 nodes-refused s h = go (nodesIn edition1 s) refl
   where
     go : (o : Option (List Node)) → nodesIn edition1 s ≡ o → o ≡ none
     go none e = refl
-    go (some ns) e = absurd (h (indexed s e .accepted))
+    go (some ns) e = absurd (h (ap (λ (r : Nodes). r .refusal) (nodes-some s e)))

@@ -8,7 +8,7 @@ use lib.ListN.{length, getD, drop, replicate, getElem?}
 use Rattle.semantics.specs.Bytes.{Read, broken, read}
 use Rattle.semantics.specs.Editions.{edition1}
 use Rattle.schedules.specs.Nodes.{Node, kindOf, nodeOf, readNode, nodesIn}
-use Rattle.codec.specs.Parts.{between}
+use Rattle.codec.specs.Parts.{partAt}
 use Rattle.codec.specs.Places.{placesFrom}
 use Rattle.codec.specs.Padding.{pad}
 use Rattle.tree_read.specs.declared.nodes.Nodes.{Nodes}
@@ -44,24 +44,20 @@ unfoldable pub nodesOf : List ℕ → Nodes
 nodesOf s = elim (nodesIn edition1 s) [ none ↦ notNodes | some ns ↦ index s (length ns) ]
 
 -- ---- what the index says of the nodes
-abbrev pub payloadOf : List ℕ → Nodes → ℕ → List ℕ
-payloadOf s r i = between (getD (r .starts) i 0) (getD (r .ends) i 0) s
+-- entry i has the kind of node i, and where its payload starts and ends in s
+pub record NodeAt (s kinds starts ends : List ℕ) (ns : List Node) (i : ℕ) : Type 0 where
+  pub node : nodeOf (kindOf (getD kinds i 0)) (partAt s starts ends i) ≡ getElem? ns i
+  pub ordered : getD starts i 0 ≤ getD ends i 0
+  pub inside : getD ends i 0 ≤ length s
 
--- entry i is node i
-pub record Entry (s : List ℕ) (r : Nodes) (ns : List Node) (i : ℕ) : Type 0 where
-  pub node : nodeOf (kindOf (getD (r .kinds) i 0)) (payloadOf s r i) ≡ getElem? ns i
-  pub ordered : getD (r .starts) i 0 ≤ getD (r .ends) i 0
-  pub inside : getD (r .ends) i 0 ≤ length s
-
-pub record IndexOf (s : List ℕ) (r : Nodes) (ns : List Node) : Type 0 where
-  pub accepted : r .refusal ≡ 0
-  pub counted : length ns ≡ r .count
-  pub some-nodes : 1 ≤ r .count
-  pub few-nodes : r .count ≤ 64
-  pub kinds-full : length (r .kinds) ≡ 64
-  pub starts-full : length (r .starts) ≡ 64
-  pub ends-full : length (r .ends) ≡ 64
-  pub entries : (i : ℕ) → i < r .count → Entry s r ns i
+-- ns are the nodes of which this is the index
+pub record NodesAt (s kinds starts ends : List ℕ) (count : ℕ) (ns : List Node) : Type 0 where
+  pub counted : length ns ≡ count
+  pub few : count ≤ 64
+  pub kinds-full : length kinds ≡ 64
+  pub starts-full : length starts ≡ 64
+  pub ends-full : length ends ≡ 64
+  pub entries : (i : ℕ) → i < count → NodeAt s kinds starts ends ns i
 
 -- ---- for the code's own contracts
 unfoldable pub isRead : {A : Type 0} → Read A → Bool

@@ -5,7 +5,7 @@ use native.Mathlib.Omega.{arith}
 use lib.ListN.{length}
 use Rattle.semantics.specs.Editions.{edition1}
 use Rattle.semantics.specs.TableFile.{writeAction}
-use Rattle.table_write.specs.ActionTable.{operandAt}
+use Rattle.codec.specs.Parts.{partAt}
 use Rattle.table_write.proofs.ActionLoop.{operand-long, here-none, row-some}
 use Rattle.table_write.proofs.TableBytes.{put-none, put-as}
 use borrow.Author.Needs.{needs}
@@ -24,7 +24,6 @@ put-row-requires c κs =
     (s .pre .0 .1, omega (arith, d .short, operand-long h), omega (arith, ap length (row-some (s .args .n) d), operand-long h, s .pre .1))
 
 returns-2 : tie.Need-returns-2
-unfolding operandAt
 returns-2 c =
     let s = c .before .before .before .before .before .before .before .before .before .before .before .before .before .before in
     put-as (row-some (s .args .n) (s .pre .0 .0 .coded (c .before .before .before .before .before .before .before .if1 .left))) (c .before .before .put-row .ensures)
