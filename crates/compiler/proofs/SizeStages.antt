@@ -6,7 +6,6 @@ use Prim.Native.Nat.{ℕ}
 use borrow.Author.Tests.{le-leb, lt-leb, ltb-true, ltb-false}
 use Rattle.semantics.specs.Editions.{edition1}
 use Rattle.semantics.specs.TableFile.{locationLimit}
-use Rattle.schedules.specs.Files.{Schedule}
 use Rattle.schedules.specs.Sizes.{sizeOf}
 use Rattle.schedules.specs.Calls.{sizeCounts, size}
 use Rattle.schedules.proofs.SizeCall.{told-exact, told-over, size-accepted}

@@ -1,7 +1,7 @@
 -- Which event three bytes are, where they are one.
 use mathlib.Core.Path.{_≡_}
 use mathlib.Core.Bool.{Bool, true, false}
-use mathlib.Core.List.{List, [], _∷_}
+use mathlib.Core.List.{[], _∷_}
 use Prim.Native.Nat.{ℕ}
 use Rattle.semantics.specs.Editions.{edition1}
 use Rattle.semantics.specs.Events.{Event, tick, pick, take-switch, senseless, eventIn}

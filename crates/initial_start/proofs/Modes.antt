@@ -1,15 +1,15 @@
 -- The initial modes of an equation section: what the loop over the equations has written of them.
 use mathlib.Core.Path.{_≡_, refl, sym, ap, _∙_}
 use mathlib.Core.Bool.{Bool, true, false, cond}
-use mathlib.Core.List.{List, [], _∷_, _++_, map, append-nil}
-use Prim.Native.Nat.{ℕ, suc, _+_, _-_, _≤_, _<_}
+use mathlib.Core.List.{List, [], _∷_, _++_, append-nil}
+use Prim.Native.Nat.{ℕ, _+_, _-_, _≤_, _<_}
 use native.Mathlib.Omega.{arith}
 use borrow.Author.Tests.{ne-eqb}
 use lib.Dec.{eqb}
 use lib.ListN.{length, getD, drop, length-append}
 use lib.Seq.{append-snoc}
-use Rattle.semantics.specs.Bytes.{Read, broken, read, times, fail}
-use Rattle.semantics.specs.Sections.{Selector, Mode, Equation, steady, choice, readMode, readChoice, readEquationBody, readEquation}
+use Rattle.semantics.specs.Bytes.{read, times, fail}
+use Rattle.semantics.specs.Sections.{Mode, Equation, choice, readMode, readChoice, readEquationBody, readEquation}
 use Rattle.semantics.specs.Plant.{selectorsOf}
 use Rattle.semantics.proofs.Readers.{broken-not-read, guarded}
 use Rattle.codec.specs.Writing.{Wrote}

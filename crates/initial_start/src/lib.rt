@@ -4,7 +4,7 @@ pub mod table; // table.rt: of a table
 
 ghost use mathlib.Core.Path.{_≡_};
 ghost use mathlib.Core.List.{[]};
-ghost use Prim.Native.Nat.{_+_, _*_, _≤_};
+ghost use Prim.Native.Nat.{_+_, _≤_};
 ghost use lib.ListN.{length};
 ghost use Rattle.plant.specs.Equations.{SectionStands};
 ghost use Rattle.codec.specs.Writing.{Wrote};

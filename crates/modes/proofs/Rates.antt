@@ -10,7 +10,7 @@ use Rattle.semantics.specs.Sections.{Rate, Mode, Selector, Equation, steady, ch
 use Rattle.semantics.specs.Plant.{noMode, drivenOnce, selectorsOf, currentOf, ratesOf, rateAmong}
 use Rattle.semantics.proofs.Currents.{Rated, RateFound, found-rate, no-rate, rate-found}
 use Rattle.semantics.proofs.OneRate.{one-of}
-use Rattle.modes.specs.Modes.{modesFrom, before, RatesIn, Laid, InForce}
+use Rattle.modes.specs.Modes.{modesFrom, before, Laid, InForce}
 
 -- ---- two lists of the same rates
 -- each of the first is in the second

@@ -15,7 +15,7 @@ use Rattle.semantics.proofs.Facts.{true-not-false, at-exists}
 use Rattle.codec.proofs.Known.{times-length, past-end}
 use Rattle.effects.specs.Verdicts.{goesOn, truthVerdict, movedVerdict, eventVerdict, valuesLeft, modesLeft, Left}
 use Rattle.effects.proofs.PaperNumbers.{left-by}
-use Rattle.modes.specs.Modes.{modeAt, Stands, SwitchAt, Asked, modesFrom, placeAt}
+use Rattle.modes.specs.Modes.{modeAt, Stands, Asked, modesFrom, placeAt}
 use Rattle.effects.specs.declared.Verdict.{Verdict}
 use Rattle.effects.specs.declared.Verdict.the-variants.{Away, Stay}
 use Rattle.modes.proofs.Standing.{parts}

@@ -9,7 +9,7 @@ use lib.ListN.{length, getD, getElem?, take, drop}
 use Rattle.semantics.specs.Bytes.{every}
 use Rattle.semantics.specs.Editions.{edition1}
 use Rattle.semantics.specs.Plant.{selectors}
-use Rattle.semantics.specs.Run.{Action, stop}
+use Rattle.semantics.specs.Run.{Action}
 use Rattle.semantics.specs.TableFile as TableFile
 use Rattle.semantics.specs.TableFile.{actionKind}
 use Rattle.semantics.specs.Tables.{operandFits, actionAt, actionOrStop}

@@ -1,11 +1,6 @@
 // The call "reading a schedule": conditions 1 to 12, in order.
 ghost use mathlib.Core.Path.{_≡_};
-ghost use mathlib.Core.List.{List};
 ghost use Rattle.semantics.specs.Editions.{edition1};
-ghost use Rattle.semantics.specs.Refusals.{refusalOf};
-ghost use Rattle.semantics.specs.Plant.{Plant};
-ghost use Rattle.schedules.specs.Nodes.{Node};
-ghost use Rattle.schedules.specs.Files.{judgeNodes};
 ghost use Rattle.schedules.specs.Calls.{readSchedule};
 ghost use Rattle.schedule_read.specs.Indexed.{Indexed};
 ghost use Rattle.schedule_read.specs.ScheduleFile.{numbers, noSchedule, sectionsIndex, scheduleIndex, Planted, NodesJudged};

@@ -1,7 +1,5 @@
 -- A paper of our own that drives what K1 leaves out: a CASE of three modes with rates and switches, a switch event, REINITIAL, a difference, a negative value, an IF and a SWITCH.
 use mathlib.Core.Path.{_≡_, refl}
-use mathlib.Core.List.{List, [], _∷_}
-use Prim.Native.Nat.{ℕ}
 use lib.ListN.{replicate}
 use Rattle.semantics.specs.Editions.{edition1}
 use Rattle.semantics.specs.Calls.{tableRun}

@@ -6,7 +6,7 @@ use mathlib.Core.Option.{some}
 use Prim.Native.Nat.{ℕ, zero, suc, _<_}
 use native.Mathlib.Omega.{arith}
 use lib.ListN.{getElem?}
-use Rattle.semantics.specs.Proper.{Rising, Distinct}
+use Rattle.semantics.specs.Proper.{Rising}
 use Rattle.semantics.proofs.Facts.{none-not-some, some-is}
 use Rattle.semantics.proofs.TablesProper.{rising-rest, rising-above}
 use Rattle.schedules.specs.Reached.{FirstOccurrences}

@@ -1,10 +1,9 @@
 -- Demand 3 for every valuation within the declared ranges and every choice of existing modes.
 use mathlib.Core.Path.{_≡_, refl, sym, ap, subst, _∙_}
-use mathlib.Core.Bool.{true, false, not}
+use mathlib.Core.Bool.{false, not}
 use mathlib.Core.List.{List}
-use mathlib.Core.Logic.{_↔_}
 use mathlib.Core.Option.{some}
-use Prim.Native.Nat.{ℕ, _*_, _≤_, _<_}
+use Prim.Native.Nat.{ℕ, _*_, _≤_}
 use borrow.Author.Tests.{le-leb}
 use lib.Dec.{leb}
 use lib.IntN.{ℤ}
@@ -12,7 +11,7 @@ use lib.ListN.{length, take}
 use Rattle.semantics.specs.Editions.{Edition}
 use Rattle.semantics.specs.Plant.{Plant, selectors}
 use Rattle.semantics.specs.Starts.{Start}
-use Rattle.semantics.specs.Calls.{wholeEvents, recordSize, roomForRecords, tableRun}
+use Rattle.semantics.specs.Calls.{recordSize, roomForRecords, tableRun}
 use Rattle.semantics.specs.Conditions.{given, is21, is22}
 use Rattle.semantics.specs.Rules.{InRange}
 use Rattle.semantics.specs.Writing.{AllBytes, startBytes, Each, HasMode}

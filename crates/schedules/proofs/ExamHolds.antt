@@ -1,9 +1,9 @@
 -- Examining refuses with the first number that applies, leaves everything as it was where it refuses, and where it does not refuse the two runs agree.
-use mathlib.Core.Path.{_≡_, refl, sym, ap, subst, _∙_}
+use mathlib.Core.Path.{_≡_, refl, sym, ap, _∙_}
 use mathlib.Core.Bool.{true, false}
 use mathlib.Core.List.{List, [], _∷_, _++_, flatMap}
 use mathlib.Core.Logic.{_⊎_}
-use mathlib.Core.Option.{Option, some}
+use mathlib.Core.Option.{Option}
 use Prim.Native.Nat.{ℕ, suc, _*_}
 use native.Mathlib.Omega.{arith}
 use lib.ListN.{length, take, drop}
@@ -16,7 +16,7 @@ use Rattle.semantics.specs.Starts.{Start}
 use Rattle.semantics.specs.Run.{recordOf}
 use Rattle.semantics.specs.Calls.{Program, Ran, judgeAdmission, eventCount, recordSize, roomForRecords}
 use Rattle.semantics.specs.Conditions.{Condition, _if_, is20, is21, is22, runConditions}
-use Rattle.semantics.specs.Writing.{AllBytes, PlantLimits}
+use Rattle.semantics.specs.Writing.{AllBytes}
 use Rattle.semantics.specs.Sentences.{Clause, FirstHolds, AnyHolds}
 use Rattle.semantics.proofs.SentenceSteps as Steps
 use Rattle.semantics.proofs.SentenceSteps.{Answers}
@@ -34,7 +34,6 @@ use Rattle.schedules.specs.Conditions.{filePlant, compileConditions}
 use Rattle.schedules.specs.Agreement.{RunsAgree}
 use Rattle.schedules.proofs.FirstNumber.{file-plant, compile-first, compiled-refusal}
 use Rattle.schedules.proofs.Agreement.{agreement, compile-taken, first-not-0, never-0}
-use Rattle.schedules.specs.Sentences.{FilePlant}
 use Rattle.schedules.specs.Exam.{Examined, judgeExam, agreed, refusedExam, reported, examTable, examined, examOf, examClauses, ExamHolds}
 use Rattle.schedules.proofs.SameRuns.{agreed-true}
 use Rattle.schedules.proofs.FileSentences.{compile-answers, plant-of-file}

@@ -1,9 +1,9 @@
 -- Reading a schedule, compiling it and running it by the rules refuse with the first number whose sentence holds.
 use mathlib.Core.Path.{_≡_, refl, sym, ap, ap₂, subst, _∙_}
-use mathlib.Core.Bool.{Bool, true, false, _&&_}
-use mathlib.Core.List.{List, [], _∷_, _++_}
+use mathlib.Core.Bool.{true, _&&_}
+use mathlib.Core.List.{List, [], _∷_}
 use mathlib.Core.Logic.{_↔_, _⊎_}
-use mathlib.Core.Option.{Option, some}
+use mathlib.Core.Option.{some}
 use Prim.Native.Nat.{ℕ, suc, _≤_}
 use native.Mathlib.Omega.{arith}
 use borrow.Author.Tests.{leb-true, le-leb, eqb-true, eq-eqb}
@@ -13,11 +13,11 @@ use Rattle.semantics.specs.Bytes.{every, be2}
 use Rattle.semantics.specs.Editions.{Edition}
 use Rattle.semantics.specs.Refusals.{Judged, accepted, _>>=_, _>>_}
 use Rattle.semantics.specs.Sections.{variablesIn, equationsIn}
-use Rattle.semantics.specs.Plant.{Plant, judgePlant, selectors, switchesRead}
+use Rattle.semantics.specs.Plant.{Plant, selectors, switchesRead}
 use Rattle.semantics.specs.TableFile.{locationLimit}
 use Rattle.semantics.specs.Calls.{Program, judgeRun}
 use Rattle.semantics.specs.Writing.{AllBytes, PlantLimits}
-use Rattle.semantics.specs.Sentences.{Clause, _when_, FirstHolds, AnyHolds, Fails, WrittenAs, PlantSections, plantClauses}
+use Rattle.semantics.specs.Sentences.{Clause, FirstHolds, AnyHolds, WrittenAs, PlantSections}
 use Rattle.semantics.proofs.Facts.{true-not-false, some-is, and-left, and-right, and-both}
 use Rattle.semantics.proofs.Judging.{accepted-is, passed-then}
 use Rattle.semantics.proofs.FirstNumber.{plant-is, ran-refusal}
@@ -27,7 +27,7 @@ use Rattle.semantics.proofs.SentenceSteps.{Answers, first-or-none, by-ensure, b
 use Rattle.semantics.proofs.TableSentences.{as-written, as-variables, as-equations, plant-answers, run-answers}
 use Rattle.schedules.specs.FileSections.{FileSections, fileSectionsIn}
 use Rattle.schedules.specs.Nodes.{Node, nodesIn, nodeNamed, nodeReads}
-use Rattle.schedules.specs.Trees.{Tree, treeOf}
+use Rattle.schedules.specs.Trees.{treeOf}
 use Rattle.schedules.specs.Residuals.{Residual}
 use Rattle.schedules.specs.Files.{Schedule, fileHeader, fileLength, judgeFileSections, judgeFile}
 use Rattle.schedules.specs.Compiling.{scheduleLocations, tableOf, judgeCompile}

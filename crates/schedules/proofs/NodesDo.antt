@@ -5,13 +5,11 @@ use mathlib.Core.Logic.{_↔_}
 use mathlib.Core.Option.{Option, none, some, bind}
 use Prim.Native.Nat.{ℕ}
 use native.Mathlib.Omega.{arith}
-use lib.ListN.{length, getElem?, take}
+use lib.ListN.{getElem?, take}
 use Rattle.semantics.specs.Editions.{Edition}
 use Rattle.semantics.specs.Refusals.{accepted}
 use Rattle.semantics.specs.Run.{Action}
-use Rattle.semantics.specs.TableFile.{NodeAction}
 use Rattle.semantics.specs.Tables.{Table, judgeTable, actionAt}
-use Rattle.semantics.specs.Proper.{Rising}
 use Rattle.semantics.proofs.Facts.{none-not-some}
 use Rattle.semantics.proofs.WrittenSources.{found}
 use Rattle.semantics.proofs.TablesProper.{rising-there, listed-found, is-listed}

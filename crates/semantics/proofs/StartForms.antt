@@ -1,6 +1,6 @@
 -- 20 lets a start pass just where its bytes are those of a value in range for each variable and an existing mode for each CASE.
 use mathlib.Core.Path.{_≡_, refl, sym, ap, subst, _∙_}
-use mathlib.Core.Bool.{Bool, true, false, not, cond}
+use mathlib.Core.Bool.{true, false, not}
 use mathlib.Core.List.{List, [], _∷_, _++_, flatMap}
 use mathlib.Core.Logic.{_↔_}
 use mathlib.Core.Option.{Option, none, some}
@@ -9,11 +9,11 @@ use native.Mathlib.Omega.{arith}
 use borrow.Author.Tests.{ltb-true, lt-ltb, leb-true, le-leb}
 use lib.Dec.{ltb}
 use lib.IntN.{ℤ, pos, negsuc}
-use lib.Signed.{leZ, ltZ}
+use lib.Signed.{leZ}
 use lib.ListN.{length}
 use Rattle.semantics.specs.Bytes.{byte, int4, times}
 use Rattle.semantics.specs.Editions.{Edition}
-use Rattle.semantics.specs.Expressions.{Value, ok, fault, above, below, ranged, thenValue, fits32}
+use Rattle.semantics.specs.Expressions.{Value, ok, fault, thenValue, fits32}
 use Rattle.semantics.specs.Sections.{Variable, Selector, Equation, steady, choice}
 use Rattle.semantics.specs.Plant.{Plant, selectors, selectorsOf, declared, allDeclared}
 use Rattle.semantics.specs.Run.{valueBytes}

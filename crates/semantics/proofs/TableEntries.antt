@@ -4,18 +4,18 @@ use mathlib.Core.Bool.{Bool, true, false, cond}
 use mathlib.Core.List.{List, [], _∷_, List·Memᴰ as Mem, List·Memᴰ·head as first, List·Memᴰ·tail as later, List·Memᴰ·not-nil, List·Memᴰ·cases-cons}
 use mathlib.Core.Logic.{_⊎_, inl, inr}
 use mathlib.Core.Option.{some}
-use Prim.Native.Nat.{ℕ, zero, suc, _≤_, _<_}
+use Prim.Native.Nat.{ℕ, zero, suc, _≤_}
 use native.Mathlib.Omega.{arith}
 use borrow.Author.Tests.{eq-eqb, ne-eqb}
 use lib.Dec.{eqb}
 use lib.ListN.{length, getD, getElem?}
 use Rattle.semantics.specs.Editions.{Edition}
 use Rattle.semantics.specs.Refusals.{accepted}
-use Rattle.semantics.specs.Run.{Action, test, wait, assign, switch, stop}
-use Rattle.semantics.specs.TableFile.{NodeAction, Entry, FINISHED, HALTED, NONE, locationLimit}
+use Rattle.semantics.specs.Run.{Action, test}
+use Rattle.semantics.specs.TableFile.{Entry, FINISHED, HALTED, NONE, locationLimit}
 use Rattle.semantics.specs.Tables.{Table, judgeTable, risingFrom, actionNodes, actionsFit, operandsFit, nodeExists, actionsNumbered, actionOrStop, entryNodes, goingTo, entryNext, entryTarget, entriesAt, tableControl}
 use Rattle.semantics.specs.Bytes.{every}
-use Rattle.semantics.specs.Proper.{Rising, GoesOn, FitTargets, fit-test, fit-wait, fit-assign, fit-switch, fit-stop, ProperEntry, ProperRow}
+use Rattle.semantics.specs.Proper.{Rising, GoesOn, FitTargets, fit-test, fit-wait, fit-assign, fit-switch, fit-stop, ProperRow}
 use Rattle.semantics.specs.TableRuns.{Coded, coded-location, coded-finished, coded-halted, EntryRuns, TableRuns}
 use Rattle.semantics.proofs.Facts.{none-not-some, some-is, and-left, all-mem, at-mem}
 use Rattle.semantics.proofs.TablePassed.{table-passed}

@@ -1,12 +1,12 @@
 -- The judging of a table with all its numbers in one list: the named parts taken in, by the laws of Judging.
-use mathlib.Core.Path.{_≡_, refl, ap, _∙_}
+use mathlib.Core.Path.{_≡_, ap, _∙_}
 use mathlib.Core.List.{List}
 use Prim.Native.Nat.{ℕ}
 use lib.ListN.{drop}
 use Rattle.semantics.specs.Editions.{Edition}
 use Rattle.semantics.specs.Refusals.{Judged, accepted, _>>=_, _>>_, ensure, need, oneNumber}
-use Rattle.semantics.specs.Plant.{Plant, judgePlant, switchesRead}
-use Rattle.semantics.specs.TableFile.{TableSections, tableSectionsIn, NodeAction, actionsIn, locationsIn}
+use Rattle.semantics.specs.Plant.{judgePlant, switchesRead}
+use Rattle.semantics.specs.TableFile.{TableSections, tableSectionsIn, actionsIn, locationsIn}
 use Rattle.semantics.specs.Tables.{Table, tableHeader, actionsNumbered, operandsFit, actionsFit, locationsFit, judgeActions, judgeLocations, judgeTableSections, judgeTableLayout, judgeTable}
 use Rattle.semantics.proofs.Judging.{then-same, ensure-then, fitting-then, ensure-both}
 

@@ -6,7 +6,7 @@ use mathlib.Core.Option.{some}
 use Prim.Native.Nat.{ℕ, _<_}
 use lib.ListN.{length, getElem?}
 use Rattle.semantics.specs.Run.{test, Next, to, finished, halted, Control}
-use Rattle.semantics.specs.TableFile.{NodeAction, Entry}
+use Rattle.semantics.specs.TableFile.{Entry}
 use Rattle.semantics.specs.Tables.{Table}
 
 -- "FFFE is finished, FFFD halted"; any other target is the number of a location

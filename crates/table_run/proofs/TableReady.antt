@@ -1,6 +1,5 @@
 -- A table that is read is lent: what a run asks of the arrays, from the promises of the table's index.
 use mathlib.Core.Path.{_≡_, ap, _∙_}
-use mathlib.Core.Bool.{true}
 use mathlib.Core.List.{List}
 use mathlib.Core.Option.{some}
 use Prim.Native.Nat.{ℕ, _-_, _<_, _≤_}

@@ -1,12 +1,11 @@
 -- Pieces written one after the other, and the sections of a table, their heads written before their rows.
-use mathlib.Core.Path.{_≡_, refl, sym, ap, ap₂, _∙_}
-use mathlib.Core.List.{List, [], _∷_, _++_, map, flatMap}
+use mathlib.Core.Path.{_≡_, refl, sym, ap, _∙_}
+use mathlib.Core.List.{List, [], _∷_, _++_}
 use Prim.Native.Nat.{ℕ, suc, _+_, _≤_}
 use native.Mathlib.Numerals.{add-one}
 use native.Mathlib.Omega.{arith}
 use lib.ListN.{length, length-append, length-map}
 use Rattle.semantics.specs.Bytes.{out, out2, out4}
-use Rattle.semantics.specs.Editions.{edition1}
 use Rattle.semantics.specs.TableFile.{inSection2, inSection4, writeActions, writeLocations}
 use Rattle.codec.specs.Writing.{Wrote}
 use Rattle.codec.proofs.Writing.{wrote-none, put-more, wrote-as}
@@ -15,7 +14,7 @@ use Rattle.schedules.specs.Numbering.{locations}
 use Rattle.schedules.specs.Compiling.{entriesOf}
 use Rattle.numbering.specs.Meeting.{testsIn}
 use Rattle.numbering.specs.Located.{rowBytes, allRows, Fitting, Numbered}
-use Rattle.table_write.specs.ActionTable.{actionsTo, rowsTo, actionSection, Operands, Measured}
+use Rattle.table_write.specs.ActionTable.{rowsTo, actionSection, Operands, Measured}
 use Rattle.table_write.specs.LocationTable.{locationSection, Counts, Counted, LocationsPut}
 use Rattle.table_write.specs.Pieces.{Put}
 

@@ -1,5 +1,5 @@
 -- The first i variables stay in their ranges (`FirstStay`).
-use mathlib.Core.Path.{_≡_, sym, ap, _∙_}
+use mathlib.Core.Path.{sym, ap, _∙_}
 use Prim.Native.Nat.{_<_, _-_}
 use lib.ListN.{length}
 use borrow.Author.Tests.{not-true, not-false}

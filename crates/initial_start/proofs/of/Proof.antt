@@ -1,5 +1,5 @@
 -- Either the plant is refused (`nothing-given`), or it is read, and the two writes make its start (`given`).
-use mathlib.Core.Path.{_≡_, refl, sym, ap, _∙_}
+use mathlib.Core.Path.{refl, sym, ap, _∙_}
 use native.Mathlib.Omega.{arith}
 use borrow.Author.Needs.{needs}
 use Rattle.initial_start.specs.Held.{held}

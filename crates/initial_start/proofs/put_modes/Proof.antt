@@ -1,7 +1,6 @@
 -- The loop of Modes: the initial modes of the equations before a place are written.
 use mathlib.Core.Path.{_≡_, refl, ap, _∙_}
 use mathlib.Core.Logic.{⊎-elim}
-use Prim.Native.Nat.{_+_, _≤_}
 use native.Mathlib.Omega.{arith}
 use lib.ListN.{length}
 use Rattle.plant.specs.Equations.{SectionStands}

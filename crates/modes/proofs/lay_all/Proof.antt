@@ -1,5 +1,5 @@
 -- The rates of the current modes from selector j on are left to be written (`LayingAll`).
-use Prim.Native.Nat.{ℕ, _-_}
+use Prim.Native.Nat.{_-_}
 use native.Mathlib.Omega.{arith}
 use lib.ListN.{length}
 use Rattle.modes.proofs.Walks.{stands-at, named-at, LayingAll, all-start, all-next, all-end}

@@ -1,5 +1,4 @@
 -- What is planned is refused, too long for the buffer, or written.
-use mathlib.Core.Path.{_∙_, sym}
 use native.Mathlib.Omega.{arith}
 use Rattle.semantics.specs.Editions.{edition1}
 use Rattle.compiler.proofs.CallStages.{refused-too, too-short, long-enough, compile-refused, compile-done}

@@ -1,6 +1,6 @@
 -- The first n nodes are counted.
 use mathlib.Core.Logic.{⊎-elim}
-use Prim.Native.Nat.{_-_, _≤_, _<_}
+use Prim.Native.Nat.{_-_, _≤_}
 use native.Mathlib.Omega.{arith}
 use Rattle.table_write.specs.ActionTable.{Measured}
 use Rattle.table_write.proofs.ActionLoop.{measured-none, measured-skip, measured-row, measured-end, listed-short}

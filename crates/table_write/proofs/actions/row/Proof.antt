@@ -5,7 +5,6 @@ use native.Mathlib.Omega.{arith}
 use lib.ListN.{length}
 use Rattle.semantics.specs.Editions.{edition1}
 use Rattle.semantics.specs.TableFile.{writeAction}
-use Rattle.codec.specs.Parts.{partAt}
 use Rattle.table_write.proofs.ActionLoop.{operand-long, here-none, row-some}
 use Rattle.table_write.proofs.TableBytes.{put-none, put-as}
 use borrow.Author.Needs.{needs}

@@ -7,7 +7,6 @@ use Rattle.table_write.specs.ActionTable.{rowsTo}
 use Rattle.table_write.specs.Pieces.{Put}
 use Rattle.table_write.proofs.ActionLoop.{rows-next, rows-room, rows-none, rows-end}
 use Rattle.table_write.proofs.TableBytes.{put-then, put-as}
-use borrow.Author.Needs.{needs}
 use Rattle.table_write.proofs.actions.write.Statement.{statement}
 use Rattle.table_write.proofs.actions.write.Tie as tie
 
