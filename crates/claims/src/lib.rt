@@ -1,1 +1,1 @@
-// Definitions and theorems only: specs/ is read first, proofs/ holds it down.
+// Definitions and theorems only: specs/ is read first; proofs/ has the theorems about it.

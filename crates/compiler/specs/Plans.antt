@@ -19,7 +19,7 @@ use Rattle.table_write.specs.ActionTable.{actionsTo, Operands, Measured}
 use Rattle.table_write.specs.LocationTable.{Counts}
 use Rattle.compiler.specs.declared.call.Plan.{Plan}
 
--- the bytes between two places, twice: the sections that are copied
+-- the bytes of the two sections that are copied
 abbrev pub copied : Parts → ℕ
 copied q = q .«variables_to» - q .«variables_from» + (q .«equations_to» - q .«equations_from»)
 

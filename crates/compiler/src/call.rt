@@ -17,7 +17,7 @@ ghost use Rattle.table_write.specs.Pieces.{Put};
 ghost use Rattle.compiler.specs.Answers.{Told, returned};
 ghost use Rattle.compiler.specs.Plans.{copied, Found, Ready, Planned};
 
-// 0 and the length of the table; or the number of the first condition that is broken, and 0
+// 0 and the length of the table; or the first number that applies, and 0
 pub struct Compiled {
     pub refusal: u8,
     pub length: usize,

@@ -8,14 +8,14 @@ ghost use Prim.Native.Nat.{ℕ, _*_};
 ghost use lib.ListN.{length};
 ghost use Rattle.semantics.specs.Editions.{edition1};
 ghost use Rattle.semantics.specs.Refusals.{refusalOf, accepted};
-ghost use Rattle.semantics.specs.Calls.{eventCount, recordSize};
+ghost use Rattle.semantics.specs.Calls.{recordsSize};
 ghost use Rattle.schedules.specs.Files.{Schedule, judgeFile};
 ghost use Rattle.records.specs.Reported.{told, ranWith};
 ghost use Rattle.schedules.specs.Exam as Exam;
 ghost use Rattle.schedules.specs.Exam.{judgeExam, sameBytes, sameCounts, sameNumbers, refusedExam, examOf};
 ghost use Rattle.exam.specs.Examining.{examinedWith, Room};
 
-// 0, or the number of the first condition that is broken; the other numbers are 0 then
+// 0, or the first number that applies; the other numbers are 0 then
 pub struct Examined {
     pub refusal: u8,
     // of the table
@@ -71,7 +71,7 @@ fn judged(
 // the length of a run's records, for which there is room
 fn records_length(file: &[u8], events: &[u8], records: &[u8]) -> usize
     requires { ⌜ Room (now file) (now events) (now records) ⌝ }
-    ensures { λ r. ⌜ ((s : Schedule) → judgeFile edition1 (now (file .entry)) ≡ accepted s → r ≡ eventCount edition1 (now (events .entry)) * recordSize edition1 (s .plant)) ⌝ }
+    ensures { λ r. ⌜ ((s : Schedule) → judgeFile edition1 (now (file .entry)) ≡ accepted s → r ≡ recordsSize edition1 (s .plant) (now (events .entry))) ⌝ }
 {
     let s = schedule_read::call::read(file);
     events.len() / paper::EVENT_BYTES * (9 + 4 * s.variables + s.selectors)
@@ -102,7 +102,7 @@ fn agreed(r: Ran, t: Ran, a: &[u8], b: &[u8]) -> bool
 fn compared(file: &[u8], events: &[u8], r: Ran, t: Ran, a: &[u8], b: &[u8]) -> bool
     requires { ⌜ Room (now file) (now events) (now a) × Room (now file) (now events) (now b) ⌝ }
     ensures { λ q. ⌜ ((s : Schedule) → judgeFile edition1 (now (file .entry)) ≡ accepted s
-        → q ≡ Exam.agreed (eventCount edition1 (now (events .entry)) * recordSize edition1 (s .plant)) (ranWith r (now (a .entry))) (ranWith t (now (b .entry)))) ⌝ }
+        → q ≡ Exam.agreed (recordsSize edition1 (s .plant) (now (events .entry))) (ranWith r (now (a .entry))) (ranWith t (now (b .entry)))) ⌝ }
 {
     let size = records_length(file, events, a);
     agreed(r, t, &a[..size], &b[..size])

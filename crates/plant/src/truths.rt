@@ -8,7 +8,7 @@ ghost use lib.ListN.{drop};
 ghost use Rattle.semantics.specs.Bytes.{every, read, times};
 ghost use Rattle.semantics.specs.Editions.{edition1};
 ghost use Rattle.semantics.specs.Sections.{Switch, Mode, Equation, readSwitch, readMode, equationIn, equationsIn};
-ghost use Rattle.semantics.specs.Plant.{switchReads, equationReads, modeReads};
+ghost use Rattle.semantics.specs.Plant.{switchReads, modeReads, equationReads, equationsRead};
 ghost use Rattle.plant.specs.Sound.{Sound, There};
 
 // k switches from a place on
@@ -63,7 +63,7 @@ fn equation(s: &[u8], variables: usize) -> bool
 // 12, of the switches of a section that 6 lets pass
 pub fn read(s: &[u8], variables: usize) -> bool
     requires { ⌜ There (equationsIn (now s)) × (variables ≤ 32) ⌝ }
-    ensures { λ r. ⌜ ((es : List Equation) → equationsIn (now (s .entry)) ≡ some es → r ≡ every (equationReads edition1 variables) es) ⌝ }
+    ensures { λ r. ⌜ ((es : List Equation) → equationsIn (now (s .entry)) ≡ some es → r ≡ equationsRead edition1 variables es) ⌝ }
 {
     let n = s[0] as usize;
     let mut p = 1;

@@ -22,7 +22,7 @@ pub struct Counts {
     pub faulted: usize,
 }
 
-// What a run gives: 0, or the number of the first condition that is broken; all counts are 0 then.
+// What a run gives: 0, or the first number that applies; all counts are 0 then.
 pub struct Ran {
     pub refusal: u8,
     pub counts: Counts,

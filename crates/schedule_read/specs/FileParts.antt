@@ -43,7 +43,7 @@ unfoldable pub partsRead : Judged FileSections → Parts
 partsRead (refused n) = noParts n
 partsRead (accepted s) = partsIn s
 
--- the number of the first condition that the layout breaks, or where the sections stand
+-- the first number of the layout that applies, or where the sections stand
 unfoldable pub partsOf : List ℕ → Parts
 partsOf f = partsRead (judgeFileLayout edition1 f)
 

@@ -15,7 +15,7 @@ use tree_read::nodes::Nodes;
 use tree_read::tree;
 use tree_read::tree::Subtrees;
 
-// 0, or the number of the first condition that is broken; all counts are 0 then
+// 0, or the first number that applies; all counts are 0 then
 pub struct FileRead {
     pub refusal: u8,
     pub variables: usize,

@@ -7,7 +7,7 @@ ghost use Rattle.schedules.specs.Files.{fileHeader, fileLength};
 ghost use Rattle.schedule_read.specs.FileParts.{noParts, partsOf};
 use super::reader;
 
-// 0, or the number of the first condition that is broken; each section from its start to its end
+// 0, or the first number that applies; each section from its start to its end
 pub struct Parts {
     pub refusal: u8,
     pub variables_from: usize,

@@ -15,7 +15,7 @@ pub struct SectionEnds {
     pub schedule: usize,
 }
 
-// where the section at a place ends; it is asked at any place, so that no reader owes a fact of its own
+// where the section at a place ends; it is asked at any place: its callers have nothing to prove of it
 fn end(file: &[u8], at: usize) -> usize
     ensures { λ r. ⌜ r ≡ sectionEnd (now (file .entry)) at ⌝ }
 {

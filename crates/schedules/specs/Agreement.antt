@@ -1,20 +1,19 @@
 -- What demands 2 and 3 say of a file and the table that compiling wrote for it.
 use mathlib.Core.Path.{_≡_}
 use mathlib.Core.Bool.{false}
-use mathlib.Core.List.{List, map, flatMap, List·Memᴰ as Mem}
+use mathlib.Core.List.{List, flatMap, List·Memᴰ as Mem}
 use mathlib.Core.Option.{some}
-use Prim.Native.Nat.{ℕ, _+_, _*_, _<_}
+use Prim.Native.Nat.{ℕ, _+_, _<_}
 use lib.ListN.{length}
 use Rattle.semantics.specs.Bytes.{overwrite}
 use Rattle.semantics.specs.Editions.{Edition}
 use Rattle.semantics.specs.Refusals.{accepted}
-use Rattle.semantics.specs.Events.{eventsIn}
 use Rattle.semantics.specs.Starts.{Start, startIn}
-use Rattle.semantics.specs.Run.{Answered, at, recordOf, countsOf}
+use Rattle.semantics.specs.Run.{Answered, at, recordOf, answersIn, countsOf}
 use Rattle.semantics.specs.Rules.{Derives}
 use Rattle.semantics.specs.TableFile.{locationLimit, tableBytes}
 use Rattle.semantics.specs.Tables.{Table, judgeTable}
-use Rattle.semantics.specs.Calls.{Ran, tableRun, readTable, eventCount, recordSize}
+use Rattle.semantics.specs.Calls.{Ran, tableRun, readTable, eventCount, eventsOf, recordsSize}
 use Rattle.semantics.specs.Conditions.{is20, is21, is22}
 use Rattle.schedules.specs.Residuals.{Residual, fresh}
 use Rattle.schedules.specs.Nodes.{actionsOf}
@@ -58,13 +57,13 @@ pub record RunsAgree (ed : Edition) (s : Schedule) (st : Start) (events : List �
   pub table-taken-on : t .refusal ≡ 0
   -- what the rule-by-rule relation derives from the fresh root, event by event
   pub said : List (Answered Residual)
-  pub derived : Derives ed (s .plant) (ruleControl s) (at (fresh (s .root)) (st .values) (st .modes)) (eventsIn (ed .event-bytes) (eventCount ed events) events) said
+  pub derived : Derives ed (s .plant) (ruleControl s) (at (fresh (s .root)) (st .values) (st .modes)) (eventsOf ed events) said
   -- both buffers hold just those records, one after the other, and then what they held
   pub rules-records : r .records ≡ overwrite (flatMap (recordOf ed (ruleControl s)) said) by-rules
   pub table-records : t .records ≡ overwrite (flatMap (recordOf ed (ruleControl s)) said) by-table
-  pub records-length : length (flatMap (recordOf ed (ruleControl s)) said) ≡ eventCount ed events * recordSize ed (s .plant)
+  pub records-length : length (flatMap (recordOf ed (ruleControl s)) said) ≡ recordsSize ed (s .plant) events
   -- each count is the number of such answers
-  pub rules-counts : r .counts ≡ countsOf (map (λ (o : Answered Residual). o .answer) said)
+  pub rules-counts : r .counts ≡ countsOf (answersIn said)
   pub table-counts : t .counts ≡ r .counts
   pub counts-add : r .counts .taken + r .counts .turned-away + r .counts .faulted ≡ eventCount ed events
 

@@ -1,4 +1,4 @@
--- Document 01, "When a file, table or event is turned away": 1 to 14 in their order, each as a test of the file alone, for the proofs of the code.
+-- Document 01, "When a file, table or event is turned away": 1 to 14 in their order, each as a test of the file alone. They serve proofs.
 -- What a number says as a proposition is in Sentences.
 use mathlib.Core.Bool.{Bool, not, _&&_}
 use mathlib.Core.List.{List, [], _∷_, _++_}

@@ -4,14 +4,14 @@ use mathlib.Core.Path.{_≡_}
 use mathlib.Core.Bool.{Bool, true, false, _&&_}
 use mathlib.Core.List.{List, [], _∷_, _++_}
 use mathlib.Core.Option.{some}
-use Prim.Native.Nat.{ℕ, _*_}
+use Prim.Native.Nat.{ℕ}
 use lib.ListN.{take}
 use lib.Dec.{eqb}
 use Rattle.semantics.specs.Editions.{Edition}
 use Rattle.semantics.specs.Refusals.{Judged, refused, accepted, _>>=_, _>>_, ensure}
 use Rattle.semantics.specs.Starts.{Start, startIn}
 use Rattle.semantics.specs.Run.{Counts, noCounts}
-use Rattle.semantics.specs.Calls.{Ran, judgeAdmission, tableRun, eventCount, recordSize, roomForRecords}
+use Rattle.semantics.specs.Calls.{Ran, judgeAdmission, tableRun, recordsSize, roomForRecords}
 use Rattle.semantics.specs.Sentences.{Clause, _when_, Sentence22, runClauses}
 use Rattle.schedules.specs.Files.{Schedule, judgeFile}
 use Rattle.schedules.specs.Compiling.{judgeCompile}
@@ -27,7 +27,7 @@ judgeExam ed file start events table records others = do
   g ← ruleProgram ed file
   st ← judgeAdmission ed (g .plant) start events records
   ensure 22 (roomForRecords ed (g .plant) events others)
-  accepted (eventCount ed events * recordSize ed (g .plant))
+  accepted (recordsSize ed (g .plant) events)
 
 -- the same bytes
 unfoldable pub sameBytes : List ℕ → List ℕ → Bool
@@ -63,7 +63,7 @@ pub record Examined : Type 0 where
   pub records : List ℕ
   pub others : List ℕ
 
--- a refused call: "length and counts zero and every lent buffer unwritten"
+-- a refused call: its number, no length, no counts, the three buffers as they were
 unfoldable pub refusedExam : ℕ → (table records others : List ℕ) → Examined
 refusedExam n table records others = record {
   refusal = n;
@@ -118,5 +118,5 @@ module _ (ed : Edition) (file start events table records others : List ℕ) wher
     -- both runs come to what the rules derive
     pub runs : RunsAgree ed schedule st events records others (ruleRun ed file start events records) examTable
     -- and that is what is returned
-    pub result : examOf ≡ reported (eventCount ed events * recordSize ed (schedule .plant)) ((compile ed file table) .written) ((compile ed file table) .table)
+    pub result : examOf ≡ reported (recordsSize ed (schedule .plant) events) ((compile ed file table) .written) ((compile ed file table) .table)
         (ruleRun ed file start events records) examTable

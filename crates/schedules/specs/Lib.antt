@@ -1,4 +1,4 @@
--- The schedule file, its tree, residuals and moves, the rule run and compiling. One module for each part of document 01, in its order.
+-- The schedule file, its tree, residuals and moves, the rule run, compiling, sizes and examining. In the order of document 01, what a module needs before it.
 pub mod FileSections
 pub mod Nodes
 pub mod Doing

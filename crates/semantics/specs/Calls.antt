@@ -28,6 +28,10 @@ wholeEvents width events = eqb (length events % width) 0
 unfoldable pub eventCount : Edition → List ℕ → ℕ
 eventCount ed events = length events / ed .event-bytes
 
+-- the events themselves
+abbrev pub eventsOf : Edition → List ℕ → List (List ℕ)
+eventsOf ed events = eventsIn (ed .event-bytes) (eventCount ed events) events
+
 -- answer, set, values, modes: of so many variables and selectors, and of a plant
 abbrev pub recordLength : Edition → (variables selectors : ℕ) → ℕ
 recordLength ed variables selectors = 1 + (ed .set-bytes + (4 * variables + selectors))
@@ -35,9 +39,13 @@ recordLength ed variables selectors = 1 + (ed .set-bytes + (4 * variables + sele
 unfoldable pub recordSize : Edition → Plant → ℕ
 recordSize ed p = recordLength ed (length (p .variables)) (length (selectors p))
 
+-- of the records of all events
+abbrev pub recordsSize : Edition → Plant → List ℕ → ℕ
+recordsSize ed p events = eventCount ed events * recordSize ed p
+
 -- 22: "The record buffer is too short."
 unfoldable pub roomForRecords : Edition → Plant → List ℕ → List ℕ → Bool
-roomForRecords ed p events buffer = leb (eventCount ed events * recordSize ed p) (length buffer)
+roomForRecords ed p events buffer = leb (recordsSize ed p events) (length buffer)
 
 -- 20 to 22 of a run of this plant: the start that it is admitted with
 unfoldable pub judgeAdmission : Edition → Plant → List ℕ → List ℕ → List ℕ → Judged Start
@@ -55,8 +63,7 @@ pub record Program (S : Type 0) : Type 0 where
 module _ {S : Type 0} (ed : Edition) where
   -- "A run starts at the fresh root" or at location 0, "with the starting values and modes lent to it"
   unfoldable pub runFrom : Program S → Start → List ℕ → List (Answered S)
-  runFrom g st events =
-      answers ed (g .plant) (g .control) (at (g .control .start) (st .values) (st .modes)) (eventsIn (ed .event-bytes) (eventCount ed events) events)
+  runFrom g st events = answers ed (g .plant) (g .control) (at (g .control .start) (st .values) (st .modes)) (eventsOf ed events)
 
 -- what a run says: its answers, and its records one after the other
 pub record Outcome : Type 0 where

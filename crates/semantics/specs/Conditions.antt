@@ -1,4 +1,5 @@
--- Document 01, "When a file, table or event is turned away": the numbers of a call in their order, each as a test of the input alone, for the proofs of the code.
+-- Document 01, "When a file, table or event is turned away": the numbers of a call in their order, each as a test of the input alone.
+-- Statements say with 20 to 22 of them what a call lets pass; the lists of numbers serve proofs.
 -- What a number says as a proposition, with no reader and no test of a call, is in Sentences.
 use mathlib.Core.Path.{_≡_}
 use mathlib.Core.Bool.{Bool, true, false, not, _||_}

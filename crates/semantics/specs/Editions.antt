@@ -1,4 +1,4 @@
--- The editions of the formats. Whatever reads or writes bytes takes one; there is one so far.
+-- The editions of the formats. Whatever reads or writes bytes takes one. Edition 1 is document 01's.
 use Prim.Native.Nat.{ℕ, _*_, _≤_, _<_}
 use lib.Dec.{lit<, lit≤}
 use Rattle.semantics.specs.Bytes.{Width, one-byte, two-bytes}

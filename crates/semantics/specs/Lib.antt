@@ -1,4 +1,4 @@
--- What both runners share. One module for each section of document 01, in its order.
+-- All that needs no tree: bytes, variables and equations, events, a run over any control, tables. In the order of document 01, what a module needs before it.
 pub mod Bytes
 pub mod Editions
 pub mod Refusals

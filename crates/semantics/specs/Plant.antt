@@ -1,4 +1,4 @@
--- The plant that a schedule drives: conditions 4 to 8 and 12 of its two sections, its current switches, rates and ranges.
+-- Variables and equations together, here called the plant that a schedule drives: 4 to 8 and 12 of its two sections, its current switches, rates and ranges.
 use mathlib.Core.Bool.{Bool, true, false, not, _&&_}
 use mathlib.Core.List.{List, [], _∷_, _++_, map, flatMap}
 use mathlib.Core.Option.{none, some}
@@ -82,8 +82,11 @@ unfoldable pub equationReads : Edition → ℕ → Equation → Bool
 equationReads ed variables (steady r) = true
 equationReads ed variables (choice c) = every (modeReads ed variables) (c .modes)
 
+abbrev pub equationsRead : Edition → ℕ → List Equation → Bool
+equationsRead ed variables es = every (equationReads ed variables) es
+
 unfoldable pub switchesRead : Edition → Plant → Bool
-switchesRead ed p = every (equationReads ed (length (p .variables))) (p .equations)
+switchesRead ed p = equationsRead ed (length (p .variables)) (p .equations)
 
 -- 4: "The variable count or section length is wrong.", then 5
 unfoldable pub judgeVariables : Edition → List ℕ → Judged (List Variable)

@@ -71,7 +71,7 @@ readSwitch = do
     t ← bytes (l - 1)
     give (record { target = m; truth = t }))
 
--- "rate count, rates, switch count, switches"
+-- "rate count, rates (..), switch count, switches (..)"
 unfoldable pub readMode : Reader Mode
 readMode = do
   n ← byte

@@ -85,7 +85,7 @@ unfoldable pub tableSectionsIn : List ℕ → Option TableSections
 tableSectionsIn = whole readTableSections
 
 module _ (ed : Edition) where
-  -- "a length byte, node, kind, operand bytes"; "kind and operand make 1..200 bytes"
+  -- "a length byte, node, kind (..), operand bytes"; "kind and operand make 1..200 bytes"
   unfoldable pub readAction : Reader NodeAction
   readAction = do
     l ← number (ed .width)

@@ -137,7 +137,7 @@ entryNext es n b = goingTo (entryTarget es n b)
 unfoldable pub entriesAt : Table → ℕ → List Entry
 entriesAt t x = getD (t .locations) x []
 
--- every acting node has an action: 19 knows it
+-- of an accepted table (19) every acting node has an action
 unfoldable pub actionOrStop : List NodeAction → ℕ → Action
 actionOrStop l n = elim (actionAt l n) [ none ↦ stop | some a ↦ a ]
 

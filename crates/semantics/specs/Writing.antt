@@ -55,11 +55,11 @@ writeRate r = r .driven ∷ valueBytes (r .rate)
 unfoldable pub writeSwitch : Switch → List ℕ
 writeSwitch w = suc (length (w .truth)) ∷ w .target ∷ w .truth
 
--- "rate count, rates, switch count, switches"
+-- "rate count, rates (..), switch count, switches (..)"
 unfoldable pub writeMode : Mode → List ℕ
 writeMode m = length (m .rates) ∷ flatMap writeRate (m .rates) ++ (length (m .switches) ∷ flatMap writeSwitch (m .switches))
 
--- "Kind 1: variable, rate. Kind 2, a CASE: initial mode, mode count, then each mode"
+-- "Kind 1: variable, rate (..). Kind 2, a CASE: initial mode, mode count .., then each mode"
 unfoldable pub equationBytes : Equation → List ℕ
 equationBytes (steady r) = 1 ∷ writeRate r
 equationBytes (choice c) = 2 ∷ c .initial ∷ length (c .modes) ∷ flatMap writeMode (c .modes)

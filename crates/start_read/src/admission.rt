@@ -10,7 +10,7 @@ ghost use Rattle.semantics.specs.Calls.{judgeAdmission};
 ghost use Rattle.start_read.specs.StartRead.{Arrays, Room};
 ghost use Rattle.start_read.specs.Admission.{notAdmitted, admitted};
 
-// 0, or the number of the first condition that is broken; all values and modes are 0 then
+// 0, or the first number that applies; all values and modes are 0 then
 pub struct Admitted {
     pub refusal: u8,
     pub values: [i32; paper::VARIABLES],

@@ -33,7 +33,7 @@ indexOf p s (accepted t) = record {
   locations = locationsOf (t .actions) (s .locations);
 }
 
--- the number of the first condition that is broken, or 0 and where all stands
+-- the first number that applies, or 0 and where all stands
 unfoldable pub tableIndex : List ℕ → TableIndex
 tableIndex t = indexOf (partsOf t) (sectionsAt t (partsOf t)) (judgeTable edition1 t)
 

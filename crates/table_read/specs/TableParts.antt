@@ -54,7 +54,7 @@ unfoldable pub partsRead : Judged TableSections → Parts
 partsRead (refused n) = noParts n
 partsRead (accepted s) = partsIn s
 
--- where the sections stand, or the number of the first condition that their layout breaks
+-- where the sections stand, or the first number of their layout that applies
 unfoldable pub partsOf : List ℕ → Parts
 partsOf t = partsRead (judgeTableLayout edition1 t)
 

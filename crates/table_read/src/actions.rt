@@ -12,7 +12,7 @@ ghost use Rattle.table_read.specs.ActionIndex.{nodeOf, Counted, actionsO
 // The most actions, as their count's byte.
 const MOST: u8 = paper::NODES as u8;
 
-// 0, or the number of the condition that is broken; how many actions there are; by node, the kind of its action and where the operand starts and ends, or 0, 0 and 0
+// 0, or the number that applies; how many actions there are; by node, the kind of its action and where the operand starts and ends, or 0, 0 and 0
 pub struct Actions {
     pub refusal: u8,
     pub count: usize,

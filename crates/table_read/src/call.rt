@@ -12,7 +12,7 @@ ghost use Rattle.semantics.specs.Editions.{edition1};
 ghost use Rattle.semantics.specs.Calls.{readTable};
 ghost use Rattle.table_read.specs.TableIndex.{tableNumbers, noTable, tableIndex, sectionsIndex};
 
-// 0, or the number of the first condition that is broken; where the sections stand, and what a run looks up in them
+// 0, or the first number that applies; where the sections stand, and what a run looks up in them
 pub struct TableIndex {
     pub refusal: u8,
     pub parts: Parts,
@@ -21,7 +21,7 @@ pub struct TableIndex {
     pub locations: Locations,
 }
 
-// 0, or the number of the first condition that is broken; all counts are 0 then
+// 0, or the first number that applies; all counts are 0 then
 pub struct TableRead {
     pub refusal: u8,
     pub variables: usize,

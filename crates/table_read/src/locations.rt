@@ -9,7 +9,7 @@ ghost use Rattle.semantics.specs.Tables.{goesOn, entryFits, locationFits};
 ghost use Rattle.table_read.specs.Ends.{EndsWith, follows};
 ghost use Rattle.table_read.specs.LocationIndex.{entryNode, actionsLike, kindFits, LocationsCounted, noLocations, locationsOf};
 
-// 0, or the number of the condition that is broken; how many locations there are; the place of each, and then 0
+// 0, or the number that applies; how many locations there are; the place of each, and then 0
 pub struct Locations {
     pub refusal: u8,
     pub count: usize,

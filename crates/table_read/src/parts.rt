@@ -4,7 +4,7 @@ ghost use Rattle.semantics.specs.Editions.{edition1};
 ghost use Rattle.semantics.specs.Tables.{tableHeader};
 ghost use Rattle.table_read.specs.TableParts.{partsOf, noParts, partsAt, Apart};
 
-// 0, or the number of the first condition that is broken; each section from its start to its end
+// 0, or the first number that applies; each section from its start to its end
 pub struct Parts {
     pub refusal: u8,
     pub variables: usize,

@@ -38,7 +38,7 @@ pub record Passed (ns : List Node) (n m size : ℕ) (ms : List Node) (bs d e : L
   pub rest : ms ≡ drop m ns
   pub wrote : Wrote d n bs e
 
--- "10 The nodes do not make just one tree." where no tree is read, and else the next node and what was written
+-- where no tree is read, 10: "The nodes do not make just one tree."; else the next node and what was written
 abbrev pub TreeWalked : List Node → ℕ → List ℕ → List ℕ → Walked Tree → Walk → Type 0
 TreeWalked ns n d e lost r = paperWalk r ≡ 10
 TreeWalked ns n d e (walked t m ms) r = Passed ns n m (treeSize t) ms (treeEnds t n) d e r
