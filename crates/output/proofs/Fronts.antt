@@ -36,14 +36,14 @@ module _ (e v s : ℕ) where
   unfolding recordsLength
   too-many-cases h i j = rw (le-leb e 30000 h, le-leb v 32 i, lt-leb s 16 j) refl
 
-  pub records-are : e ≤ 30000 → v ≤ 32 → s ≤ 16 → e / 3 * (9 + 4 * v + s) ≡ recordsLength e v s
-  unfolding recordsLength
-  records-are h i j =
-      let k : 9 + 4 * v + s ≡ recordLength edition1 v s = omega arith in
-      rw (le-leb e 30000 h, le-leb v 32 i, le-leb s 16 j, k) refl
+  -- of a record's length
+  module _ {size : ℕ} (k : size ≡ recordLength edition1 v s) where
+    pub records-are : e ≤ 30000 → v ≤ 32 → s ≤ 16 → e / 3 * size ≡ recordsLength e v s
+    unfolding recordsLength
+    records-are h i j = rw (le-leb e 30000 h, le-leb v 32 i, le-leb s 16 j, k) refl
 
-  pub records-few : e ≤ 30000 → v ≤ 32 → s ≤ 16 → e / 3 * (9 + 4 * v + s) ≤ 1530000
-  records-few h i j =
-      let a : e / 3 ≤ 10000 = omega arith in
-      let b : 9 + 4 * v + s ≤ 153 = omega arith in
-      mul-le-mul a b
+    pub records-few : e ≤ 30000 → v ≤ 32 → s ≤ 16 → e / 3 * size ≤ 1530000
+    records-few h i j =
+        let a : e / 3 ≤ 10000 = omega arith in
+        let b : size ≤ 153 = omega arith in
+        mul-le-mul a b

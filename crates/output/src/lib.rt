@@ -6,6 +6,9 @@ ghost use lib.ListN.{length};
 ghost use Rattle.io.specs.Counts.{Counts};
 ghost use Rattle.output.specs.Written.{recordsLength};
 
+// the programs have room for 10,000 events
+pub const EVENT_ROOM: usize = 10000 * paper::EVENT_BYTES;
+
 // a message of the program where a write failed
 pub fn noticed(program: &[u8], is_written: bool) {
     if !is_written {
@@ -29,7 +32,7 @@ pub fn front(n: usize, bytes: &[u8]) -> usize
 pub fn records_length(events: usize, variables: usize, selectors: usize) -> usize
     ensures { λ r. ⌜ r ≡ recordsLength events variables selectors ⌝ }
 {
-    if events > 30000 {
+    if events > EVENT_ROOM {
         return 0;
     }
     if variables > paper::VARIABLES {
@@ -38,5 +41,5 @@ pub fn records_length(events: usize, variables: usize, selectors: usize) -> usiz
     if selectors > paper::EQUATIONS {
         return 0;
     }
-    (events / paper::EVENT_BYTES) * (9 + 4 * variables + selectors)
+    events / paper::EVENT_BYTES * records::record_length(variables, selectors)
 }

@@ -2,6 +2,9 @@
 pub mod answers; // answers.rt: how an event is answered
 pub mod targets; // targets.rt: where an entry of a table leads to, beside the locations
 
+// "Byte 0 is version 1"; of a table "Version 1"
+pub const VERSION: u8 = 1;
+
 // "node count 1..64"
 pub const NODES: usize = 64;
 
@@ -37,3 +40,6 @@ pub const START_BYTES: usize = 4 * VARIABLES + EQUATIONS;
 
 // "An event is 3 bytes"
 pub const EVENT_BYTES: usize = 3;
+
+// of a record: "set of acting nodes (8 bytes, ..)"
+pub const SET_BYTES: usize = 8;

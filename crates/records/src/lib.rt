@@ -101,6 +101,17 @@ pub fn booked(c: Counts, answer: u8) -> Counts
     counts
 }
 
+// Of a record: the answer and the acting nodes.
+const FRONT_BYTES: usize = 1 + paper::SET_BYTES;
+
+// The bytes of a record, of so many variables and selectors.
+pub fn record_length(variables: usize, selectors: usize) -> usize
+    requires { ⌜ (variables ≤ 32) × (selectors ≤ 16) ⌝ }
+    ensures { λ r. ⌜ r ≡ recordLength edition1 variables selectors ⌝ }
+{
+    FRONT_BYTES + 4 * variables + selectors
+}
+
 // The eight bytes of a set of nodes below 64, at a place; the next place.
 fn put_set(d: &mut [u8], i: usize, acting: NodeSet) -> usize
     requires { ⌜ (i + 8 ≤ length (now d)) × ((n : ℕ) → mem (acting .words) n ≡ true → n < 64) ⌝ }

@@ -15,14 +15,13 @@ pub fn is_asked(usage: &[u8]) -> bool {
     false
 }
 
-// room for 10,000 events
-pub fn event_buffer() -> [u8; 30000]
+pub fn event_buffer() -> [u8; output::EVENT_ROOM]
     ensures { λ r. ⌜ 30000 ≡ length r ⌝ }
 {
-    [0; 30000]
+    [0; output::EVENT_ROOM]
 }
 
-// for their records; a run whose records are longer is refused with 22
+// for the records of the events; a run whose records are longer is refused with 22
 pub fn record_buffer() -> [u8; 400000]
     ensures { λ r. ⌜ 400000 ≡ length r ⌝ }
 {

@@ -38,7 +38,7 @@ fn header(file: &[u8]) -> bool
     if file.len() < 3 {
         return false;
     }
-    file[0] == 1
+    file[0] == paper::VERSION
 }
 
 fn length_field(file: &[u8]) -> bool

@@ -14,7 +14,7 @@ use Rattle.semantics.specs.Editions.{edition1}
 use Rattle.semantics.specs.Refusals.{Judged, refused, accepted, refusalOf, ensure, _>>=_, _>>_}
 use Rattle.semantics.specs.Plant.{Plant, selectors}
 use Rattle.semantics.specs.Starts.{Start, startFits}
-use Rattle.semantics.specs.Calls.{wholeEvents, eventCount, recordSize, roomForRecords, judgeStart, judgeAdmission, Program, runFrom, outcomeOf, judgeRun}
+use Rattle.semantics.specs.Calls.{wholeEvents, eventCount, recordLength, recordSize, roomForRecords, judgeStart, judgeAdmission, Program, runFrom, outcomeOf, judgeRun}
 use Rattle.semantics.specs.Conditions.{Condition, runConditions}
 use Rattle.semantics.proofs.Facts.{All, all-nil, all-cons}
 use Rattle.semantics.proofs.Judging.{go-then}
@@ -36,9 +36,9 @@ some-bytes : (p : Plant) → 1 ≤ recordSize edition1 p
 unfolding recordSize
 some-bytes p = omega arith
 
-pub size-is : (p : Plant) {variables cases : ℕ} → variables ≡ length (p .variables) → cases ≡ length (selectors p) → 9 + 4 * variables + cases ≡ recordSize edition1 p
+pub size-is : (p : Plant) {variables cases size : ℕ} → variables ≡ length (p .variables) → cases ≡ length (selectors p) → size ≡ recordLength edition1 variables cases → size ≡ recordSize edition1 p
 unfolding recordSize
-size-is p e f = omega arith
+size-is p e f h = omega arith
 
 refusal-is : (j : Judged Start) → admitted j .refusal ≡ refusalOf j
 unfolding admitted notAdmitted refusalOf

@@ -40,8 +40,7 @@ pub fn admit(plant: PlantRead, start: &[u8], events: usize, room: usize) -> Admi
     if events % paper::EVENT_BYTES != 0 {
         return refused(21);
     }
-    // the bytes of a record
-    let size = 9 + 4 * plant.variables + plant.selectors;
+    let size = records::record_length(plant.variables, plant.selectors);
     if room / size < events / paper::EVENT_BYTES {
         return refused(22);
     }

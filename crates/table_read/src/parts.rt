@@ -39,7 +39,7 @@ fn header(t: &[u8]) -> bool
     if t.len() < 5 {
         return false;
     }
-    if t[0] != 1 {
+    if t[0] != paper::VERSION {
         return false;
     }
     codec::nat4(t, 1) == t.len()

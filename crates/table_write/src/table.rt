@@ -25,7 +25,7 @@ pub fn put_front<'a>(vs: &'a [u8], es: &'a [u8], table: &mut [u8], whole: usize)
     requires room { ⌜ length (now vs) + length (now es) + 9 ≤ length (now table) ⌝ }
     ensures { λ r. ⌜ Put (now (table .entry)) 0 (front whole (now (vs .entry)) (now (es .entry))) (now (table .exit)) r ⌝ }
 {
-    let i = codec::put1(table, 0, 1);
+    let i = codec::put1(table, 0, paper::VERSION);
     let j = codec::put4(table, i, whole);
     let l = put_section(table, j, vs);
     put_section(table, l, es)

@@ -14,22 +14,18 @@ returns-2 c = let a = c .before .before .args in too-many (a .events) (a .variab
 returns-3 : tie.Need-returns-3
 returns-3 c = let a = c .before .before .before .args in too-many-cases (a .events) (a .variables) (a .selectors) (omega arith) (omega arith) (omega arith)
 
+record-length-requires : tie.Need-record-length-requires
+record-length-requires c κs = search needs
+
 mul-result : tie.Need-mul-result
-mul-result c = search needs
-
-add-result : tie.Need-add-result
-add-result c = search needs
-
-add-result-2 : tie.Need-add-result-2
-add-result-2 c = search needs
-
-mul-result-2 : tie.Need-mul-result-2
-mul-result-2 c = let a = c .before .before .before .args in omega (arith, records-few (a .events) (a .variables) (a .selectors) (omega arith) (omega arith) (omega arith))
+mul-result c =
+    let a = c .before .before .before .before .args in
+    omega (arith, records-few (a .events) (a .variables) (a .selectors) (c .record-length .ensures) (omega arith) (omega arith) (omega arith))
 
 returns-4 : tie.Need-returns-4
-returns-4 c = let a = c .before .before .before .args in records-are (a .events) (a .variables) (a .selectors) (omega arith) (omega arith) (omega arith)
+returns-4 c =
+    let a = c .before .before .before .before .args in
+    records-are (a .events) (a .variables) (a .selectors) (c .record-length .ensures) (omega arith) (omega arith) (omega arith)
 
 pub records-length-spec : {M : Type 1} → statement M
-records-length-spec =
-    tie.close
-    (tie.spec returns returns-2 returns-3 mul-result add-result add-result-2 mul-result-2 returns-4)
+records-length-spec = tie.close (tie.spec returns returns-2 returns-3 record-length-requires mul-result returns-4)

@@ -17,14 +17,8 @@ refused-requires c κs = search needs
 returns-2 : tie.Need-returns-2
 returns-2 c p a es d i j = c .refused .ensures ∙ by-21 p _ es d (c .before .before .before .before .read .ensures p a) (c .before .before .if1 .left) i j (c .before .if2 .taken)
 
-mul-size : tie.Need-mul-size
-mul-size c = search needs
-
-add-size : tie.Need-add-size
-add-size c = search needs
-
-add-size-2 : tie.Need-add-size-2
-add-size-2 c = search needs
+record-length-requires : tie.Need-record-length-requires
+record-length-requires c κs = search needs
 
 div-if3 : tie.Need-div-if3
 div-if3 c = search needs
@@ -34,13 +28,15 @@ refused-requires-2 c κs = search needs
 
 returns-3 : tie.Need-returns-3
 returns-3 c p a es d i j =
-    let s = c .before .before .before .before in
-    c .refused2 .ensures ∙ by-22 p _ es d (s .before .before .before .read .ensures p a) (s .before .if1 .left) i j (s .if2 .left) (size-is p (a .ranges .count) (sym (a .counts .counted))) (c .before .if3 .taken)
+    let l = c .before .before in
+    let s = l .before in
+    c .refused2 .ensures ∙ by-22 p _ es d (s .before .before .before .read .ensures p a) (s .before .if1 .left) i j (s .if2 .left) (size-is p (a .ranges .count) (sym (a .counts .counted)) (l .record-length .ensures)) (c .before .if3 .taken)
 
 returns-4 : tie.Need-returns-4
 returns-4 c p a es d i j =
-    let s = c .before .before .before in
-    by-all p _ es d (s .before .before .before .read .ensures p a) (s .before .if1 .left) i j (s .if2 .left) (size-is p (a .ranges .count) (sym (a .counts .counted))) (c .if3 .left)
+    let l = c .before in
+    let s = l .before in
+    by-all p _ es d (s .before .before .before .read .ensures p a) (s .before .if1 .left) i j (s .if2 .left) (size-is p (a .ranges .count) (sym (a .counts .counted)) (l .record-length .ensures)) (c .if3 .left)
 
 pub admit-spec : {M : Type 1} → statement M
-admit-spec = tie.close (tie.spec read-requires returns refused-requires returns-2 mul-size add-size add-size-2 div-if3 refused-requires-2 returns-3 returns-4)
+admit-spec = tie.close (tie.spec read-requires returns refused-requires returns-2 record-length-requires div-if3 refused-requires-2 returns-3 returns-4)
