@@ -175,10 +175,10 @@ pub fn effect(
     ensures { λ r. ⌜ Does kind (now (t .entry)) (rangesOf (now (lows .entry)) (now (highs .entry))) n (now (values .entry)) (now (modes .entry)) r (now (values .exit)) (now (modes .exit)) ⌝ }
 {
     match kind {
-        1 => ask(t, values, Verdict::Move(n, true), Verdict::Move(n, false)),
-        2 => ask(t, values, Verdict::Move(n, true), Verdict::Away(29)),
-        3 => assign(t, lows, highs, values, Verdict::Move(n, true)),
-        4 => {
+        paper::actions::TEST => ask(t, values, Verdict::Move(n, true), Verdict::Move(n, false)),
+        paper::actions::WAIT => ask(t, values, Verdict::Move(n, true), Verdict::Away(29)),
+        paper::actions::ASSIGN => assign(t, lows, highs, values, Verdict::Move(n, true)),
+        paper::actions::SWITCH => {
             let s = t[0] as usize;
             modes[s] = t[1];
             Verdict::Move(n, true)

@@ -26,7 +26,7 @@ fn all_wait(kinds: &[u8], acting: NodeSet) -> bool
 {
     let mut n = nodeset::next(acting, 0);
     while n < paper::NODES {
-        if kinds[n] != 2 {
+        if kinds[n] != paper::actions::WAIT {
             return false;
         }
         n = nodeset::next(acting, n + 1);

@@ -1,5 +1,7 @@
 // The limits that document 01 prints, in its words, and what follows from them. Edition 1.
+pub mod actions; // actions.rt: the kinds of a table's actions
 pub mod answers; // answers.rt: how an event is answered
+pub mod nodes; // nodes.rt: the kinds of a schedule's nodes
 pub mod targets; // targets.rt: where an entry of a table leads to, beside the locations
 
 // "Byte 0 is version 1"; of a table "Version 1"

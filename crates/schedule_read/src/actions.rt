@@ -8,13 +8,13 @@ fn kind(k: u8) -> u8
     ensures { λ r. ⌜ ActsAs k r ⌝ }
 {
     match k {
-        3 => 1,
-        4 => 1,
-        5 => 2,
-        6 => 3,
-        7 => 3,
-        8 => 4,
-        9 => 5,
+        paper::nodes::WHILE => paper::actions::TEST,
+        paper::nodes::IF => paper::actions::TEST,
+        paper::nodes::CONTINUE => paper::actions::WAIT,
+        paper::nodes::RESET => paper::actions::ASSIGN,
+        paper::nodes::REINITIAL => paper::actions::ASSIGN,
+        paper::nodes::SWITCH => paper::actions::SWITCH,
+        paper::nodes::STOP => paper::actions::STOP,
         _ => 0,
     }
 }

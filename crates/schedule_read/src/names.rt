@@ -13,9 +13,14 @@ pub fn one(k: u8, b: &[u8], variables: usize, selectors: usize, modes: &[usize])
     ensures { λ r. ⌜ ((cs : List Selector) → ModesAt (now (modes .entry)) selectors cs → Tells (nodeNamed variables cs) k (now (b .entry)) r) ⌝ }
 {
     match k {
-        6 => (b[0] as usize) < variables,
-        7 => (b[0] as usize) < variables,
-        8 => plant::selectors::mode_exists(b[0] as usize, b[1] as usize, selectors, modes),
+        paper::nodes::RESET => (b[0] as usize) < variables,
+        paper::nodes::REINITIAL => (b[0] as usize) < variables,
+        paper::nodes::SWITCH => plant::selectors::mode_exists(
+            b[0] as usize,
+            b[1] as usize,
+            selectors,
+            modes,
+        ),
         _ => true,
     }
 }

@@ -10,11 +10,11 @@ pub fn one(k: u8, b: &[u8], variables: usize) -> bool
     ensures { λ r. ⌜ Tells (nodeReads edition1 variables) k (now (b .entry)) r ⌝ }
 {
     match k {
-        3 => expression::truth_reads(b, variables),
-        4 => expression::truth_reads(b, variables),
-        5 => expression::truth_reads(b, variables),
-        6 => expression::number_reads(&b[1..], variables),
-        7 => expression::number_reads(&b[1..], variables),
+        paper::nodes::WHILE => expression::truth_reads(b, variables),
+        paper::nodes::IF => expression::truth_reads(b, variables),
+        paper::nodes::CONTINUE => expression::truth_reads(b, variables),
+        paper::nodes::RESET => expression::number_reads(&b[1..], variables),
+        paper::nodes::REINITIAL => expression::number_reads(&b[1..], variables),
         _ => true,
     }
 }

@@ -41,11 +41,11 @@ fn operand(k: u8, b: &[u8]) -> bool
     ensures { λ r. ⌜ r ≡ isSome (actionOfKind (actionKind k) (now (b .entry))) ⌝ }
 {
     match k {
-        1 => true,
-        2 => true,
-        3 => b.len() >= 1,
-        4 => b.len() == 2,
-        5 => b.len() == 0,
+        paper::actions::TEST => true,
+        paper::actions::WAIT => true,
+        paper::actions::ASSIGN => b.len() >= 1,
+        paper::actions::SWITCH => b.len() == 2,
+        paper::actions::STOP => b.len() == 0,
         _ => false,
     }
 }

@@ -51,11 +51,11 @@ fn fits(k: u8, n: usize, t: usize, u: usize) -> bool
     ensures { λ r. ⌜ r ≡ kindFits n k t u ⌝ }
 {
     match k {
-        1 => both(goes_on(t, n), goes_on(u, n)),
-        2 => both(goes_on(t, n), u == paper::targets::NONE),
-        3 => both(goes_on(t, n), u == paper::targets::NONE),
-        4 => both(goes_on(t, n), u == paper::targets::NONE),
-        5 => both(t == paper::targets::HALTED, u == paper::targets::NONE),
+        paper::actions::TEST => both(goes_on(t, n), goes_on(u, n)),
+        paper::actions::WAIT => both(goes_on(t, n), u == paper::targets::NONE),
+        paper::actions::ASSIGN => both(goes_on(t, n), u == paper::targets::NONE),
+        paper::actions::SWITCH => both(goes_on(t, n), u == paper::targets::NONE),
+        paper::actions::STOP => both(t == paper::targets::HALTED, u == paper::targets::NONE),
         _ => false,
     }
 }

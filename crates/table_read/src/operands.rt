@@ -41,10 +41,10 @@ fn fits(k: u8, b: &[u8], variables: usize, selectors: usize, modes: &[usize]) ->
     ensures { λ r. ⌜ ((cs : List Selector) → ModesAt (now (modes .entry)) selectors cs → r ≡ fitsHere variables cs (actionOfKind (actionKind k) (now (b .entry)))) ⌝ }
 {
     match k {
-        1 => expression::truth_reads(b, variables),
-        2 => expression::truth_reads(b, variables),
-        3 => assigns(b, variables),
-        4 => switches(b, selectors, modes),
+        paper::actions::TEST => expression::truth_reads(b, variables),
+        paper::actions::WAIT => expression::truth_reads(b, variables),
+        paper::actions::ASSIGN => assigns(b, variables),
+        paper::actions::SWITCH => switches(b, selectors, modes),
         _ => true,
     }
 }

@@ -43,15 +43,15 @@ fn payload(k: u8, b: &[u8]) -> bool
     ensures { λ r. ⌜ r ≡ isSome (nodeOf (kindOf k) (now (b .entry))) ⌝ }
 {
     match k {
-        1 => one_count(b),
-        2 => one_count(b),
-        3 => true,
-        4 => true,
-        5 => true,
-        6 => b.len() >= 1,
-        7 => b.len() >= 1,
-        8 => b.len() == 2,
-        9 => b.len() == 0,
+        paper::nodes::SEQUENCE => one_count(b),
+        paper::nodes::PARALLEL => one_count(b),
+        paper::nodes::WHILE => true,
+        paper::nodes::IF => true,
+        paper::nodes::CONTINUE => true,
+        paper::nodes::RESET => b.len() >= 1,
+        paper::nodes::REINITIAL => b.len() >= 1,
+        paper::nodes::SWITCH => b.len() == 2,
+        paper::nodes::STOP => b.len() == 0,
         _ => false,
     }
 }

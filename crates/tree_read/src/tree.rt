@@ -39,13 +39,13 @@ fn children_of(s: &[u8], k: u8, start: usize) -> u8
     requires { ⌜ ((x : Node) × Makes (now s) k start x) ⌝ }
     ensures { λ r. ⌜ ((x : Node) → Makes (now (s .entry)) k start x → r ≡ children x) ⌝ }
 {
-    if k <= 2 {
+    if k <= paper::nodes::PARALLEL {
         return s[start];
     }
-    if k == 3 {
+    if k == paper::nodes::WHILE {
         return 1;
     }
-    if k == 4 {
+    if k == paper::nodes::IF {
         return 2;
     }
     0
