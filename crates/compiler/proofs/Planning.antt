@@ -32,7 +32,6 @@ use Rattle.schedule_read.specs.Actions.{ActionKinds}
 use Rattle.schedule_read.specs.Promised.{Slice}
 use Rattle.schedule_read.proofs.Promises.{index-refused}
 use Rattle.numbering.specs.Meeting.{testsIn}
-use Rattle.numbering.specs.Located.{rowBytes}
 use Rattle.sizes.specs.Rows.{Measures, Exact}
 use Rattle.sizes.specs.declared.Measured.{Measured as Sizes}
 use Rattle.sizes.proofs.Nodes.{laid-weighed}
@@ -130,7 +129,7 @@ module _ {f : List ℕ} {ix : ScheduleIndex} {m : Sizes} (g : Found f ix m) {act
   counted = let c = locations-counted (t .nodes) tree-read few in (c .0 ∙ sym (g .locations), c .1 ∙ sym (g .entries))
 
   plan-rows : {n bytes : ℕ} → n ≡ m .locations → bytes ≡ m .locations + m .entries * 5 → Counts (ix .nodes .kinds) (ix .subtrees .ends) acts n bytes (t .root)
-  unfolding scheduleLocations rowBytes widthOf
+  unfolding scheduleLocations widthOf
   plan-rows h k = record {
     lies = g .promise .tree;
     counts = rw acts-tests (counted .0 ∙ sym h);

@@ -11,6 +11,7 @@ ghost use Prim.Native.Nat.{ℕ, _+_, _*_, _≤_, _<_};
 ghost use lib.ListN.{length};
 ghost use Rattle.semantics.specs.Editions.{edition1};
 ghost use Rattle.semantics.specs.Refusals.{accepted};
+ghost use Rattle.semantics.specs.TableFile.{locationLimit};
 ghost use Rattle.schedules.specs.Compiling.{judgeTableOf};
 ghost use Rattle.schedules.specs.Calls as calls;
 ghost use Rattle.table_write.specs.Pieces.{Put};
@@ -59,7 +60,7 @@ fn no_plan(n: u8, x: ScheduleIndex) -> Plan
 
 // the bytes of the locations' rows
 fn row_bytes(locations: usize, entries: usize) -> usize
-    requires { ⌜ (locations ≤ 1024) × (entries ≤ 65536) ⌝ }
+    requires { ⌜ (locations ≤ locationLimit) × (entries ≤ 65536) ⌝ }
     ensures { λ r. ⌜ (r ≡ locations + entries * 5) × (r ≤ 328704) ⌝ }
 {
     locations + entries * 5

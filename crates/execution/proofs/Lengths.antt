@@ -11,7 +11,8 @@ use Rattle.semantics.specs.Plant.{Plant, selectorsOf, judgePlant}
 use Rattle.semantics.specs.Sections.{Selector, Equation, steady, choice}
 use Rattle.plant.specs.PlantRead.{plantOf}
 use Rattle.codec.specs.Padding.{pad}
-use Rattle.plant.specs.Equations.{modeSize, equationSize, startsFrom, modePlaces}
+use Rattle.semantics.specs.Writing.{writeMode, writeEquation}
+use Rattle.plant.specs.Equations.{startsFrom, modePlaces}
 use Rattle.codec.proofs.Padding.{length-pad}
 use Rattle.plant.proofs.EquationCases.{starts-length}
 use Rattle.plant.proofs.EquationLaws.{few-selectors, few-modes-each}
@@ -28,9 +29,9 @@ unfolding modePlaces selectorsOf
 places-few at [] h = refl
 places-few at (steady r ∷ qs) h = places-few _ qs h
 places-few at (choice c ∷ qs) h =
-    let row = startsFrom modeSize (at + 5) (c .modes) in
-    let e = length-pad 8 0 row (omega (arith, starts-length modeSize (at + 5) (c .modes), h 0 c refl)) in
-    omega (arith, length-append (pad 8 0 row) (modePlaces (at + equationSize (choice c)) qs), places-few (at + equationSize (choice c)) qs (λ j x k. h (suc j) x k))
+    let row = startsFrom writeMode (at + 5) (c .modes) in
+    let e = length-pad 8 0 row (omega (arith, starts-length writeMode (at + 5) (c .modes), h 0 c refl)) in
+    omega (arith, length-append (pad 8 0 row) (modePlaces (at + length (writeEquation (choice c))) qs), places-few (at + length (writeEquation (choice c))) qs (λ j x k. h (suc j) x k))
 
 pub places-full : (vs es : List ℕ) {p : Plant} → judgePlant edition1 vs es ≡ accepted p → length (plantOf vs es .«mode_offsets») ≡ 128
 places-full vs es {p} h =

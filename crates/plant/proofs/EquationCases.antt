@@ -8,13 +8,14 @@ use lib.ListN.{length, getD, drop, set, replicate, length-append}
 use lib.Seq.{sets, append-snoc}
 use Rattle.semantics.specs.Bytes.{read, times}
 use Rattle.semantics.specs.Sections.{Selector, Equation, choice, readMode, readEquationBody, readEquation, readEquations, equationsIn}
+use Rattle.semantics.specs.Writing.{writeMode, writeEquation}
 use Rattle.semantics.specs.Plant.{selectorsOf}
 use Rattle.semantics.proofs.Facts.{within-high}
 use Rattle.semantics.proofs.Readers.{guarded, whole-read}
 use Rattle.codec.specs.Padding.{pad}
 use Rattle.codec.proofs.Reading.{nat2At, either}
 use Rattle.codec.proofs.Known.{after-byte, not-past, times-length}
-use Rattle.plant.specs.Equations.{modeSize, equationSize, startsFrom, modePlaces, modeCount, Stands, SectionStands, CasesOf}
+use Rattle.plant.specs.Equations.{startsFrom, modePlaces, modeCount, Stands, SectionStands, CasesOf}
 use Rattle.plant.proofs.EquationPlaces.{steady-at, ChoiceAt, choice-at}
 use Rattle.plant.proofs.EquationIndex.{equation-fits, equation-kind, next-is, next-fits, equations-left, first-and-left, none-left}
 use Rattle.codec.proofs.Padding.{length-pad, sets-pad, pad-part, pad-map-snoc}
@@ -35,10 +36,10 @@ section-at s h =
 abbrev pub equations-stand : (s : List ℕ) (t : SectionStands s) → Stands (times (getD s 0 0) readEquation) s 1
 equations-stand s t = record { value = t .equations; rest = []; got = section-at s (t .read) .got }
 
-pub starts-length : {A : Type 0} (size : A → ℕ) (p : ℕ) (l : List A) → length (startsFrom size p l) ≡ length l
+pub starts-length : {A : Type 0} (write : A → List ℕ) (p : ℕ) (l : List A) → length (startsFrom write p l) ≡ length l
 unfolding startsFrom
-starts-length size p [] = refl
-starts-length size p (x ∷ l) = ap suc (starts-length size (p + size x) l)
+starts-length write p [] = refl
+starts-length write p (x ∷ l) = ap suc (starts-length write (p + length (write x)) l)
 
 -- ---- after some of the equations, so many of them left from place p on
 pub record Noted (s : List ℕ) (es : List Equation) (count : ℕ) (modes places : List ℕ) (p left : ℕ) : Type 0 where
@@ -87,7 +88,7 @@ module _ {s : List ℕ} {es : List Equation} {count : ℕ} {modes places : List 
     unfolding here after
     parts = first-and-left s p left (a .rest) i k e
 
-    next-place : p + 2 + k ≡ p + equationSize (here .value)
+    next-place : p + 2 + k ≡ p + length (writeEquation (here .value))
     unfolding here
     next-place = next-is s p left (a .rest) i k e
 
@@ -107,7 +108,7 @@ module _ {s : List ℕ} {es : List Equation} {count : ℕ} {modes places : List 
           modes-are = a .modes-are;
           noted = a .noted;
           eights = a .eights;
-          placed = ap (λ z. a .noted ++ modePlaces z (after .value)) (next-place ∙ ap (λ x. p + equationSize x) (q .is)) ∙ ap (λ z. a .noted ++ modePlaces p z) (sym (parts ∙ ap (λ x. x ∷ after .value) (q .is))) ∙ a .placed;
+          placed = ap (λ z. a .noted ++ modePlaces z (after .value)) (next-place ∙ ap (λ x. p + length (writeEquation x)) (q .is)) ∙ ap (λ z. a .noted ++ modePlaces p z) (sym (parts ∙ ap (λ x. x ∷ after .value) (q .is))) ∙ a .placed;
           places-are = a .places-are;
         }
 
@@ -135,11 +136,11 @@ module _ {s : List ℕ} {es : List Equation} {count : ℕ} {modes places : List 
     counted-modes = times-length readMode (getD s (p + 2 + 2) 0) (drop (p + 2 + 3) s) (case .got)
 
     row : List ℕ
-    row = startsFrom modeSize (p + 5) (case .modes)
+    row = startsFrom writeMode (p + 5) (case .modes)
 
     row-length : length row ≡ getD s (p + 2 + 2) 0
     unfolding row
-    row-length = starts-length modeSize (p + 5) (case .modes) ∙ counted-modes
+    row-length = starts-length writeMode (p + 5) (case .modes) ∙ counted-modes
 
     modes-more : set modes count (getD s (p + 2 + 2) 0) ≡ pad 16 0 (map modeCount (a .done ++ (chosen ∷ [])))
     unfolding modeCount chosen
@@ -148,12 +149,12 @@ module _ {s : List ℕ} {es : List Equation} {count : ℕ} {modes places : List 
         ∙ ap (set (pad 16 0 (map modeCount (a .done))) count) (sym counted-modes)
         ∙ pad-map-snoc 16 0 modeCount (a .done) count chosen (a .counted) (omega (arith, count-fits))
 
-    places-more : {next : List ℕ} → ((t : Stands (times (getD s (p + 2 + 2) 0) readMode) s (p + 2 + 3)) → next ≡ sets places (8 * count) (startsFrom modeSize (p + 2 + 3) (t .value))) → next ≡ pad 128 0 (a .noted ++ pad 8 0 row)
+    places-more : {next : List ℕ} → ((t : Stands (times (getD s (p + 2 + 2) 0) readMode) s (p + 2 + 3)) → next ≡ sets places (8 * count) (startsFrom writeMode (p + 2 + 3) (t .value))) → next ≡ pad 128 0 (a .noted ++ pad 8 0 row)
     unfolding modes-stand row
     places-more f =
         let five : p + 2 + 3 ≡ p + 5 = omega arith in
         f modes-stand
-        ∙ ap (λ z. sets places (8 * count) (startsFrom modeSize z (case .modes))) five
+        ∙ ap (λ z. sets places (8 * count) (startsFrom writeMode z (case .modes))) five
         ∙ ap (λ z. sets z (8 * count) row) (a .places-are)
         ∙ ap (λ z. sets (pad 128 0 (a .noted)) z row) (sym (a .eights))
         ∙ sets-pad 128 0 (a .noted) row (omega (arith, row-length, a .eights, places-fit))
@@ -164,9 +165,9 @@ module _ {s : List ℕ} {es : List Equation} {count : ℕ} {modes places : List 
       unfolding chosen
       case-parts = parts k e ∙ ap (λ x. x ∷ after k e .value) (case .is)
 
-      case-next : p + 2 + k ≡ p + equationSize (choice chosen)
+      case-next : p + 2 + k ≡ p + length (writeEquation (choice chosen))
       unfolding chosen
-      case-next = next-place k e ∙ ap (λ x. p + equationSize x) (case .is)
+      case-next = next-place k e ∙ ap (λ x. p + length (writeEquation x)) (case .is)
 
       selectors-more : (a .done ++ (chosen ∷ [])) ++ selectorsOf (after k e .value) ≡ selectorsOf es
       unfolding selectorsOf
@@ -181,7 +182,7 @@ module _ {s : List ℕ} {es : List Equation} {count : ℕ} {modes places : List 
           ∙ a .placed
 
       -- past it
-      pub noted-case : {next : List ℕ} → ((t : Stands (times (getD s (p + 2 + 2) 0) readMode) s (p + 2 + 3)) → next ≡ sets places (8 * count) (startsFrom modeSize (p + 2 + 3) (t .value))) → Noted s es (count + 1) (set modes count (getD s (p + 2 + 2) 0)) next (p + 2 + k) (left - 1)
+      pub noted-case : {next : List ℕ} → ((t : Stands (times (getD s (p + 2 + 2) 0) readMode) s (p + 2 + 3)) → next ≡ sets places (8 * count) (startsFrom writeMode (p + 2 + 3) (t .value))) → Noted s es (count + 1) (set modes count (getD s (p + 2 + 2) 0)) next (p + 2 + k) (left - 1)
       noted-case f = record {
         rest = after k e;
         done = a .done ++ (chosen ∷ []);

@@ -13,12 +13,13 @@ use lib.ListN.{length, getD, drop, getElem?, set, replicate, length-set, length-
 use lib.Seq.{getD-append-add, getD-set-same, getD-set-other}
 use Rattle.semantics.specs.Bytes.{every, Reader, read, times}
 use Rattle.semantics.specs.Sections.{Rate, Mode, Selector, Equation, steady, choice, readMode, readEquation, equationsIn}
+use Rattle.semantics.specs.Writing.{writeMode, writeEquation}
 use Rattle.semantics.specs.Plant.{equationNamed, selectorsOf, rateAmong, among}
 use Rattle.semantics.proofs.Facts.{some-is, none-not-some, at-below, All, all-cons, every-all}
 use Rattle.codec.specs.Padding.{pad}
 use Rattle.codec.proofs.Known.{times-length}
 use Rattle.codec.proofs.Padding.{repeated, length-pad, pad-at, pad-map-some}
-use Rattle.plant.specs.Equations.{modeSize, equationSize, startsFrom, modePlaces, modeCount, putRates, Stands, modeAt}
+use Rattle.plant.specs.Equations.{startsFrom, modePlaces, modeCount, putRates, Stands, modeAt}
 use Rattle.plant.proofs.EquationSizes.{Cuts, cuts-mode, cuts-equation}
 use Rattle.plant.proofs.EquationPlaces.{Headed, headed, mode-before, equation-at, steady-at, ChoiceAt, choice-at}
 use Rattle.plant.proofs.EquationCases.{section-at, starts-length}
@@ -36,28 +37,28 @@ placed-by s q {m} {e} h =
     record { stands = t; is = mode-is s q t; inside = mode-before s q h }
 
 -- the first of n values, and the others
-record Parts {A : Type 0} (r : Reader A) (size : A → ℕ) (s : List ℕ) (p n : ℕ) (x : A) (l : List A) (e : List ℕ) : Type 0 where
-  first : r (drop p s) ≡ read x (drop (p + size x) s)
-  others : times (n - 1) r (drop (p + size x) s) ≡ read l e
+record Parts {A : Type 0} (r : Reader A) (write : A → List ℕ) (s : List ℕ) (p n : ℕ) (x : A) (l : List A) (e : List ℕ) : Type 0 where
+  first : r (drop p s) ≡ read x (drop (p + length (write x)) s)
+  others : times (n - 1) r (drop (p + length (write x)) s) ≡ read l e
 
-parts : {A : Type 0} {r : Reader A} (size : A → ℕ) → Cuts r (λ a n. n ≡ size a) → (s : List ℕ) (p n : ℕ) {x : A} {l : List A} {e : List ℕ} → times n r (drop p s) ≡ read (x ∷ l) e → Parts r size s p n x l e
-parts {A} {r} size cs s p n {x} {l} {e} h = go (headed size cs s p n (omega (arith, times-length r n (drop p s) h)) h)
+parts : {A : Type 0} {r : Reader A} (write : A → List ℕ) → Cuts r (λ a n. n ≡ length (write a)) → (s : List ℕ) (p n : ℕ) {x : A} {l : List A} {e : List ℕ} → times n r (drop p s) ≡ read (x ∷ l) e → Parts r write s p n x l e
+parts {A} {r} write cs s p n {x} {l} {e} h = go (headed write cs s p n (omega (arith, times-length r n (drop p s) h)) h)
   where
-    go : Headed r size s p n (x ∷ l) e → Parts r size s p n x l e
+    go : Headed r write s p n (x ∷ l) e → Parts r write s p n x l e
     go f =
         let a : f .head ≡ x = let i = f .is in cc in
         let b : f .tail ≡ l = let i = f .is in cc in
         record {
-          first = subst (λ z. r (drop p s) ≡ read z (drop (p + size z) s)) a (f .got);
-          others = ap (λ z. times (n - 1) r (drop (p + size z) s)) (sym a) ∙ f .others ∙ ap (λ z. read z e) b;
+          first = subst (λ z. r (drop p s) ≡ read z (drop (p + length (write z)) s)) a (f .got);
+          others = ap (λ z. times (n - 1) r (drop (p + length (write z)) s)) (sym a) ∙ f .others ∙ ap (λ z. read z e) b;
         }
 
 -- in the row of a CASE
-row-placed : (s : List ℕ) (n p k : ℕ) (ms : List Mode) {m : Mode} {e : List ℕ} → times n readMode (drop p s) ≡ read ms e → getElem? ms k ≡ some m → ModePlaced s (getD (startsFrom modeSize p ms) k 0) m
+row-placed : (s : List ℕ) (n p k : ℕ) (ms : List Mode) {m : Mode} {e : List ℕ} → times n readMode (drop p s) ≡ read ms e → getElem? ms k ≡ some m → ModePlaced s (getD (startsFrom writeMode p ms) k 0) m
 unfolding startsFrom
 row-placed s n p k [] h g = none-not-some g
-row-placed s n p zero (x ∷ ms) h g = placed-by s p (parts modeSize cuts-mode s p n h .first ∙ ap (λ z. read z (drop (p + modeSize x) s)) (some-is g))
-row-placed s n p (suc k) (x ∷ ms) h g = row-placed s (n - 1) (p + modeSize x) k ms (parts modeSize cuts-mode s p n h .others) g
+row-placed s n p zero (x ∷ ms) h g = placed-by s p (parts writeMode cuts-mode s p n h .first ∙ ap (λ z. read z (drop (p + length (writeMode x)) s)) (some-is g))
+row-placed s n p (suc k) (x ∷ ms) h g = row-placed s (n - 1) (p + length (writeMode x)) k ms (parts writeMode cuts-mode s p n h .others) g
 
 -- the row of a CASE that stands at p
 case-of : (s : List ℕ) (p : ℕ) {c : Selector} {e : List ℕ} → readEquation (drop p s) ≡ read (choice c) e → ChoiceAt s (p + 2) (choice c) e
@@ -70,7 +71,7 @@ case-of s p {c} {e} h =
 
 module _ (s : List ℕ) (p : ℕ) {c : Selector} {e : List ℕ} (h : readEquation (drop p s) ≡ read (choice c) e) where
   abbrev row : List ℕ
-  row = startsFrom modeSize (p + 5) (c .modes)
+  row = startsFrom writeMode (p + 5) (c .modes)
 
   same : case-of s p h .modes ≡ c .modes
   same = let i = case-of s p h .is in ap modesOf (sym i)
@@ -86,7 +87,7 @@ module _ (s : List ℕ) (p : ℕ) {c : Selector} {e : List ℕ} (h : readEquatio
       omega (arith, ap length same, a .few)
 
   row-eight : length (pad 8 0 row) ≡ 8
-  row-eight = length-pad 8 0 row (omega (arith, starts-length modeSize (p + 5) (c .modes), row-few))
+  row-eight = length-pad 8 0 row (omega (arith, starts-length writeMode (p + 5) (c .modes), row-few))
 
   in-row : (k : ℕ) {m : Mode} → getElem? (c .modes) k ≡ some m → ModePlaced s (getD row k 0) m
   in-row k g =
@@ -111,11 +112,11 @@ module _ (s : List ℕ) (p : ℕ) {c : Selector} {e : List ℕ} (h : readEquatio
 placed-in : (s : List ℕ) (n p : ℕ) (es : List Equation) {e : List ℕ} → times n readEquation (drop p s) ≡ read es e → (j k : ℕ) {c : Selector} {m : Mode} → getElem? (selectorsOf es) j ≡ some c → getElem? (c .modes) k ≡ some m → ModePlaced s (getD (modePlaces p es) (8 * j + k) 0) m
 unfolding selectorsOf modePlaces
 placed-in s n p [] h j k g f = none-not-some g
-placed-in s n p (steady r ∷ es) h j k g f = placed-in s (n - 1) (p + equationSize (steady r)) es (parts equationSize cuts-equation s p n h .others) j k g f
-placed-in s n p (choice x ∷ es) h zero k g f = first-row s p (parts equationSize cuts-equation s p n h .first) (modePlaces (p + equationSize (choice x)) es) k (ap (λ (c : Selector). getElem? (c .modes) k) (some-is g) ∙ f)
+placed-in s n p (steady r ∷ es) h j k g f = placed-in s (n - 1) (p + length (writeEquation (steady r))) es (parts writeEquation cuts-equation s p n h .others) j k g f
+placed-in s n p (choice x ∷ es) h zero k g f = first-row s p (parts writeEquation cuts-equation s p n h .first) (modePlaces (p + length (writeEquation (choice x))) es) k (ap (λ (c : Selector). getElem? (c .modes) k) (some-is g) ∙ f)
 placed-in s n p (choice x ∷ es) h (suc j) k {m = m} g f =
-    let t = parts equationSize cuts-equation s p n h in
-    subst (λ q. ModePlaced s q m) (later-rows s p (t .first) (modePlaces (p + equationSize (choice x)) es) j k) (placed-in s (n - 1) (p + equationSize (choice x)) es (t .others) j k g f)
+    let t = parts writeEquation cuts-equation s p n h in
+    subst (λ q. ModePlaced s q m) (later-rows s p (t .first) (modePlaces (p + length (writeEquation (choice x))) es) j k) (placed-in s (n - 1) (p + length (writeEquation (choice x))) es (t .others) j k g f)
 
 pub mode-placed : (s : List ℕ) {es : List Equation} → equationsIn s ≡ some es → (j k : ℕ) {c : Selector} {m : Mode} → getElem? (selectorsOf es) j ≡ some c → getElem? (c .modes) k ≡ some m → ModePlaced s (getD (pad 128 0 (modePlaces 1 es)) (8 * j + k) 0) m
 mode-placed s {es} h j k {c} {m} g f = subst (λ q. ModePlaced s q m) (sym (pad-at 128 0 (modePlaces 1 es) (8 * j + k))) (placed-in s (getD s 0 0) 1 es (section-at s h .got) j k g f)
@@ -135,9 +136,9 @@ few-selectors s {es} h =
 few-in : (s : List ℕ) (n p : ℕ) (es : List Equation) {e : List ℕ} → times n readEquation (drop p s) ≡ read es e → (j : ℕ) {c : Selector} → getElem? (selectorsOf es) j ≡ some c → length (c .modes) ≤ 8
 unfolding selectorsOf
 few-in s n p [] h j g = none-not-some g
-few-in s n p (steady r ∷ es) h j g = few-in s (n - 1) (p + equationSize (steady r)) es (parts equationSize cuts-equation s p n h .others) j g
-few-in s n p (choice x ∷ es) h zero {c} g = subst (λ (c : Selector). length (c .modes) ≤ 8) (some-is g) (row-few s p (parts equationSize cuts-equation s p n h .first))
-few-in s n p (choice x ∷ es) h (suc j) g = few-in s (n - 1) (p + equationSize (choice x)) es (parts equationSize cuts-equation s p n h .others) j g
+few-in s n p (steady r ∷ es) h j g = few-in s (n - 1) (p + length (writeEquation (steady r))) es (parts writeEquation cuts-equation s p n h .others) j g
+few-in s n p (choice x ∷ es) h zero {c} g = subst (λ (c : Selector). length (c .modes) ≤ 8) (some-is g) (row-few s p (parts writeEquation cuts-equation s p n h .first))
+few-in s n p (choice x ∷ es) h (suc j) g = few-in s (n - 1) (p + length (writeEquation (choice x))) es (parts writeEquation cuts-equation s p n h .others) j g
 
 pub few-modes-each : (s : List ℕ) {es : List Equation} → equationsIn s ≡ some es → (j : ℕ) {c : Selector} → getElem? (selectorsOf es) j ≡ some c → length (c .modes) ≤ 8
 few-modes-each s {es} h j g = few-in s (getD s 0 0) 1 es (section-at s h .got) j g

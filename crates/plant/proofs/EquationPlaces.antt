@@ -9,30 +9,32 @@ use borrow.Author.Tests.{ne-eqb, leb-true}
 use lib.Dec.{eqb}
 use lib.ListN.{length, getD, take, drop, length-drop, take-append-drop}
 use lib.Seq.{drop-drop, length-take-le}
-use Rattle.semantics.specs.Bytes.{signed, Reader, broken, read, andThen, _>>=_, byte, fail, times}
+use Rattle.semantics.specs.Bytes.{out2, signed, Reader, broken, read, andThen, _>>=_, byte, fail, times}
 use Rattle.semantics.specs.Sections.{Rate, Switch, Mode, Equation, steady, choice, readRate, readSwitch, readMode, readSteady, readChoice, readEquationBody, readEquation, equationIn}
+use Rattle.semantics.specs.TableFile.{inSection2}
+use Rattle.semantics.specs.Writing.{writeRate, writeSwitch, equationBytes, writeEquation}
 use Rattle.semantics.proofs.Readers.{broken-not-read, read-value, split, given, guarded, from-some, whole-read}
 use Rattle.semantics.proofs.Facts.{within-high}
 use Rattle.codec.proofs.Reading.{nat2At, nat4At, drop-past, either}
 use Rattle.codec.proofs.Known.{after-byte, not-past, after-int4, after-bytes, not-short, after-section2, not-section2, Cons, cons, Last, last, times-length}
-use Rattle.plant.specs.Equations.{switchSize, equationSize, Stands}
-use Rattle.plant.proofs.EquationSizes.{Cut, Cuts, cuts-times, fives, cuts-rate, cuts-kind, kind-size, cuts-equation}
+use Rattle.plant.specs.Equations.{Stands}
+use Rattle.plant.proofs.EquationSizes.{Cut, Cuts, cuts-times, rate-length, rates-length, cuts-rate, cuts-kind, kind-size, cuts-equation}
 
 -- one value stands at a place
 pub same-value : {A : Type 0} {r : Reader A} {s : List ℕ} {p : ℕ} (t u : Stands r s p) → t .value ≡ u .value
 same-value t u = read-value (sym (t .got) ∙ u .got)
 
 -- ---- n values one after the other: the first, and the others
-pub record Headed {A : Type 0} (r : Reader A) (size : A → ℕ) (s : List ℕ) (p n : ℕ) (l : List A) (e : List ℕ) : Type 0 where
+pub record Headed {A : Type 0} (r : Reader A) (write : A → List ℕ) (s : List ℕ) (p n : ℕ) (l : List A) (e : List ℕ) : Type 0 where
   pub head : A
-  pub fits : size head ≤ length (drop p s)
-  pub got : r (drop p s) ≡ read head (drop (p + size head) s)
+  pub fits : length (write head) ≤ length (drop p s)
+  pub got : r (drop p s) ≡ read head (drop (p + length (write head)) s)
   pub tail : List A
-  pub others : times (n - 1) r (drop (p + size head) s) ≡ read tail e
+  pub others : times (n - 1) r (drop (p + length (write head)) s) ≡ read tail e
   pub is : l ≡ head ∷ tail
 
-module _ {A : Type 0} {r : Reader A} (size : A → ℕ) (cs : Cuts r (λ a n. n ≡ size a)) (s : List ℕ) (p n : ℕ) {l : List A} {e : List ℕ} where
-  headed-by : (c : Cons r (n - 1) (drop p s) l e) (k : ℕ) → k ≡ size (c .head) → Cut r k (drop p s) (c .head) (c .mid) → c .mid ≡ drop (p + size (c .head)) s → Headed r size s p n l e
+module _ {A : Type 0} {r : Reader A} (write : A → List ℕ) (cs : Cuts r (λ a n. n ≡ length (write a))) (s : List ℕ) (p n : ℕ) {l : List A} {e : List ℕ} where
+  headed-by : (c : Cons r (n - 1) (drop p s) l e) (k : ℕ) → k ≡ length (write (c .head)) → Cut r k (drop p s) (c .head) (c .mid) → c .mid ≡ drop (p + length (write (c .head))) s → Headed r write s p n l e
   headed-by c k i f g = record {
     head = c .head;
     fits = subst (λ k. k ≤ length (drop p s)) i (f .few);
@@ -42,10 +44,10 @@ module _ {A : Type 0} {r : Reader A} (size : A → ℕ) (cs : Cuts r (λ a n. n 
     is = sym (c .is);
   }
 
-  headed-of : (c : Cons r (n - 1) (drop p s) l e) (k : ℕ) → k ≡ size (c .head) → Cut r k (drop p s) (c .head) (c .mid) → Headed r size s p n l e
+  headed-of : (c : Cons r (n - 1) (drop p s) l e) (k : ℕ) → k ≡ length (write (c .head)) → Cut r k (drop p s) (c .head) (c .mid) → Headed r write s p n l e
   headed-of c k i f = headed-by c k i f (f .rest ∙ drop-drop k p s ∙ ap (λ k. drop (p + k) s) i)
 
-  pub headed : 0 < n → times n r (drop p s) ≡ read l e → Headed r size s p n l e
+  pub headed : 0 < n → times n r (drop p s) ≡ read l e → Headed r write s p n l e
   headed i h =
       let m : n ≡ suc (n - 1) = omega arith in
       let c = cons r (n - 1) (rw m at h) in
@@ -74,10 +76,10 @@ pub record SwitchStands (s : List ℕ) (p : ℕ) (w : Switch) : Type 0 where
   pub fits : p + 1 + getD s p 0 ≤ length s
   pub target : w .target ≡ getD s (p + 1) 0
   pub truth : w .truth ≡ take (getD s p 0 - 1) (drop (p + 2) s)
-  pub size : switchSize w ≡ 1 + getD s p 0
+  pub size : length (writeSwitch w) ≡ 1 + getD s p 0
 
 switch-made : (s : List ℕ) (p : ℕ) {w : Switch} → 1 ≤ getD s p 0 → p + 1 + getD s p 0 ≤ length s → record { target = getD s (p + 1) 0; truth = take (getD s p 0 - 1) (drop (p + 1 + 1) s) } ≡ w → SwitchStands s p w
-unfolding switchSize
+unfolding writeSwitch
 switch-made s p {w} i j k =
     let two : p + 1 + 1 ≡ p + 2 = omega arith in
     let t : w .truth ≡ take (getD s p 0 - 1) (drop (p + 2) s) = ap (λ (w : Switch). w .truth) (sym k) ∙ ap (λ q. take (getD s p 0 - 1) (drop q s)) two in
@@ -109,9 +111,9 @@ pub record ModeAt (s : List ℕ) (p : ℕ) (m : Mode) (e : List ℕ) : Type 0 wh
 
 rates-end : (s : List ℕ) (p : ℕ) (rs : List Rate) (t : List ℕ) → times (getD s p 0) readRate (drop (p + 1) s) ≡ read rs t → t ≡ drop (switchesFrom s p) s
 rates-end s p rs t h =
-    let f = cuts-times (λ r. 5) cuts-rate (getD s p 0) .cuts (drop (p + 1) s) rs t h in
+    let f = cuts-times writeRate cuts-rate (getD s p 0) .cuts (drop (p + 1) s) rs t h in
     let n = times-length readRate (getD s p 0) (drop (p + 1) s) h in
-    let k : f .count ≡ 5 * getD s p 0 = omega (arith, f .fits, fives rs) in
+    let k : f .count ≡ 5 * getD s p 0 = omega (arith, f .fits, rates-length rs) in
     f .cut .rest ∙ ap (λ k. drop k (drop (p + 1) s)) k ∙ drop-drop (5 * getD s p 0) (p + 1) s
 
 module _ (s : List ℕ) (p : ℕ) {m : Mode} {e : List ℕ} where
@@ -139,10 +141,10 @@ module _ (s : List ℕ) (p : ℕ) {m : Mode} {e : List ℕ} where
 pub record EquationAt (s : List ℕ) (p : ℕ) (q : Equation) (e : List ℕ) : Type 0 where
   pub head : p + 2 < length s
   pub kind : readEquationBody (drop (p + 2) s) ≡ read q e
-  pub next : p + 2 + nat2At s p ≡ p + equationSize q
+  pub next : p + 2 + nat2At s p ≡ p + length (writeEquation q)
 
-three-bytes : (q : Equation) → 3 ≤ equationSize q
-unfolding equationSize
+three-bytes : (q : Equation) → 3 ≤ length (writeEquation q)
+unfolding writeEquation inSection2 out2 equationBytes
 three-bytes (steady r) = omega arith
 three-bytes (choice c) = omega arith
 
@@ -184,7 +186,7 @@ rate-at s p {r} {e} h =
     let f = cuts-rate .cuts (drop p s) r e h in
     let g = f .fits in
     let k = f .cut .few in
-    let i : p + 5 ≤ length s = omega (arith, length-drop p s) in
+    let i : p + 5 ≤ length s = omega (arith, length-drop p s, rate-length r) in
     rate-made s p i (given _ _ (after-int4 _ s (p + 1) (omega arith) (after-byte _ s p (omega arith) h)))
 
 -- a kind at place p

@@ -1,7 +1,7 @@
 -- How many bytes the parts of the equation section take, and that what stands after them does not change what they are.
 use mathlib.Core.Path.{_≡_, refl, sym, ap, _∙_, subst}
 use mathlib.Core.Bool.{Bool, true, false, cond}
-use mathlib.Core.List.{List, [], _∷_, _++_}
+use mathlib.Core.List.{List, [], _∷_, _++_, flatMap}
 use mathlib.Core.Option.{Option, none, some}
 use Prim.Native.Nat.{ℕ, zero, suc, _+_, _-_, _*_, _≤_}
 use native.Mathlib.Omega.{arith}
@@ -9,10 +9,12 @@ use borrow.Author.Tests.{leb-true, le-leb}
 use lib.Dec.{leb, eqb}
 use lib.ListN.{length, take, drop, length-append, length-drop}
 use lib.Seq.{drop-drop, drop-append-le, take-append-le, length-take-le}
-use Rattle.semantics.specs.Bytes.{Read, broken, read, Reader, andThen, _>>=_, give, fail, guard, from, byte, nat2, nat4, int4, bytes, times, section2}
-use Rattle.semantics.specs.Sections.{Equation, readRate, readSwitch, readMode, readSteady, readChoice, readEquationBody, readEquation, equationIn}
+use Rattle.semantics.specs.Bytes.{out2, out4, Read, broken, read, Reader, andThen, _>>=_, give, fail, guard, from, byte, nat2, nat4, int4, bytes, times, section2}
+use Rattle.semantics.specs.Sections.{Rate, Mode, Equation, readRate, readSwitch, readMode, readSteady, readChoice, readEquationBody, readEquation, equationIn}
+use Rattle.semantics.specs.Run.{valueBytes}
+use Rattle.semantics.specs.TableFile.{inSection2}
+use Rattle.semantics.specs.Writing.{writeRate, writeSwitch, writeMode, equationBytes, writeEquation}
 use Rattle.semantics.proofs.Readers.{broken-not-read, read-value, read-rest, split, whole-read}
-use Rattle.plant.specs.Equations.{sizes, switchSize, modeSize, equationSize}
 
 -- r has read a from the first n bytes of l, and does so whatever follows
 pub record Cut {A : Type 0} (r : Reader A) (n : ℕ) (l : List ℕ) (a : A) (t : List ℕ) : Type 0 where
@@ -94,10 +96,10 @@ cuts-int4 : Cuts int4 (λ a n. n ≡ 4)
 unfolding int4 nat4
 cuts-int4 = cuts-then nat4 _ (cuts-then {Q = λ a n. n ≡ 4} byte _ cuts-byte (λ a i e. cuts-then byte _ cuts-byte (λ b j f. cuts-then byte _ cuts-byte (λ c k g. cuts-then byte _ cuts-byte (λ d m h. cuts-give _ (omega arith)))))) (λ n i e. cuts-give _ (omega arith))
 
-pub cuts-times : {A : Type 0} {r : Reader A} (size : A → ℕ) → Cuts r (λ a n. n ≡ size a) → (n : ℕ) → Cuts (times n r) (λ l k. k ≡ sizes size l)
-unfolding times sizes
-cuts-times size c zero = cuts-give [] refl
-cuts-times {r = r} size c (suc n) = cuts-then r _ c (λ a i e. cuts-then (times n r) _ (cuts-times size c n) (λ l j f. cuts-give (a ∷ l) (omega arith)))
+pub cuts-times : {A : Type 0} {r : Reader A} (write : A → List ℕ) → Cuts r (λ a n. n ≡ length (write a)) → (n : ℕ) → Cuts (times n r) (λ l k. k ≡ length (flatMap write l))
+unfolding times flatMap
+cuts-times write c zero = cuts-give [] refl
+cuts-times {r = r} write c (suc n) = cuts-then r _ c (λ a i e. cuts-then (times n r) _ (cuts-times write c n) (λ l j f. cuts-give (a ∷ l) (omega (arith, length-append (write a) (flatMap write l)))))
 
 cuts-nat2 : Cuts nat2 (λ a n. n ≡ 2)
 unfolding nat2
@@ -115,54 +117,60 @@ unfolding from
 cuts-from none f = cuts-fail
 cuts-from (some a) f = cuts-give a (f a refl)
 
--- ---- the parts of the section
-pub fives : {A : Type 0} (l : List A) → sizes (λ a. 5) l ≡ 5 * length l
-unfolding sizes
-fives [] = refl
-fives (a ∷ l) = let e = fives l in omega arith
+-- ---- the parts of the section: each takes as many bytes as its written form
+pub rate-length : (r : Rate) → length (writeRate r) ≡ 5
+unfolding writeRate valueBytes out4
+rate-length r = refl
 
-pub cuts-rate : Cuts readRate (λ r n. n ≡ 5)
+pub rates-length : (rs : List Rate) → length (flatMap writeRate rs) ≡ 5 * length rs
+unfolding flatMap
+rates-length [] = refl
+rates-length (r ∷ rs) = let e = rates-length rs in omega (arith, rate-length r, length-append (writeRate r) (flatMap writeRate rs))
+
+-- rate count, rates of 5 bytes, switch count, switches
+pub mode-length : (m : Mode) → length (writeMode m) ≡ 2 + 5 * length (m .rates) + length (flatMap writeSwitch (m .switches))
+unfolding writeMode
+mode-length m = omega (arith, length-append (flatMap writeRate (m .rates)) (length (m .switches) ∷ flatMap writeSwitch (m .switches)), rates-length (m .rates))
+
+pub cuts-rate : Cuts readRate (λ r n. n ≡ length (writeRate r))
 unfolding readRate
-cuts-rate = cuts-then byte _ cuts-byte (λ v i e. cuts-then int4 _ cuts-int4 (λ z j f. cuts-give _ (omega arith)))
+cuts-rate = cuts-then byte _ cuts-byte (λ v i e. cuts-then int4 _ cuts-int4 (λ z j f. cuts-give _ (omega (arith, rate-length (record { driven = v; rate = z })))))
 
-pub cuts-switch : Cuts readSwitch (λ w n. n ≡ switchSize w)
-unfolding readSwitch switchSize
+pub cuts-switch : Cuts readSwitch (λ w n. n ≡ length (writeSwitch w))
+unfolding readSwitch writeSwitch
 cuts-switch = cuts-then byte _ cuts-byte (λ l i e. cuts-guard _ (cuts-then byte _ cuts-byte (λ m j f. cuts-then (bytes (l - 1)) _ (cuts-bytes (l - 1)) (λ t k g. cuts-give _ (omega arith)))))
 
-pub cuts-mode : Cuts readMode (λ m n. n ≡ modeSize m)
-unfolding readMode modeSize
+pub cuts-mode : Cuts readMode (λ m n. n ≡ length (writeMode m))
+unfolding readMode
 cuts-mode =
-    cuts-then byte _ cuts-byte (λ n i e. cuts-then (times n readRate) _ (cuts-times (λ r. 5) cuts-rate n) (λ rs j f. cuts-then byte _ cuts-byte (λ k m g.
-    cuts-then (times k readSwitch) _ (cuts-times switchSize cuts-switch k) (λ ws o h. cuts-give _ (omega (arith, fives rs))))))
+    cuts-then byte _ cuts-byte (λ n i e. cuts-then (times n readRate) _ (cuts-times writeRate cuts-rate n) (λ rs j f. cuts-then byte _ cuts-byte (λ k m g.
+    cuts-then (times k readSwitch) _ (cuts-times writeSwitch cuts-switch k) (λ ws o h. cuts-give _ (omega (arith, rates-length rs, mode-length (record { rates = rs; switches = ws })))))))
 
--- without the two bytes of its length and the kind
-cuts-steady : Cuts readSteady (λ e n. 3 + n ≡ equationSize e)
-unfolding readSteady equationSize
+-- without the kind
+cuts-steady : Cuts readSteady (λ e n. 1 + n ≡ length (equationBytes e))
+unfolding readSteady equationBytes
 cuts-steady = cuts-then readRate _ cuts-rate (λ r i e. cuts-give _ (omega arith))
 
-cuts-choice : Cuts readChoice (λ e n. 3 + n ≡ equationSize e)
-unfolding readChoice equationSize
+cuts-choice : Cuts readChoice (λ e n. 1 + n ≡ length (equationBytes e))
+unfolding readChoice equationBytes
 cuts-choice =
     cuts-then byte _ cuts-byte (λ first i e. cuts-then byte _ cuts-byte (λ n j f. cuts-guard _
-    (cuts-then (times n readMode) _ (cuts-times modeSize cuts-mode n) (λ ms k g. cuts-give _ (omega arith)))))
+    (cuts-then (times n readMode) _ (cuts-times writeMode cuts-mode n) (λ ms k g. cuts-give _ (omega arith)))))
 
 cuts-cond : {A : Type 0} {Q : A → ℕ → Type 0} (b : Bool) {r t : Reader A} → Cuts r Q → Cuts t Q → Cuts (cond b r t) Q
 cuts-cond true c d = c
 cuts-cond false c d = d
 
-more-by-one : {n : ℕ} {r : Reader Equation} → n ≡ 1 → Cuts r (λ e k. 3 + k ≡ equationSize e) → Cuts r (λ e k. 2 + (n + k) ≡ equationSize e)
-more-by-one {n} {r} i c = record { cuts = go }
-  where
-    go : (l : List ℕ) (a : Equation) (t : List ℕ) → r l ≡ read a t → Found r (λ e k. 2 + (n + k) ≡ equationSize e) l a t
-    go l a t h = let f = c .cuts l a t h in record { count = f .count; fits = let e = f .fits in omega arith; cut = f .cut }
+with-kind : {n : ℕ} {r : Reader Equation} → n ≡ 1 → Cuts r (λ e k. 1 + k ≡ length (equationBytes e)) → Cuts r (λ e k. n + k ≡ length (equationBytes e))
+with-kind i c = rw i c
 
 -- without the two bytes of its length
-pub cuts-kind : Cuts readEquationBody (λ e n. 2 + n ≡ equationSize e)
+pub cuts-kind : Cuts readEquationBody (λ e n. n ≡ length (equationBytes e))
 unfolding readEquationBody
-cuts-kind = cuts-then byte _ cuts-byte (λ k i e. cuts-cond (eqb k 1) (more-by-one e cuts-steady) (cuts-cond (eqb k 2) (more-by-one e cuts-choice) cuts-fail))
+cuts-kind = cuts-then byte _ cuts-byte (λ k i e. cuts-cond (eqb k 1) (with-kind e cuts-steady) (cuts-cond (eqb k 2) (with-kind e cuts-choice) cuts-fail))
 
-pub kind-size : (b : List ℕ) {e : Equation} → equationIn b ≡ some e → 2 + length b ≡ equationSize e
-unfolding equationIn
+pub kind-size : (b : List ℕ) {e : Equation} → equationIn b ≡ some e → 2 + length b ≡ length (writeEquation e)
+unfolding equationIn writeEquation inSection2 out2
 kind-size b {e} h =
     let f = cuts-kind .cuts b e [] (whole-read readEquationBody b h) in
     let i = f .fits in
@@ -170,6 +178,6 @@ kind-size b {e} h =
     let k : 0 ≡ length b - f .count = ap length (f .cut .rest) ∙ length-drop (f .count) b in
     omega arith
 
-pub cuts-equation : Cuts readEquation (λ e n. n ≡ equationSize e)
+pub cuts-equation : Cuts readEquation (λ e n. n ≡ length (writeEquation e))
 unfolding readEquation
 cuts-equation = cuts-then section2 _ cuts-section2 (λ b n e. cuts-from (equationIn b) (λ q h. let k = kind-size b h in omega arith))

@@ -3,13 +3,14 @@ use mathlib.Core.Path.{_≡_}
 use mathlib.Core.Bool.{Bool}
 use mathlib.Core.List.{List, [], _∷_, _++_, map}
 use mathlib.Core.Option.{Option, none, some}
-use Prim.Native.Nat.{ℕ, _+_, _*_}
+use Prim.Native.Nat.{ℕ, _+_}
 use lib.IntN.{ℤ, pos}
 use lib.ListN.{length, drop, set, replicate}
 use Rattle.semantics.specs.Bytes.{Reader, broken, read}
 use Rattle.semantics.specs.Refusals.{Judged, refused, accepted}
-use Rattle.semantics.specs.Sections.{Rate, Switch, Mode, Selector, Equation, steady, choice, readMode, equationsIn}
+use Rattle.semantics.specs.Sections.{Rate, Mode, Selector, Equation, steady, choice, readMode, equationsIn}
 use Rattle.semantics.specs.Plant.{selectorsOf, noMode, ratesOf, judgeEquations}
+use Rattle.semantics.specs.Writing.{writeMode, writeEquation}
 use Rattle.codec.specs.Reading.{Reads}
 use Rattle.codec.specs.Padding.{pad}
 use Rattle.plant.specs.PaperNumbers.{paperStep, paperSeen, partNumber, wholeNumber}
@@ -20,35 +21,17 @@ use Rattle.plant.specs.declared.equations.Step.the-variants.{At, Broken}
 use Rattle.plant.specs.declared.equations.Seen.{Seen}
 use Rattle.plant.specs.declared.equations.Seen.the-variants.{Kept, Lost}
 
--- ---- how many bytes a part of the section takes
-unfoldable pub sizes : {A : Type 0} → (A → ℕ) → List A → ℕ
-sizes size [] = 0
-sizes size (x ∷ l) = size x + sizes size l
-
--- length, target, truth
-unfoldable pub switchSize : Switch → ℕ
-switchSize w = 2 + length (w .truth)
-
--- rate count, rates of 5 bytes, switch count, switches
-unfoldable pub modeSize : Mode → ℕ
-modeSize m = 2 + 5 * length (m .rates) + sizes switchSize (m .switches)
-
--- length (2 bytes), kind, and a rate, or initial mode, mode count, modes
-unfoldable pub equationSize : Equation → ℕ
-equationSize (steady r) = 8
-equationSize (choice c) = 5 + sizes modeSize (c .modes)
-
 -- ---- places
--- of values that stand one after the other, the first at p
-unfoldable pub startsFrom : {A : Type 0} → (A → ℕ) → ℕ → List A → List ℕ
-startsFrom size p [] = []
-startsFrom size p (x ∷ l) = p ∷ startsFrom size (p + size x) l
+-- of values written one after the other, the first at p
+unfoldable pub startsFrom : {A : Type 0} → (A → List ℕ) → ℕ → List A → List ℕ
+startsFrom write p [] = []
+startsFrom write p (x ∷ l) = p ∷ startsFrom write (p + length (write x)) l
 
--- of the modes of each CASE, eight entries for a CASE; the first equation stands at p
+-- of the modes of each CASE, eight entries for a CASE; the first equation stands at p, and modes stand after length (2 bytes), kind, initial mode, mode count
 unfoldable pub modePlaces : ℕ → List Equation → List ℕ
 modePlaces p [] = []
-modePlaces p (steady r ∷ es) = modePlaces (p + equationSize (steady r)) es
-modePlaces p (choice c ∷ es) = pad 8 0 (startsFrom modeSize (p + 5) (c .modes)) ++ modePlaces (p + equationSize (choice c)) es
+modePlaces p (steady r ∷ es) = modePlaces (p + length (writeEquation (steady r))) es
+modePlaces p (choice c ∷ es) = pad 8 0 (startsFrom writeMode (p + 5) (c .modes)) ++ modePlaces (p + length (writeEquation (choice c))) es
 
 -- how many modes a CASE has
 unfoldable pub modeCount : Selector → ℕ

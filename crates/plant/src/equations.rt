@@ -1,7 +1,7 @@
 // The equation section: its layout (6), its names (7), and where its modes stand.
 ghost use mathlib.Core.Path.{_≡_};
 ghost use mathlib.Core.Bool.{true, _&&_};
-ghost use mathlib.Core.List.{_∷_, []};
+ghost use mathlib.Core.List.{_∷_, [], flatMap};
 ghost use Prim.Native.Nat.{_+_, _≤_, _<_};
 ghost use lib.ListN.{length, set, replicate};
 ghost use lib.Seq.{sets};
@@ -9,8 +9,9 @@ ghost use lib.IntN.{pos};
 ghost use Rattle.semantics.specs.Bytes.{times, every};
 ghost use Rattle.semantics.specs.Refusals.{refusalOf};
 ghost use Rattle.semantics.specs.Sections as sections;
+ghost use Rattle.semantics.specs.Writing.{writeSwitch, writeMode};
 ghost use Rattle.semantics.specs.Plant as names;
-ghost use Rattle.plant.specs.Equations.{StepSays, SeenSays, Stands, SectionStands, sizes, switchSize, modeSize, startsFrom, putRates, CasesOf, equationsOf, refusedEquations};
+ghost use Rattle.plant.specs.Equations.{StepSays, SeenSays, Stands, SectionStands, startsFrom, putRates, CasesOf, equationsOf, refusedEquations};
 
 // The most modes of a CASE and the most equations, as their counts' bytes.
 const MODES: u8 = paper::MODES as u8;
@@ -298,7 +299,7 @@ fn refusal(s: &[u8], variables: usize) -> u8
 // the place after n switches
 fn switches_end(s: &[u8], at: usize, n: u8) -> usize
     requires { ⌜ Stands (times n sections.readSwitch) (now s) at ⌝ }
-    ensures { λ r. ⌜ ((t : Stands (times n sections.readSwitch) (now (s .entry)) at) → r ≡ at + sizes switchSize (t .value)) ⌝ }
+    ensures { λ r. ⌜ ((t : Stands (times n sections.readSwitch) (now (s .entry)) at) → r ≡ at + length (flatMap writeSwitch (t .value))) ⌝ }
 {
     let mut p = at;
     let mut left = n;
@@ -312,7 +313,7 @@ fn switches_end(s: &[u8], at: usize, n: u8) -> usize
 // the place after a mode
 fn mode_end(s: &[u8], at: usize) -> usize
     requires { ⌜ Stands sections.readMode (now s) at ⌝ }
-    ensures { λ r. ⌜ ((t : Stands sections.readMode (now (s .entry)) at) → r ≡ at + modeSize (t .value)) ⌝ }
+    ensures { λ r. ⌜ ((t : Stands sections.readMode (now (s .entry)) at) → r ≡ at + length (writeMode (t .value))) ⌝ }
 {
     let k = at + 1 + 5 * (s[at] as usize);
     switches_end(s, k + 1, s[k])
@@ -321,7 +322,7 @@ fn mode_end(s: &[u8], at: usize) -> usize
 // the places of n modes, noted from entry `from` on
 fn mode_places(s: &[u8], at: usize, n: u8, from: usize, places: &mut [usize; paper::MODE_PLACES])
     requires { ⌜ (from + n ≤ 128) × Stands (times n sections.readMode) (now s) at ⌝ }
-    ensures { λ _. ⌜ ((t : Stands (times n sections.readMode) (now (s .entry)) at) → now (places .exit) ≡ sets (now (places .entry)) from (startsFrom modeSize at (t .value))) ⌝ }
+    ensures { λ _. ⌜ ((t : Stands (times n sections.readMode) (now (s .entry)) at) → now (places .exit) ≡ sets (now (places .entry)) from (startsFrom writeMode at (t .value))) ⌝ }
 {
     let mut p = at;
     let mut i = from;

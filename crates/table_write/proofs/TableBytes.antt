@@ -13,7 +13,7 @@ use Rattle.schedules.specs.Trees.{Tree}
 use Rattle.schedules.specs.Numbering.{locations}
 use Rattle.schedules.specs.Compiling.{entriesOf}
 use Rattle.numbering.specs.Meeting.{testsIn}
-use Rattle.numbering.specs.Located.{rowBytes, allRows, Fitting, Numbered}
+use Rattle.numbering.specs.Located.{allRows, Fitting, Numbered}
 use Rattle.table_write.specs.ActionTable.{rowsTo, actionSection, Operands, Measured}
 use Rattle.table_write.specs.LocationTable.{locationSection, Counts, Counted, LocationsPut}
 use Rattle.table_write.specs.Pieces.{Put}
@@ -47,7 +47,7 @@ module _ {s acts starts ends : List ℕ} {count n size : ℕ} (o : Operands s ac
 -- ---- the location section
 module _ {ks es acts : List ℕ} {n size : ℕ} where
   locations-joined : {t : Tree} → Counts ks es acts n size t → (out4 (size + 2) ++ out2 n) ++ allRows (testsIn acts) t ≡ locationSection (testsIn acts) t
-  unfolding inSection4 writeLocations rowBytes out2 out4
+  unfolding inSection4 writeLocations out2 out4
   locations-joined {t} x =
       let l = locations (testsIn acts) t in
       let e : size + 2 ≡ suc (suc (length (allRows (testsIn acts) t))) = omega (arith, x .sizes) in

@@ -1,14 +1,14 @@
 -- The places so far are noted, and noting those of the modes left makes the whole (`Noting`).
 use native.Mathlib.Omega.{arith}
 use Rattle.semantics.specs.Sections.{readMode}
-use Rattle.plant.specs.Equations.{modeSize}
+use Rattle.semantics.specs.Writing.{writeMode}
 use Rattle.plant.proofs.EquationSizes.{cuts-mode}
 use Rattle.plant.proofs.EquationIndex.{Noting, noting-start, noting-next, noting-there, noting-end}
 use Rattle.plant.proofs.equations.mode_places.Statement.{statement}
 use Rattle.plant.proofs.equations.mode_places.Tie as tie
 
 abbrev Inv-loop : tie.InvT-loop
-Inv-loop s at n from places₀ p₀ i₀ left₀ places p i left = Noting readMode modeSize s at n from places₀ places p i left
+Inv-loop s at n from places₀ p₀ i₀ left₀ places p i left = Noting readMode writeMode s at n from places₀ places p i left
 
 abbrev μ-loop : tie.MeasureT-loop
 μ-loop s at n from places₀ p₀ i₀ left₀ places p i left = left

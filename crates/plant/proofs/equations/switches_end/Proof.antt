@@ -1,13 +1,13 @@
 -- The switches left stand at p, and p with their sizes is the end of all (`Ahead`).
 use native.Mathlib.Omega.{arith}
 use Rattle.semantics.specs.Sections.{readSwitch}
-use Rattle.plant.specs.Equations.{switchSize}
+use Rattle.semantics.specs.Writing.{writeSwitch}
 use Rattle.plant.proofs.EquationIndex.{Ahead, ahead-start, ahead-end, ahead-switch, ahead-past-switch}
 use Rattle.plant.proofs.equations.switches_end.Statement.{statement}
 use Rattle.plant.proofs.equations.switches_end.Tie as tie
 
 abbrev Inv-loop : tie.InvT-loop
-Inv-loop s at n p₀ left₀ p left = Ahead readSwitch switchSize s at n p left
+Inv-loop s at n p₀ left₀ p left = Ahead readSwitch writeSwitch s at n p left
 
 abbrev μ-loop : tie.MeasureT-loop
 μ-loop s at n p₀ left₀ p left = left
