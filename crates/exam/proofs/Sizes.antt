@@ -1,13 +1,13 @@
 -- The length of a run's records, from the counts that reading a schedule gives.
-use mathlib.Core.Path.{_≡_, sym, ap, _∙_}
+use mathlib.Core.Path.{_≡_, sym, ap, ap₂, _∙_}
 use mathlib.Core.List.{List}
-use Prim.Native.Nat.{ℕ, _+_, _*_, _≤_}
+use Prim.Native.Nat.{ℕ, _*_, _≤_}
 use native.Mathlib.Omega.{arith}
 use lib.ListN.{length, take, length-take}
 use Rattle.semantics.specs.Editions.{edition1}
 use Rattle.semantics.specs.Refusals.{accepted}
-use Rattle.semantics.specs.Plant.{Plant, selectors}
-use Rattle.semantics.specs.Calls.{recordSize}
+use Rattle.semantics.specs.Plant.{selectors}
+use Rattle.semantics.specs.Calls.{recordLength, recordSize}
 use Rattle.schedules.specs.Files.{Schedule, judgeFile}
 use Rattle.schedules.specs.Calls.{readSchedule}
 use Rattle.schedules.proofs.FirstNumber.{passed}
@@ -36,15 +36,10 @@ counts f {r} {s} h e =
     let b = few-selectors (s .sections .equations) (q .equations) in
     record { variables = v; selectors-are = c; few = omega arith; few-selectors = omega arith }
 
-size-of : (p : Plant) → 9 + 4 * length (p .variables) + length (selectors p) ≡ recordSize edition1 p
+pub length-of : (f : List ℕ) {r : FileRead} {s : Schedule} (n : ℕ) {size : ℕ} → r ≡ numbers (readSchedule edition1 f) → judgeFile edition1 f ≡ accepted s →
+    size ≡ recordLength edition1 (r .variables) (r .selectors) → n * size ≡ n * recordSize edition1 (s .plant)
 unfolding recordSize
-size-of p = omega arith
-
-pub length-of : (f : List ℕ) {r : FileRead} {s : Schedule} (n : ℕ) → r ≡ numbers (readSchedule edition1 f) → judgeFile edition1 f ≡ accepted s →
-    n * (9 + 4 * r .variables + r .selectors) ≡ n * recordSize edition1 (s .plant)
-length-of f {r} {s} n h e =
-    let k = counts f h e in
-    ap (λ x. n * (9 + 4 * x + r .selectors)) (k .variables) ∙ ap (λ x. n * (9 + 4 * length (s .plant .variables) + x)) (k .selectors-are) ∙ ap (λ x. n * x) (size-of (s .plant))
+length-of f n h e q = let k = counts f h e in ap (λ x. n * x) (q ∙ ap₂ (recordLength edition1) (k .variables) (k .selectors-are))
 
 -- the front of a list
 pub front-length : (n : ℕ) (l : List ℕ) → n ≤ length l → n ≡ length (take n l)

@@ -74,7 +74,7 @@ fn records_length(file: &[u8], events: &[u8], records: &[u8]) -> usize
     ensures { λ r. ⌜ ((s : Schedule) → judgeFile edition1 (now (file .entry)) ≡ accepted s → r ≡ recordsSize edition1 (s .plant) (now (events .entry))) ⌝ }
 {
     let s = schedule_read::call::read(file);
-    events.len() / paper::EVENT_BYTES * (9 + 4 * s.variables + s.selectors)
+    events.len() / paper::EVENT_BYTES * records::record_length(s.variables, s.selectors)
 }
 
 fn same_counts(a: Counts, b: Counts) -> bool

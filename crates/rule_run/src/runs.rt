@@ -54,9 +54,9 @@ pub fn all<'a>(
             &leads,
             &fresh,
             at,
-            events[3 * k],
-            events[3 * k + 1],
-            events[3 * k + 2],
+            events[paper::EVENT_BYTES * k],
+            events[paper::EVENT_BYTES * k + 1],
+            events[paper::EVENT_BYTES * k + 2],
             values,
             modes,
         );
