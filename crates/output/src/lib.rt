@@ -9,12 +9,15 @@ ghost use Rattle.output.specs.Written.{recordsLength};
 // the programs have room for 10,000 events
 pub const EVENT_ROOM: usize = 10000 * paper::EVENT_BYTES;
 
-// a message of the program where a write failed
-pub fn noticed(program: &[u8], is_written: bool) {
+// a message of the program where a write failed; whether it did not
+pub fn noticed(program: &[u8], is_written: bool) -> bool
+    ensures { λ r. ⌜ r ≡ «is_written» ⌝ }
+{
     if !is_written {
         io::write_all(2, program);
         io::write_all(2, b": the output could not be written\n");
     }
+    is_written
 }
 
 // n, or 0 where there are fewer bytes

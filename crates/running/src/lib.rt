@@ -4,15 +4,13 @@ use records::Counts;
 use records::Ran;
 ghost use mathlib.Core.Path.{_≡_};
 ghost use lib.ListN.{length};
+ghost use Rattle.running.specs.Told.{asked, Chooses, given};
 
-// whether two or three files are named; if not, the usage is told
-pub fn is_asked(usage: &[u8]) -> bool {
-    let words = os::arg_count();
-    if (words == 3) | (words == 4) {
-        return true;
-    }
-    io::write_all(2, usage);
-    false
+// whether two or three files are named, of so many words with the program's own name
+pub fn is_asked(words: usize) -> bool
+    ensures { λ r. ⌜ r ≡ asked words ⌝ }
+{
+    (words == 3) | (words == 4)
 }
 
 pub fn event_buffer() -> [u8; output::EVENT_ROOM]
@@ -35,8 +33,10 @@ pub struct Chosen {
 }
 
 // the start in the third file, or where none is named the initial one
-pub fn start(program: &[u8], initial: Start) -> Chosen {
-    if os::arg_count() < 4 {
+pub fn start(words: usize, program: &[u8], initial: Start) -> Chosen
+    ensures { λ r. ⌜ Chooses words initial r ⌝ }
+{
+    if words < 4 {
         return Chosen {
             whole: true,
             start: initial,
@@ -64,14 +64,17 @@ fn report(counts: Counts) {
     io::write_all(2, b"\n");
 }
 
-// the refusal as one byte; or the records, so many bytes, and the counts
-pub fn tell(program: &[u8], r: Ran, length: usize, records: &[u8]) {
+// the refusal as one byte; or the records, so many bytes, and the counts. How many bytes were given to standard output
+pub fn tell(program: &[u8], r: Ran, length: usize, records: &[u8]) -> usize
+    ensures { λ n. ⌜ n ≡ given r length (now (records .entry)) ⌝ }
+{
     if r.refusal != 0 {
         let refusal = [r.refusal];
         output::noticed(program, io::write_all(1, &refusal));
-        return;
+        return 1;
     }
     let k = output::front(length, records);
     output::noticed(program, io::write_all(1, &records[..k]));
     report(r.counts);
+    k
 }

@@ -22,7 +22,9 @@ fn run(file: &[u8], events: &[u8], start: Start) {
 }
 
 fn main() {
-    if !running::is_asked(b"runrules: usage: runrules SCHEDULE EVENTS [START]\n") {
+    let words = os::arg_count();
+    if !running::is_asked(words) {
+        io::write_all(2, b"runrules: usage: runrules SCHEDULE EVENTS [START]\n");
         return;
     }
     let mut file = schedule_buffer();
@@ -38,7 +40,7 @@ fn main() {
     let n = a.length;
     let m = b.length;
     let initial = initial_start::schedule::start(&file[..n]);
-    let c = running::start(b"runrules", initial);
+    let c = running::start(words, b"runrules", initial);
     if !c.whole {
         return;
     }

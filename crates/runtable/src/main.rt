@@ -22,7 +22,9 @@ fn run(table: &[u8], events: &[u8], start: Start) {
 }
 
 fn main() {
-    if !running::is_asked(b"runtable: usage: runtable TABLE EVENTS [START]\n") {
+    let words = os::arg_count();
+    if !running::is_asked(words) {
+        io::write_all(2, b"runtable: usage: runtable TABLE EVENTS [START]\n");
         return;
     }
     let mut table = table_buffer();
@@ -38,7 +40,7 @@ fn main() {
     let n = a.length;
     let m = b.length;
     let initial = initial_start::table::start(&table[..n]);
-    let c = running::start(b"runtable", initial);
+    let c = running::start(words, b"runtable", initial);
     if !c.whole {
         return;
     }

@@ -1,0 +1,2 @@
+-- What the contracts of the programs that run cite.
+pub mod Told
