@@ -1,5 +1,5 @@
 -- A refusal is no 0 where it is told; the rest rests on the promise of `front`.
-use mathlib.Core.Path.{refl, sym, _∙_}
+use mathlib.Core.Path.{refl}
 use borrow.Author.Needs.{needs}
 use borrow.Author.Tests.{eq-eqb, ne-eqb}
 use Rattle.running.specs.Told.{given}
