@@ -13,7 +13,7 @@ use Rattle.effects.specs.PaperNumbers.{paperAnswer, paperMove, movedAnsw
 use Rattle.effects.specs.declared.Verdict.{Verdict}
 
 number-of : (j : Run.Verdict Done) → paperAnswer (eventVerdict j) ≡ eventAnswer j
-unfolding paperAnswer eventVerdict movedVerdict movedAnswer eventAnswer
+unfolding paperAnswer eventVerdict movedVerdict movedAnswer eventAnswer faultAnswer
 number-of (away n) = refl
 number-of (faulty above) = refl
 number-of (faulty below) = refl

@@ -2,7 +2,7 @@
 use mathlib.Core.Option.{Option, none, some}
 use Prim.Native.Nat.{ℕ}
 use Rattle.semantics.specs.Run as Run
-use Rattle.semantics.specs.Run.{away, faulty, pass, Moved, nobody, mover, Done}
+use Rattle.semantics.specs.Run.{away, faulty, pass, Moved, nobody, mover, Done, faultAnswer}
 use Rattle.effects.specs.declared.Verdict.{Verdict}
 use Rattle.effects.specs.declared.Verdict.the-variants.{Away, Above, Below, Stay, Move}
 
@@ -29,7 +29,7 @@ movedAnswer (mover n b) = none
 
 unfoldable pub eventAnswer : Run.Verdict Done → Option ℕ
 eventAnswer (away n) = some n
-eventAnswer (faulty s) = some 203
+eventAnswer (faulty s) = some (faultAnswer s)
 eventAnswer (pass d) = movedAnswer (d .moved)
 
 unfoldable pub eventMove : Run.Verdict Done → Moved

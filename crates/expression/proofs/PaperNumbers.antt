@@ -9,15 +9,16 @@ use lib.ListN.{length}
 use Rattle.semantics.specs.Bytes.{Read, broken, read}
 use Rattle.semantics.specs.Expressions as Forms
 use Rattle.semantics.specs.Expressions.{Value, ok, fault, above, below, valueOf, holds, Expression, a-number, a-truth}
+use Rattle.semantics.specs.Run.{faultAnswer}
 use Rattle.expression.specs.Answers.{numberOf, truthOf, numberAnswer, truthAnswer, NumberSays, TruthSays}
-use Rattle.expression.specs.Evaluation.{numberAt, truthAt, foundIn, FoundSays}
+use Rattle.expression.specs.Evaluation.{sideOf, numberAt, truthAt, foundIn, FoundSays}
 use Rattle.expression.specs.PaperNumbers.{valueNumber, evaluationNumber, valueGiven, evaluationValue, expressionNumber, paperNumber, paperValue, paperTruthNumber, paperTruth, paperFound}
 use Rattle.expression.specs.declared.Number.{Number}
 use Rattle.expression.specs.declared.Truth.{Truth}
 use Rattle.expression.specs.declared.Found.{Found}
 
 pub number-says : {vs : List ℤ} {o : Option Forms.Number} {r : Number} → r ≡ numberAnswer vs o → NumberSays vs o r
-unfolding numberAnswer numberOf paperNumber paperValue valueNumber evaluationNumber valueGiven evaluationValue
+unfolding numberAnswer numberOf paperNumber paperValue faultAnswer valueNumber evaluationNumber valueGiven evaluationValue
 number-says {vs} {o} {r} e = record { is = e; number = ap paperNumber e ∙ numbered o; value = ap paperValue e ∙ valued o }
   where
     one : (v : Value ℤ) → paperNumber (numberOf v) ≡ valueNumber v
@@ -39,7 +40,7 @@ number-says {vs} {o} {r} e = record { is = e; number = ap paperNumber e ∙ numb
     valued (some x) = given (valueOf vs x)
 
 pub truth-says : {vs : List ℤ} {o : Option Forms.Truth} {r : Truth} → r ≡ truthAnswer vs o → TruthSays vs o r
-unfolding truthAnswer truthOf paperTruthNumber paperTruth valueNumber evaluationNumber valueGiven evaluationValue
+unfolding truthAnswer truthOf paperTruthNumber paperTruth faultAnswer valueNumber evaluationNumber valueGiven evaluationValue
 truth-says {vs} {o} {r} e = record { is = e; number = ap paperTruthNumber e ∙ numbered o; value = ap paperTruth e ∙ valued o }
   where
     one : (v : Value Bool) → paperTruthNumber (truthOf v) ≡ valueNumber v
@@ -63,16 +64,18 @@ truth-says {vs} {o} {r} e = record { is = e; number = ap paperTruthNumber e ∙ 
     valued (some x) = given (holds vs x)
 
 pub found-says : {vs : List ℤ} {n : ℕ} {o : Read Expression} {r : Found} → r ≡ foundIn vs n o → FoundSays vs n o r
-unfolding foundIn paperFound valueNumber expressionNumber
+unfolding foundIn paperFound sideOf faultAnswer valueNumber expressionNumber
 found-says {vs} {n} {o} {r} e = record { is = e; number = ap paperFound e ∙ numbered o }
   where
     number : (m : ℕ) (v : Value ℤ) → paperFound (numberAt m v) ≡ valueNumber v
     number m (ok z) = refl
-    number m (fault s) = refl
+    number m (fault above) = refl
+    number m (fault below) = refl
 
     truth : (m : ℕ) (v : Value Bool) → paperFound (truthAt m v) ≡ valueNumber v
     truth m (ok b) = refl
-    truth m (fault s) = refl
+    truth m (fault above) = refl
+    truth m (fault below) = refl
 
     numbered : (o : Read Expression) → paperFound (foundIn vs n o) ≡ expressionNumber vs o
     numbered broken = refl

@@ -7,6 +7,7 @@ use Prim.Native.Nat.{ℕ}
 use lib.IntN.{ℤ}
 use Rattle.semantics.specs.Bytes.{Read, broken, read}
 use Rattle.semantics.specs.Expressions.{Value, ok, fault, valueOf, holds, Expression, a-number, a-truth}
+use Rattle.semantics.specs.Run.{faultAnswer}
 use Rattle.expression.specs.declared.Number.{Number}
 use Rattle.expression.specs.declared.Number.the-variants as Numbers
 use Rattle.expression.specs.declared.Truth.{Truth}
@@ -17,7 +18,7 @@ use Rattle.expression.specs.declared.Found.the-variants.{ANumber, Number
 -- ---- of what was read: none where 12 turns the bytes away
 unfoldable pub valueNumber : {A : Type 0} → Value A → ℕ
 valueNumber (ok a) = 0
-valueNumber (fault s) = 203
+valueNumber (fault s) = faultAnswer s
 
 unfoldable pub evaluationNumber : {E A : Type 0} → (E → Value A) → Option E → ℕ
 evaluationNumber f none = 12

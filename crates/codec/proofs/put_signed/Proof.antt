@@ -1,3 +1,4 @@
+-- The four bytes are those of the number's two's complement (`unsigned`), written by `put4`.
 use mathlib.Core.Path.{ap, _∙_}
 use mir.Syntax.{w32}
 use mir.ValLaws.{toZ-ofZ}

@@ -1,3 +1,4 @@
+-- The sum is made in 64 bits, where it fits (`wide-fits`), and then ranged.
 use mathlib.Core.Path.{ap, _∙_}
 use borrow.Author.Needs.{needs}
 use Rattle.semantics.specs.Expressions.{ranged, sum, applied}

@@ -1,3 +1,4 @@
+-- Both fronts are as long as the records; what is said of them is `agreed`.
 use native.Mathlib.Omega.{arith}
 use borrow.Author.Needs.{needs}
 use Rattle.records.specs.Reported.{ranWith}

@@ -1,3 +1,4 @@
+-- Something is said only where two leaves are compared (`related-at`).
 use mathlib.Core.Path.{refl}
 use borrow.Author.Needs.{needs}
 use Rattle.expression.proofs.TwoLeaves.{related-at}

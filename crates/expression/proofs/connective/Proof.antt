@@ -1,3 +1,4 @@
+-- Two cases by the code.
 use mathlib.Core.Path.{sym, ap}
 use borrow.Author.Tests.{ne-eqb}
 use Rattle.semantics.specs.Expressions.{Connective, connected}

@@ -1,3 +1,4 @@
+-- A number is negated, a fault is kept, anything else is off (`off-negated`).
 use mathlib.Core.Path.{sym, ap, _∙_}
 use lib.IntN.{ℤ, negℤ}
 use mir.Syntax.{w32}

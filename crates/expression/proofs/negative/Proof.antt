@@ -1,3 +1,4 @@
+-- The difference from 0 is made in 64 bits, where it fits, and then ranged.
 use mathlib.Core.Path.{sym, ap, _∙_, subst}
 use lib.IntN.{ℤ, pos, _-ℤ_, negℤ, +ℤ-idl}
 use lib.Dec.{lit<}

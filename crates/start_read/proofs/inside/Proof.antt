@@ -1,3 +1,4 @@
+-- Three cases by two comparisons of 32-bit numbers (`lt-held`).
 use Rattle.start_read.proofs.StartBytes.{lt-held, below-low, above-high, in-range}
 use Rattle.start_read.proofs.inside.Statement.{statement}
 use Rattle.start_read.proofs.inside.Tie as tie

@@ -1,3 +1,4 @@
+-- Refused with the number of `refusal`; else the section stands (`taken-0`), and the rest is read of it.
 use mathlib.Core.Path.{sym, _∙_}
 use Rattle.plant.proofs.EquationAnswer.{answer-refused, taken-0, some-byte, all-stand, answer-taken}
 use borrow.Author.Needs.{needs}

@@ -1,3 +1,4 @@
+-- Refused by the variables, by the equations or by 8, or all is passed: a law each.
 use mathlib.Core.Path.{_∙_}
 use native.Mathlib.Omega.{arith}
 use borrow.Author.Needs.{needs}

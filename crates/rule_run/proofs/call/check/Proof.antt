@@ -1,3 +1,4 @@
+-- The file is refused, or admission says what is answered.
 use mathlib.Core.List.{[]}
 use borrow.Author.Needs.{needs}
 use Rattle.rule_run.proofs.Calling.{check-file, room-of, check-admission}

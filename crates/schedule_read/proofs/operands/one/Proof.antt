@@ -1,3 +1,4 @@
+-- A case for each kind: what its payload is (`head-reset` ..) and what the reader of a truth or number promises of it.
 use mathlib.Core.Path.{ap, _∙_}
 use Rattle.semantics.specs.Bytes.{isSome}
 use Rattle.semantics.specs.Editions.{edition1}

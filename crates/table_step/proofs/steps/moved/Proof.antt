@@ -1,3 +1,4 @@
+-- The target of the entry decides: the end, a halt, or the row of another location.
 use Rattle.table_step.proofs.Settling.{row-here, counted-here, row-next, counted-next, moved-to-end, moved-to-halt, moved-on}
 use borrow.Author.Needs.{needs}
 use Rattle.table_step.proofs.steps.moved.Statement.{statement}
