@@ -12,7 +12,7 @@ use Rattle.semantics.specs.Editions.{Edition}
 use Rattle.semantics.specs.Refusals.{accepted}
 use Rattle.semantics.specs.Plant.{Plant, judgePlant, switchesRead}
 use Rattle.semantics.specs.Run.{Action, test, wait, assign, switch, stop}
-use Rattle.semantics.specs.TableFile.{NodeAction, Entry, locationLimit, actionKind, actionOfKind, readTableSections, tableSectionsIn, readAction, readActions, actionsIn, readEntry, readLocation, readLocations, locationsIn, actionBytes, kindNumber, operandBytes, inSection2, inSection4, writeAction, writeActions, writeEntry, writeLocation, writeLocations, tableBody, tableBytes}
+use Rattle.semantics.specs.TableFile.{TEST, WAIT, ASSIGN, SWITCH, STOP, NodeAction, Entry, locationLimit, actionKind, actionOfKind, readTableSections, tableSectionsIn, readAction, readActions, actionsIn, readEntry, readLocation, readLocations, locationsIn, actionBytes, kindNumber, operandBytes, inSection2, inSection4, writeAction, writeActions, writeEntry, writeLocation, writeLocations, tableBody, tableBytes}
 use Rattle.semantics.specs.Tables.{tableHeader, actionsFit, locationsFit, judgeTable}
 use Rattle.semantics.proofs.Facts.{and-both, within-both, All, all-nil, all-cons}
 use Rattle.semantics.proofs.TableJudged.{table-in-order}
@@ -47,11 +47,11 @@ pub record Coded (a : Action) : Type 0 where
 
 pub action-back : (a : Action) → Coded a
 unfolding actionBytes kindNumber operandBytes actionOfKind actionKind noBytes twoBytes byteAndRest
-action-back (test t) = record { kind = 1; operand = t; coded = refl; decoded = refl }
-action-back (wait t) = record { kind = 2; operand = t; coded = refl; decoded = refl }
-action-back (assign v e) = record { kind = 3; operand = v ∷ e; coded = refl; decoded = refl }
-action-back (switch s m) = record { kind = 4; operand = s ∷ m ∷ []; coded = refl; decoded = refl }
-action-back stop = record { kind = 5; operand = []; coded = refl; decoded = refl }
+action-back (test t) = record { kind = TEST; operand = t; coded = refl; decoded = refl }
+action-back (wait t) = record { kind = WAIT; operand = t; coded = refl; decoded = refl }
+action-back (assign v e) = record { kind = ASSIGN; operand = v ∷ e; coded = refl; decoded = refl }
+action-back (switch s m) = record { kind = SWITCH; operand = s ∷ m ∷ []; coded = refl; decoded = refl }
+action-back stop = record { kind = STOP; operand = []; coded = refl; decoded = refl }
 
 -- "kind and operand make 1..200 bytes"
 abbrev pub Short : NodeAction → Type 0

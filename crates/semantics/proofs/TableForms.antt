@@ -12,7 +12,7 @@ use lib.ListN.{length, drop}
 use Rattle.semantics.specs.Bytes.{be4, out4, widthOf, within, from, byte, nat2, number, bytes, section2, section4, noBytes, twoBytes, byteAndRest}
 use Rattle.semantics.specs.Editions.{Edition}
 use Rattle.semantics.specs.Run.{Action}
-use Rattle.semantics.specs.TableFile.{NodeAction, Entry, TableSections, ActionKind, a-test, a-wait, an-assignment, a-switch, a-stop, no-kind, actionKind, actionOfKind, readTableSections, tableSectionsIn, readAction, readActions, actionsIn, readEntry, readLocation, readLocations, locationsIn, actionBytes, kindNumber, operandBytes, writeAction, writeActions, writeEntry, writeLocation, writeLocations, tableBody, tableBytes, writeTableSections}
+use Rattle.semantics.specs.TableFile.{TEST, WAIT, ASSIGN, SWITCH, STOP, NodeAction, Entry, TableSections, ActionKind, a-test, a-wait, an-assignment, a-switch, a-stop, no-kind, actionKind, actionOfKind, readTableSections, tableSectionsIn, readAction, readActions, actionsIn, readEntry, readLocation, readLocations, locationsIn, actionBytes, kindNumber, operandBytes, writeAction, writeActions, writeEntry, writeLocation, writeLocations, tableBody, tableBytes, writeTableSections}
 use Rattle.semantics.specs.Tables.{Table, tableHeader}
 use Rattle.semantics.specs.Writing.{AllBytes, writeVariables, writeEquations, writeTable, ActionLimits, ActionsLimits, EntryLimits, RowLimits, LocationsLimits, TableLimits, TableReadAs, TableSectionsLimits}
 use Rattle.semantics.proofs.Facts.{none-not-some, some-is, true-not-false, by-cases, and-left, and-right, within-low, within-high, within-both, all-cons, all-append, all-map, all-flat}
@@ -28,11 +28,11 @@ use Rattle.semantics.proofs.SectionForms.{section-written, variables-by
 -- ---- actions
 -- the byte that stands for a kind
 abbrev Stands : ℕ → ActionKind → Type 0
-Stands k a-test = k ≡ 1
-Stands k a-wait = k ≡ 2
-Stands k an-assignment = k ≡ 3
-Stands k a-switch = k ≡ 4
-Stands k a-stop = k ≡ 5
+Stands k a-test = k ≡ TEST
+Stands k a-wait = k ≡ WAIT
+Stands k an-assignment = k ≡ ASSIGN
+Stands k a-switch = k ≡ SWITCH
+Stands k a-stop = k ≡ STOP
 Stands k no-kind = Unit {0}
 
 code : (k n : ℕ) (f g : ActionKind) → (k ≡ n → Stands k f) → Stands k g → Stands k (cond (eqb k n) f g)
@@ -40,7 +40,7 @@ code k n f g h r = by-cases (eqb k n) (λ e. rw e (h (eqb-true k n e))) (λ e. r
 
 kind-stands : (k : ℕ) → Stands k (actionKind k)
 unfolding actionKind
-kind-stands k = code k 1 _ _ (λ e. e) (code k 2 _ _ (λ e. e) (code k 3 _ _ (λ e. e) (code k 4 _ _ (λ e. e) (code k 5 _ _ (λ e. e) tt))))
+kind-stands k = code k TEST _ _ (λ e. e) (code k WAIT _ _ (λ e. e) (code k ASSIGN _ _ (λ e. e) (code k SWITCH _ _ (λ e. e) (code k STOP _ _ (λ e. e) tt))))
 
 -- this action, of this kind and operand
 is-action : {n k : ℕ} {b : List ℕ} {x a : Action} → k ≡ n → some x ≡ some a → n ∷ b ≡ actionBytes x → k ∷ b ≡ actionBytes a
