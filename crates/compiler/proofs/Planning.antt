@@ -1,7 +1,7 @@
 -- What is planned before a table is written, a law for each return.
 use mathlib.Core.Path.{_≡_, refl, sym, ap, _∙_}
 use mathlib.Core.Bool.{true, false}
-use mathlib.Core.List.{List}
+use mathlib.Core.List.{List, []}
 use mathlib.Core.Option.{some}
 use Prim.Native.Nat.{ℕ, _+_, _-_, _*_, _≤_, _<_}
 use native.Mathlib.Nat.{mul-le-mul}
@@ -12,7 +12,7 @@ use lib.Seq.{length-take-le}
 use borrow.Author.Tests.{le-leb, lt-leb, leb-true, ltb-true, ltb-false, eqb-true}
 use Rattle.semantics.specs.Bytes.{be2, out, widthOf}
 use Rattle.semantics.specs.Editions.{edition1}
-use Rattle.semantics.specs.Refusals.{Judged, refused, _>>=_, _>>_, ensure}
+use Rattle.semantics.specs.Refusals.{Judged, refused, accepted, _>>=_, _>>_, ensure, refusalOf}
 use Rattle.semantics.specs.TableFile.{NodeAction, locationLimit, writeActions}
 use Rattle.semantics.proofs.Judging.{go-then, go-ensure}
 use Rattle.schedules.specs.Trees.{treeOf}
@@ -20,14 +20,16 @@ use Rattle.schedules.specs.Nodes.{actionsOf}
 use Rattle.schedules.specs.Numbering.{locations}
 use Rattle.schedules.specs.Files.{Schedule, fileLength}
 use Rattle.schedules.specs.Compiling.{testsOf, scheduleLocations, tableOf, judgeTableOf}
+use Rattle.schedules.specs.Calls.{compiledInto}
 use Rattle.schedules.specs.Sizes.{sizeOf}
-use Rattle.schedules.specs.TableSizes.{tableLength}
+use Rattle.schedules.specs.TableSizes.{rowsLength, lengthAround, tableLength}
 use Rattle.schedules.proofs.Counting.{total}
 use Rattle.schedules.proofs.FirstNumber.{passed}
 use Rattle.schedules.proofs.LocationCount.{entriesAt, locations-counted, few-locations}
 use Rattle.schedules.proofs.TableLength.{rows-length, table-of-length}
 use Rattle.schedule_read.specs.ScheduleFile.{scheduleIndex}
 use Rattle.schedule_read.specs.declared.call.ScheduleIndex.{ScheduleIndex}
+use Rattle.schedule_read.specs.declared.parts.Parts.{Parts}
 use Rattle.schedule_read.specs.Actions.{ActionKinds}
 use Rattle.schedule_read.specs.Promised.{Slice}
 use Rattle.schedule_read.proofs.Promises.{index-refused}
@@ -38,17 +40,36 @@ use Rattle.sizes.proofs.Nodes.{laid-weighed}
 use Rattle.table_write.specs.ActionTable.{actionsTo, Operands, Listed, Measured}
 use Rattle.table_write.specs.LocationTable.{Counts}
 use Rattle.compiler.specs.Answers.{Told}
-use Rattle.compiler.specs.Plans.{copied, Found, Planned}
+use Rattle.compiler.specs.Plans.{Found, Planned}
 use Rattle.compiler.specs.declared.call.Plan.{Plan}
 use Rattle.compiler.proofs.ActionForms.{actions-listed, operands, tests-are}
 use Rattle.compiler.proofs.Indexes.{Indexed}
 
 -- ---- what is told
 pub told-refused : {j : Judged (List ℕ)} {n a b : ℕ} → (n ≡ 0 → ⊥) → j ≡ refused n → (a ≡ n) × (b ≡ 0) → Told j a b
-told-refused z e p = record { refuses = λ y. e ∙ ap refused (sym (p .0)); nothing = λ y. p .1; accepts = λ y. absurd (z (sym (p .0) ∙ y)) }
+unfolding compiledInto refusalOf
+told-refused z e p = rw e (record { refuses = p .0; writes = p .1; numbered = λ y. z (ap refusalOf y) })
 
 pub told-planned : {f : List ℕ} {p : Plan} → p .refusal ≡ 0 → Planned f p → Told (judgeTableOf edition1 f) (p .refusal) (p .length)
-told-planned z g = record { refuses = λ y. absurd (y z); nothing = λ y. absurd (y z); accepts = λ y. (tableOf edition1 (g .schedule), g .judged, g .whole) }
+unfolding compiledInto
+told-planned z g = rw (g .judged) (record { refuses = z; writes = g .whole; numbered = λ y. let z : _≡_ {A = ℕ} 0 1 = cc in omega arith })
+
+module _ {j : Judged (List ℕ)} {a b : ℕ} (t : Told j a b) where
+  pub told-refuses : (a ≡ 0 → ⊥) → j ≡ refused a
+  unfolding compiledInto
+  told-refuses h = go j (t .refuses)
+    where
+      go : (k : Judged (List ℕ)) → a ≡ (compiledInto [] k) .refusal → k ≡ refused a
+      go (refused n) e = ap refused (sym e)
+      go (accepted l) e = absurd (h e)
+
+  pub told-accepts : a ≡ 0 → (l : List ℕ) × (j ≡ accepted l) × (b ≡ length l)
+  unfolding compiledInto
+  told-accepts h = go j refl
+    where
+      go : (k : Judged (List ℕ)) → j ≡ k → (l : List ℕ) × (j ≡ accepted l) × (b ≡ length l)
+      go (refused n) e = absurd (t .numbered (e ∙ ap refused (ap (λ k. (compiledInto [] k) .refusal) (sym e) ∙ sym (t .refuses) ∙ h)))
+      go (accepted l) e = (l, e, t .writes ∙ ap (λ k. (compiledInto [] k) .written) e)
 
 -- 1 to 12
 pub measure-refused : (f : List ℕ) {ix : ScheduleIndex} → ix ≡ scheduleIndex f → (ix .refusal ≡ 0 → ⊥) → judgeTableOf edition1 f ≡ refused (ix .refusal)
@@ -101,6 +122,10 @@ module _ {f : List ℕ} {ix : ScheduleIndex} (g : Indexed f ix) {m : Sizes} (x :
       }
 
 -- ---- its plan
+-- the length of a table with these copied sections, so many bytes of actions after their count, and so many of rows
+abbrev lengthIn : Parts → ℕ → ℕ → ℕ
+lengthIn q list rows = lengthAround (q .«variables_to» - q .«variables_from») (q .«equations_to» - q .«equations_from») (1 + list) rows
+
 module _ {f : List ℕ} {ix : ScheduleIndex} {m : Sizes} (g : Found f ix m) {acts : List ℕ} (e : ActionKinds (ix .nodes .kinds) (ix .nodes .count) acts) where
   abbrev t : Schedule
   t = g .schedule
@@ -128,7 +153,7 @@ module _ {f : List ℕ} {ix : ScheduleIndex} {m : Sizes} (g : Found f ix m) {act
   unfolding scheduleLocations
   counted = let c = locations-counted (t .nodes) tree-read few in (c .0 ∙ sym (g .locations), c .1 ∙ sym (g .entries))
 
-  plan-rows : {n bytes : ℕ} → n ≡ m .locations → bytes ≡ m .locations + m .entries * 5 → Counts (ix .nodes .kinds) (ix .subtrees .ends) acts n bytes (t .root)
+  plan-rows : {n bytes : ℕ} → n ≡ m .locations → bytes ≡ rowsLength edition1 (m .locations) (m .entries) → Counts (ix .nodes .kinds) (ix .subtrees .ends) acts n bytes (t .root)
   unfolding scheduleLocations widthOf
   plan-rows h k = record {
     lies = g .promise .tree;
@@ -141,7 +166,7 @@ module _ {f : List ℕ} {ix : ScheduleIndex} {m : Sizes} (g : Found f ix m) {act
 
   -- the table's length, by its parts
   plan-long : {n bytes : ℕ} → Measured acts (ix .nodes .starts) (ix .nodes .ends) (ix .nodes .count) n bytes →
-      copied (ix .parts) + bytes + (m .locations + m .entries * 5) + 18 ≡ length (tableOf edition1 t)
+      lengthIn (ix .parts) bytes (rowsLength edition1 (m .locations) (m .entries)) ≡ length (tableOf edition1 t)
   unfolding tableLength widthOf writeActions out
   plan-long l =
       let b = l .sizes (t .sections .schedule) (acts-operands .each) in
@@ -150,8 +175,8 @@ module _ {f : List ℕ} {ix : ScheduleIndex} {m : Sizes} (g : Found f ix m) {act
 
 pub plan-made : {f : List ℕ} {m : Sizes} (p : Plan) (g : Found f (p .index) m) → ActionKinds (p .index .nodes .kinds) (p .index .nodes .count) (p .acts) →
     Measured (p .acts) (p .index .nodes .starts) (p .index .nodes .ends) (p .index .nodes .count) (p .list .count) (p .list .at) →
-    p .rows .count ≡ m .locations → p .rows .at ≡ m .locations + m .entries * 5 →
-    (p .length ≡ copied (p .index .parts) + p .list .at + p .rows .at + 18) × (p .length < 4294967296) → Planned f p
+    p .rows .count ≡ m .locations → p .rows .at ≡ rowsLength edition1 (m .locations) (m .entries) →
+    (p .length ≡ lengthIn (p .index .parts) (p .list .at) (p .rows .at)) × (p .length < 4294967296) → Planned f p
 plan-made p g e l n b k = record {
   schedule = g .schedule;
   promise = g .promise;
@@ -164,5 +189,5 @@ plan-made p g e l n b k = record {
   list = l;
   rows = plan-rows g e n b;
   fits = k .1;
-  whole = omega (arith, k .0, b, plan-long g e l);
+  whole = k .0 ∙ ap (lengthIn (p .index .parts) (p .list .at)) b ∙ plan-long g e l;
 }

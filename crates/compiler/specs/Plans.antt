@@ -1,7 +1,7 @@
 -- What is known of a schedule's table before it is written.
 use mathlib.Core.Path.{_≡_}
 use mathlib.Core.List.{List}
-use Prim.Native.Nat.{ℕ, _+_, _-_, _*_, _≤_, _<_}
+use Prim.Native.Nat.{ℕ, _*_, _≤_, _<_}
 use lib.ListN.{length}
 use Rattle.semantics.specs.Editions.{edition1}
 use Rattle.semantics.specs.Refusals.{accepted}
@@ -11,17 +11,12 @@ use Rattle.schedules.specs.Files.{Schedule}
 use Rattle.schedules.specs.Compiling.{testsOf, tableOf, judgeTableOf}
 use Rattle.schedules.specs.Sizes.{sizeOf}
 use Rattle.schedule_read.specs.declared.call.ScheduleIndex.{ScheduleIndex}
-use Rattle.schedule_read.specs.declared.parts.Parts.{Parts}
 use Rattle.schedule_read.specs.Promised.{Promised}
 use Rattle.sizes.specs.declared.Measured.{Measured as Sizes}
 use Rattle.numbering.specs.Meeting.{testsIn}
 use Rattle.table_write.specs.ActionTable.{actionsTo, Operands, Measured}
 use Rattle.table_write.specs.LocationTable.{Counts}
 use Rattle.compiler.specs.declared.call.Plan.{Plan}
-
--- the bytes of the two sections that are copied
-abbrev pub copied : Parts → ℕ
-copied q = q .«variables_to» - q .«variables_from» + (q .«equations_to» - q .«equations_from»)
 
 -- f is the file of a schedule that is not refused; ix is its index, and m has the numbers of its locations and entries
 pub record Found (f : List ℕ) (ix : ScheduleIndex) (m : Sizes) : Type 0 where

@@ -7,16 +7,17 @@ use table_write::actions;
 use table_write::table;
 ghost use mathlib.Core.Path.{_≡_};
 ghost use mathlib.Core.List.{List};
-ghost use Prim.Native.Nat.{ℕ, _+_, _*_, _≤_, _<_};
+ghost use Prim.Native.Nat.{ℕ, _+_, _-_, _≤_, _<_};
 ghost use lib.ListN.{length};
 ghost use Rattle.semantics.specs.Editions.{edition1};
 ghost use Rattle.semantics.specs.Refusals.{accepted};
 ghost use Rattle.semantics.specs.TableFile.{locationLimit};
 ghost use Rattle.schedules.specs.Compiling.{judgeTableOf};
 ghost use Rattle.schedules.specs.Calls as calls;
+ghost use Rattle.schedules.specs.TableSizes.{rowsLength, lengthAround};
 ghost use Rattle.table_write.specs.Pieces.{Put};
 ghost use Rattle.compiler.specs.Answers.{Told, returned};
-ghost use Rattle.compiler.specs.Plans.{copied, Found, Ready, Planned};
+ghost use Rattle.compiler.specs.Plans.{Found, Ready, Planned};
 
 // 0 and the length of the table; or the first number that applies, and 0
 pub struct Compiled {
@@ -61,16 +62,17 @@ fn no_plan(n: u8, x: ScheduleIndex) -> Plan
 // the bytes of the locations' rows
 fn row_bytes(locations: usize, entries: usize) -> usize
     requires { ⌜ (locations ≤ locationLimit) × (entries ≤ 65536) ⌝ }
-    ensures { λ r. ⌜ (r ≡ locations + entries * 5) × (r ≤ 328704) ⌝ }
+    ensures { λ r. ⌜ (r ≡ rowsLength edition1 locations entries) × (r ≤ 328704) ⌝ }
 {
     locations + entries * 5
 }
 
-// the bytes of the table: the sections that are copied, the rows, and all that stands around them
+// the bytes of the table: the sections that are copied, the rows of the actions after their count, those of the locations, and all that stands around them
 fn table_length(q: Parts, list: usize, rows: usize) -> usize
     requires ordered { ⌜ (q .«variables_from» ≤ q .«variables_to») × (q .«equations_from» ≤ q .«equations_to») ⌝ }
     requires short { ⌜ (q .«variables_to» < 65536) × (q .«equations_to» < 65536) × (list ≤ 12928) × (rows ≤ 328704) ⌝ }
-    ensures { λ r. ⌜ (r ≡ copied q + list + rows + 18) × (r < 4294967296) ⌝ }
+    ensures is { λ r. ⌜ r ≡ lengthAround (q .«variables_to» - q .«variables_from») (q .«equations_to» - q .«equations_from») (1 + list) rows ⌝ }
+    ensures fits { λ r. ⌜ r < 4294967296 ⌝ }
 {
     q.variables_to - q.variables_from + (q.equations_to - q.equations_from) + list + rows + 18
 }

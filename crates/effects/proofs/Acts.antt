@@ -22,8 +22,8 @@ use Rattle.expression.specs.Answers.{numberAnswer}
 use Rattle.expression.specs.declared.Number.{Number}
 use Rattle.expression.specs.declared.Number.the-variants as Numbers
 use Rattle.expression.proofs.Values.{numberTold, number-valued, number-malformed}
-use Rattle.effects.specs.Verdicts.{doneVerdict, stepVerdict, goesOn, truthVerdict, movedVerdict, eventVerdict, valuesLeft, modesLeft, Left, orElse, Gives}
-use Rattle.effects.proofs.PaperNumbers.{left-by}
+use Rattle.effects.specs.Verdicts.{doneVerdict, stepVerdict, goesOn, truthVerdict, Left, orElse, Gives}
+use Rattle.effects.proofs.PaperNumbers.{left-away, left-above, left-below, left-move}
 use Rattle.effects.specs.Ranges.{rangesOf}
 use Rattle.effects.specs.ActionForms.{Performs, Assigns, Does}
 use Rattle.effects.specs.declared.Verdict.{Verdict}
@@ -149,24 +149,24 @@ switch-named {k} {t} p e = let q = is-switch k t (p .is) e in rw (q .2) (record 
 
 module _ (xs : List Variable) (vs : List ℤ) (ms : List ℕ) (n : ℕ) where
   tested : (u : Value Bool) {r : Verdict} → r ≡ truthVerdict (Move n true) (Move n false) u → Left (valued u >>= (λ b. pass (record { moved = mover n b; values = vs; modes = ms }))) vs ms r vs ms
-  unfolding valued _>>=_ truthVerdict movedVerdict eventVerdict valuesLeft modesLeft
-  tested (ok true) e = left-by e refl refl
-  tested (ok false) e = left-by e refl refl
-  tested (fault above) e = left-by e refl refl
-  tested (fault below) e = left-by e refl refl
+  unfolding valued _>>=_ truthVerdict
+  tested (ok true) e = left-move e refl
+  tested (ok false) e = left-move e refl
+  tested (fault above) e = left-above e refl
+  tested (fault below) e = left-below e refl
 
   awaited : (u : Value Bool) {r : Verdict} → r ≡ truthVerdict (Move n true) (Away 29) u → Left (valued u >>= (λ b. allow 29 b >> pass (record { moved = mover n true; values = vs; modes = ms }))) vs ms r vs ms
-  unfolding valued _>>=_ _>>_ allow truthVerdict movedVerdict eventVerdict valuesLeft modesLeft
-  awaited (ok true) e = left-by e refl refl
-  awaited (ok false) e = left-by e refl refl
-  awaited (fault above) e = left-by e refl refl
-  awaited (fault below) e = left-by e refl refl
+  unfolding valued _>>=_ _>>_ allow truthVerdict
+  awaited (ok true) e = left-move e refl
+  awaited (ok false) e = left-away e refl
+  awaited (fault above) e = left-above e refl
+  awaited (fault below) e = left-below e refl
 
   put : (u : Value (List ℤ)) {r : Verdict} {ys : List ℤ} → Gives (Move n true) vs u r ys → Left (valued u >>= (λ zs. pass (record { moved = mover n true; values = zs; modes = ms }))) vs ms r ys ms
-  unfolding valued _>>=_ doneVerdict orElse movedVerdict eventVerdict valuesLeft modesLeft
-  put (ok zs) g = left-by (g .answer) (g .left) refl
-  put (fault above) g = left-by (g .answer) (g .left) refl
-  put (fault below) g = left-by (g .answer) (g .left) refl
+  unfolding valued _>>=_ doneVerdict orElse
+  put (ok zs) g = left-move (g .answer) (ap (λ l. pass (record { moved = mover n true; values = l; modes = ms })) (sym (g .left)))
+  put (fault above) g = rw (g .left) (left-above (g .answer) refl)
+  put (fault below) g = rw (g .left) (left-below (g .answer) refl)
 
   module _ (k : ℕ) (t : List ℕ) where
     pub tests : {r : Verdict} → k ≡ 1 → r ≡ truthVerdict (Move n true) (Move n false) (truthValue edition1 vs t) → Does k t xs n vs ms r vs ms
@@ -182,9 +182,13 @@ module _ (xs : List Variable) (vs : List ℤ) (ms : List ℕ) (n : ℕ) where
     assigns e g = record { leaves = λ a i. let q = is-assign k t i e in rw (q .3) (put (assigned edition1 xs vs (q .0) (q .1)) (g .gives (q .0) (q .1) (q .2))) }
 
     pub switches : k ≡ 4 → Does k t xs n vs ms (Move n true) vs (set ms (getD t 0 0) (getD t 1 0))
-    unfolding act movedVerdict eventVerdict valuesLeft modesLeft
-    switches e = record { leaves = λ a i. let q = is-switch k t i e in rw (q .3) (left-by refl refl (ap (λ l. set ms (getD l 0 0) (getD l 1 0)) (q .2))) }
+    unfolding act
+    switches e = record {
+      leaves = λ a i.
+          let q = is-switch k t i e in
+          rw (q .3) (left-move refl (sym (ap (λ l. pass (record { moved = mover n true; values = vs; modes = set ms (getD l 0 0) (getD l 1 0) })) (q .2))));
+    }
 
     pub others : (k ≡ 1 → ⊥) → (k ≡ 2 → ⊥) → (k ≡ 3 → ⊥) → (k ≡ 4 → ⊥) → Does k t xs n vs ms (Move n true) vs ms
-    unfolding act movedVerdict eventVerdict valuesLeft modesLeft
-    others f g h j = record { leaves = λ a i. rw (is-stop k t i f g h j) (left-by refl refl refl) }
+    unfolding act
+    others f g h j = record { leaves = λ a i. rw (is-stop k t i f g h j) (left-move refl refl) }

@@ -1,52 +1,69 @@
--- The paper's numbers of a verdict are those of the event that was judged.
+-- What is left of a judged event, case by case; the paper's number of a case is the event's answer, in every run.
 use mathlib.Core.Path.{_≡_, refl, ap, _∙_}
+use mathlib.Core.Bool.{Bool}
 use mathlib.Core.List.{List}
 use mathlib.Core.Option.{some}
 use Prim.Native.Nat.{ℕ}
 use lib.IntN.{ℤ}
 use Rattle.semantics.specs.Expressions.{above, below}
 use Rattle.semantics.specs.Run as Run
-use Rattle.semantics.specs.Run.{away, faulty, pass, Moved, nobody, mover, Done, Control, Situation, faultAnswer, turnedAway, arrive, follow, settle}
+use Rattle.semantics.specs.Run.{away, faulty, pass, Next, to, finished, halted, idle, nobody, mover, Done, Control, Situation, at, faultAnswer, turnedAway, arrive, follow, settle}
 use Rattle.semantics.proofs.Facts.{none-not-some, some-is}
-use Rattle.effects.specs.Verdicts.{eventVerdict, movedVerdict, valuesLeft, modesLeft, Left}
-use Rattle.effects.specs.PaperNumbers.{paperAnswer, paperMove, movedAnswer, eventAnswer, eventMove}
+use Rattle.effects.specs.Verdicts.{judgedAs, Left}
+use Rattle.effects.specs.PaperNumbers.{paperAnswer}
 use Rattle.effects.specs.declared.Verdict.{Verdict}
+use Rattle.effects.specs.declared.Verdict.the-variants.{Away, Above, Below, Stay, Move}
 
-number-of : (j : Run.Verdict Done) → paperAnswer (eventVerdict j) ≡ eventAnswer j
-unfolding paperAnswer eventVerdict movedVerdict movedAnswer eventAnswer faultAnswer
-number-of (away n) = refl
-number-of (faulty above) = refl
-number-of (faulty below) = refl
-number-of (pass d) = go (d .moved)
-  where
-    go : (m : Moved) → paperAnswer (movedVerdict m) ≡ movedAnswer m
-    go nobody = refl
-    go (mover n b) = refl
+-- an answer that has a number tells of an event that is answered by it
+pub answer-is : {S : Type 0} (c : Control S) (x : S) (s : Situation S) (r : Verdict) (vs : List ℤ) (ms : List ℕ) (n : ℕ) → paperAnswer r ≡ some n → (settle c x s (judgedAs r vs ms)) .answer ≡ n
+unfolding paperAnswer judgedAs settle follow turnedAway arrive faultAnswer
+answer-is c x s (Away m) vs ms n e = some-is e
+answer-is c x s Above vs ms n e = some-is e
+answer-is c x s Below vs ms n e = some-is e
+answer-is c x s Stay vs ms n e = some-is e
+answer-is c x s (Move m b) vs ms n e = none-not-some e
 
-move-of : (j : Run.Verdict Done) → paperMove (eventVerdict j) ≡ eventMove j
-unfolding paperMove eventVerdict movedVerdict eventMove
-move-of (away n) = refl
-move-of (faulty above) = refl
-move-of (faulty below) = refl
-move-of (pass d) = go (d .moved)
-  where
-    go : (m : Moved) → paperMove (movedVerdict m) ≡ m
-    go nobody = refl
-    go (mover n b) = refl
+-- a move that leads somewhere leaves the values and modes of its event
+module _ {S : Type 0} (s : Situation S) (ys : List ℤ) (ns : List ℕ) where
+  arrived-values : (y : Next S) → (y ≡ idle → ⊥) → (arrive s y ys ns) .left .values ≡ ys
+  unfolding arrive
+  arrived-values (to y) h = refl
+  arrived-values finished h = refl
+  arrived-values halted h = refl
+  arrived-values idle h = absurd (h refl)
 
--- the verdict tells the number and whose move it is
-pub left-by : {j : Run.Verdict Done} {vs : List ℤ} {ms : List ℕ} {r : Verdict} {vs' : List ℤ} {ms' : List ℕ} → r ≡ eventVerdict j → vs' ≡ valuesLeft vs j → ms' ≡ modesLeft ms j → Left j vs ms r vs' ms'
-left-by {j} e f g = record { answer = e; number = ap paperAnswer e ∙ number-of j; move = ap paperMove e ∙ move-of j; values = f; modes = g }
+  arrived-modes : (y : Next S) → (y ≡ idle → ⊥) → (arrive s y ys ns) .left .modes ≡ ns
+  unfolding arrive
+  arrived-modes (to y) h = refl
+  arrived-modes finished h = refl
+  arrived-modes halted h = refl
+  arrived-modes idle h = absurd (h refl)
 
-module _ {S : Type 0} (c : Control S) (x : S) (s : Situation S) where
-  -- an event that has a number is answered by it
-  pub answer-is : (j : Run.Verdict Done) (n : ℕ) → eventAnswer j ≡ some n → (settle c x s j) .answer ≡ n
-  unfolding eventAnswer movedAnswer settle follow turnedAway arrive faultAnswer
-  answer-is (away m) n e = some-is e
-  answer-is (faulty above) n e = some-is e
-  answer-is (faulty below) n e = some-is e
-  answer-is (pass d) n e = go (d .moved) e
-    where
-      go : (m : Moved) → movedAnswer m ≡ some n → (follow c x s m (d .values) (d .modes)) .answer ≡ n
-      go nobody e = some-is e
-      go (mover k b) e = none-not-some e
+module _ {j : Run.Verdict Done} {vs : List ℤ} {ms : List ℕ} {r : Verdict} where
+  -- the event was not taken
+  pub left-away : {n : ℕ} → r ≡ Away n → j ≡ away n → Left j vs ms r vs ms
+  unfolding judgedAs settle turnedAway
+  left-away {n} e h = rw (e, h) (record { judged = refl; number = λ k i c x s. answer-is c x s (Away n) vs ms k i; values = λ c l x. refl; modes = λ c l x. refl })
+
+  pub left-above : r ≡ Above → j ≡ faulty above → Left j vs ms r vs ms
+  unfolding judgedAs settle
+  left-above e h = rw (e, h) (record { judged = refl; number = λ k i c x s. answer-is c x s Above vs ms k i; values = λ c l x. refl; modes = λ c l x. refl })
+
+  pub left-below : r ≡ Below → j ≡ faulty below → Left j vs ms r vs ms
+  unfolding judgedAs settle
+  left-below e h = rw (e, h) (record { judged = refl; number = λ k i c x s. answer-is c x s Below vs ms k i; values = λ c l x. refl; modes = λ c l x. refl })
+
+  -- it was taken, and values and modes are these
+  module _ {ys : List ℤ} {ns : List ℕ} where
+    pub left-stay : r ≡ Stay → j ≡ pass (record { moved = nobody; values = ys; modes = ns }) → Left j vs ms r ys ns
+    unfolding judgedAs settle follow arrive
+    left-stay e h = rw (e, h) (record { judged = refl; number = λ k i c x s. answer-is c x s Stay ys ns k i; values = λ c l x. refl; modes = λ c l x. refl })
+
+    pub left-move : {n : ℕ} {b : Bool} → r ≡ Move n b → j ≡ pass (record { moved = mover n b; values = ys; modes = ns }) → Left j vs ms r ys ns
+    unfolding judgedAs settle follow
+    left-move {n} {b} e h = rw (e, h) (record {
+      judged = refl;
+      number = λ k i c x s. answer-is c x s (Move n b) ys ns k i;
+      values = λ c l x. arrived-values (at x vs ms) ys ns (c .next x n b) (l x n b);
+      modes = λ c l x. arrived-modes (at x vs ms) ys ns (c .next x n b) (l x n b);
+    })

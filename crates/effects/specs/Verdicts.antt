@@ -2,12 +2,13 @@
 use mathlib.Core.Path.{_≡_}
 use mathlib.Core.Bool.{Bool, true, false}
 use mathlib.Core.List.{List}
+use mathlib.Core.Option.{some}
 use Prim.Native.Nat.{ℕ}
 use lib.IntN.{ℤ}
 use Rattle.semantics.specs.Expressions.{above, below, Value, ok, fault}
 use Rattle.semantics.specs.Run as Run
-use Rattle.semantics.specs.Run.{away, faulty, pass, valued, Moved, nobody, mover, Done}
-use Rattle.effects.specs.PaperNumbers.{paperAnswer, paperMove, eventAnswer, eventMove}
+use Rattle.semantics.specs.Run.{away, faulty, pass, valued, idle, nobody, mover, Done, Control, Situation, at, settle}
+use Rattle.effects.specs.PaperNumbers.{paperAnswer}
 use Rattle.effects.specs.declared.Verdict.{Verdict}
 use Rattle.effects.specs.declared.Verdict.the-variants.{Away, Above, Below, Stay, Move}
 
@@ -36,36 +37,26 @@ truthVerdict y n (ok false) = n
 truthVerdict y n (fault above) = Above
 truthVerdict y n (fault below) = Below
 
--- whose move the taken event is
-unfoldable pub movedVerdict : Moved → Verdict
-movedVerdict nobody = Stay
-movedVerdict (mover n b) = Move n b
+-- ---- the whole event
+-- the event that the answer r, with the values and modes beside it, tells of
+unfoldable pub judgedAs : Verdict → List ℤ → List ℕ → Run.Verdict Done
+judgedAs (Away n) vs ms = away n
+judgedAs Above vs ms = faulty above
+judgedAs Below vs ms = faulty below
+judgedAs Stay vs ms = pass (record { moved = nobody; values = vs; modes = ms })
+judgedAs (Move n b) vs ms = pass (record { moved = mover n b; values = vs; modes = ms })
 
--- the whole event
-unfoldable pub eventVerdict : Run.Verdict Done → Verdict
-eventVerdict (away n) = Away n
-eventVerdict (faulty above) = Above
-eventVerdict (faulty below) = Below
-eventVerdict (pass d) = movedVerdict (d .moved)
+-- every move leads somewhere
+abbrev pub Leading : Control ℕ → Type 0
+Leading c = (x n : ℕ) (b : Bool) → c .next x n b ≡ idle → ⊥
 
--- "An event turned away leaves them all as they were"; a fault leaves values and modes
-unfoldable pub valuesLeft : List ℤ → Run.Verdict Done → List ℤ
-valuesLeft vs (away n) = vs
-valuesLeft vs (faulty s) = vs
-valuesLeft vs (pass d) = d .values
-
-unfoldable pub modesLeft : List ℕ → Run.Verdict Done → List ℕ
-modesLeft ms (away n) = ms
-modesLeft ms (faulty s) = ms
-modesLeft ms (pass d) = d .modes
-
--- values and modes vs and ms, judged j: the answer r with document 01's number of it (24 to 31, 203, 200) or the node that moves, and what is left
+-- values vs and modes ms, the event judged j: the answer r, document 01's number of it where it has one (24 to 31, 203, 200),
+-- and the values and modes that a run has after the event
 pub record Left (j : Run.Verdict Done) (vs : List ℤ) (ms : List ℕ) (r : Verdict) (vs' : List ℤ) (ms' : List ℕ) : Type 0 where
-  pub answer : r ≡ eventVerdict j
-  pub number : paperAnswer r ≡ eventAnswer j
-  pub move : paperMove r ≡ eventMove j
-  pub values : vs' ≡ valuesLeft vs j
-  pub modes : ms' ≡ modesLeft ms j
+  pub judged : j ≡ judgedAs r vs' ms'
+  pub number : (n : ℕ) → paperAnswer r ≡ some n → (c : Control ℕ) (x : ℕ) (s : Situation ℕ) → (settle c x s j) .answer ≡ n
+  pub values : (c : Control ℕ) → Leading c → (x : ℕ) → (settle c x (at x vs ms) j) .left .values ≡ vs'
+  pub modes : (c : Control ℕ) → Leading c → (x : ℕ) → (settle c x (at x vs ms) j) .left .modes ≡ ms'
 
 -- what is left where a value faults
 unfoldable pub orElse : {A : Type 0} → A → Value A → A

@@ -29,6 +29,7 @@ use Rattle.exam.specs.declared.Examined.{Examined}
 use Rattle.records.specs.Reported.{ranWith}
 use Rattle.records.specs.declared.Ran as R
 use Rattle.compiler.specs.Answers.{Told, returned}
+use Rattle.compiler.proofs.Planning.{told-refuses, told-accepts}
 use Rattle.compiler.proofs.CallStages.{refused-too, too-short, long-enough}
 use Rattle.schedules.proofs.ExamHolds.{run-numbers, rule-program, exam-judged, exam-numbers, exam-length, exam-refusal, exam-agrees}
 
@@ -62,17 +63,17 @@ module _ (ed : Edition) (file start events table records others : List ℕ) wher
   -- 1 to 13
   pub by-measure : {a b : ℕ} → Told (judgeTableOf ed file) a b → (a ≡ 0 → ⊥) → a ≡ refusalOf (judgeExam ed file start events table records others)
   unfolding judgeExam
-  by-measure h z = sym (refused-at _ (refused-too ed file table (h .refuses z)))
+  by-measure h z = sym (refused-at _ (refused-too ed file table (told-refuses h z)))
 
   module _ {a b : ℕ} (h : Told (judgeTableOf ed file) a b) (z : a ≡ 0) where
     -- 14
     pub by-table : length table < b → 14 ≡ refusalOf (judgeExam ed file start events table records others)
     unfolding judgeExam
-    by-table l = let k = h .accepts z in sym (refused-at _ (too-short ed file table (k .1) (omega (arith, k .2))))
+    by-table l = let k = told-accepts h z in sym (refused-at _ (too-short ed file table (k .1) (omega (arith, k .2))))
 
     module _ (l : b ≤ length table) where
-      taken : Taken ed file table (h .accepts z .0)
-      taken = let k = h .accepts z in compile-taken ed file table (long-enough ed file table (k .1) (omega (arith, k .2)))
+      taken : Taken ed file table (told-accepts h z .0)
+      taken = let k = told-accepts h z in compile-taken ed file table (long-enough ed file table (k .1) (omega (arith, k .2)))
 
       abbrev plant : Plant
       plant = taken .of .plant
@@ -80,7 +81,7 @@ module _ (ed : Edition) (file start events table records others : List ℕ) wher
       compiled : judgeExam ed file start events table records others ≡
           (judgeAdmission ed plant start events records >>= λ st. ensure 22 (roomForRecords ed plant events others) >> accepted (eventCount ed events * recordSize ed plant))
       unfolding judgeExam
-      compiled = let k = h .accepts z in Judging.go-then _ (long-enough ed file table (k .1) (omega (arith, k .2))) ∙ Judging.go-then _ (rule-program ed file (taken .of-file))
+      compiled = let k = told-accepts h z in Judging.go-then _ (long-enough ed file table (k .1) (omega (arith, k .2))) ∙ Judging.go-then _ (rule-program ed file (taken .of-file))
 
       run-of : (buffer : List ℕ) → refusalOf (judgeRun ed (ruleProgram ed file) start events buffer) ≡ refusalOf (judgeAdmission ed plant start events buffer)
       unfolding judgeRun

@@ -15,12 +15,12 @@ use Rattle.semantics.specs.Run.{Action, test, wait, assign, switch, stop, away,
 use Rattle.semantics.proofs.Facts.{true-not-false}
 use Rattle.nodeset.specs.Sets.{mem, members}
 use Rattle.nodeset.proofs.Members.{among-members}
-use Rattle.effects.specs.Verdicts.{doneVerdict, stepVerdict, goesOn, movedVerdict, eventVerdict, valuesLeft, modesLeft, Left, orElse, Gives}
+use Rattle.effects.specs.Verdicts.{doneVerdict, stepVerdict, goesOn, Left, orElse, Gives}
 use Rattle.effects.specs.Ranges.{rangesOf, rateIn}
 use Rattle.effects.specs.ActionForms.{Performs, Does}
 use Rattle.effects.specs.declared.Verdict.{Verdict}
 use Rattle.effects.specs.declared.Verdict.the-variants.{Away, Stay}
-use Rattle.effects.proofs.PaperNumbers.{left-by}
+use Rattle.effects.proofs.PaperNumbers.{left-away, left-above, left-below, left-stay}
 use Rattle.effects.proofs.Steps.{then-on}
 use Rattle.modes.specs.Modes.{modesFrom, InForce, Switched}
 use Rattle.execution.specs.Operands.{isWaitKind}
@@ -30,15 +30,11 @@ use Rattle.execution.proofs.Lending.{modes-current, declared-same, adva
 
 -- ---- what is left
 module _ (vs : List ℤ) (ms : List ℕ) where
-  pub left-away : {j : Run.Verdict Done} {n : ℕ} → j ≡ away n → Left j vs ms (Away n) vs ms
-  unfolding eventVerdict valuesLeft modesLeft
-  left-away e = rw e (left-by refl refl refl)
-
   left-out : {A : Type 0} (u : Run.Verdict A) (w : Run.Verdict Done) {r : Verdict} → r ≡ stepVerdict u → goesOn r ≡ false → Left (u >> w) vs ms r vs ms
-  unfolding _>>_ doneVerdict goesOn eventVerdict valuesLeft modesLeft
-  left-out (away n) w e h = left-by e refl refl
-  left-out (faulty above) w e h = left-by e refl refl
-  left-out (faulty below) w e h = left-by e refl refl
+  unfolding _>>_ doneVerdict goesOn
+  left-out (away n) w e h = left-away e refl
+  left-out (faulty above) w e h = left-above e refl
+  left-out (faulty below) w e h = left-below e refl
   left-out (pass a) w e h = true-not-false (sym (ap goesOn e) ∙ h)
 
   pub left-eq : {j k : Run.Verdict Done} {r : Verdict} {ys : List ℤ} {ns : List ℕ} → j ≡ k → Left k vs ms r ys ns → Left j vs ms r ys ns
@@ -49,10 +45,10 @@ module _ (vs : List ℤ) (ms : List ℕ) where
   ticked u = valued u >>= (λ ys. pass (record { moved = nobody; values = ys; modes = ms }))
 
   left-ticked : (u : Value (List ℤ)) {r : Verdict} {ys : List ℤ} → Gives Stay vs u r ys → Left (ticked u) vs ms r ys ms
-  unfolding valued _>>=_ doneVerdict orElse movedVerdict eventVerdict valuesLeft modesLeft
-  left-ticked (ok a) g = left-by (g .answer) (g .left) refl
-  left-ticked (fault above) g = left-by (g .answer) (g .left) refl
-  left-ticked (fault below) g = left-by (g .answer) (g .left) refl
+  unfolding valued _>>=_ doneVerdict orElse
+  left-ticked (ok a) g = left-stay (g .answer) (ap (λ l. pass (record { moved = nobody; values = l; modes = ms })) (sym (g .left)))
+  left-ticked (fault above) g = rw (g .left) (left-above (g .answer) refl)
+  left-ticked (fault below) g = rw (g .left) (left-below (g .answer) refl)
 
 -- ---- what a picked node does on the ranges that are lent
 module _ (p : Plant) (l : Lent) (q : PlantLent p l) (vs : List ℤ) where
@@ -99,7 +95,7 @@ module _ (p : Plant) (f : ℕ → Action) (l : Lent) (ws : List ℕ) (vs : List 
 
   pub tick-27 : waiting ≡ false → Left tick vs ms (Away 27) vs ms
   unfolding judge judgeTick allow _>>_
-  tick-27 e = left-away vs ms (rw (waiting-is, e) refl)
+  tick-27 e = left-away refl (rw (waiting-is, e) refl)
 
   tick-is : waiting ≡ true → tick ≡ (check >> (walked >> ticked vs ms (advance (p .variables) (rateOf p ms) vs)))
   unfolding judge judgeTick allow _>>_
@@ -127,7 +123,7 @@ module _ (p : Plant) (f : ℕ → Action) (l : Lent) (ws : List ℕ) (vs : List 
 
     pub pick-25 : mem ws n ≡ false → Left pick vs ms (Away 25) vs ms
     unfolding judge judgePick allow _>>_
-    pick-25 e = left-away vs ms (rw (among-members ws n small, e) refl)
+    pick-25 e = left-away refl (rw (among-members ws n small, e) refl)
 
     pick-is : mem ws n ≡ true → pick ≡ (check >> act edition1 (p .variables) vs ms n (f n))
     unfolding judge judgePick allow _>>_

@@ -9,14 +9,14 @@ use Rattle.semantics.specs.Editions.{edition1}
 use Rattle.semantics.specs.Plant.{Plant}
 use Rattle.semantics.specs.Events.{Event, eventIn}
 use Rattle.semantics.specs.Run as Run
-use Rattle.semantics.specs.Run.{away, faulty, pass, to, finished, halted, Done, Control, judge, at, over, faultAnswer, turnedAway, arrive, follow, settle, step, setNumber, actingSet}
+use Rattle.semantics.specs.Run.{to, finished, halted, Done, Control, judge, at, over, faultAnswer, turnedAway, arrive, follow, settle, step, setNumber, actingSet}
 use Rattle.nodeset.specs.Sets.{members}
-use Rattle.effects.specs.Verdicts.{valuesLeft, modesLeft, Left}
+use Rattle.effects.specs.Verdicts.{Left}
 use Rattle.execution.specs.Ready.{Lent, Ready, Fits}
 use Rattle.effects.specs.declared.Verdict.{Verdict}
 use Rattle.effects.specs.declared.Verdict.the-variants.{Away, Above, Below, Stay, Move}
 use Rattle.execution.proofs.Keeping.{fits-kept}
-use Rattle.execution.proofs.Outcomes.{heard-away, heard-above, heard-below, heard-stay, heard-move}
+use Rattle.execution.proofs.Outcomes.{Untaken, heard-away, heard-above, heard-below, heard-stay, heard-move}
 
 -- ---- the set that a record shows
 module _ {S : Type 0} (c : Control S) (ws : List ℕ) where
@@ -74,10 +74,14 @@ module _ {S : Type 0} (p : Plant) (c : Control S) (x : S) (ws : List ℕ) (acts 
 
 -- ---- what is left fits again
 pub fits-left : (p : Plant) (action : ℕ → Run.Action) (l : Lent) (ws : List ℕ) (vs : List ℤ) (ms : List ℕ) → Ready p action l ws vs ms → (e : Event) {vs' : List ℤ} {ms' : List ℕ} {r : Verdict} → Left (judge edition1 p action (members ws) vs ms e) vs ms r vs' ms' → Fits p vs' ms'
-unfolding valuesLeft modesLeft
-fits-left p action l ws vs ms q e {vs'} {ms'} g = go (judge edition1 p action (members ws) vs ms e) refl (g .values) (g .modes)
+fits-left p action l ws vs ms q e {vs'} {ms'} {r} g = go r refl
   where
-    go : (v : Run.Verdict Done) → judge edition1 p action (members ws) vs ms e ≡ v → vs' ≡ valuesLeft vs v → ms' ≡ modesLeft ms v → Fits p vs' ms'
-    go (away n) h a b = rw (a, b) (q .fits)
-    go (faulty s) h a b = rw (a, b) (q .fits)
-    go (pass d) h a b = rw (a, b) (fits-kept p action l ws vs ms q e d h)
+    kept : {v : Run.Verdict Done} → Untaken (judge edition1 p action (members ws) vs ms e) v vs ms vs' ms' → Fits p vs' ms'
+    kept u = rw (u .values, u .modes) (q .fits)
+
+    go : (v : Verdict) → r ≡ v → Fits p vs' ms'
+    go (Away n) h = kept (heard-away _ vs ms vs' ms' g h)
+    go Above h = kept (heard-above _ vs ms vs' ms' g h)
+    go Below h = kept (heard-below _ vs ms vs' ms' g h)
+    go Stay h = fits-kept p action l ws vs ms q e _ (heard-stay _ vs ms vs' ms' g h)
+    go (Move n b) h = fits-kept p action l ws vs ms q e _ (heard-move _ vs ms vs' ms' g h)

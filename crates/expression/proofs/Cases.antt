@@ -6,6 +6,7 @@ use Prim.Native.Nat.{ℕ}
 use lib.IntN.{ℤ}
 use types.Run.{OneOf, miss}
 use denote.Enum.Declared.{tagOf}
+use Rattle.semantics.specs.Expressions.{Connective}
 use Rattle.expression.specs.Evaluation.{of-two, joined, negated, opposed}
 use Rattle.expression.specs.declared.Found.{Found}
 use Rattle.expression.specs.declared.Found.the-variants.{ANumber, NumberFault, ATruth, TruthFault, Broken}
@@ -68,7 +69,7 @@ off-opposed _ number-found = refl
 off-opposed _ number-fault = refl
 off-opposed _ no-truth = refl
 
-module _ (c : ℕ) where
+module _ (c : Connective) where
   pub off-joined : (l r : Found) → NotTruth l → Broken ≡ joined c l r
   off-joined _ r number-found = refl
   off-joined _ r number-fault = refl

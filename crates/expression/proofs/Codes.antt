@@ -1,31 +1,97 @@
 -- The form that a code stands for, by the arms of the match over the codes.
-use mathlib.Core.Path.{_≡_, refl}
+use mathlib.Core.Path.{_≡_, refl, subst}
 use Prim.Native.Nat.{ℕ, _≤_, _<_}
 use native.Mathlib.Omega.{arith}
 use lib.Dec.{eqb}
 use borrow.Author.Tests.{eqb-true, eqb-false, ne-eqb}
-use Rattle.semantics.specs.Expressions.{Form, an-operation, a-comparison, a-connective, unknown, formOf}
+use Rattle.semantics.specs.Expressions.{Operation, sum, difference, product, Comparison, at-most, less, equal, unequal, Connective, both, either, a-constant, a-variable, unknown, formOf, operationCode, comparisonCode, connectiveCode}
 use Rattle.semantics.proofs.Facts.{by-cases}
-use Rattle.expression.specs.Evaluation.{operationOf, comparisonOf, connectiveOf}
+use Rattle.semantics.proofs.ExpressionBytes.{Stands, form-stands}
 
--- a law of the codes that follow, from the law of each
-step : (g : ℕ → Form) (c k : ℕ) → formOf k ≡ g k → ((c ≡ k → ⊥) → formOf c ≡ g c) → formOf c ≡ g c
-step g c k h r = by-cases (eqb c k) (λ e. rw (eqb-true c k e) h) (λ e. r (eqb-false c k e))
+-- the code of an operation, comparison or connective, by the range that its arm takes
+pub an-operation-code : (c : ℕ) → 0x10 ≤ c → c < 0x13 → (o : Operation) × (c ≡ operationCode o)
+unfolding operationCode
+an-operation-code c l h =
+    by-cases (eqb c 0x10) (λ e. (sum, eqb-true c 0x10 e)) (λ e.
+    by-cases (eqb c 0x11) (λ f. (difference, eqb-true c 0x11 f)) (λ f.
+    (product, omega (arith, eqb-false c 0x10 e, eqb-false c 0x11 f))))
 
-last : (g : ℕ → Form) (c k : ℕ) → formOf k ≡ g k → c ≡ k → formOf c ≡ g c
-last g c k h e = rw e h
+pub a-comparison-code : (c : ℕ) → 0x20 ≤ c → c < 0x24 → (o : Comparison) × (c ≡ comparisonCode o)
+unfolding comparisonCode
+a-comparison-code c l h =
+    by-cases (eqb c 0x20) (λ e. (at-most, eqb-true c 0x20 e)) (λ e.
+    by-cases (eqb c 0x21) (λ f. (less, eqb-true c 0x21 f)) (λ f.
+    by-cases (eqb c 0x22) (λ g. (equal, eqb-true c 0x22 g)) (λ g.
+    (unequal, omega (arith, eqb-false c 0x20 e, eqb-false c 0x21 f, eqb-false c 0x22 g)))))
 
-pub form-operation : (c : ℕ) → 16 ≤ c → c < 19 → formOf c ≡ an-operation (operationOf c)
-unfolding formOf
-form-operation c l h = step (λ c. an-operation (operationOf c)) c 16 refl λ i. step (λ c. an-operation (operationOf c)) c 17 refl λ j. last (λ c. an-operation (operationOf c)) c 18 refl (omega arith)
+pub a-connective-code : (c : ℕ) → 0x28 ≤ c → c < 0x2a → (o : Connective) × (c ≡ connectiveCode o)
+unfolding connectiveCode
+a-connective-code c l h = by-cases (eqb c 0x28) (λ e. (both, eqb-true c 0x28 e)) (λ e. (either, omega (arith, eqb-false c 0x28 e)))
 
-pub form-comparison : (c : ℕ) → 32 ≤ c → c < 36 → formOf c ≡ a-comparison (comparisonOf c)
-unfolding formOf
-form-comparison c l h = step (λ c. a-comparison (comparisonOf c)) c 32 refl λ i. step (λ c. a-comparison (comparisonOf c)) c 33 refl λ j. step (λ c. a-comparison (comparisonOf c)) c 34 refl λ k. last (λ c. a-comparison (comparisonOf c)) c 35 refl (omega arith)
+-- the one that a code stands for, by the arms of a match
+module _ {c : ℕ} where
+  pub is-sum : c ≡ 0x10 → (o : Operation) → c ≡ operationCode o → o ≡ sum
+  unfolding operationCode
+  is-sum h sum e = refl
+  is-sum h difference e = absurd (omega arith)
+  is-sum h product e = absurd (omega arith)
 
-pub form-connective : (c : ℕ) → 40 ≤ c → c < 42 → formOf c ≡ a-connective (connectiveOf c)
-unfolding formOf
-form-connective c l h = step (λ c. a-connective (connectiveOf c)) c 40 refl λ i. last (λ c. a-connective (connectiveOf c)) c 41 refl (omega arith)
+  pub is-difference : c ≡ 0x11 → (o : Operation) → c ≡ operationCode o → o ≡ difference
+  unfolding operationCode
+  is-difference h sum e = absurd (omega arith)
+  is-difference h difference e = refl
+  is-difference h product e = absurd (omega arith)
+
+  pub is-product : (c ≡ 0x10 → ⊥) → (c ≡ 0x11 → ⊥) → (o : Operation) → c ≡ operationCode o → o ≡ product
+  unfolding operationCode
+  is-product h i sum e = absurd (h e)
+  is-product h i difference e = absurd (i e)
+  is-product h i product e = refl
+
+  pub is-at-most : c ≡ 0x20 → (o : Comparison) → c ≡ comparisonCode o → o ≡ at-most
+  unfolding comparisonCode
+  is-at-most h at-most e = refl
+  is-at-most h less e = absurd (omega arith)
+  is-at-most h equal e = absurd (omega arith)
+  is-at-most h unequal e = absurd (omega arith)
+
+  pub is-less : c ≡ 0x21 → (o : Comparison) → c ≡ comparisonCode o → o ≡ less
+  unfolding comparisonCode
+  is-less h at-most e = absurd (omega arith)
+  is-less h less e = refl
+  is-less h equal e = absurd (omega arith)
+  is-less h unequal e = absurd (omega arith)
+
+  pub is-equal : c ≡ 0x22 → (o : Comparison) → c ≡ comparisonCode o → o ≡ equal
+  unfolding comparisonCode
+  is-equal h at-most e = absurd (omega arith)
+  is-equal h less e = absurd (omega arith)
+  is-equal h equal e = refl
+  is-equal h unequal e = absurd (omega arith)
+
+  pub is-unequal : (c ≡ 0x20 → ⊥) → (c ≡ 0x21 → ⊥) → (c ≡ 0x22 → ⊥) → (o : Comparison) → c ≡ comparisonCode o → o ≡ unequal
+  unfolding comparisonCode
+  is-unequal h i j at-most e = absurd (h e)
+  is-unequal h i j less e = absurd (i e)
+  is-unequal h i j equal e = absurd (j e)
+  is-unequal h i j unequal e = refl
+
+  pub is-both : c ≡ 0x28 → (o : Connective) → c ≡ connectiveCode o → o ≡ both
+  unfolding connectiveCode
+  is-both h both e = refl
+  is-both h either e = absurd (omega arith)
+
+  pub is-either : (c ≡ 0x28 → ⊥) → (o : Connective) → c ≡ connectiveCode o → o ≡ either
+  unfolding connectiveCode
+  is-either h both e = absurd (h e)
+  is-either h either e = refl
+
+-- a code that is not a form's
+pub no-constant : {c : ℕ} → (c ≡ 0x01 → ⊥) → formOf c ≡ a-constant → ⊥
+no-constant {c} h e = h (subst (Stands c) e (form-stands c))
+
+pub no-variable : {c : ℕ} → (c ≡ 0x02 → ⊥) → formOf c ≡ a-variable → ⊥
+no-variable {c} h e = h (subst (Stands c) e (form-stands c))
 
 -- a code of no arm
 pub form-unknown : (c : ℕ) → (c ≡ 1 → ⊥) → (c ≡ 2 → ⊥) → (c ≡ 20 → ⊥) → (c ≡ 42 → ⊥) → (c ≡ 47 → ⊥) →

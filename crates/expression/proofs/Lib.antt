@@ -1,6 +1,7 @@
 mod Cases
 mod Codes
 mod Ends
+mod Leaves
 mod PaperNumbers
 mod Steps
 mod TwoLeaves

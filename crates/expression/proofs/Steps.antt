@@ -13,13 +13,13 @@ use lib.Seq.{drop-cons, getD-drop, drop-drop}
 use borrow.Author.Tests.{leb-true, leb-false, ltb-true, ltb-false}
 use Rattle.semantics.specs.Bytes.{be4, signed, Read, broken, read, Reader, _>>=_, andThen, give, fail, guard, from, byte, nat4, int4}
 use Rattle.semantics.specs.Editions.{edition1}
-use Rattle.semantics.specs.Expressions.{Value, ok, fault, result, thenValue, operands, Operation, Comparison, applied, compared, connected, Number, constant, variable, operate, negation, Truth, compare, connect, opposite, valueOf, holds, Form, a-constant, a-variable, an-operation, a-negation, a-comparison, a-connective, an-opposite, a-true, unknown, formOf, Expression, a-number, a-truth, toNumber, toTruth, readVariableNumber, readNumber, readTruth, readForm, readExpression}
+use Rattle.semantics.specs.Expressions.{Value, ok, fault, result, thenValue, operands, Operation, Comparison, Connective, applied, compared, connected, Number, constant, variable, operate, negation, Truth, compare, connect, opposite, valueOf, holds, Form, a-constant, a-variable, an-operation, a-negation, a-comparison, a-connective, an-opposite, a-true, unknown, formOf, operationCode, comparisonCode, connectiveCode, Expression, a-number, a-truth, toNumber, toTruth, readVariableNumber, readNumber, readTruth, readForm, readExpression}
 use Rattle.semantics.proofs.Facts.{by-cases}
-use Rattle.expression.specs.Evaluation.{numberAt, truthAt, foundIn, found, nextOf, operationOf, comparisonOf, connectiveOf, wordAt, constantAt, variableAt, of-two, operated, related, joined, negated, opposed}
+use Rattle.semantics.proofs.ExpressionBytes.{operation-form, comparison-form, connective-form}
+use Rattle.expression.specs.Evaluation.{numberAt, truthAt, foundIn, found, nextOf, wordAt, constantAt, variableAt, of-two, operated, related, joined, negated, opposed}
 use Rattle.expression.specs.declared.Found.{Found}
 use Rattle.expression.specs.declared.Found.the-variants.{NumberFault, ATruth, TruthFault, Broken}
 use Rattle.expression.proofs.Ends.{Ends, nothing, at-end, ends}
-use Rattle.expression.proofs.Codes.{form-operation, form-comparison, form-connective}
 
 -- ---- bytes at a position
 byte-at : (s : List ℕ) (p : ℕ) → p < length s → byte (drop p s) ≡ read (getD s p 0) (drop (p + 1) s)
@@ -68,7 +68,7 @@ truth-next n (fault u) = refl
 
 -- ---- the forms without operands, at the position after their code
 module _ (vs : List ℤ) (s : List ℕ) (R : Reader Expression) where
-  abbrev form-at : Form → ℕ → Found
+  abbrev pub form-at : Form → ℕ → Found
   form-at f p = foundIn vs (length s) (readForm edition1 (length vs) R f (drop p s))
 
   constant-is : (p : ℕ) → constantAt s p ≡ form-at a-constant p
@@ -130,7 +130,7 @@ module _ (k : ℤ → ℤ → ℕ → Found) (f : Bool → ℕ → Found) where
     two-numbers (read (a-truth a) t) (at-end e) = wrong-left (length s - length t) (holds vs a) _
 
 -- ---- two truths
-module _ (c : ℕ) where
+module _ (c : Connective) where
   wrong-right-truth : (m n : ℕ) (v : Value Bool) (w : Value ℤ) → Broken ≡ joined c (truthAt m v) (numberAt n w)
   wrong-right-truth m n (ok b) (ok z) = refl
   wrong-right-truth m n (ok b) (fault u) = refl
@@ -145,7 +145,7 @@ module _ (c : ℕ) where
   wrong-left-truth m (ok z) r = refl
   wrong-left-truth m (fault u) r = refl
 
-  good-joined : (m n : ℕ) (v w : Value Bool) → truthAt n (operands (connected (connectiveOf c)) v w) ≡ joined c (truthAt m v) (truthAt n w)
+  good-joined : (m n : ℕ) (v w : Value Bool) → truthAt n (operands (connected c) v w) ≡ joined c (truthAt m v) (truthAt n w)
   unfolding operands
   good-joined m n (ok a) (ok b) = refl
   good-joined m n (ok a) (fault t) = refl
@@ -154,14 +154,14 @@ module _ (c : ℕ) where
 
   module _ (vs : List ℤ) (s : List ℕ) (R : Reader Expression) where
     second-truth : (a : Truth) (m : ℕ) (E : Read Expression) →
-        foundIn vs (length s) (andThen (andThen E (λ e. from (toTruth e))) (λ b. give (a-truth (connect (connectiveOf c) a b)))) ≡ joined c (truthAt m (holds vs a)) (foundIn vs (length s) E)
+        foundIn vs (length s) (andThen (andThen E (λ e. from (toTruth e))) (λ b. give (a-truth (connect c a b)))) ≡ joined c (truthAt m (holds vs a)) (foundIn vs (length s) E)
     unfolding foundIn andThen from give fail toTruth holds
     second-truth a m broken = no-right-truth m (holds vs a)
     second-truth a m (read (a-number b) t) = wrong-right-truth m (length s - length t) (holds vs a) (valueOf vs b)
     second-truth a m (read (a-truth b) t) = good-joined m (length s - length t) (holds vs a) (holds vs b)
 
     two-truths : (D : Read Expression) → Ends s D →
-        foundIn vs (length s) (andThen (andThen D (λ e. from (toTruth e))) (λ a. readTruth edition1 (length vs) R >>= λ b. give (a-truth (connect (connectiveOf c) a b))))
+        foundIn vs (length s) (andThen (andThen D (λ e. from (toTruth e))) (λ a. readTruth edition1 (length vs) R >>= λ b. give (a-truth (connect c a b))))
         ≡ joined c (foundIn vs (length s) D) (foundIn vs (length s) (R (drop (nextOf (foundIn vs (length s) D)) s)))
     unfolding foundIn andThen from give fail toTruth readTruth _>>=_
     two-truths broken nothing = refl
@@ -238,7 +238,7 @@ module _ (vs : List ℤ) (s : List ℕ) (at d : ℕ) (deep : d ≡ 0 → ⊥) wh
   past h = sym (ap (λ r. foundIn vs (length s) (r (drop at s))) unroll ∙ ap (λ o. foundIn vs (length s) (andThen o (λ c. readForm edition1 (length vs) R (formOf c)))) (byte-past s at h))
 
   module _ (here : at < length s) where
-    by-form : (f : Form) → formOf (getD s at 0) ≡ f → form-at vs s R f (at + 1) ≡ found vs s at d
+    pub by-form : (f : Form) → formOf (getD s at 0) ≡ f → form-at vs s R f (at + 1) ≡ found vs s at d
     unfolding _>>=_ andThen
     by-form f e = sym (
         ap (λ r. foundIn vs (length s) (r (drop at s))) unroll
@@ -253,13 +253,11 @@ module _ (vs : List ℤ) (s : List ℕ) (at d : ℕ) (deep : d ≡ 0 → ⊥) wh
     unfolding foundIn readForm give holds formOf
     step-true e = ap (λ n. ATruth true n) (sym (after-at s (at + 1) (omega arith))) ∙ by-form a-true (ap formOf e)
 
-    pub step-constant : getD s at 0 ≡ 0x01 → constantAt s (at + 1) ≡ found vs s at d
-    unfolding formOf
-    step-constant e = constant-is vs s R (at + 1) ∙ by-form a-constant (ap formOf e)
+    pub step-constant : formOf (getD s at 0) ≡ a-constant → constantAt s (at + 1) ≡ found vs s at d
+    step-constant e = constant-is vs s R (at + 1) ∙ by-form a-constant e
 
-    pub step-variable : getD s at 0 ≡ 0x02 → variableAt vs s (at + 1) ≡ found vs s at d
-    unfolding formOf
-    step-variable e = variable-is vs s R (at + 1) ∙ by-form a-variable (ap formOf e)
+    pub step-variable : formOf (getD s at 0) ≡ a-variable → variableAt vs s (at + 1) ≡ found vs s at d
+    step-variable e = variable-is vs s R (at + 1) ∙ by-form a-variable e
 
     module _ (x l : Found) (l-is : l ≡ found vs s (at + 1) (d - 1)) where
       pub step-negation : getD s at 0 ≡ 0x14 → x ≡ negated l → x ≡ found vs s at d
@@ -274,23 +272,23 @@ module _ (vs : List ℤ) (s : List ℕ) (at d : ℕ) (deep : d ≡ 0 → ⊥) wh
         right-is : r ≡ found vs s (nextOf (found vs s (at + 1) (d - 1))) (d - 1)
         right-is = r-is ∙ ap (λ m. found vs s m (d - 1)) (n-is ∙ ap nextOf l-is)
 
-        pub step-operation : 0x10 ≤ getD s at 0 → getD s at 0 < 0x13 → x ≡ operated (getD s at 0) l r → x ≡ found vs s at d
+        pub step-operation : (o : Operation) → getD s at 0 ≡ operationCode o → x ≡ operated o l r → x ≡ found vs s at d
         unfolding readForm readNumber _>>=_ foundIn valueOf
-        step-operation lo hi q =
-            q ∙ ap₂ (operated (getD s at 0)) l-is right-is
-            ∙ sym (two-numbers _ _ vs s R (λ a b. a-number (operate (operationOf (getD s at 0)) a b)) (λ a b m t. good-operated (operationOf (getD s at 0)) m (length s - length t) (valueOf vs a) (valueOf vs b)) (R (drop (at + 1) s)) (ends edition1 (length vs) (d - 1) s (at + 1)))
-            ∙ by-form (an-operation (operationOf (getD s at 0))) (form-operation (getD s at 0) lo hi)
+        step-operation o e q =
+            q ∙ ap₂ (operated o) l-is right-is
+            ∙ sym (two-numbers _ _ vs s R (λ a b. a-number (operate o a b)) (λ a b m t. good-operated o m (length s - length t) (valueOf vs a) (valueOf vs b)) (R (drop (at + 1) s)) (ends edition1 (length vs) (d - 1) s (at + 1)))
+            ∙ by-form (an-operation o) (ap formOf e ∙ operation-form o)
 
-        pub step-comparison : 0x20 ≤ getD s at 0 → getD s at 0 < 0x24 → x ≡ related (getD s at 0) l r → x ≡ found vs s at d
+        pub step-comparison : (o : Comparison) → getD s at 0 ≡ comparisonCode o → x ≡ related o l r → x ≡ found vs s at d
         unfolding readForm readNumber _>>=_ foundIn holds
-        step-comparison lo hi q =
-            q ∙ ap₂ (related (getD s at 0)) l-is right-is
-            ∙ sym (two-numbers _ _ vs s R (λ a b. a-truth (compare (comparisonOf (getD s at 0)) a b)) (λ a b m t. good-related (comparisonOf (getD s at 0)) m (length s - length t) (valueOf vs a) (valueOf vs b)) (R (drop (at + 1) s)) (ends edition1 (length vs) (d - 1) s (at + 1)))
-            ∙ by-form (a-comparison (comparisonOf (getD s at 0))) (form-comparison (getD s at 0) lo hi)
+        step-comparison o e q =
+            q ∙ ap₂ (related o) l-is right-is
+            ∙ sym (two-numbers _ _ vs s R (λ a b. a-truth (compare o a b)) (λ a b m t. good-related o m (length s - length t) (valueOf vs a) (valueOf vs b)) (R (drop (at + 1) s)) (ends edition1 (length vs) (d - 1) s (at + 1)))
+            ∙ by-form (a-comparison o) (ap formOf e ∙ comparison-form o)
 
-        pub step-connective : 0x28 ≤ getD s at 0 → getD s at 0 < 0x2a → x ≡ joined (getD s at 0) l r → x ≡ found vs s at d
+        pub step-connective : (o : Connective) → getD s at 0 ≡ connectiveCode o → x ≡ joined o l r → x ≡ found vs s at d
         unfolding readForm readTruth _>>=_
-        step-connective lo hi q =
-            q ∙ ap₂ (joined (getD s at 0)) l-is right-is
-            ∙ sym (two-truths (getD s at 0) vs s R (R (drop (at + 1) s)) (ends edition1 (length vs) (d - 1) s (at + 1)))
-            ∙ by-form (a-connective (connectiveOf (getD s at 0))) (form-connective (getD s at 0) lo hi)
+        step-connective o e q =
+            q ∙ ap₂ (joined o) l-is right-is
+            ∙ sym (two-truths o vs s R (R (drop (at + 1) s)) (ends edition1 (length vs) (d - 1) s (at + 1)))
+            ∙ by-form (a-connective o) (ap formOf e ∙ connective-form o)

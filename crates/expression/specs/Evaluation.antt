@@ -4,12 +4,12 @@ use mathlib.Core.List.{List}
 use mathlib.Core.Bool.{Bool, true, false, not, cond, _&&_}
 use Prim.Native.Nat.{ℕ, _+_, _-_}
 use lib.ListN.{length, drop, getD}
-use lib.Dec.{ltb, leb, eqb}
+use lib.Dec.{ltb, leb}
 use lib.IntN.{ℤ, pos, negℤ}
 use Rattle.semantics.specs.Bytes.{be4, signed, Read, broken, read}
 use Rattle.semantics.specs.Editions.{edition1}
 use Rattle.semantics.specs.Expressions.{Side, above, below, Value, ok, fault, result, valueOf, holds, Expression, a-number, a-truth, readExpression}
-use Rattle.semantics.specs.Expressions.{Operation, sum, difference, product, Comparison, at-most, less, equal, unequal, Connective, both, either, applied, compared, connected}
+use Rattle.semantics.specs.Expressions.{Operation, Comparison, Connective, applied, compared, connected}
 use Rattle.expression.specs.PaperNumbers.{expressionNumber, paperFound}
 use Rattle.expression.specs.declared.Found.{Found}
 use Rattle.expression.specs.declared.Found.the-variants.{ANumber, NumberFault, ATruth, TruthFault, Broken}
@@ -54,16 +54,6 @@ nextOf (ATruth b n) = n
 nextOf (TruthFault u n) = n
 nextOf Broken = 0xffff_ffff_ffff_ffff
 
--- ---- the codes that one arm takes
-abbrev pub operationOf : ℕ → Operation
-operationOf c = cond (eqb c 0x10) sum (cond (eqb c 0x11) difference product)
-
-abbrev pub comparisonOf : ℕ → Comparison
-comparisonOf c = cond (eqb c 0x20) at-most (cond (eqb c 0x21) less (cond (eqb c 0x22) equal unequal))
-
-abbrev pub connectiveOf : ℕ → Connective
-connectiveOf c = cond (eqb c 0x28) both either
-
 -- ---- the forms without operands, at the position after their code
 abbrev pub wordAt : List ℕ → ℕ → ℕ
 wordAt s p = be4 (getD s p 0) (getD s (p + 1) 0) (getD s (p + 2) 0) (getD s (p + 3) 0)
@@ -75,10 +65,16 @@ abbrev pub variableAt : List ℤ → List ℕ → ℕ → Found
 variableAt vs s p =
     cond (ltb p (length s) && ltb (getD s p 0) (length vs)) (numberAt (p + 1) (result (getD vs (getD s p 0) (pos 0)))) Broken
 
--- a constant or a variable at the position of its code
+-- a constant or a variable at the position of its code: a number of depth 1
+abbrev pub numberFound : Found → Found
+numberFound (ANumber z n) = ANumber z n
+numberFound (NumberFault u n) = NumberFault u n
+numberFound (ATruth b n) = Broken
+numberFound (TruthFault u n) = Broken
+numberFound Broken = Broken
+
 abbrev pub leafAt : List ℤ → List ℕ → ℕ → Found
-leafAt vs s p =
-    cond (ltb p (length s)) (cond (eqb (getD s p 0) 0x01) (constantAt s (p + 1)) (cond (eqb (getD s p 0) 0x02) (variableAt vs s (p + 1)) Broken)) Broken
+leafAt vs s p = numberFound (found vs s p 1)
 
 -- ---- the forms, from what their operands gave; the left operand's fault comes first
 -- two numbers, with what is made of them
@@ -97,14 +93,14 @@ of-two k f (ATruth a m) r = Broken
 of-two k f (TruthFault u m) r = Broken
 of-two k f Broken r = Broken
 
-abbrev pub operated : ℕ → Found → Found → Found
-operated c l r = of-two (λ a b n. numberAt n (result (applied (operationOf c) a b))) NumberFault l r
+abbrev pub operated : Operation → Found → Found → Found
+operated o l r = of-two (λ a b n. numberAt n (result (applied o a b))) NumberFault l r
 
-abbrev pub related : ℕ → Found → Found → Found
-related c l r = of-two (λ a b n. ATruth (compared (comparisonOf c) a b) n) TruthFault l r
+abbrev pub related : Comparison → Found → Found → Found
+related c l r = of-two (λ a b n. ATruth (compared c a b) n) TruthFault l r
 
-abbrev pub joined : ℕ → Found → Found → Found
-joined c (ATruth a m) (ATruth b n) = ATruth (connected (connectiveOf c) a b) n
+abbrev pub joined : Connective → Found → Found → Found
+joined c (ATruth a m) (ATruth b n) = ATruth (connected c a b) n
 joined c (ATruth a m) (TruthFault v n) = TruthFault v n
 joined c (ATruth a m) (ANumber b n) = Broken
 joined c (ATruth a m) (NumberFault v n) = Broken

@@ -5,10 +5,11 @@ ghost use lib.ListN.{length, drop};
 ghost use lib.IntN.{negℤ};
 ghost use Rattle.semantics.specs.Bytes.{be4, signed as signedOf, isSome};
 ghost use Rattle.semantics.specs.Editions.{edition1};
-ghost use Rattle.semantics.specs.Expressions.{ok, fault, applied, compared, connected, result, readExpression, numberIn, truthIn};
+ghost use Rattle.semantics.specs.Expressions.{Operation, Comparison, Connective, ok, fault, applied, compared, connected, result};
+ghost use Rattle.semantics.specs.Expressions.{operationCode, comparisonCode, connectiveCode, readExpression, numberIn, truthIn};
 ghost use Rattle.expression.specs.Answers.{numberOf, truthOf, truthAnswer, NumberSays, TruthSays};
 ghost use Rattle.expression.specs.Evaluation.{sideOf, found, FoundSays, wordAt, numberAt, nextOf, constantAt, variableAt, leafAt};
-ghost use Rattle.expression.specs.Evaluation.{operationOf, comparisonOf, connectiveOf, operated, related, joined, negated, opposed};
+ghost use Rattle.expression.specs.Evaluation.{operated, related, joined, negated, opposed};
 
 // A number's value, or the side on which a result lies outside its range; malformed where condition 12 turns the bytes away.
 pub enum Number {
@@ -285,7 +286,7 @@ fn next_of(f: Found) -> usize
 
 // The forms, from what their operands gave.
 fn operate(code: u8, l: Found, r: Found) -> Found
-    ensures { λ x. ⌜ x ≡ operated code l r ⌝ }
+    ensures { λ x. ⌜ ((o : Operation) → code ≡ operationCode o → x ≡ operated o l r) ⌝ }
 {
     match l {
         Found::ANumber(a, _) => match r {
@@ -303,7 +304,7 @@ fn operate(code: u8, l: Found, r: Found) -> Found
 }
 
 fn relate(code: u8, l: Found, r: Found) -> Found
-    ensures { λ x. ⌜ x ≡ related code l r ⌝ }
+    ensures { λ x. ⌜ ((o : Comparison) → code ≡ comparisonCode o → x ≡ related o l r) ⌝ }
 {
     match l {
         Found::ANumber(a, _) => match r {
@@ -321,7 +322,7 @@ fn relate(code: u8, l: Found, r: Found) -> Found
 }
 
 fn join(code: u8, l: Found, r: Found) -> Found
-    ensures { λ x. ⌜ x ≡ joined code l r ⌝ }
+    ensures { λ x. ⌜ ((o : Connective) → code ≡ connectiveCode o → x ≡ joined o l r) ⌝ }
 {
     match l {
         Found::ATruth(a, _) => match r {
@@ -360,7 +361,7 @@ fn oppose(f: Found) -> Found
 
 // The operations on values. A result is worked out in 64 bits and must lie in 32.
 fn arithmetic(code: u8, a: i32, b: i32, next: usize) -> Found
-    ensures { λ r. ⌜ r ≡ numberAt next (result (applied (operationOf code) a b)) ⌝ }
+    ensures { λ r. ⌜ ((o : Operation) → code ≡ operationCode o → r ≡ numberAt next (result (applied o a b))) ⌝ }
 {
     let x = a as i64;
     let y = b as i64;
@@ -390,7 +391,7 @@ fn ranged(x: i64, next: usize) -> Found
 }
 
 fn comparison(code: u8, a: i32, b: i32) -> bool
-    ensures { λ r. ⌜ r ≡ compared (comparisonOf code) a b ⌝ }
+    ensures { λ r. ⌜ ((o : Comparison) → code ≡ comparisonCode o → r ≡ compared o a b) ⌝ }
 {
     match code {
         0x20 => a <= b,
@@ -401,7 +402,7 @@ fn comparison(code: u8, a: i32, b: i32) -> bool
 }
 
 fn connective(code: u8, a: bool, b: bool) -> bool
-    ensures { λ r. ⌜ r ≡ connected (connectiveOf code) a b ⌝ }
+    ensures { λ r. ⌜ ((o : Connective) → code ≡ connectiveCode o → r ≡ connected o a b) ⌝ }
 {
     match code {
         0x28 => a & b,

@@ -13,8 +13,8 @@ use Rattle.semantics.specs.Sections.{Switch, Mode, readSwitch}
 use Rattle.semantics.specs.Run.{pass, _>>=_, _>>_, allow, find, valued, nobody, judgeSwitch}
 use Rattle.semantics.proofs.Facts.{true-not-false, at-exists}
 use Rattle.codec.proofs.Known.{times-length, past-end}
-use Rattle.effects.specs.Verdicts.{goesOn, truthVerdict, movedVerdict, eventVerdict, valuesLeft, modesLeft, Left}
-use Rattle.effects.proofs.PaperNumbers.{left-by}
+use Rattle.effects.specs.Verdicts.{goesOn, truthVerdict, Left}
+use Rattle.effects.proofs.PaperNumbers.{left-away, left-above, left-below, left-stay}
 use Rattle.modes.specs.Modes.{modeAt, Stands, Asked, modesFrom, placeAt}
 use Rattle.effects.specs.declared.Verdict.{Verdict}
 use Rattle.effects.specs.declared.Verdict.the-variants.{Away, Stay}
@@ -54,31 +54,31 @@ module _ (es places ms : List ℕ) (s : ℕ) where
 -- ---- what it does
 module _ (modes : List Mode) (vs : List ℤ) (ms : List ℕ) (s k : ℕ) where
   pub no-selector-left : getElem? modes s ≡ none → Left (judgeSwitch edition1 modes vs ms s k) vs ms (Away 26) vs ms
-  unfolding judgeSwitch find _>>=_ eventVerdict valuesLeft modesLeft
-  no-selector-left e = rw e (left-by refl refl refl)
+  unfolding judgeSwitch find _>>=_
+  no-selector-left e = rw e (left-away refl refl)
 
   module _ (m : Mode) (e : getElem? modes s ≡ some m) where
     pub no-switch-left : getElem? (m .switches) k ≡ none → Left (judgeSwitch edition1 modes vs ms s k) vs ms (Away 26) vs ms
-    unfolding judgeSwitch find _>>=_ eventVerdict valuesLeft modesLeft
-    no-switch-left f = rw (e, f) (left-by refl refl refl)
+    unfolding judgeSwitch find _>>=_
+    no-switch-left f = rw (e, f) (left-away refl refl)
 
     module _ (w : Switch) (f : getElem? (m .switches) k ≡ some w) (r : Verdict) (g : r ≡ truthVerdict Stay (Away 30) (truthValue edition1 vs (w .truth))) where
       pub not-taken-left : goesOn r ≡ false → Left (judgeSwitch edition1 modes vs ms s k) vs ms r vs ms
-      unfolding judgeSwitch find _>>=_ _>>_ valued allow truthVerdict goesOn movedVerdict eventVerdict valuesLeft modesLeft
+      unfolding judgeSwitch find _>>=_ _>>_ valued allow truthVerdict goesOn
       not-taken-left h = rw (e, f) (go (truthValue edition1 vs (w .truth)) g)
         where
           go : (u : Value Bool) → r ≡ truthVerdict Stay (Away 30) u → Left (valued u >>= (λ b. allow 30 b >> pass (record { moved = nobody; values = vs; modes = set ms s (w .target) }))) vs ms r vs ms
           go (ok true) g = true-not-false (sym (ap goesOn g) ∙ h)
-          go (ok false) g = left-by g refl refl
-          go (fault above) g = left-by g refl refl
-          go (fault below) g = left-by g refl refl
+          go (ok false) g = left-away g refl
+          go (fault above) g = left-above g refl
+          go (fault below) g = left-below g refl
 
       pub taken-left : goesOn r ≡ true → {t : ℕ} → t ≡ w .target → Left (judgeSwitch edition1 modes vs ms s k) vs ms r vs (set ms s t)
-      unfolding judgeSwitch find _>>=_ _>>_ valued allow truthVerdict goesOn movedVerdict eventVerdict valuesLeft modesLeft
+      unfolding judgeSwitch find _>>=_ _>>_ valued allow truthVerdict goesOn
       taken-left h {t} q = rw (e, f) (go (truthValue edition1 vs (w .truth)) g)
         where
           go : (u : Value Bool) → r ≡ truthVerdict Stay (Away 30) u → Left (valued u >>= (λ b. allow 30 b >> pass (record { moved = nobody; values = vs; modes = set ms s (w .target) }))) vs ms r vs (set ms s t)
-          go (ok true) g = left-by g refl (ap (set ms s) q)
+          go (ok true) g = left-stay g (ap (λ (n : ℕ). pass (record { moved = nobody; values = vs; modes = set ms s n })) (sym q))
           go (ok false) g = true-not-false (sym h ∙ ap goesOn g)
           go (fault above) g = true-not-false (sym h ∙ ap goesOn g)
           go (fault below) g = true-not-false (sym h ∙ ap goesOn g)

@@ -6,14 +6,14 @@ use mathlib.Core.Option.{Option, none, some}
 use Prim.Native.Nat.{ℕ, _+_}
 use lib.IntN.{ℤ, pos}
 use lib.ListN.{length, drop, set, replicate}
-use Rattle.semantics.specs.Bytes.{Reader, broken, read}
-use Rattle.semantics.specs.Refusals.{Judged, refused, accepted}
+use Rattle.semantics.specs.Bytes.{Read, Reader, broken, read}
+use Rattle.semantics.specs.Refusals.{Judged, refused, accepted, refusalOf}
 use Rattle.semantics.specs.Sections.{Rate, Mode, Selector, Equation, steady, choice, readMode, equationsIn}
-use Rattle.semantics.specs.Plant.{selectorsOf, noMode, ratesOf, judgeEquations}
+use Rattle.semantics.specs.Plant.{selectorsOf, noMode, ratesOf, judgeNamed, judgeEquations}
 use Rattle.semantics.specs.Writing.{writeMode, writeEquation}
 use Rattle.codec.specs.Reading.{Reads}
 use Rattle.codec.specs.Padding.{pad}
-use Rattle.plant.specs.PaperNumbers.{paperStep, paperSeen, partNumber, wholeNumber}
+use Rattle.plant.specs.PaperNumbers.{paperStep, paperSeen}
 use Rattle.plant.specs.declared.equations.Equations.{Equations}
 use Rattle.plant.specs.declared.equations.Cases.{Cases}
 use Rattle.plant.specs.declared.equations.Step.{Step}
@@ -103,11 +103,16 @@ unfoldable pub seen : {A : Type 0} → (A → Bool) → Option A → Seen
 seen P none = Lost
 seen P (some a) = Kept (P a)
 
+-- what was read, whatever follows it
+unfoldable pub got : {A : Type 0} → Read A → Option A
+got broken = none
+got (read a s) = some a
+
 -- ---- their contracts: document 01's number is 6 where the layout is broken, 7 where a name is missing, 0 else
 pub record StepSays {A : Type 0} (r : Reader A) (P : A → Bool) (s : List ℕ) (p : ℕ) (w : Step) : Type 0 where
   pub reads : Reads r (Says P) s p (view w)
-  pub number : paperStep w ≡ partNumber P (r (drop p s))
+  pub number : paperStep w ≡ refusalOf (judgeNamed P (got (r (drop p s))))
 
 pub record SeenSays {A : Type 0} (P : A → Bool) (o : Option A) (w : Seen) : Type 0 where
   pub is : w ≡ seen P o
-  pub number : paperSeen w ≡ wholeNumber P o
+  pub number : paperSeen w ≡ refusalOf (judgeNamed P o)

@@ -47,7 +47,7 @@ unfolding Writing.nodeBytes Writing.writeNode Writing.writeNodes Writing.writeSe
 writing = tt
 
 unfoldable pub calls : Unit {0}
-unfolding Calls.scheduleCounts Calls.readSchedule Calls.sizeTold Calls.sizeCounts Calls.size Calls.ruleProgram Calls.ruleRun Calls.compiledInto Calls.compile
+unfolding Calls.scheduleCounts Calls.readSchedule Calls.tooMany Calls.cap Calls.sizeTold Calls.sizeCounts Calls.size Calls.ruleProgram Calls.ruleRun Calls.compiledInto Calls.compile
 calls = tt
 
 unfoldable pub sizes : Unit {0}

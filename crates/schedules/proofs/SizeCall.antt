@@ -18,7 +18,7 @@ use Rattle.semantics.specs.Conditions.{Firsts, refuses}
 use Rattle.schedules.specs.Residuals.{Residual, acting}
 use Rattle.schedules.specs.Files.{Schedule, judgeFile}
 use Rattle.schedules.specs.Compiling.{testsOf, scheduleLocations, entryOf, entriesOf, judgeCompile}
-use Rattle.schedules.specs.Calls.{scheduleCounts, readSchedule, Sized, sizeTold, sizeCounts, size, compiledInto, compile}
+use Rattle.schedules.specs.Calls.{scheduleCounts, readSchedule, Sized, tooMany, cap, sizeTold, sizeCounts, size, compiledInto, compile}
 use Rattle.schedules.specs.Conditions.{compileConditions}
 use Rattle.schedules.specs.Sizes.{Size, sizeOf}
 use Rattle.schedules.proofs.FirstNumber.{passed, compile-first}
@@ -29,11 +29,11 @@ use Rattle.schedules.proofs.Agreement.{first-not-0, never-0, compile-ta
 
 -- ---- what is told of a size
 pub told-exact : (a : Size) → leb (a .locations) locationLimit ≡ true → sizeTold a ≡ record { refusal = 0; locations = a .locations; entries = a .entries }
-unfolding sizeTold
+unfolding sizeTold cap tooMany
 told-exact a h = rw h refl
 
 pub told-over : (a : Size) → leb (a .locations) locationLimit ≡ false → sizeTold a ≡ record { refusal = 0; locations = 1025; entries = 0 }
-unfolding sizeTold
+unfolding sizeTold cap tooMany
 told-over a h = rw h refl
 
 told-0 : (a : Size) → (sizeTold a) .refusal ≡ 0

@@ -1,5 +1,5 @@
 -- The calls over a schedule file: all that each returns, and what a lent buffer holds afterwards, for all inputs.
-use mathlib.Core.Bool.{cond}
+use mathlib.Core.Bool.{Bool, cond}
 use mathlib.Core.List.{List}
 use Prim.Native.Nat.{ℕ, suc}
 use lib.Dec.{leb}
@@ -40,9 +40,16 @@ pub record Sized : Type 0 where
   pub locations : ℕ
   pub entries : ℕ
 
--- the exact numbers, or 1,025 and 0 where there are over 1,024 locations (13)
+-- 1,025 locations stand for any number above 1,024 (13), and their entries are then not counted
+unfoldable pub tooMany : Bool → Size
+tooMany f = record { locations = suc locationLimit; entries = 0; finishes = f }
+
+unfoldable pub cap : Size → Size
+cap a = cond (leb (a .locations) locationLimit) a (tooMany (a .finishes))
+
+-- the exact numbers, or 1,025 and 0 where there are over 1,024 locations
 unfoldable pub sizeTold : Size → Sized
-sizeTold a = cond (leb (a .locations) locationLimit) (record { refusal = 0; locations = a .locations; entries = a .entries }) (record { refusal = 0; locations = suc locationLimit; entries = 0 })
+sizeTold a = let b = cap a in record { refusal = 0; locations = b .locations; entries = b .entries }
 
 unfoldable pub sizeCounts : Judged Schedule → Sized
 sizeCounts (refused n) = record { refusal = n; locations = 0; entries = 0 }

@@ -13,12 +13,19 @@ use Rattle.schedules.specs.Files.{Schedule, judgeFile}
 use Rattle.schedules.specs.Compiling.{scheduleLocations}
 use Rattle.schedules.specs.Sizes.{sizeOf}
 
+-- for each location its entry count; for each entry its node, "target and target on false (2 bytes each)"
+abbrev pub rowsLength : Edition → ℕ → ℕ → ℕ
+rowsLength ed locations entries = locations + entries * (widthOf (ed .width) + 4)
+
 -- "Version 1, whole length (4 bytes)", four lengths of sections (2, 2, 2 and 4 bytes) and the number of locations (2 bytes);
--- two sections copied; the actions; for each location its entry count; for each entry its node, "target and target on false (2 bytes each)"
+-- variables and equations copied, the actions, the rows of the locations
+abbrev pub lengthAround : ℕ → ℕ → ℕ → ℕ → ℕ
+lengthAround variables equations actions rows = 17 + (variables + (equations + (actions + rows)))
+
 unfoldable pub tableLength : Edition → Schedule → ℕ
 tableLength ed s =
-    17 + (length (s .sections .variables) + (length (s .sections .equations) + (length (writeActions ed (actionsOf (s .nodes)))
-    + ((sizeOf (s .root)) .locations + (sizeOf (s .root)) .entries * (widthOf (ed .width) + 4)))))
+    let z = sizeOf (s .root) in
+    lengthAround (length (s .sections .variables)) (length (s .sections .equations)) (length (writeActions ed (actionsOf (s .nodes)))) (rowsLength ed (z .locations) (z .entries))
 
 -- the table of this file has the size of its tree
 pub record TableSized (ed : Edition) (file table : List ℕ) : Type 0 where

@@ -17,7 +17,7 @@ use Rattle.semantics.proofs.SignedBytes.{Bytes, reads-int4, int4-read}
 
 -- ---- codes
 -- the byte that stands for a form
-abbrev Stands : ℕ → Form → Type 0
+abbrev pub Stands : ℕ → Form → Type 0
 Stands c a-constant = c ≡ 0x01
 Stands c a-variable = c ≡ 0x02
 Stands c (an-operation o) = c ≡ operationCode o
@@ -32,7 +32,7 @@ Stands c unknown = Unit {0}
 code : (c k : ℕ) (f g : Form) → (c ≡ k → Stands c f) → Stands c g → Stands c (cond (eqb c k) f g)
 code c k f g h r = by-cases (eqb c k) (λ e. rw e (h (eqb-true c k e))) (λ e. rw e r)
 
-form-stands : (c : ℕ) → Stands c (formOf c)
+pub form-stands : (c : ℕ) → Stands c (formOf c)
 unfolding formOf operationCode comparisonCode connectiveCode
 form-stands c =
     code c 0x01 _ _ (λ e. e) (code c 0x02 _ _ (λ e. e)
@@ -43,20 +43,20 @@ form-stands c =
     (code c 0x28 _ _ (λ e. e) (code c 0x29 _ _ (λ e. e)
     (code c 0x2a _ _ (λ e. e) (code c 0x2f _ _ (λ e. e) tt)))))))))))))
 
-operation-form : (o : Operation) → formOf (operationCode o) ≡ an-operation o
+pub operation-form : (o : Operation) → formOf (operationCode o) ≡ an-operation o
 unfolding formOf operationCode
 operation-form sum = refl
 operation-form difference = refl
 operation-form product = refl
 
-comparison-form : (c : Comparison) → formOf (comparisonCode c) ≡ a-comparison c
+pub comparison-form : (c : Comparison) → formOf (comparisonCode c) ≡ a-comparison c
 unfolding formOf comparisonCode
 comparison-form at-most = refl
 comparison-form less = refl
 comparison-form equal = refl
 comparison-form unequal = refl
 
-connective-form : (c : Connective) → formOf (connectiveCode c) ≡ a-connective c
+pub connective-form : (c : Connective) → formOf (connectiveCode c) ≡ a-connective c
 unfolding formOf connectiveCode
 connective-form both = refl
 connective-form either = refl

@@ -137,7 +137,7 @@ pub is-listed : (x : NodeAction) {n : ℕ} {a : Action} → x .node ≡ n → x 
 is-listed x h k = rw (← h, ← k) refl
 
 module _ (locations : ℕ) where
-  goes-there : (t : ℕ) → goesOn locations t ≡ true → GoesOn locations t
+  pub goes-there : (t : ℕ) → goesOn locations t ≡ true → GoesOn locations t
   unfolding goesOn FINISHED
   goes-there t h = go (ltb t locations) refl h
     where

@@ -1,7 +1,7 @@
 -- Variables and equations together, here called the plant that a schedule drives: 4 to 8 and 12 of its two sections, its current switches, rates and ranges.
 use mathlib.Core.Bool.{Bool, true, false, not, _&&_}
 use mathlib.Core.List.{List, [], _∷_, _++_, map, flatMap}
-use mathlib.Core.Option.{none, some}
+use mathlib.Core.Option.{Option, none, some}
 use Prim.Native.Nat.{ℕ, suc}
 use lib.ListN.{length, getD, getElem?, set}
 use lib.Dec.{ltb, eqb}
@@ -95,12 +95,16 @@ judgeVariables ed section = do
   ensure 5 (every ordered vs)
   accepted vs
 
--- 6: "The equation section breaks its layout or a count.", then 7, of a plant with so many variables
+-- 6: "The equation section breaks its layout or a count.", then 7: of a part of the section that is read, or is not, and the test of its names
+abbrev pub judgeNamed : {A : Type 0} → (A → Bool) → Option A → Judged A
+judgeNamed named part = do
+  a ← need 6 part
+  ensure 7 (named a)
+  accepted a
+
+-- 6 and 7 of the section, in a plant with so many variables
 unfoldable pub judgeEquations : ℕ → List ℕ → Judged (List Equation)
-judgeEquations variables section = do
-  es ← need 6 (equationsIn section)
-  ensure 7 (every (equationNamed variables) es)
-  accepted es
+judgeEquations variables section = judgeNamed (every (equationNamed variables)) (equationsIn section)
 
 -- 4 to 8 of the two sections
 unfoldable pub judgePlant : Edition → List ℕ → List ℕ → Judged Plant

@@ -156,10 +156,12 @@ abbrev pub writeTableSections : TableSections → List ℕ
 writeTableSections x = inSection2 (x .variables) ++ (inSection2 (x .equations) ++ (inSection2 (x .actions) ++ inSection4 (x .locations)))
 
 module _ (ed : Edition) where
+  -- the length of node and bytes, the node, the bytes
+  abbrev pub writeRow : ℕ → List ℕ → List ℕ
+  writeRow n b = out (ed .width) (widthOf (ed .width) + length b) ++ (out (ed .width) n ++ b)
+
   unfoldable pub writeAction : NodeAction → List ℕ
-  writeAction a =
-      let b = actionBytes (a .action) in
-      out (ed .width) (widthOf (ed .width) + length b) ++ (out (ed .width) (a .node) ++ b)
+  writeAction a = writeRow (a .node) (actionBytes (a .action))
 
   unfoldable pub writeActions : List NodeAction → List ℕ
   writeActions l = out (ed .width) (length l) ++ flatMap writeAction l

@@ -2,10 +2,11 @@
 use mathlib.Core.Path.{_≡_, refl, sym, ap, subst, _∙_}
 use mathlib.Core.Bool.{Bool, true, false, cond}
 use mathlib.Core.List.{List, [], _∷_}
+use mathlib.Core.Logic.{inl, inr}
 use mathlib.Core.Option.{Option, none, some}
 use Prim.Native.Nat.{ℕ, zero, suc, _-_, _≤_, _<_}
 use native.Mathlib.Omega.{arith}
-use borrow.Author.Tests.{leb-true, ltb-true, eqb-true}
+use borrow.Author.Tests.{leb-true, eqb-true}
 use lib.Dec.{leb, ltb, eqb}
 use lib.ListN.{length, getD}
 use Rattle.semantics.specs.Bytes.{every}
@@ -13,10 +14,11 @@ use Rattle.semantics.specs.Editions.{edition1}
 use Rattle.semantics.specs.Refusals.{Judged, refused, accepted, refusalOf}
 use Rattle.semantics.specs.Plant.{Plant, judgePlant, switchesRead, selectors}
 use Rattle.semantics.specs.Run.{Action, test, wait, assign, switch, stop, isTest, possible}
-use Rattle.semantics.specs.TableFile.{NodeAction, Entry, FINISHED, HALTED, NONE, actionKind, actionOfKind, actionsIn, locationsIn}
+use Rattle.semantics.specs.TableFile.{NodeAction, Entry, HALTED, NONE, actionKind, actionOfKind, actionsIn, locationsIn}
 use Rattle.semantics.specs.Tables.{actionsFit, Table, risingFrom, operandFits, actionNodes, actionAt, goesOn, targetsFit, entryFits, entryNodes, locationFits, locationsFit, judgeTable, operandsFit, nodeExists, actionsNumbered}
 use Rattle.semantics.specs.Conditions.{Condition, First, here, further, Firsts, refuses, accepts, _if_, is15, is16, is17, is18, is19, tableConditions}
-use Rattle.semantics.proofs.Facts.{All, all-nil, all-cons, all-map, every-all, by-cases, true-not-false, none-not-some, and-left, and-right}
+use Rattle.semantics.proofs.TablesProper.{goes-there}
+use Rattle.semantics.proofs.Facts.{All, all-nil, all-cons, all-map, every-all, true-not-false, none-not-some, and-left, and-right}
 use Rattle.semantics.proofs.Judging.{refused-not-accepted, refused-is, accepted-is}
 use Rattle.semantics.proofs.TablePassed.{table-passed}
 use Rattle.semantics.proofs.FirstNumber.{table-first}
@@ -29,7 +31,7 @@ use Rattle.table_read.specs.declared.call.TableIndex.{TableIndex}
 use Rattle.table_read.specs.TableParts.{partsIn, partsOf, sectionsAt}
 use Rattle.table_read.specs.ActionIndex.{actionIndex, byNode, actionsOf}
 use Rattle.table_read.specs.LocationIndex.{locationIndex, locationsOf}
-use Rattle.table_read.specs.Promised.{LocationPromised, Leads, leads-to, finishes, halts}
+use Rattle.table_read.specs.Promised.{LocationPromised, Leads}
 use Rattle.table_read.specs.TableIndex.{indexOf, tableIndex}
 use Rattle.table_read.proofs.PartsStand.{AllStand, layout-is, read-parts, parts-are}
 use Rattle.table_read.proofs.ByNode.{listed-length}
@@ -263,21 +265,17 @@ entries-few t {tb} o k h =
     same (e ∷ es) = ap suc (same es)
 
 -- ---- where a move leads
-goes-on : (n t : ℕ) → goesOn n t ≡ true → Leads n t
-unfolding goesOn
-goes-on n t h = by-cases (ltb t n) (λ e. leads-to (ltb-true t n e)) (λ e. finishes (eqb-true t FINISHED (rw (goesOn, e) at h)))
-
 pub leads : (n : ℕ) (a : Action) (t u : ℕ) (b : Bool) → targetsFit n a t u ≡ true → possible a b ≡ true → Leads n (cond b t u)
 unfolding targetsFit possible isTest
-leads n (test c) t u true h p = goes-on n t (and-left (goesOn n t) (goesOn n u) h)
-leads n (test c) t u false h p = goes-on n u (and-right (goesOn n t) (goesOn n u) h)
-leads n (wait c) t u true h p = goes-on n t (and-left (goesOn n t) (eqb u NONE) h)
+leads n (test c) t u true h p = inl (goes-there n t (and-left (goesOn n t) (goesOn n u) h))
+leads n (test c) t u false h p = inl (goes-there n u (and-right (goesOn n t) (goesOn n u) h))
+leads n (wait c) t u true h p = inl (goes-there n t (and-left (goesOn n t) (eqb u NONE) h))
 leads n (wait c) t u false h p = true-not-false (sym p)
-leads n (assign v e) t u true h p = goes-on n t (and-left (goesOn n t) (eqb u NONE) h)
+leads n (assign v e) t u true h p = inl (goes-there n t (and-left (goesOn n t) (eqb u NONE) h))
 leads n (assign v e) t u false h p = true-not-false (sym p)
-leads n (switch s m) t u true h p = goes-on n t (and-left (goesOn n t) (eqb u NONE) h)
+leads n (switch s m) t u true h p = inl (goes-there n t (and-left (goesOn n t) (eqb u NONE) h))
 leads n (switch s m) t u false h p = true-not-false (sym p)
-leads n stop t u true h p = halts (eqb-true t HALTED (and-left (eqb t HALTED) (eqb u NONE) h))
+leads n stop t u true h p = inr (eqb-true t HALTED (and-left (eqb t HALTED) (eqb u NONE) h))
 leads n stop t u false h p = true-not-false (sym p)
 
 -- no second target but a test's

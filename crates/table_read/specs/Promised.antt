@@ -2,11 +2,13 @@
 use mathlib.Core.Path.{_≡_}
 use mathlib.Core.Bool.{true}
 use mathlib.Core.List.{List}
+use mathlib.Core.Logic.{_⊎_}
 use mathlib.Core.Option.{some}
 use Prim.Native.Nat.{ℕ, _+_, _*_, _≤_, _<_}
 use lib.ListN.{length, getD, getElem?}
-use Rattle.semantics.specs.TableFile.{NodeAction, Entry, FINISHED, HALTED}
+use Rattle.semantics.specs.TableFile.{NodeAction, Entry, HALTED}
 use Rattle.semantics.specs.Tables.{locationFits}
+use Rattle.semantics.specs.Proper.{GoesOn}
 use Rattle.table_read.specs.LocationIndex.{entryAt}
 
 -- entries stand one after the other, 5 bytes each
@@ -22,8 +24,6 @@ pub record LocationPromised (s : List ℕ) (p : ℕ) (n : ℕ) (acts : List Node
   pub entries : EntriesAt s (p + 1) es
   pub fits : locationFits n acts es ≡ true
 
--- "Fit targets": a location, or FFFE, or FFFD
-pub data Leads (n t : ℕ) : Type 0 where
-  leads-to : t < n → Leads n t
-  finishes : t ≡ FINISHED → Leads n t
-  halts : t ≡ HALTED → Leads n t
+-- where a move can lead: "a location or FFFE", or FFFD
+abbrev pub Leads : ℕ → ℕ → Type 0
+Leads n t = GoesOn n t ⊎ (t ≡ HALTED)

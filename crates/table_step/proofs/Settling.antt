@@ -2,6 +2,7 @@
 use mathlib.Core.Path.{_≡_, refl, sym, ap, _∙_, subst}
 use mathlib.Core.Bool.{Bool, true, false}
 use mathlib.Core.List.{List}
+use mathlib.Core.Logic.{inl, inr}
 use mathlib.Core.Option.{Option, none, some}
 use Prim.Native.Nat.{ℕ, _<_}
 use native.Mathlib.Omega.{arith}
@@ -21,7 +22,7 @@ use Rattle.nodeset.specs.Sets.{members, emptySet, Words}
 use Rattle.nodeset.specs.declared.NodeSet.{NodeSet}
 use Rattle.nodeset.proofs.Members.{among-set, members-empty}
 use Rattle.nodeset.proofs.Membership.{words-empty}
-use Rattle.table_read.specs.Promised.{Leads, leads-to, finishes, halts}
+use Rattle.table_read.specs.Promised.{Leads}
 use Rattle.execution.specs.Ready.{Lent, Fits, Ready}
 use Rattle.execution.specs.Ready as Judged
 use Rattle.effects.specs.Verdicts.{Left}
@@ -92,9 +93,9 @@ module _ {locs places : List ℕ} {x : ℕ} where
     goes-on t m d h = go (m .leads n b refl)
       where
         go : Leads (length (t .locations)) (entryTarget (entriesAt t x) n b) → y < length (t .locations)
-        go (leads-to i) = omega (arith, target-is t m)
-        go (finishes e) = absurd (d (target-is t m ∙ e))
-        go (halts e) = absurd (h (target-is t m ∙ e))
+        go (inl (inl i)) = omega (arith, target-is t m)
+        go (inl (inr e)) = absurd (d (target-is t m ∙ e))
+        go (inr e) = absurd (h (target-is t m ∙ e))
 
     pub row-next : Moving locs places x (Move n b) → (y ≡ 65534 → ⊥) → (y ≡ 65533 → ⊥) → y < length places
     row-next m d h = m .movable .lent .at y (goes-on (m .table) (m .movable) d h) .row

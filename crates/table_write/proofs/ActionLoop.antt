@@ -8,7 +8,7 @@ use lib.ListN.{length, getD, length-append, drop, length-drop}
 use lib.Seq.{length-take-le}
 use Rattle.semantics.specs.Bytes.{out, widthOf}
 use Rattle.semantics.specs.Editions.{edition1}
-use Rattle.semantics.specs.TableFile.{actionKind, actionOfKind, writeAction}
+use Rattle.semantics.specs.TableFile.{actionKind, actionOfKind, writeRow, writeAction}
 use Rattle.schedules.specs.Nodes.{listed}
 use Rattle.schedules.proofs.Places.{flat-append}
 use Rattle.codec.specs.Parts.{partAt}
@@ -21,6 +21,10 @@ operand-long {s} {acts} {starts} {ends} {n} h =
     length-take-le (getD ends n 0 - getD starts n 0) (drop (getD starts n 0) s) (omega (arith, length-drop (getD starts n 0) s, h .ordered, h .inside))
 
 -- ---- one node
+pub row-bytes : (n k : ℕ) (b : List ℕ) → (length b + 2) ∷ n ∷ k ∷ b ≡ writeRow edition1 n (k ∷ b)
+unfolding out widthOf
+row-bytes n k b = let e : length b + 2 ≡ 1 + suc (length b) = omega arith in ap (λ (m : ℕ). m ∷ n ∷ k ∷ b) e
+
 pub here-none : (n : ℕ) {k : ℕ} (b : List ℕ) → k ≡ 0 → actionHere n k b ≡ []
 unfolding actionHere actionOfKind actionKind listed
 here-none n b e = rw e refl
@@ -30,9 +34,12 @@ module _ (n : ℕ) {k : ℕ} {b : List ℕ} (c : Coded k b) where
   unfolding actionHere listed
   here-some = rw (c .read) refl
 
-  pub row-some : (length b + 2) ∷ n ∷ k ∷ b ≡ flatMap (writeAction edition1) (actionHere n k b)
-  unfolding writeAction flatMap out widthOf
-  row-some = let e : 1 + suc (length b) ≡ length b + 2 = omega arith in rw (here-some, c .bytes, append-nil b, e) refl
+  pub row-some : writeRow edition1 n (k ∷ b) ≡ flatMap (writeAction edition1) (actionHere n k b)
+  unfolding writeAction flatMap
+  row-some = rw (here-some, c .bytes) (sym (append-nil (writeRow edition1 n (k ∷ b))))
+
+  pub row-long : length b + 3 ≡ length (flatMap (writeAction edition1) (actionHere n k b))
+  row-long = let e : length b + 3 ≡ length ((length b + 2) ∷ n ∷ k ∷ b) = omega arith in e ∙ ap length (row-bytes n k b ∙ row-some)
 
 -- ---- all
 module _ (s acts starts ends : List ℕ) where
@@ -86,7 +93,7 @@ module _ {acts starts ends : List ℕ} where
   pub measured-row : {n c size c′ size′ : ℕ} → Measured acts starts ends n c size → (getD acts n 0 ≡ 0 → ⊥) → getD ends n 0 - getD starts n 0 ≤ 199 →
       c′ ≡ c + 1 → size′ ≡ size + (getD ends n 0 - getD starts n 0 + 3) → Measured acts starts ends (n + 1) c′ size′
   measured-row {n} x z l d e = measured-more 1 (getD ends n 0 - getD starts n 0 + 3) x d e (omega arith) (omega arith) (λ s o.
-      (ap length (here-some n (o .coded z)), ap length (sym (row-some n (o .coded z))) ∙ omega (arith, operand-long o)))
+      (ap length (here-some n (o .coded z)), sym (row-long n (o .coded z)) ∙ omega (arith, operand-long o)))
 
   pub measured-end : {n m c size : ℕ} → n ≡ m → Measured acts starts ends n c size → Measured acts starts ends m c size
   measured-end e x = rw e at x

@@ -3,7 +3,7 @@ use native.Mathlib.Omega.{arith}
 use borrow.Author.Tests.{not-true, not-false}
 use Rattle.execution.proofs.Lending.{is-current}
 use Rattle.execution.proofs.Events.{switch-left}
-use Rattle.execution.proofs.Which.{senseless-left, event-left}
+use Rattle.execution.proofs.Which.{ticks, picks, switches, senseless-left, event-left}
 use borrow.Author.Needs.{needs}
 use Rattle.execution.proofs.judge.Statement.{statement}
 use Rattle.execution.proofs.judge.Tie as tie
@@ -28,7 +28,7 @@ same-length-2 : tie.Need-same-length-2
 same-length-2 c = search needs
 
 returns-2 : tie.Need-returns-2
-returns-2 c = let k = c .before .before .before .before in λ p f q. event-left _ _ p f _ (k .before .before .sensible .ensures .ticks (not-false _ (k .before .if1 .left)) (k .if2 .taken)) (c .before .tick .ensures p f q)
+returns-2 c = let k = c .before .before .before .before in λ p f q. event-left _ _ p f _ (ticks _ _ _ (k .before .before .sensible .ensures .event (not-false _ (k .before .if1 .left))) (k .if2 .taken)) (c .before .tick .ensures p f q)
 
 pick-requires : tie.Need-pick-requires
 pick-requires c κs = let s = start (c .before .before .before .before) in (s .pre, omega (arith, s .fits .b))
@@ -40,7 +40,7 @@ same-length-4 : tie.Need-same-length-4
 same-length-4 c = search needs
 
 returns-3 : tie.Need-returns-3
-returns-3 c = let k = c .before .before .before .before .before .before in λ p f q. event-left _ _ p f _ (k .before .before .before .sensible .ensures .picks (not-false _ (k .before .before .if1 .left)) (k .if3 .taken)) (c .before .before .before .pick .ensures p f q)
+returns-3 c = let k = c .before .before .before .before .before .before in λ p f q. event-left _ _ p f _ (picks _ _ _ (k .before .before .before .sensible .ensures .event (not-false _ (k .before .before .if1 .left))) (k .if3 .taken)) (c .before .before .before .pick .ensures p f q)
 
 take-switch-requires : tie.Need-take-switch-requires
 take-switch-requires c κs = let r = start (c .before .before .before .before) .pre .ready in is-current _ _ (r .plant) _ _ (r .fits)
@@ -52,7 +52,7 @@ same-length-6 : tie.Need-same-length-6
 same-length-6 c = search needs
 
 returns-4 : tie.Need-returns-4
-returns-4 c = let k = c .before .before .before .before .before in λ p f q. event-left _ _ p f _ (k .before .before .before .sensible .ensures .switches (not-false _ (k .before .before .if1 .left)) (k .before .if2 .left) (k .if3 .left)) (switch-left _ _ _ _ _ _ q _ _ (c .before .before .take-switch .ensures))
+returns-4 c = let k = c .before .before .before .before .before in λ p f q. event-left _ _ p f _ (switches _ _ _ (k .before .before .before .sensible .ensures .event (not-false _ (k .before .before .if1 .left))) (k .before .if2 .left) (k .if3 .left)) (switch-left _ _ _ _ _ _ q _ _ (c .before .before .take-switch .ensures))
 
 pub judge-spec : {M : Type 1} → statement M
 judge-spec =

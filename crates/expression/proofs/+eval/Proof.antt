@@ -1,12 +1,13 @@
 -- By the depth that is left, and one law of Steps for each return.
-use mathlib.Core.Path.{_∙_}
+use mathlib.Core.Path.{ap, _∙_}
 use Prim.Native.Nat.{ℕ, _<_}
 use native.Mathlib.Omega.{arith}
 use lib.ListN.{getD}
 use borrow.Author.Needs.{needs}
 use borrow.Fn.Kinds.{In}
 use borrow.Fn.PlainCycle.{Measures, is, falls, and}
-use Rattle.expression.proofs.Codes.{form-unknown}
+use Rattle.semantics.specs.Expressions.{formOf}
+use Rattle.expression.proofs.Codes.{form-unknown, an-operation-code, a-comparison-code, a-connective-code}
 use Rattle.expression.proofs.PaperNumbers.{found-says}
 use Rattle.expression.proofs.Steps.{no-depth, past, step-unknown, step-true, step-constant, step-variable, step-negation, step-opposite, step-operation, step-comparison, step-connective}
 use Rattle.expression.proofs.eval.Reads as eval
@@ -121,14 +122,16 @@ eval-join-requires : (t : ℕ) → eval-lts.Need-join-requires (calls t) (eval-a
 eval-join-requires t c κs = search needs
 
 eval-returns-3 : (t : ℕ) → eval-lts.Need-returns-3 (calls t) (eval-at t) eval.Post
+unfolding formOf
 eval-returns-3 t c =
     let a = c .before .before .before .before .before .before .args in
-    found-says (c .constant .ensures ∙ step-constant (a .vars .now) (a .s .now) (a .at) (a .depth) (c .before .before .before .before .if1 .left) (c .before .before .before .if2 .left) (c .before .match .keys1))
+    found-says (c .constant .ensures ∙ step-constant (a .vars .now) (a .s .now) (a .at) (a .depth) (c .before .before .before .before .if1 .left) (c .before .before .before .if2 .left) (ap formOf (c .before .match .keys1)))
 
 eval-returns-4 : (t : ℕ) → eval-lts.Need-returns-4 (calls t) (eval-at t) eval.Post
+unfolding formOf
 eval-returns-4 t c =
     let a = c .before .before .before .before .before .before .args in
-    found-says (c .variable .ensures ∙ step-variable (a .vars .now) (a .s .now) (a .at) (a .depth) (c .before .before .before .before .if1 .left) (c .before .before .before .if2 .left) (c .before .match .keys2))
+    found-says (c .variable .ensures ∙ step-variable (a .vars .now) (a .s .now) (a .at) (a .depth) (c .before .before .before .before .if1 .left) (c .before .before .before .if2 .left) (ap formOf (c .before .match .keys2)))
 
 eval-returns-5 : (t : ℕ) → eval-lts.Need-returns-5 (calls t) (eval-at t) eval.Post
 eval-returns-5 t c =
@@ -149,23 +152,26 @@ eval-returns-8 : (t : ℕ) → eval-lts.Need-returns-8 (calls t) (eval-at t) eva
 eval-returns-8 t c =
     let c7 = c .before .before .before .before .before .before .before in
     let a = c7 .before .before .before .before .args in
+    let k = an-operation-code (getD (a .s .now) (a .at) 0) (c .before .before .before .before .before .if3 .left) (c .before .before .before .before .if4 .taken) in
     found-says (step-operation (a .vars .now) (a .s .now) (a .at) (a .depth) (c7 .before .before .if1 .left) (c7 .before .if2 .left) (c .operate .result) (c .before .before .before .eval3 .result) (c .before .before .before .eval3 .ensures .is) (c .before .before .next-of .result) (c .before .eval4 .result) (c .before .before .next-of .ensures) (c .before .eval4 .ensures .is)
-    (c .before .before .before .before .before .if3 .left) (c .before .before .before .before .if4 .taken) (c .operate .ensures))
+    (k .0) (k .1) (c .operate .ensures (k .0) (k .1)))
 
 eval-returns-9 : (t : ℕ) → eval-lts.Need-returns-9 (calls t) (eval-at t) eval.Post
 eval-returns-9 t c =
     let c7 = c .before .before .before .before .before .before .before in
     let a = c7 .before .before .before .before .before .before .args in
+    let k = a-comparison-code (getD (a .s .now) (a .at) 0) (c .before .before .before .before .before .if5 .left) (c .before .before .before .before .if6 .taken) in
     found-says (step-comparison (a .vars .now) (a .s .now) (a .at) (a .depth) (c7 .before .before .before .before .if1 .left) (c7 .before .before .before .if2 .left) (c .relate .result) (c .before .before .before .eval5 .result) (c .before .before .before .eval5 .ensures .is) (c .before .before .next-of2 .result) (c .before .eval6 .result) (c .before .before .next-of2 .ensures) (c .before .eval6 .ensures .is)
-    (c .before .before .before .before .before .if5 .left) (c .before .before .before .before .if6 .taken) (c .relate .ensures))
+    (k .0) (k .1) (c .relate .ensures (k .0) (k .1)))
 
 eval-returns-10 : (t : ℕ) → eval-lts.Need-returns-10 (calls t) (eval-at t) eval.Post
 eval-returns-10 t c =
     let c7 = c .before .before .before .before .before .before .before in
     let c14 = c7 .before .before .before .before .before .before .before in
     let a = c14 .before .args in
+    let k = a-connective-code (getD (a .s .now) (a .at) 0) (c .before .before .before .before .before .if7 .left) (c .before .before .before .before .if8 .taken) in
     found-says (step-connective (a .vars .now) (a .s .now) (a .at) (a .depth) (c7 .before .before .before .before .before .before .if1 .left) (c7 .before .before .before .before .before .if2 .left) (c .join .result) (c .before .before .before .eval7 .result) (c .before .before .before .eval7 .ensures .is) (c .before .before .next-of3 .result) (c .before .eval8 .result) (c .before .before .next-of3 .ensures) (c .before .eval8 .ensures .is)
-    (c .before .before .before .before .before .if7 .left) (c .before .before .before .before .if8 .taken) (c .join .ensures))
+    (k .0) (k .1) (c .join .ensures (k .0) (k .1)))
 
 eval-returns-11 : (t : ℕ) → eval-lts.Need-returns-11 (calls t) (eval-at t) eval.Post
 eval-returns-11 t c =

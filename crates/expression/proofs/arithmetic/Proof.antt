@@ -1,19 +1,19 @@
 -- By the code; the result of two numbers of 32 bits fits 64 (`wide-fits`) and is exact (`wide-is`).
 use mathlib.Core.Path.{_≡_, sym, ap, _∙_}
 use lib.IntN.{ℤ}
-use borrow.Author.Tests.{ne-eqb}
 use mir.Syntax.{w64}
 use mir.Val.{toZ, ofZ}
 use borrow.Author.Needs.{needs}
 use Rattle.semantics.specs.Expressions.{Operation, sum, difference, product, applied, result}
-use Rattle.expression.specs.Evaluation.{numberAt, operationOf}
+use Rattle.expression.specs.Evaluation.{numberAt}
+use Rattle.expression.proofs.Codes.{is-sum, is-difference, is-product}
 use Rattle.expression.proofs.Widths.{Wide, widens, wide-fits, wide-is}
 use Rattle.expression.proofs.arithmetic.Statement.{statement}
 use Rattle.expression.proofs.arithmetic.Tie as tie
 
 -- the operation that the code says
-done : (s : tie.Start) (o : Operation) → operationOf (s .args .code) ≡ o → numberAt (s .args .next) (result (toZ w64 (ofZ w64 (applied o (Wide (s .args .a)) (Wide (s .args .b)))))) ≡ numberAt (s .args .next) (result (applied (operationOf (s .args .code)) (s .args .a) (s .args .b)))
-done s o e = ap (λ (z : ℤ). numberAt (s .args .next) (result z)) (wide-is o (s .args .a) (s .args .b) (s .fits .a) (s .fits .b) ∙ sym (ap (λ (p : Operation). applied p (s .args .a) (s .args .b)) e))
+done : (s : tie.Start) (o p : Operation) → p ≡ o → numberAt (s .args .next) (result (toZ w64 (ofZ w64 (applied o (Wide (s .args .a)) (Wide (s .args .b)))))) ≡ numberAt (s .args .next) (result (applied p (s .args .a) (s .args .b)))
+done s o p e = ap (λ (z : ℤ). numberAt (s .args .next) (result z)) (wide-is o (s .args .a) (s .args .b) (s .fits .a) (s .fits .b) ∙ sym (ap (λ (p : Operation). applied p (s .args .a) (s .args .b)) e))
 
 cast-x : tie.Need-cast-x
 cast-x c = widens (c .args .a) (c .fits .a)
@@ -44,15 +44,15 @@ ranged-requires-3 c κs = search needs
 
 returns : tie.Need-returns
 unfolding applied
-returns c = c .ranged .ensures ∙ done (c .before .before) sum (ap operationOf (c .before .match .keys1))
+returns c = λ o e. c .ranged .ensures ∙ done (c .before .before) sum o (is-sum (c .before .match .keys1) o e)
 
 returns-2 : tie.Need-returns-2
 unfolding applied
-returns-2 c = c .ranged2 .ensures ∙ done (c .before .before) difference (ap operationOf (c .before .match .keys2))
+returns-2 c = λ o e. c .ranged2 .ensures ∙ done (c .before .before) difference o (is-difference (c .before .match .keys2) o e)
 
 returns-3 : tie.Need-returns-3
 unfolding applied
-returns-3 c = c .ranged3 .ensures ∙ done (c .before .before) product (rw (ne-eqb _ _ (c .before .match .rest .0 .1), ne-eqb _ _ (c .before .match .rest .1)))
+returns-3 c = λ o e. c .ranged3 .ensures ∙ done (c .before .before) product o (is-product (c .before .match .rest .0 .1) (c .before .match .rest .1) o e)
 
 pub arithmetic-spec : {M : Type 1} → statement M
 arithmetic-spec =

@@ -1,6 +1,8 @@
 -- Something is said only where two leaves are compared (`related-at`).
 use mathlib.Core.Path.{refl}
+use lib.ListN.{getD}
 use borrow.Author.Needs.{needs}
+use Rattle.expression.proofs.Codes.{a-comparison-code}
 use Rattle.expression.proofs.TwoLeaves.{related-at}
 use Rattle.expression.proofs.compared_at.Statement.{statement}
 use Rattle.expression.proofs.compared_at.Tie as tie
@@ -35,7 +37,8 @@ relate-requires c κs = search needs
 returns-4 : tie.Need-returns-4
 returns-4 c =
     let s = c .before .before .before .before .before .before .before .before .before .args in
-    related-at (s .vars .now) (s .s .now) (s .at) (c .before .before .before .before .before .before .before .if1 .left) _ (c .before .before .before .leaf .result) (c .before .leaf2 .result) (c .before .before .next-of .result) (c .before .before .before .leaf .ensures) (c .before .before .next-of .ensures) (c .before .leaf2 .ensures) (c .before .before .before .before .before .if2 .left) (c .before .before .before .before .if3 .left) (c .relate .ensures)
+    let k = a-comparison-code (getD (s .s .now) (s .at) 0) (c .before .before .before .before .before .if2 .left) (c .before .before .before .before .if3 .left) in
+    related-at (s .vars .now) (s .s .now) (s .at) (c .before .before .before .before .before .before .before .if1 .left) _ (c .before .before .before .leaf .result) (c .before .leaf2 .result) (c .before .before .next-of .result) (c .before .before .before .leaf .ensures) (c .before .before .next-of .ensures) (c .before .leaf2 .ensures) (k .0) (k .1) (c .relate .ensures (k .0) (k .1))
 
 pub compared-at-spec : {M : Type 1} → statement M
 compared-at-spec =

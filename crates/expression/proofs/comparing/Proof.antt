@@ -8,7 +8,7 @@ use mir.ValLaws.{toZ-ofZ}
 use borrow.Author.Needs.{needs}
 use Rattle.semantics.specs.Expressions.{ok, compared}
 use Rattle.expression.specs.Answers.{truthOf}
-use Rattle.expression.specs.Evaluation.{comparisonOf}
+use Rattle.expression.proofs.Codes.{a-comparison-code}
 use Rattle.expression.proofs.TwoLeaves.{two-related}
 use Rattle.expression.proofs.Wholes.{truth-whole}
 use Rattle.expression.proofs.comparing.Statement.{statement}
@@ -64,10 +64,11 @@ returns-7 c =
     let r = sym (c .before .before .before .before .before .before .leaf2 .ensures) ∙ D .1 in
     let x = toZ-ofZ w32 (A .0 .0) (record { sfits = c7 .known-told .given .0 .1 }) in
     let y = toZ-ofZ w32 (D .0 .0) (record { sfits = c .before .before .before .known-told2 .given .0 .1 }) in
-    let t = c .before .comparison .ensures ∙ ap₂ (compared (comparisonOf (getD (s .s .now) 0 0))) x y in
+    let k = a-comparison-code (getD (s .s .now) 0 0) (c7 .before .before .before .before .before .if2 .left) (c7 .before .before .before .before .if3 .left) in
+    let t = c .before .comparison .ensures (k .0) (k .1) ∙ ap₂ (compared (k .0)) x y in
     λ h.
     c .plain-truth .ensures ∙ ap (λ (b : Bool). truthOf (ok b)) t
-    ∙ truth-whole (s .vars .now) (s .s .now) _ (D .0 .1 .0) (c .before .before .if4 .left) (two-related (s .vars .now) (s .s .now) (omega (arith, c14 .if1 .left)) (A .0 .0) (D .0 .0) (A .0 .1 .0) (D .0 .1 .0) l r (c7 .before .before .before .before .before .if2 .left) (c7 .before .before .before .before .if3 .left))
+    ∙ truth-whole (s .vars .now) (s .s .now) _ (D .0 .1 .0) (c .before .before .if4 .left) (two-related (s .vars .now) (s .s .now) (omega (arith, c14 .if1 .left)) (A .0 .0) (D .0 .0) (A .0 .1 .0) (D .0 .1 .0) l r (k .0) (k .1))
 
 pub comparing-spec : {M : Type 1} → statement M
 comparing-spec =

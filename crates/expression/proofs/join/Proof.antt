@@ -31,35 +31,34 @@ enum-known-r-4 : tie.Need-enum-known-r-4
 enum-known-r-4 c = search needs
 
 returns : tie.Need-returns
-returns c =
-    let s = c .before .before .before .before .before .before .before in
+returns c = λ o e.
     let L = c .before .before .before .before .before .l .given in
     let R = c .before .before .r .given in
-    ap (λ (t : Bool). ATruth t (R .0 .1 .0)) (c .connective .ensures) ∙ sym (ap₂ (joined (s .args .code)) (L .1) (R .1))
+    ap (λ (t : Bool). ATruth t (R .0 .1 .0)) (c .connective .ensures o e) ∙ sym (ap₂ (joined o) (L .1) (R .1))
 
 returns-2 : tie.Need-returns-2
-returns-2 c = sym (ap₂ (joined (c .before .before .before .before .before .before .args .code)) (c .before .before .before .before .l .given .1) (c .before .r2 .given .1))
+returns-2 c = λ o e. sym (ap₂ (joined o) (c .before .before .before .before .l .given .1) (c .before .r2 .given .1))
 
 returns-3 : tie.Need-returns-3
-returns-3 c =
+returns-3 c = λ o e.
     let s = c .before .before .before .before in
     let L = c .before .before .l .given in
-    off-joined-right (s .args .code) (L .0 .0) (L .0 .1 .0) (s .args .r) (not-truth (s .args .r) (c .match2 .keys3)) ∙ sym (ap (λ (x : Found). joined (s .args .code) x (s .args .r)) (L .1))
+    off-joined-right o (L .0 .0) (L .0 .1 .0) (s .args .r) (not-truth (s .args .r) (c .match2 .keys3)) ∙ sym (ap (λ (x : Found). joined o x (s .args .r)) (L .1))
 
 returns-4 : tie.Need-returns-4
-returns-4 c = sym (ap₂ (joined (c .before .before .before .before .before .before .args .code)) (c .before .before .before .before .l2 .given .1) (c .before .r3 .given .1))
+returns-4 c = λ o e. sym (ap₂ (joined o) (c .before .before .before .before .l2 .given .1) (c .before .r3 .given .1))
 
 returns-5 : tie.Need-returns-5
-returns-5 c = sym (ap₂ (joined (c .before .before .before .before .before .before .args .code)) (c .before .before .before .before .l2 .given .1) (c .before .r4 .given .1))
+returns-5 c = λ o e. sym (ap₂ (joined o) (c .before .before .before .before .l2 .given .1) (c .before .r4 .given .1))
 
 returns-6 : tie.Need-returns-6
-returns-6 c =
+returns-6 c = λ o e.
     let s = c .before .before .before .before in
     let L = c .before .before .l2 .given in
-    off-joined-right-fault (s .args .code) (L .0 .0) (L .0 .1 .0) (s .args .r) (not-truth (s .args .r) (c .match3 .keys3)) ∙ sym (ap (λ (x : Found). joined (s .args .code) x (s .args .r)) (L .1))
+    off-joined-right-fault o (L .0 .0) (L .0 .1 .0) (s .args .r) (not-truth (s .args .r) (c .match3 .keys3)) ∙ sym (ap (λ (x : Found). joined o x (s .args .r)) (L .1))
 
 returns-7 : tie.Need-returns-7
-returns-7 c = let s = c .before in off-joined (s .args .code) (s .args .l) (s .args .r) (not-truth (s .args .l) (c .match .keys3))
+returns-7 c = λ o e. let s = c .before in off-joined o (s .args .l) (s .args .r) (not-truth (s .args .l) (c .match .keys3))
 
 pub join-spec : {M : Type 1} → statement M
 join-spec =

@@ -2,9 +2,11 @@
 use mathlib.Core.Path.{refl, sym, ap, _∙_}
 use mathlib.Core.Bool.{Bool}
 use native.Mathlib.Omega.{arith}
+use lib.ListN.{getD}
 use borrow.Author.Needs.{needs}
 use Rattle.semantics.specs.Expressions.{ok}
 use Rattle.expression.specs.Answers.{truthOf}
+use Rattle.expression.proofs.Codes.{a-connective-code}
 use Rattle.expression.proofs.TwoLeaves.{no-truth-broken, two-joined}
 use Rattle.expression.proofs.Wholes.{truth-whole}
 use Rattle.expression.proofs.joining.Statement.{statement}
@@ -58,9 +60,10 @@ returns-7 c =
     let D = c .before .before .before .before .b .given in
     let l = sym (A .1) ∙ c7 .before .before .before .compared-at .ensures (no-truth-broken (A .1)) in
     let r = sym (D .1) ∙ c .before .before .before .before .before .before .compared-at2 .ensures (no-truth-broken (D .1)) in
+    let k = a-connective-code (getD (s .s .now) 0 0) (c7 .before .before .before .before .before .if2 .left) (c7 .before .before .before .before .if3 .left) in
     λ h.
-    c .plain-truth .ensures ∙ ap (λ (b : Bool). truthOf (ok b)) (c .before .connective .ensures)
-    ∙ truth-whole (s .vars .now) (s .s .now) _ (D .0 .1 .0) (c .before .before .if4 .left) (two-joined (s .vars .now) (s .s .now) (omega (arith, c14 .if1 .left)) (A .0 .0) (D .0 .0) (A .0 .1 .0) (D .0 .1 .0) l r (c7 .before .before .before .before .before .if2 .left) (c7 .before .before .before .before .if3 .left))
+    c .plain-truth .ensures ∙ ap (λ (b : Bool). truthOf (ok b)) (c .before .connective .ensures (k .0) (k .1))
+    ∙ truth-whole (s .vars .now) (s .s .now) _ (D .0 .1 .0) (c .before .before .if4 .left) (two-joined (s .vars .now) (s .s .now) (omega (arith, c14 .if1 .left)) (A .0 .0) (D .0 .0) (A .0 .1 .0) (D .0 .1 .0) l r (k .0) (k .1))
 
 pub joining-spec : {M : Type 1} → statement M
 joining-spec =

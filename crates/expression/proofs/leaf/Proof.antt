@@ -1,12 +1,14 @@
--- Four cases, by the tests of `leafAt`: past the end, a constant, a variable, any other code.
-use mathlib.Core.Path.{refl}
+-- Four cases: past the end, a constant, a variable, any other code (Leaves).
+use mathlib.Core.Path.{sym, ap, _∙_}
 use borrow.Author.Needs.{needs}
-use borrow.Author.Tests.{lt-ltb, le-ltb, eq-eqb, ne-eqb}
+use Rattle.semantics.specs.Expressions.{formOf}
+use Rattle.expression.proofs.Codes.{no-constant, no-variable}
+use Rattle.expression.proofs.Leaves.{no-leaf-past, leaf-constant, leaf-variable, other-leaf}
 use Rattle.expression.proofs.leaf.Statement.{statement}
 use Rattle.expression.proofs.leaf.Tie as tie
 
 returns : tie.Need-returns
-returns c = rw (le-ltb _ _ (c .if1 .taken)) refl
+returns c = let a = c .before .before .args in sym (no-leaf-past (a .vars .now) (a .s .now) (a .at) (c .if1 .taken))
 
 shared-slice-read-code : tie.Need-shared-slice-read-code
 shared-slice-read-code c = search needs
@@ -18,7 +20,10 @@ constant-requires : tie.Need-constant-requires
 constant-requires c κs = search needs
 
 returns-2 : tie.Need-returns-2
-returns-2 c = rw (lt-ltb _ _ (c .before .before .before .if1 .left), eq-eqb _ _ (c .before .if2 .taken)) (c .constant .ensures)
+unfolding formOf
+returns-2 c =
+    let a = c .before .before .before .before .before .args in
+    c .constant .ensures ∙ sym (leaf-constant (a .vars .now) (a .s .now) (a .at) (c .before .before .before .if1 .left) (ap formOf (c .before .if2 .taken)))
 
 add-variable : tie.Need-add-variable
 add-variable c = search needs
@@ -27,10 +32,15 @@ variable-requires : tie.Need-variable-requires
 variable-requires c κs = search needs
 
 returns-3 : tie.Need-returns-3
-returns-3 c = rw (lt-ltb _ _ (c .before .before .before .before .if1 .left), ne-eqb _ _ (c .before .before .if2 .left), eq-eqb _ _ (c .before .if3 .taken)) (c .variable .ensures)
+unfolding formOf
+returns-3 c =
+    let a = c .before .before .before .before .before .before .args in
+    c .variable .ensures ∙ sym (leaf-variable (a .vars .now) (a .s .now) (a .at) (c .before .before .before .before .if1 .left) (ap formOf (c .before .if3 .taken)))
 
 returns-4 : tie.Need-returns-4
-returns-4 c = rw (lt-ltb _ _ (c .before .before .before .if1 .left), ne-eqb _ _ (c .before .if2 .left), ne-eqb _ _ (c .if3 .left)) refl
+returns-4 c =
+    let a = c .before .before .before .before .before .args in
+    sym (other-leaf (a .vars .now) (a .s .now) (a .at) (c .before .before .before .if1 .left) (no-constant (c .before .if2 .left)) (no-variable (c .if3 .left)))
 
 pub leaf-spec : {M : Type 1} → statement M
 leaf-spec =

@@ -6,7 +6,7 @@ use mir.Syntax.{w32}
 use mir.ValLaws.{toZ-ofZ}
 use borrow.Author.Needs.{needs}
 use Rattle.semantics.specs.Expressions.{compared}
-use Rattle.expression.specs.Evaluation.{related, comparisonOf}
+use Rattle.expression.specs.Evaluation.{related}
 use Rattle.expression.specs.declared.Found.{Found}
 use Rattle.expression.specs.declared.Found.the-variants.{ATruth}
 use Rattle.expression.proofs.Cases.{not-number, off-left, off-right, off-right-fault}
@@ -35,36 +35,35 @@ enum-known-r-4 : tie.Need-enum-known-r-4
 enum-known-r-4 c = search needs
 
 returns : tie.Need-returns
-returns c =
-    let s = c .before .before .before .before .before .before .before in
+returns c = λ o e.
     let L = c .before .before .before .before .before .l .given in
     let R = c .before .before .r .given in
-    ap (λ (t : Bool). ATruth t (R .0 .1 .0)) (c .comparison .ensures ∙ ap₂ (λ (x y : ℤ). compared (comparisonOf (s .args .code)) x y) (toZ-ofZ w32 (L .0 .0) (record { sfits = c .before .before .before .before .known-told .given .0 .1 })) (toZ-ofZ w32 (R .0 .0) (record { sfits = c .before .known-told2 .given .0 .1 })))
-    ∙ sym (ap₂ (related (s .args .code)) (L .1) (R .1))
+    ap (λ (t : Bool). ATruth t (R .0 .1 .0)) (c .comparison .ensures o e ∙ ap₂ (λ (x y : ℤ). compared o x y) (toZ-ofZ w32 (L .0 .0) (record { sfits = c .before .before .before .before .known-told .given .0 .1 })) (toZ-ofZ w32 (R .0 .0) (record { sfits = c .before .known-told2 .given .0 .1 })))
+    ∙ sym (ap₂ (related o) (L .1) (R .1))
 
 returns-2 : tie.Need-returns-2
-returns-2 c = sym (ap₂ (related (c .before .before .before .before .before .before .args .code)) (c .before .before .before .before .l .given .1) (c .before .r2 .given .1))
+returns-2 c = λ o e. sym (ap₂ (related o) (c .before .before .before .before .l .given .1) (c .before .r2 .given .1))
 
 returns-3 : tie.Need-returns-3
-returns-3 c =
+returns-3 c = λ o e.
     let s = c .before .before .before .before in
     let L = c .before .before .l .given in
-    off-right _ _ (L .0 .0) (L .0 .1 .0) (s .args .r) (not-number (s .args .r) (c .match2 .keys3)) ∙ sym (ap (λ (x : Found). related (s .args .code) x (s .args .r)) (L .1))
+    off-right _ _ (L .0 .0) (L .0 .1 .0) (s .args .r) (not-number (s .args .r) (c .match2 .keys3)) ∙ sym (ap (λ (x : Found). related o x (s .args .r)) (L .1))
 
 returns-4 : tie.Need-returns-4
-returns-4 c = sym (ap₂ (related (c .before .before .before .before .before .before .args .code)) (c .before .before .before .before .l2 .given .1) (c .before .r3 .given .1))
+returns-4 c = λ o e. sym (ap₂ (related o) (c .before .before .before .before .l2 .given .1) (c .before .r3 .given .1))
 
 returns-5 : tie.Need-returns-5
-returns-5 c = sym (ap₂ (related (c .before .before .before .before .before .before .args .code)) (c .before .before .before .before .l2 .given .1) (c .before .r4 .given .1))
+returns-5 c = λ o e. sym (ap₂ (related o) (c .before .before .before .before .l2 .given .1) (c .before .r4 .given .1))
 
 returns-6 : tie.Need-returns-6
-returns-6 c =
+returns-6 c = λ o e.
     let s = c .before .before .before .before in
     let L = c .before .before .l2 .given in
-    off-right-fault _ _ (L .0 .0) (L .0 .1 .0) (s .args .r) (not-number (s .args .r) (c .match3 .keys3)) ∙ sym (ap (λ (x : Found). related (s .args .code) x (s .args .r)) (L .1))
+    off-right-fault _ _ (L .0 .0) (L .0 .1 .0) (s .args .r) (not-number (s .args .r) (c .match3 .keys3)) ∙ sym (ap (λ (x : Found). related o x (s .args .r)) (L .1))
 
 returns-7 : tie.Need-returns-7
-returns-7 c = let s = c .before in off-left _ _ (s .args .l) (s .args .r) (not-number (s .args .l) (c .match .keys3))
+returns-7 c = λ o e. let s = c .before in off-left _ _ (s .args .l) (s .args .r) (not-number (s .args .l) (c .match .keys3))
 
 pub relate-spec : {M : Type 1} → statement M
 relate-spec =

@@ -8,7 +8,8 @@ use mir.ValLaws.{toZ-ofZ}
 use borrow.Author.Tests.{ltb-true}
 use borrow.Author.Needs.{needs}
 use Rattle.semantics.specs.Expressions.{applied, result}
-use Rattle.expression.specs.Evaluation.{numberAt, operationOf}
+use Rattle.expression.specs.Evaluation.{numberAt}
+use Rattle.expression.proofs.Codes.{an-operation-code}
 use Rattle.expression.proofs.PaperNumbers.{found-says}
 use Rattle.expression.proofs.Steps.{past}
 use Rattle.expression.proofs.TwoLeaves.{two-operated}
@@ -61,8 +62,9 @@ returns-4 c =
     let r = sym (c .before .before .before .before .before .before .leaf2 .ensures) ∙ D .1 in
     let x = toZ-ofZ w32 (A .0 .0) (record { sfits = c7 .known-told .given .0 .1 }) in
     let y = toZ-ofZ w32 (D .0 .0) (record { sfits = c .before .before .before .known-told2 .given .0 .1 }) in
-    found-says (c .arithmetic .ensures ∙ ap₂ (λ (v w : ℤ). numberAt (D .0 .1 .0) (result (applied (operationOf (getD (s .s .now) 0 0)) v w))) x y
-    ∙ two-operated (s .vars .now) (s .s .now) (omega (arith, c7 .before .before .before .before .before .if1 .left)) (A .0 .0) (D .0 .0) (A .0 .1 .0) (D .0 .1 .0) l r (c .before .before .if2 .taken) (ltb-true _ _ (c .before .if3 .taken)))
+    let k = an-operation-code (getD (s .s .now) 0 0) (c .before .before .if2 .taken) (ltb-true _ _ (c .before .if3 .taken)) in
+    found-says (c .arithmetic .ensures (k .0) (k .1) ∙ ap₂ (λ (v w : ℤ). numberAt (D .0 .1 .0) (result (applied (k .0) v w))) x y
+    ∙ two-operated (s .vars .now) (s .s .now) (omega (arith, c7 .before .before .before .before .before .if1 .left)) (A .0 .0) (D .0 .0) (A .0 .1 .0) (D .0 .1 .0) l r (k .0) (k .1))
 
 eval-requires-3 : tie.Need-eval-requires-3
 eval-requires-3 c κs = search needs

@@ -1,6 +1,7 @@
 -- What is planned is refused, too long for the buffer, or written.
 use native.Mathlib.Omega.{arith}
 use Rattle.semantics.specs.Editions.{edition1}
+use Rattle.compiler.proofs.Planning.{told-refuses}
 use Rattle.compiler.proofs.CallStages.{refused-too, too-short, long-enough, compile-refused, compile-done}
 use borrow.Author.Needs.{needs}
 use Rattle.compiler.proofs.call.compile.Statement.{statement}
@@ -9,7 +10,7 @@ use Rattle.compiler.proofs.call.compile.Tie as tie
 returns : tie.Need-returns
 returns c =
     let a = c .before .before .before .before .before .args in
-    compile-refused (a .file .now) (a .table .now) (refused-too edition1 (a .file .now) (a .table .now) (c .before .before .planned .ensures .0 .refuses (c .before .if1 .taken))) (c .refused .ensures)
+    compile-refused (a .file .now) (a .table .now) (refused-too edition1 (a .file .now) (a .table .now) (told-refuses (c .before .before .planned .ensures .0) (c .before .if1 .taken))) (c .refused .ensures)
 
 returns-2 : tie.Need-returns-2
 returns-2 c =
