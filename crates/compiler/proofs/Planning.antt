@@ -22,7 +22,7 @@ use Rattle.schedules.specs.Files.{Schedule, fileLength}
 use Rattle.schedules.specs.Compiling.{testsOf, scheduleLocations, tableOf, judgeTableOf}
 use Rattle.schedules.specs.Calls.{compiledInto}
 use Rattle.schedules.specs.Sizes.{sizeOf}
-use Rattle.schedules.specs.TableSizes.{rowsLength, lengthAround, tableLength}
+use Rattle.schedules.specs.TableSizes.{rowsLength, lengthOfParts, tableLength}
 use Rattle.schedules.proofs.Counting.{total}
 use Rattle.schedules.proofs.FirstNumber.{passed}
 use Rattle.schedules.proofs.LocationCount.{entriesAt, locations-counted, few-locations}
@@ -48,16 +48,16 @@ use Rattle.compiler.proofs.Indexes.{Indexed}
 -- ---- what is told
 pub told-refused : {j : Judged (List ℕ)} {n a b : ℕ} → (n ≡ 0 → ⊥) → j ≡ refused n → (a ≡ n) × (b ≡ 0) → Told j a b
 unfolding compiledInto refusalOf
-told-refused z e p = rw e (record { refuses = p .0; writes = p .1; numbered = λ y. z (ap refusalOf y) })
+told-refused z e p = rw e (record { number = p .0; length = p .1; numbered = λ y. z (ap refusalOf y) })
 
 pub told-planned : {f : List ℕ} {p : Plan} → p .refusal ≡ 0 → Planned f p → Told (judgeTableOf edition1 f) (p .refusal) (p .length)
 unfolding compiledInto
-told-planned z g = rw (g .judged) (record { refuses = z; writes = g .whole; numbered = λ y. let z : _≡_ {A = ℕ} 0 1 = cc in omega arith })
+told-planned z g = rw (g .judged) (record { number = z; length = g .whole; numbered = λ y. let z : _≡_ {A = ℕ} 0 1 = cc in omega arith })
 
 module _ {j : Judged (List ℕ)} {a b : ℕ} (t : Told j a b) where
   pub told-refuses : (a ≡ 0 → ⊥) → j ≡ refused a
   unfolding compiledInto
-  told-refuses h = go j (t .refuses)
+  told-refuses h = go j (t .number)
     where
       go : (k : Judged (List ℕ)) → a ≡ (compiledInto [] k) .refusal → k ≡ refused a
       go (refused n) e = ap refused (sym e)
@@ -68,8 +68,8 @@ module _ {j : Judged (List ℕ)} {a b : ℕ} (t : Told j a b) where
   told-accepts h = go j refl
     where
       go : (k : Judged (List ℕ)) → j ≡ k → (l : List ℕ) × (j ≡ accepted l) × (b ≡ length l)
-      go (refused n) e = absurd (t .numbered (e ∙ ap refused (ap (λ k. (compiledInto [] k) .refusal) (sym e) ∙ sym (t .refuses) ∙ h)))
-      go (accepted l) e = (l, e, t .writes ∙ ap (λ k. (compiledInto [] k) .written) e)
+      go (refused n) e = absurd (t .numbered (e ∙ ap refused (ap (λ k. (compiledInto [] k) .refusal) (sym e) ∙ sym (t .number) ∙ h)))
+      go (accepted l) e = (l, e, t .length ∙ ap (λ k. (compiledInto [] k) .written) e)
 
 -- 1 to 12
 pub measure-refused : (f : List ℕ) {ix : ScheduleIndex} → ix ≡ scheduleIndex f → (ix .refusal ≡ 0 → ⊥) → judgeTableOf edition1 f ≡ refused (ix .refusal)
@@ -124,7 +124,7 @@ module _ {f : List ℕ} {ix : ScheduleIndex} (g : Indexed f ix) {m : Sizes} (x :
 -- ---- its plan
 -- the length of a table with these copied sections, so many bytes of actions after their count, and so many of rows
 abbrev lengthIn : Parts → ℕ → ℕ → ℕ
-lengthIn q list rows = lengthAround (q .«variables_to» - q .«variables_from») (q .«equations_to» - q .«equations_from») (1 + list) rows
+lengthIn q list rows = lengthOfParts (q .«variables_to» - q .«variables_from») (q .«equations_to» - q .«equations_from») (1 + list) rows
 
 module _ {f : List ℕ} {ix : ScheduleIndex} {m : Sizes} (g : Found f ix m) {acts : List ℕ} (e : ActionKinds (ix .nodes .kinds) (ix .nodes .count) acts) where
   abbrev t : Schedule

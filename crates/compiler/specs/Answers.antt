@@ -12,8 +12,8 @@ returned refusal written table = record { refusal = refusal; written = written; 
 abbrev pub sized : ℕ → ℕ → ℕ → Sized
 sized refusal locations entries = record { refusal = refusal; locations = locations; entries = entries }
 
--- what compiling tells of a table that is judged, whatever the buffer; no refusal has the number 0
+-- what compiling tells of a judged table, 14 left aside: refusal and length are the same for any buffer. No refusal has the number 0
 pub record Told (j : Judged (List ℕ)) (refusal written : ℕ) : Type 0 where
-  pub refuses : refusal ≡ (compiledInto [] j) .refusal
-  pub writes : written ≡ (compiledInto [] j) .written
+  pub number : refusal ≡ (compiledInto [] j) .refusal
+  pub length : written ≡ (compiledInto [] j) .written
   pub numbered : j ≡ refused 0 → ⊥

@@ -14,7 +14,7 @@ ghost use Rattle.semantics.specs.Refusals.{accepted};
 ghost use Rattle.semantics.specs.TableFile.{locationLimit};
 ghost use Rattle.schedules.specs.Compiling.{judgeTableOf};
 ghost use Rattle.schedules.specs.Calls as calls;
-ghost use Rattle.schedules.specs.TableSizes.{rowsLength, lengthAround};
+ghost use Rattle.schedules.specs.TableSizes.{rowsLength, lengthOfParts};
 ghost use Rattle.table_write.specs.Pieces.{Put};
 ghost use Rattle.compiler.specs.Answers.{Told, returned};
 ghost use Rattle.compiler.specs.Plans.{Found, Ready, Planned};
@@ -67,11 +67,11 @@ fn row_bytes(locations: usize, entries: usize) -> usize
     locations + entries * 5
 }
 
-// the bytes of the table: the sections that are copied, the rows of the actions after their count, those of the locations, and all that stands around them
+// the bytes of the table: the sections that are copied, the rows of the actions (list, without their count), the rows of the locations, and what stands around them
 fn table_length(q: Parts, list: usize, rows: usize) -> usize
     requires ordered { ⌜ (q .«variables_from» ≤ q .«variables_to») × (q .«equations_from» ≤ q .«equations_to») ⌝ }
     requires short { ⌜ (q .«variables_to» < 65536) × (q .«equations_to» < 65536) × (list ≤ 12928) × (rows ≤ 328704) ⌝ }
-    ensures is { λ r. ⌜ r ≡ lengthAround (q .«variables_to» - q .«variables_from») (q .«equations_to» - q .«equations_from») (1 + list) rows ⌝ }
+    ensures is { λ r. ⌜ r ≡ lengthOfParts (q .«variables_to» - q .«variables_from») (q .«equations_to» - q .«equations_from») (1 + list) rows ⌝ }
     ensures fits { λ r. ⌜ r < 4294967296 ⌝ }
 {
     q.variables_to - q.variables_from + (q.equations_to - q.equations_from) + list + rows + 18

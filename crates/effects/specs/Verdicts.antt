@@ -2,7 +2,7 @@
 use mathlib.Core.Path.{_≡_}
 use mathlib.Core.Bool.{Bool, true, false}
 use mathlib.Core.List.{List}
-use mathlib.Core.Option.{some}
+use mathlib.Core.Option.{none, some}
 use Prim.Native.Nat.{ℕ}
 use lib.IntN.{ℤ}
 use Rattle.semantics.specs.Expressions.{above, below, Value, ok, fault}
@@ -38,7 +38,7 @@ truthVerdict y n (fault above) = Above
 truthVerdict y n (fault below) = Below
 
 -- ---- the whole event
--- the event that the answer r, with the values and modes beside it, tells of
+-- the judged event that an answer tells of, with the values and modes that are left
 unfoldable pub judgedAs : Verdict → List ℤ → List ℕ → Run.Verdict Done
 judgedAs (Away n) vs ms = away n
 judgedAs Above vs ms = faulty above
@@ -46,17 +46,18 @@ judgedAs Below vs ms = faulty below
 judgedAs Stay vs ms = pass (record { moved = nobody; values = vs; modes = ms })
 judgedAs (Move n b) vs ms = pass (record { moved = mover n b; values = vs; modes = ms })
 
--- every move leads somewhere
-abbrev pub Leading : Control ℕ → Type 0
-Leading c = (x n : ℕ) (b : Bool) → c .next x n b ≡ idle → ⊥
+-- no move is idle: in a run no moving node is, 25 has turned the others away
+abbrev pub NeverIdle : Control ℕ → Type 0
+NeverIdle c = (x n : ℕ) (b : Bool) → c .next x n b ≡ idle → ⊥
 
--- values vs and modes ms, the event judged j: the answer r, document 01's number of it where it has one (24 to 31, 203, 200),
--- and the values and modes that a run has after the event
+-- values vs and modes ms, the event judged j: the answer r, document 01's number of it (24 to 31, 203, 200; of a node's move none),
+-- and the values and modes that `settle` leaves
 pub record Left (j : Run.Verdict Done) (vs : List ℤ) (ms : List ℕ) (r : Verdict) (vs' : List ℤ) (ms' : List ℕ) : Type 0 where
   pub judged : j ≡ judgedAs r vs' ms'
   pub number : (n : ℕ) → paperAnswer r ≡ some n → (c : Control ℕ) (x : ℕ) (s : Situation ℕ) → (settle c x s j) .answer ≡ n
-  pub values : (c : Control ℕ) → Leading c → (x : ℕ) → (settle c x (at x vs ms) j) .left .values ≡ vs'
-  pub modes : (c : Control ℕ) → Leading c → (x : ℕ) → (settle c x (at x vs ms) j) .left .modes ≡ ms'
+  pub unnumbered : paperAnswer r ≡ none → (n : ℕ) × (b : Bool) × (r ≡ Move n b)
+  pub values : (c : Control ℕ) → NeverIdle c → (x : ℕ) → (settle c x (at x vs ms) j) .left .values ≡ vs'
+  pub modes : (c : Control ℕ) → NeverIdle c → (x : ℕ) → (settle c x (at x vs ms) j) .left .modes ≡ ms'
 
 -- what is left where a value faults
 unfoldable pub orElse : {A : Type 0} → A → Value A → A

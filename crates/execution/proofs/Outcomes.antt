@@ -10,7 +10,7 @@ use Rattle.semantics.specs.Expressions.{above, below}
 use Rattle.semantics.specs.Run as Run
 use Rattle.semantics.specs.Run.{stop, finished, away, faulty, pass, nobody, mover, Done, Control, Answered, at, turnedAway, settle, setNumber, actingSet, recordBytes, recordOf}
 use Rattle.nodeset.specs.Sets.{members}
-use Rattle.effects.specs.Verdicts.{judgedAs, Leading, Left}
+use Rattle.effects.specs.Verdicts.{judgedAs, NeverIdle, Left}
 use Rattle.effects.specs.declared.Verdict.{Verdict}
 use Rattle.effects.specs.declared.Verdict.the-variants.{Away, Above, Below, Stay, Move}
 
@@ -24,7 +24,7 @@ pub record Untaken (j v : Run.Verdict Done) (vs : List ℤ) (ms : List ℕ) (vs'
 abbrev placed : Control ℕ
 placed = record { start = 0; acting = λ x. []; action = λ n. stop; next = λ x n b. finished }
 
-leading : Leading placed
+leading : NeverIdle placed
 leading x n b e = let z : _≡_ {A = ℕ} 0 1 = cc in omega arith
 
 module _ (j : Run.Verdict Done) (vs : List ℤ) (ms : List ℕ) (vs' : List ℤ) (ms' : List ℕ) {r : Verdict} (l : Left j vs ms r vs' ms') where

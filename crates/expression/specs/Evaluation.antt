@@ -65,7 +65,7 @@ abbrev pub variableAt : List ℤ → List ℕ → ℕ → Found
 variableAt vs s p =
     cond (ltb p (length s) && ltb (getD s p 0) (length vs)) (numberAt (p + 1) (result (getD vs (getD s p 0) (pos 0)))) Broken
 
--- a constant or a variable at the position of its code: a number of depth 1
+-- what was found, where it is a number
 abbrev pub numberFound : Found → Found
 numberFound (ANumber z n) = ANumber z n
 numberFound (NumberFault u n) = NumberFault u n
@@ -73,6 +73,7 @@ numberFound (ATruth b n) = Broken
 numberFound (TruthFault u n) = Broken
 numberFound Broken = Broken
 
+-- a constant or a variable at the position of its code: a number of depth 1
 abbrev pub leafAt : List ℤ → List ℕ → ℕ → Found
 leafAt vs s p = numberFound (found vs s p 1)
 

@@ -286,6 +286,7 @@ fn next_of(f: Found) -> usize
 
 // The forms, from what their operands gave.
 fn operate(code: u8, l: Found, r: Found) -> Found
+    requires { ⌜ ((o : Operation) × (code ≡ operationCode o)) ⌝ }
     ensures { λ x. ⌜ ((o : Operation) → code ≡ operationCode o → x ≡ operated o l r) ⌝ }
 {
     match l {
@@ -304,6 +305,7 @@ fn operate(code: u8, l: Found, r: Found) -> Found
 }
 
 fn relate(code: u8, l: Found, r: Found) -> Found
+    requires { ⌜ ((o : Comparison) × (code ≡ comparisonCode o)) ⌝ }
     ensures { λ x. ⌜ ((o : Comparison) → code ≡ comparisonCode o → x ≡ related o l r) ⌝ }
 {
     match l {
@@ -322,6 +324,7 @@ fn relate(code: u8, l: Found, r: Found) -> Found
 }
 
 fn join(code: u8, l: Found, r: Found) -> Found
+    requires { ⌜ ((o : Connective) × (code ≡ connectiveCode o)) ⌝ }
     ensures { λ x. ⌜ ((o : Connective) → code ≡ connectiveCode o → x ≡ joined o l r) ⌝ }
 {
     match l {
@@ -361,6 +364,7 @@ fn oppose(f: Found) -> Found
 
 // The operations on values. A result is worked out in 64 bits and must lie in 32.
 fn arithmetic(code: u8, a: i32, b: i32, next: usize) -> Found
+    requires { ⌜ ((o : Operation) × (code ≡ operationCode o)) ⌝ }
     ensures { λ r. ⌜ ((o : Operation) → code ≡ operationCode o → r ≡ numberAt next (result (applied o a b))) ⌝ }
 {
     let x = a as i64;
@@ -391,6 +395,7 @@ fn ranged(x: i64, next: usize) -> Found
 }
 
 fn comparison(code: u8, a: i32, b: i32) -> bool
+    requires { ⌜ ((o : Comparison) × (code ≡ comparisonCode o)) ⌝ }
     ensures { λ r. ⌜ ((o : Comparison) → code ≡ comparisonCode o → r ≡ compared o a b) ⌝ }
 {
     match code {
@@ -402,6 +407,7 @@ fn comparison(code: u8, a: i32, b: i32) -> bool
 }
 
 fn connective(code: u8, a: bool, b: bool) -> bool
+    requires { ⌜ ((o : Connective) × (code ≡ connectiveCode o)) ⌝ }
     ensures { λ r. ⌜ ((o : Connective) → code ≡ connectiveCode o → r ≡ connected o a b) ⌝ }
 {
     match code {

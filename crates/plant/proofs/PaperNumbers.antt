@@ -10,7 +10,7 @@ use Rattle.semantics.specs.Refusals.{accepted, _>>=_, _>>_, ensure, need, refus
 use Rattle.semantics.specs.Plant.{judgeNamed}
 use Rattle.codec.specs.Reading.{Took, Reads}
 use Rattle.codec.proofs.Reading.{taken, lost}
-use Rattle.plant.specs.Equations.{Says, view, seen, got, StepSays, SeenSays}
+use Rattle.plant.specs.Equations.{Says, view, seen, readValue, StepSays, SeenSays}
 use Rattle.plant.specs.PaperNumbers.{paperStep, paperSeen}
 use Rattle.plant.specs.declared.equations.Step.{Step}
 use Rattle.plant.specs.declared.equations.Step.the-variants.{At, Broken}
@@ -29,14 +29,14 @@ paper-kept a true = refl
 paper-kept a false = refl
 
 pub step-says : {A : Type 0} {r : Reader A} {P : A → Bool} {s : List ℕ} {p : ℕ} {w : Step} → Reads r (Says P) s p (view w) → StepSays r P s p w
-unfolding paperStep refusalOf need got _>>=_
+unfolding paperStep refusalOf need readValue _>>=_
 step-says {r = r} {P = P} {s = s} {p = p} {w = w} h = record { reads = h; number = go w h }
   where
-    go : (w : Step) → Reads r (Says P) s p (view w) → paperStep w ≡ refusalOf (judgeNamed P (got (r (drop p s))))
+    go : (w : Step) → Reads r (Says P) s p (view w) → paperStep w ≡ refusalOf (judgeNamed P (readValue (r (drop p s))))
     go (At q x) h =
         let t : Took r (Says P) s p q x = taken h refl in
-        paper-named (t .value) q x ∙ ap (λ (b : Bool). refusalOf (ensure 7 b >> accepted (t .value))) (t .means) ∙ sym (ap (λ z. refusalOf (judgeNamed P (got z))) (t .got))
-    go Broken h = sym (ap (λ z. refusalOf (judgeNamed P (got z))) (lost h refl))
+        paper-named (t .value) q x ∙ ap (λ (b : Bool). refusalOf (ensure 7 b >> accepted (t .value))) (t .means) ∙ sym (ap (λ z. refusalOf (judgeNamed P (readValue z))) (t .got))
+    go Broken h = sym (ap (λ z. refusalOf (judgeNamed P (readValue z))) (lost h refl))
 
 pub seen-says : {A : Type 0} {P : A → Bool} {o : Option A} {w : Seen} → w ≡ seen P o → SeenSays P o w
 unfolding seen paperSeen refusalOf need _>>=_

@@ -104,14 +104,14 @@ seen P none = Lost
 seen P (some a) = Kept (P a)
 
 -- what was read, whatever follows it
-unfoldable pub got : {A : Type 0} → Read A → Option A
-got broken = none
-got (read a s) = some a
+unfoldable pub readValue : {A : Type 0} → Read A → Option A
+readValue broken = none
+readValue (read a s) = some a
 
 -- ---- their contracts: document 01's number is 6 where the layout is broken, 7 where a name is missing, 0 else
 pub record StepSays {A : Type 0} (r : Reader A) (P : A → Bool) (s : List ℕ) (p : ℕ) (w : Step) : Type 0 where
   pub reads : Reads r (Says P) s p (view w)
-  pub number : paperStep w ≡ refusalOf (judgeNamed P (got (r (drop p s))))
+  pub number : paperStep w ≡ refusalOf (judgeNamed P (readValue (r (drop p s))))
 
 pub record SeenSays {A : Type 0} (P : A → Bool) (o : Option A) (w : Seen) : Type 0 where
   pub is : w ≡ seen P o

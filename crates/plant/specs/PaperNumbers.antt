@@ -1,5 +1,5 @@
 -- Document 01's number for each case of what is read of the equations: 6 where the layout is broken, 7 where a name is missing, 0 else.
-use mathlib.Core.Bool.{Bool, true, false}
+use mathlib.Core.Bool.{true, false}
 use Prim.Native.Nat.{ℕ}
 use Rattle.plant.specs.declared.equations.Step.{Step}
 use Rattle.plant.specs.declared.equations.Step.the-variants.{At, Broken}

@@ -40,7 +40,7 @@ pub record Sized : Type 0 where
   pub locations : ℕ
   pub entries : ℕ
 
--- 1,025 locations stand for any number above 1,024 (13), and their entries are then not counted
+-- 1,025 locations stand for any number above 1,024 (13), and their entries are then not counted; f: can it finish, which is not told
 unfoldable pub tooMany : Bool → Size
 tooMany f = record { locations = suc locationLimit; entries = 0; finishes = f }
 

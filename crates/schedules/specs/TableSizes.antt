@@ -18,14 +18,14 @@ abbrev pub rowsLength : Edition → ℕ → ℕ → ℕ
 rowsLength ed locations entries = locations + entries * (widthOf (ed .width) + 4)
 
 -- "Version 1, whole length (4 bytes)", four lengths of sections (2, 2, 2 and 4 bytes) and the number of locations (2 bytes);
--- variables and equations copied, the actions, the rows of the locations
-abbrev pub lengthAround : ℕ → ℕ → ℕ → ℕ → ℕ
-lengthAround variables equations actions rows = 17 + (variables + (equations + (actions + rows)))
+-- with them the whole length, from those of the variables and equations, which are copied, of the actions and of the locations' rows
+abbrev pub lengthOfParts : ℕ → ℕ → ℕ → ℕ → ℕ
+lengthOfParts variables equations actions rows = 17 + (variables + (equations + (actions + rows)))
 
 unfoldable pub tableLength : Edition → Schedule → ℕ
 tableLength ed s =
     let z = sizeOf (s .root) in
-    lengthAround (length (s .sections .variables)) (length (s .sections .equations)) (length (writeActions ed (actionsOf (s .nodes)))) (rowsLength ed (z .locations) (z .entries))
+    lengthOfParts (length (s .sections .variables)) (length (s .sections .equations)) (length (writeActions ed (actionsOf (s .nodes)))) (rowsLength ed (z .locations) (z .entries))
 
 -- the table of this file has the size of its tree
 pub record TableSized (ed : Edition) (file table : List ℕ) : Type 0 where

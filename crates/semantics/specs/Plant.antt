@@ -95,7 +95,7 @@ judgeVariables ed section = do
   ensure 5 (every ordered vs)
   accepted vs
 
--- 6: "The equation section breaks its layout or a count.", then 7: of a part of the section that is read, or is not, and the test of its names
+-- 6: "The equation section breaks its layout or a count.", then 7: of a part of the section, none where it breaks its layout, and the test of its names
 abbrev pub judgeNamed : {A : Type 0} → (A → Bool) → Option A → Judged A
 judgeNamed named part = do
   a ← need 6 part

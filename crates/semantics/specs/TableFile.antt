@@ -156,12 +156,12 @@ abbrev pub writeTableSections : TableSections → List ℕ
 writeTableSections x = inSection2 (x .variables) ++ (inSection2 (x .equations) ++ (inSection2 (x .actions) ++ inSection4 (x .locations)))
 
 module _ (ed : Edition) where
-  -- the length of node and bytes, the node, the bytes
-  abbrev pub writeRow : ℕ → List ℕ → List ℕ
-  writeRow n b = out (ed .width) (widthOf (ed .width) + length b) ++ (out (ed .width) n ++ b)
+  -- "a length byte, node, kind (..), operand bytes": of a node, and the bytes of its kind and operand
+  abbrev pub writeActionRow : ℕ → List ℕ → List ℕ
+  writeActionRow n b = out (ed .width) (widthOf (ed .width) + length b) ++ (out (ed .width) n ++ b)
 
   unfoldable pub writeAction : NodeAction → List ℕ
-  writeAction a = writeRow (a .node) (actionBytes (a .action))
+  writeAction a = writeActionRow (a .node) (actionBytes (a .action))
 
   unfoldable pub writeActions : List NodeAction → List ℕ
   writeActions l = out (ed .width) (length l) ++ flatMap writeAction l

@@ -8,7 +8,7 @@ use lib.ListN.{length, getD, length-append, drop, length-drop}
 use lib.Seq.{length-take-le}
 use Rattle.semantics.specs.Bytes.{out, widthOf}
 use Rattle.semantics.specs.Editions.{edition1}
-use Rattle.semantics.specs.TableFile.{actionKind, actionOfKind, writeRow, writeAction}
+use Rattle.semantics.specs.TableFile.{actionKind, actionOfKind, writeActionRow, writeAction}
 use Rattle.schedules.specs.Nodes.{listed}
 use Rattle.schedules.proofs.Places.{flat-append}
 use Rattle.codec.specs.Parts.{partAt}
@@ -21,7 +21,7 @@ operand-long {s} {acts} {starts} {ends} {n} h =
     length-take-le (getD ends n 0 - getD starts n 0) (drop (getD starts n 0) s) (omega (arith, length-drop (getD starts n 0) s, h .ordered, h .inside))
 
 -- ---- one node
-pub row-bytes : (n k : ℕ) (b : List ℕ) → (length b + 2) ∷ n ∷ k ∷ b ≡ writeRow edition1 n (k ∷ b)
+pub row-bytes : (n k : ℕ) (b : List ℕ) → (length b + 2) ∷ n ∷ k ∷ b ≡ writeActionRow edition1 n (k ∷ b)
 unfolding out widthOf
 row-bytes n k b = let e : length b + 2 ≡ 1 + suc (length b) = omega arith in ap (λ (m : ℕ). m ∷ n ∷ k ∷ b) e
 
@@ -34,9 +34,9 @@ module _ (n : ℕ) {k : ℕ} {b : List ℕ} (c : Coded k b) where
   unfolding actionHere listed
   here-some = rw (c .read) refl
 
-  pub row-some : writeRow edition1 n (k ∷ b) ≡ flatMap (writeAction edition1) (actionHere n k b)
+  pub row-some : writeActionRow edition1 n (k ∷ b) ≡ flatMap (writeAction edition1) (actionHere n k b)
   unfolding writeAction flatMap
-  row-some = rw (here-some, c .bytes) (sym (append-nil (writeRow edition1 n (k ∷ b))))
+  row-some = rw (here-some, c .bytes) (sym (append-nil (writeActionRow edition1 n (k ∷ b))))
 
   pub row-long : length b + 3 ≡ length (flatMap (writeAction edition1) (actionHere n k b))
   row-long = let e : length b + 3 ≡ length ((length b + 2) ∷ n ∷ k ∷ b) = omega arith in e ∙ ap length (row-bytes n k b ∙ row-some)

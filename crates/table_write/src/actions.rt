@@ -6,7 +6,7 @@ ghost use Prim.Native.Nat.{_+_, _≤_, _<_};
 ghost use mathlib.Core.List.{_∷_};
 ghost use lib.ListN.{length};
 ghost use Rattle.semantics.specs.Editions.{edition1};
-ghost use Rattle.semantics.specs.TableFile.{writeRow};
+ghost use Rattle.semantics.specs.TableFile.{writeActionRow};
 ghost use Rattle.table_write.specs.ActionTable.{rowHere, rowsTo, OperandOf, Operands, Listed, Measured};
 ghost use Rattle.table_write.specs.Pieces.{Put};
 
@@ -31,7 +31,7 @@ pub fn measured<'a>(acts: &'a [u8], starts: &'a [usize], ends: &'a [usize], coun
 // A row at a place; the next place.
 fn put_row(body: &mut [u8], at: usize, n: usize, k: u8, operand: &[u8]) -> usize
     requires { ⌜ (n < 256) × (length (now operand) ≤ 199) × (at + length (now operand) + 3 ≤ length (now body)) ⌝ }
-    ensures { λ r. ⌜ Put (now (body .entry)) at (writeRow edition1 n (k ∷ now (operand .entry))) (now (body .exit)) r ⌝ }
+    ensures { λ r. ⌜ Put (now (body .entry)) at (writeActionRow edition1 n (k ∷ now (operand .entry))) (now (body .exit)) r ⌝ }
 {
     let i = codec::put1(body, at, spot::byte(operand.len() + 2));
     let j = codec::put1(body, i, spot::byte(n));

@@ -87,7 +87,7 @@ eval-eval-requires-4 t c κs =
     omega (arith, c7 .before .before .pre .0, c .before .before .before .before .before .before .before .if1 .left)
 
 eval-operate-requires : (t : ℕ) → eval-lts.Need-operate-requires (calls t) (eval-at t) eval.Post
-eval-operate-requires t c κs = search needs
+eval-operate-requires t c κs = an-operation-code _ (c .before .before .before .before .if3 .left) (c .before .before .before .if4 .taken)
 
 eval-eval-requires-5 : (t : ℕ) → eval-lts.Need-eval-requires-5 (calls t) (eval-at t) eval.Post
 eval-eval-requires-5 t c κs =
@@ -103,7 +103,7 @@ eval-eval-requires-6 t c κs =
     omega (arith, c7 .before .before .before .before .pre .0, c7 .before .before .if1 .left)
 
 eval-relate-requires : (t : ℕ) → eval-lts.Need-relate-requires (calls t) (eval-at t) eval.Post
-eval-relate-requires t c κs = search needs
+eval-relate-requires t c κs = a-comparison-code _ (c .before .before .before .before .if5 .left) (c .before .before .before .if6 .taken)
 
 eval-eval-requires-7 : (t : ℕ) → eval-lts.Need-eval-requires-7 (calls t) (eval-at t) eval.Post
 eval-eval-requires-7 t c κs =
@@ -119,7 +119,7 @@ eval-eval-requires-8 t c κs =
     omega (arith, c7 .before .before .before .before .before .before .pre .0, c7 .before .before .before .before .if1 .left)
 
 eval-join-requires : (t : ℕ) → eval-lts.Need-join-requires (calls t) (eval-at t) eval.Post
-eval-join-requires t c κs = search needs
+eval-join-requires t c κs = a-connective-code _ (c .before .before .before .before .if7 .left) (c .before .before .before .if8 .taken)
 
 eval-returns-3 : (t : ℕ) → eval-lts.Need-returns-3 (calls t) (eval-at t) eval.Post
 unfolding formOf

@@ -32,7 +32,7 @@ leaf-requires-2 : tie.Need-leaf-requires-2
 leaf-requires-2 c κs = search needs
 
 relate-requires : tie.Need-relate-requires
-relate-requires c κs = search needs
+relate-requires c κs = a-comparison-code _ (c .before .before .before .before .if2 .left) (c .before .before .before .if3 .left)
 
 returns-4 : tie.Need-returns-4
 returns-4 c =

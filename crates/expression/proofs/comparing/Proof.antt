@@ -48,7 +48,9 @@ returns-6 : tie.Need-returns-6
 returns-6 c = λ h. absurd (h refl)
 
 comparison-requires : tie.Need-comparison-requires
-comparison-requires c κs = search needs
+comparison-requires c κs =
+    let d = c .before .before .before .before .before .before in
+    a-comparison-code _ (d .before .before .before .before .if2 .left) (d .before .before .before .if3 .left)
 
 plain-truth-requires : tie.Need-plain-truth-requires
 plain-truth-requires c κs = search needs

@@ -16,7 +16,7 @@ enum-known-r : tie.Need-enum-known-r
 enum-known-r c = search needs
 
 connective-requires : tie.Need-connective-requires
-connective-requires c κs = search needs
+connective-requires c κs = c .before .before .before .before .before .before .pre
 
 enum-known-r-2 : tie.Need-enum-known-r-2
 enum-known-r-2 c = search needs

@@ -46,7 +46,9 @@ returns-6 : tie.Need-returns-6
 returns-6 c = λ h. absurd (h refl)
 
 connective-requires : tie.Need-connective-requires
-connective-requires c κs = search needs
+connective-requires c κs =
+    let d = c .before .before .before .before .before .before in
+    a-connective-code _ (d .before .before .before .before .if2 .left) (d .before .before .before .if3 .left)
 
 plain-truth-requires : tie.Need-plain-truth-requires
 plain-truth-requires c κs = search needs

@@ -18,7 +18,7 @@ enum-known-r : tie.Need-enum-known-r
 enum-known-r c = search needs
 
 arithmetic-requires : tie.Need-arithmetic-requires
-arithmetic-requires c κs = search needs
+arithmetic-requires c κs = c .before .before .before .before .before .before .pre
 
 enum-known-r-2 : tie.Need-enum-known-r-2
 enum-known-r-2 c = search needs

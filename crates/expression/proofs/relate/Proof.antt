@@ -20,7 +20,7 @@ enum-known-r : tie.Need-enum-known-r
 enum-known-r c = search needs
 
 comparison-requires : tie.Need-comparison-requires
-comparison-requires c κs = search needs
+comparison-requires c κs = c .before .before .before .before .before .before .pre
 
 enum-known-r-2 : tie.Need-enum-known-r-2
 enum-known-r-2 c = search needs

@@ -49,7 +49,7 @@ returns-3 : tie.Need-returns-3
 returns-3 c = c .eval2 .ensures
 
 arithmetic-requires : tie.Need-arithmetic-requires
-arithmetic-requires c κs = search needs
+arithmetic-requires c κs = an-operation-code _ (c .before .if2 .taken) (ltb-true _ _ (c .if3 .taken))
 
 returns-4 : tie.Need-returns-4
 returns-4 c =
