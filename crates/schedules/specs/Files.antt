@@ -34,13 +34,20 @@ judgeNodes ed p ns = do
   ensure 11 (every (nodeNamed (length (p .variables)) (selectors p)) ns)
   ensure 12 (every (nodeReads ed (length (p .variables))) ns && switchesRead ed p)
 
+-- 9 and 10: the nodes of a section, and the tree of nodes
+abbrev pub judgeNodeSection : Edition → List ℕ → Judged (List Node)
+judgeNodeSection ed s = need 9 (nodesIn ed s)
+
+abbrev pub judgeTree : List Node → Judged Tree
+judgeTree ns = need 10 (treeOf ns)
+
 -- 4 to 12, of the three sections
 unfoldable pub judgeFileSections : Edition → FileSections → Judged Schedule
 judgeFileSections ed parts = do
   -- 4 to 8
   p ← judgePlant ed (parts .variables) (parts .equations)
-  ns ← need 9 (nodesIn ed (parts .schedule))
-  t ← need 10 (treeOf ns)
+  ns ← judgeNodeSection ed (parts .schedule)
+  t ← judgeTree ns
   judgeNodes ed p ns
   accepted (record { sections = parts; plant = p; nodes = ns; root = t })
 

@@ -142,6 +142,10 @@ unfoldable pub connectiveCode : Connective → ℕ
 connectiveCode both = 0x28
 connectiveCode either = 0x29
 
+-- "Depth is at most 16"
+abbrev pub depthLimit : ℕ
+depthLimit = 16
+
 module _ (ed : Edition) where
   unfoldable pub numberBytes : Number → List ℕ
   numberBytes (constant z) = 0x01 ∷ out4 (unsigned z)
@@ -236,12 +240,11 @@ module _ (ed : Edition) (variables : ℕ) where
     readForm (readExpression depth) (formOf c)
 
   -- 12: "A truth or number is cut, overlong, too deep, of the wrong sort, has an unknown code or names a missing variable."
-  -- "Depth is at most 16"
   unfoldable pub numberIn : List ℕ → Option Number
-  numberIn s = whole (readNumber (readExpression 16)) s
+  numberIn s = whole (readNumber (readExpression depthLimit)) s
 
   unfoldable pub truthIn : List ℕ → Option Truth
-  truthIn s = whole (readTruth (readExpression 16)) s
+  truthIn s = whole (readTruth (readExpression depthLimit)) s
 
 -- the value of the bytes of a number or truth; what 12 turns away is never evaluated, and faults here
 unfoldable pub numberValue : Edition → List ℤ → List ℕ → Value ℤ

@@ -122,6 +122,10 @@ module _ (ed : Edition) where
   unfoldable pub checkModes : List Mode → List ℤ → Verdict (Unit {0})
   checkModes modes vs = walk 28 vs (currentTruths modes)
 
+  -- the truths of acting CONTINUEs. 31: "A tick whose walk over the CONTINUE truths stops at a true one."
+  abbrev pub checkWaits : List ℤ → List (List ℕ) → Verdict (Unit {0})
+  checkWaits vs ts = walk 31 vs ts
+
   -- "Kinds 6 and 7 both assign.": variable v becomes the number, or the number or its range faults
   unfoldable pub assigned : List Variable → List ℤ → ℕ → List ℕ → Value (List ℤ)
   assigned xs vs v e = thenValue (numberValue ed vs e) (stored xs vs v)
@@ -172,8 +176,7 @@ module _ (ed : Edition) where
     -- 27: "A tick while some acting node is no CONTINUE."
     allow 27 (every (λ n. isWait (action n)) acting)
     switchCheck p vs ms
-    -- 31: "A tick whose walk over the CONTINUE truths stops at a true one."
-    walk 31 vs (map (λ n. waitTruth (action n)) acting)
+    checkWaits vs (map (λ n. waitTruth (action n)) acting)
     ys ← valued (advance (p .variables) (rateOf p ms) vs)
     pass (record { moved = nobody; values = ys; modes = ms })
 

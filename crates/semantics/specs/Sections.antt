@@ -35,6 +35,17 @@ pub data Equation : Type 0 where
   steady : Rate → Equation
   choice : Selector → Equation
 
+-- ---- limits
+-- "Variables: count 1..32", "Equations: count 0..16", "mode count 1..8"
+abbrev pub variableLimit : ℕ
+variableLimit = 32
+
+abbrev pub equationLimit : ℕ
+equationLimit = 16
+
+abbrev pub modeLimit : ℕ
+modeLimit = 8
+
 -- ---- layout
 module _ (ed : Edition) where
   -- "minimum, maximum, initial (4 bytes each)"
@@ -49,7 +60,7 @@ module _ (ed : Edition) where
   unfoldable pub readVariables : Reader (List Variable)
   readVariables = do
     n ← byte
-    guard (within 1 32 n) (times n readVariable)
+    guard (within 1 variableLimit n) (times n readVariable)
 
   -- 4: "The variable count or section length is wrong."
   unfoldable pub variablesIn : List ℕ → Option (List Variable)
@@ -91,7 +102,7 @@ unfoldable pub readChoice : Reader Equation
 readChoice = do
   first ← byte
   n ← byte
-  guard (within 1 8 n) (do
+  guard (within 1 modeLimit n) (do
     ms ← times n readMode
     give (choice (record { initial = first; modes = ms })))
 
@@ -113,7 +124,7 @@ readEquation = do
 unfoldable pub readEquations : Reader (List Equation)
 readEquations = do
   n ← byte
-  guard (within 0 16 n) (times n readEquation)
+  guard (within 0 equationLimit n) (times n readEquation)
 
 -- 6: "The equation section breaks its layout or a count."
 unfoldable pub equationsIn : List ℕ → Option (List Equation)
