@@ -10,16 +10,21 @@ use lib.ListN.{length, getD}
 use borrow.Author.Tests.{ltb-true, ltb-false}
 use Rattle.semantics.specs.Bytes.{signed, _>>=_, andThen, give, fail}
 use Rattle.semantics.specs.Editions.{edition1}
-use Rattle.semantics.specs.Expressions.{Value, ok, fault, result, holds, Form, a-constant, a-variable, an-operation, a-negation, a-comparison, a-connective, an-opposite, a-true, unknown, formOf, readNumber, readTruth, readForm, readExpression}
+use Rattle.semantics.specs.Expressions.{above, below, Value, ok, fault, result, holds, Form, a-constant, a-variable, an-operation, a-negation, a-comparison, a-connective, an-opposite, a-true, unknown, formOf, readNumber, readTruth, readForm, readExpression}
 use Rattle.semantics.proofs.Facts.{by-cases}
-use Rattle.expression.specs.Evaluation.{numberAt, foundIn, found, numberFound, wordAt, constantAt, variableAt, leafAt}
+use Rattle.expression.specs.Evaluation.{numberAt, foundIn, found, ofNumber, wordAt, constantAt, variableAt, leafAt}
+use Rattle.expression.specs.declared.Found.{Found}
 use Rattle.expression.specs.declared.Found.the-variants.{Broken}
 use Rattle.expression.proofs.Steps.{form-at, past, by-form, step-constant, step-variable}
 
 -- what these two read is a number or nothing
+abbrev numberFound : Found → Found
+numberFound f = ofNumber f (λ v n. numberAt n v)
+
 number-at : (n : ℕ) (v : Value ℤ) → numberFound (numberAt n v) ≡ numberAt n v
 number-at n (ok z) = refl
-number-at n (fault u) = refl
+number-at n (fault above) = refl
+number-at n (fault below) = refl
 
 constant-number : (s : List ℕ) (p : ℕ) → numberFound (constantAt s p) ≡ constantAt s p
 constant-number s p = by-cases (leb (p + 4) (length s)) (λ e. rw e (number-at (p + 4) (result (signed (wordAt s p))))) (λ e. rw e refl)

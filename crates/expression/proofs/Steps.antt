@@ -1,24 +1,24 @@
 -- One step of evaluation: what is found at a position, by what is found at its operands.
 use mathlib.Core.Path.{_≡_, refl, sym, ap, ap₂, _∙_}
 use mathlib.Core.List.{List, [], _∷_}
-use mathlib.Core.Bool.{Bool, true, false, not, cond}
+use mathlib.Core.Bool.{Bool, true, false, cond}
 use Prim.Native.Nat.{ℕ, zero, suc, _+_, _-_, _≤_, _<_}
 use native.Mathlib.Nat.{add-zero}
 use native.Mathlib.Numerals.{add-one, sub-one}
 use native.Mathlib.Omega.{arith}
 use lib.Dec.{ltb, leb}
-use lib.IntN.{ℤ, pos, negℤ}
+use lib.IntN.{ℤ, pos}
 use lib.ListN.{length, drop, getD, length-drop, drop-of-length-le}
 use lib.Seq.{drop-cons, getD-drop, drop-drop}
 use borrow.Author.Tests.{leb-true, leb-false, ltb-true, ltb-false}
 use Rattle.semantics.specs.Bytes.{be4, signed, Read, broken, read, Reader, _>>=_, andThen, give, fail, guard, from, byte, nat4, int4}
 use Rattle.semantics.specs.Editions.{edition1}
-use Rattle.semantics.specs.Expressions.{Value, ok, fault, result, thenValue, operands, Operation, Comparison, Connective, applied, compared, connected, Number, constant, variable, operate, negation, Truth, compare, connect, opposite, valueOf, holds, Form, a-constant, a-variable, an-operation, a-negation, a-comparison, a-connective, an-opposite, a-true, unknown, formOf, operationCode, comparisonCode, connectiveCode, Expression, a-number, a-truth, toNumber, toTruth, readVariableNumber, readNumber, readTruth, readForm, readExpression}
+use Rattle.semantics.specs.Expressions.{above, below, Value, ok, fault, result, Operation, Comparison, Connective, Number, constant, variable, operate, negation, Truth, compare, connect, opposite, valueOf, holds, Form, a-constant, a-variable, an-operation, a-negation, a-comparison, a-connective, an-opposite, a-true, unknown, formOf, operationCode, comparisonCode, connectiveCode, Expression, a-number, a-truth, toNumber, toTruth, readVariableNumber, readNumber, readTruth, readForm, readExpression}
 use Rattle.semantics.proofs.Facts.{by-cases}
 use Rattle.semantics.proofs.ExpressionBytes.{operation-form, comparison-form, connective-form}
-use Rattle.expression.specs.Evaluation.{numberAt, truthAt, foundIn, found, nextOf, wordAt, constantAt, variableAt, of-two, operated, related, joined, negated, opposed}
+use Rattle.expression.specs.Evaluation.{numberAt, truthAt, foundIn, found, nextOf, wordAt, constantAt, variableAt, ofNumber, ofTruth, operated, related, joined, negated, opposed}
 use Rattle.expression.specs.declared.Found.{Found}
-use Rattle.expression.specs.declared.Found.the-variants.{NumberFault, ATruth, TruthFault, Broken}
+use Rattle.expression.specs.declared.Found.the-variants.{ATruth, Broken}
 use Rattle.expression.proofs.Ends.{Ends, nothing, at-end, ends}
 
 -- ---- bytes at a position
@@ -95,126 +95,65 @@ module _ (vs : List ℤ) (s : List ℕ) (R : Reader Expression) where
       go true h = sym (ap (λ n. numberAt n (result (getD vs (getD s p 0) (pos 0)))) (after-at s (p + 1) (omega arith)))
       go false h = refl
 
--- ---- two numbers
-module _ (k : ℤ → ℤ → ℕ → Found) (f : Bool → ℕ → Found) where
-  wrong-right : (m n : ℕ) (v : Value ℤ) (w : Value Bool) → Broken ≡ of-two k f (numberAt m v) (truthAt n w)
-  wrong-right m n (ok z) (ok b) = refl
-  wrong-right m n (ok z) (fault u) = refl
-  wrong-right m n (fault u) (ok b) = refl
-  wrong-right m n (fault u) (fault t) = refl
+-- ---- a value that was found
+number-seen : (k : Value ℤ → ℕ → Found) (n : ℕ) (v : Value ℤ) → k v n ≡ ofNumber (numberAt n v) k
+number-seen k n (ok z) = refl
+number-seen k n (fault above) = refl
+number-seen k n (fault below) = refl
 
-  no-right : (m : ℕ) (v : Value ℤ) → Broken ≡ of-two k f (numberAt m v) Broken
-  no-right m (ok z) = refl
-  no-right m (fault u) = refl
+truth-seen : (k : Value Bool → ℕ → Found) (n : ℕ) (v : Value Bool) → k v n ≡ ofTruth (truthAt n v) k
+truth-seen k n (ok b) = refl
+truth-seen k n (fault above) = refl
+truth-seen k n (fault below) = refl
 
-  wrong-left : (m : ℕ) (v : Value Bool) (r : Found) → Broken ≡ of-two k f (truthAt m v) r
-  wrong-left m (ok b) r = refl
-  wrong-left m (fault u) r = refl
+wrong-number : (k : Value ℤ → ℕ → Found) (n : ℕ) (v : Value Bool) → Broken ≡ ofNumber (truthAt n v) k
+wrong-number k n (ok b) = refl
+wrong-number k n (fault u) = refl
 
-  module _ (vs : List ℤ) (s : List ℕ) (R : Reader Expression) (mk : Number → Number → Expression)
-      (good : (a b : Number) (m : ℕ) (t : List ℕ) → foundIn vs (length s) (read (mk a b) t) ≡ of-two k f (numberAt m (valueOf vs a)) (numberAt (length s - length t) (valueOf vs b))) where
-    second : (a : Number) (m : ℕ) (E : Read Expression) →
-        foundIn vs (length s) (andThen (andThen E (λ e. from (toNumber e))) (λ b. give (mk a b))) ≡ of-two k f (numberAt m (valueOf vs a)) (foundIn vs (length s) E)
+wrong-truth : (k : Value Bool → ℕ → Found) (n : ℕ) (v : Value ℤ) → Broken ≡ ofTruth (numberAt n v) k
+wrong-truth k n (ok z) = refl
+wrong-truth k n (fault u) = refl
+
+-- ---- a form of one operand, and of two
+module _ (vs : List ℤ) (s : List ℕ) where
+  module _ (k : Value ℤ → ℕ → Found) (mk : Number → Expression) (made : (a : Number) (t : List ℕ) → foundIn vs (length s) (read (mk a) t) ≡ k (valueOf vs a) (length s - length t)) where
+    one-number : (D : Read Expression) → foundIn vs (length s) (andThen (andThen D (λ e. from (toNumber e))) (λ a. give (mk a))) ≡ ofNumber (foundIn vs (length s) D) k
     unfolding foundIn andThen from give fail toNumber
-    second a m broken = no-right m (valueOf vs a)
-    second a m (read (a-number b) t) = good a b m t
-    second a m (read (a-truth b) t) = wrong-right m (length s - length t) (valueOf vs a) (holds vs b)
+    one-number broken = refl
+    one-number (read (a-number a) t) = made a t ∙ number-seen k (length s - length t) (valueOf vs a)
+    one-number (read (a-truth a) t) = wrong-number k (length s - length t) (holds vs a)
 
-    two-numbers : (D : Read Expression) → Ends s D →
-        foundIn vs (length s) (andThen (andThen D (λ e. from (toNumber e))) (λ a. readNumber edition1 (length vs) R >>= λ b. give (mk a b)))
-        ≡ of-two k f (foundIn vs (length s) D) (foundIn vs (length s) (R (drop (nextOf (foundIn vs (length s) D)) s)))
-    unfolding foundIn andThen from give fail toNumber readNumber _>>=_
-    two-numbers broken nothing = refl
-    two-numbers (read (a-number a) t) (at-end e) =
-        rw (number-next (length s - length t) (valueOf vs a), e) (second a (length s - length t) (R t))
-    two-numbers (read (a-truth a) t) (at-end e) = wrong-left (length s - length t) (holds vs a) _
+  module _ (k : Value Bool → ℕ → Found) (mk : Truth → Expression) (made : (a : Truth) (t : List ℕ) → foundIn vs (length s) (read (mk a) t) ≡ k (holds vs a) (length s - length t)) where
+    one-truth : (D : Read Expression) → foundIn vs (length s) (andThen (andThen D (λ e. from (toTruth e))) (λ a. give (mk a))) ≡ ofTruth (foundIn vs (length s) D) k
+    unfolding foundIn andThen from give fail toTruth
+    one-truth broken = refl
+    one-truth (read (a-number a) t) = wrong-truth k (length s - length t) (valueOf vs a)
+    one-truth (read (a-truth a) t) = made a t ∙ truth-seen k (length s - length t) (holds vs a)
 
--- ---- two truths
-module _ (c : Connective) where
-  wrong-right-truth : (m n : ℕ) (v : Value Bool) (w : Value ℤ) → Broken ≡ joined c (truthAt m v) (numberAt n w)
-  wrong-right-truth m n (ok b) (ok z) = refl
-  wrong-right-truth m n (ok b) (fault u) = refl
-  wrong-right-truth m n (fault u) (ok z) = refl
-  wrong-right-truth m n (fault u) (fault t) = refl
+  module _ (R : Reader Expression) where
+    module _ (k : Value ℤ → Value ℤ → ℕ → Found) (mk : Number → Number → Expression)
+        (made : (a b : Number) (t : List ℕ) → foundIn vs (length s) (read (mk a b) t) ≡ k (valueOf vs a) (valueOf vs b) (length s - length t)) where
+      two-numbers : (D : Read Expression) → Ends s D →
+          foundIn vs (length s) (andThen (andThen D (λ e. from (toNumber e))) (λ a. readNumber edition1 (length vs) R >>= λ b. give (mk a b)))
+          ≡ ofNumber (foundIn vs (length s) D) (λ a m. ofNumber (foundIn vs (length s) (R (drop (nextOf (foundIn vs (length s) D)) s))) (λ b n. k a b n))
+      unfolding foundIn andThen from give fail toNumber readNumber _>>=_
+      two-numbers broken nothing = refl
+      two-numbers (read (a-number a) t) (at-end e) =
+          rw (number-next (length s - length t) (valueOf vs a), e)
+          (one-number (λ b n. k (valueOf vs a) b n) (mk a) (made a) (R t) ∙ number-seen (λ x m. ofNumber (foundIn vs (length s) (R t)) (λ b n. k x b n)) (length s - length t) (valueOf vs a))
+      two-numbers (read (a-truth a) t) (at-end e) = wrong-number _ (length s - length t) (holds vs a)
 
-  no-right-truth : (m : ℕ) (v : Value Bool) → Broken ≡ joined c (truthAt m v) Broken
-  no-right-truth m (ok b) = refl
-  no-right-truth m (fault u) = refl
-
-  wrong-left-truth : (m : ℕ) (v : Value ℤ) (r : Found) → Broken ≡ joined c (numberAt m v) r
-  wrong-left-truth m (ok z) r = refl
-  wrong-left-truth m (fault u) r = refl
-
-  good-joined : (m n : ℕ) (v w : Value Bool) → truthAt n (operands (connected c) v w) ≡ joined c (truthAt m v) (truthAt n w)
-  unfolding operands
-  good-joined m n (ok a) (ok b) = refl
-  good-joined m n (ok a) (fault t) = refl
-  good-joined m n (fault u) (ok b) = refl
-  good-joined m n (fault u) (fault t) = refl
-
-  module _ (vs : List ℤ) (s : List ℕ) (R : Reader Expression) where
-    second-truth : (a : Truth) (m : ℕ) (E : Read Expression) →
-        foundIn vs (length s) (andThen (andThen E (λ e. from (toTruth e))) (λ b. give (a-truth (connect c a b)))) ≡ joined c (truthAt m (holds vs a)) (foundIn vs (length s) E)
-    unfolding foundIn andThen from give fail toTruth holds
-    second-truth a m broken = no-right-truth m (holds vs a)
-    second-truth a m (read (a-number b) t) = wrong-right-truth m (length s - length t) (holds vs a) (valueOf vs b)
-    second-truth a m (read (a-truth b) t) = good-joined m (length s - length t) (holds vs a) (holds vs b)
-
-    two-truths : (D : Read Expression) → Ends s D →
-        foundIn vs (length s) (andThen (andThen D (λ e. from (toTruth e))) (λ a. readTruth edition1 (length vs) R >>= λ b. give (a-truth (connect c a b))))
-        ≡ joined c (foundIn vs (length s) D) (foundIn vs (length s) (R (drop (nextOf (foundIn vs (length s) D)) s)))
-    unfolding foundIn andThen from give fail toTruth readTruth _>>=_
-    two-truths broken nothing = refl
-    two-truths (read (a-number a) t) (at-end e) = wrong-left-truth (length s - length t) (valueOf vs a) _
-    two-truths (read (a-truth a) t) (at-end e) =
-        rw (truth-next (length s - length t) (holds vs a), e) (second-truth a (length s - length t) (R t))
-
--- ---- what is made of the operands' values
-good-operated : (o : Operation) (m n : ℕ) (v w : Value ℤ) →
-    numberAt n (thenValue (operands (applied o) v w) result) ≡ of-two (λ a b i. numberAt i (result (applied o a b))) NumberFault (numberAt m v) (numberAt n w)
-unfolding operands thenValue
-good-operated o m n (ok a) (ok b) = refl
-good-operated o m n (ok a) (fault t) = refl
-good-operated o m n (fault u) (ok b) = refl
-good-operated o m n (fault u) (fault t) = refl
-
-good-related : (o : Comparison) (m n : ℕ) (v w : Value ℤ) →
-    truthAt n (operands (compared o) v w) ≡ of-two (λ a b i. ATruth (compared o a b) i) TruthFault (numberAt m v) (numberAt n w)
-unfolding operands
-good-related o m n (ok a) (ok b) = refl
-good-related o m n (ok a) (fault t) = refl
-good-related o m n (fault u) (ok b) = refl
-good-related o m n (fault u) (fault t) = refl
-
-good-negated : (n : ℕ) (v : Value ℤ) → numberAt n (thenValue v (λ z. result (negℤ z))) ≡ negated (numberAt n v)
-unfolding thenValue
-good-negated n (ok a) = refl
-good-negated n (fault u) = refl
-
-wrong-negated : (n : ℕ) (v : Value Bool) → Broken ≡ negated (truthAt n v)
-wrong-negated n (ok b) = refl
-wrong-negated n (fault u) = refl
-
-good-opposed : (n : ℕ) (v : Value Bool) → truthAt n (thenValue v (λ b. ok (not b))) ≡ opposed (truthAt n v)
-unfolding thenValue
-good-opposed n (ok b) = refl
-good-opposed n (fault u) = refl
-
-wrong-opposed : (n : ℕ) (v : Value ℤ) → Broken ≡ opposed (numberAt n v)
-wrong-opposed n (ok z) = refl
-wrong-opposed n (fault u) = refl
-
-one-number : (vs : List ℤ) (n : ℕ) (D : Read Expression) → foundIn vs n (andThen (andThen D (λ e. from (toNumber e))) (λ a. give (a-number (negation a)))) ≡ negated (foundIn vs n D)
-unfolding foundIn andThen from give fail toNumber valueOf
-one-number vs n broken = refl
-one-number vs n (read (a-number a) t) = good-negated (n - length t) (valueOf vs a)
-one-number vs n (read (a-truth a) t) = wrong-negated (n - length t) (holds vs a)
-
-one-truth : (vs : List ℤ) (n : ℕ) (D : Read Expression) → foundIn vs n (andThen (andThen D (λ e. from (toTruth e))) (λ a. give (a-truth (opposite a)))) ≡ opposed (foundIn vs n D)
-unfolding foundIn andThen from give fail toTruth holds
-one-truth vs n broken = refl
-one-truth vs n (read (a-number a) t) = wrong-opposed (n - length t) (valueOf vs a)
-one-truth vs n (read (a-truth a) t) = good-opposed (n - length t) (holds vs a)
+    module _ (k : Value Bool → Value Bool → ℕ → Found) (mk : Truth → Truth → Expression)
+        (made : (a b : Truth) (t : List ℕ) → foundIn vs (length s) (read (mk a b) t) ≡ k (holds vs a) (holds vs b) (length s - length t)) where
+      two-truths : (D : Read Expression) → Ends s D →
+          foundIn vs (length s) (andThen (andThen D (λ e. from (toTruth e))) (λ a. readTruth edition1 (length vs) R >>= λ b. give (mk a b)))
+          ≡ ofTruth (foundIn vs (length s) D) (λ a m. ofTruth (foundIn vs (length s) (R (drop (nextOf (foundIn vs (length s) D)) s))) (λ b n. k a b n))
+      unfolding foundIn andThen from give fail toTruth readTruth _>>=_
+      two-truths broken nothing = refl
+      two-truths (read (a-number a) t) (at-end e) = wrong-truth _ (length s - length t) (valueOf vs a)
+      two-truths (read (a-truth a) t) (at-end e) =
+          rw (truth-next (length s - length t) (holds vs a), e)
+          (one-truth (λ b n. k (holds vs a) b n) (mk a) (made a) (R t) ∙ truth-seen (λ x m. ofTruth (foundIn vs (length s) (R t)) (λ b n. k x b n)) (length s - length t) (holds vs a))
 
 -- ---- a step of depth d, which is not 0
 pub no-depth : (vs : List ℤ) (s : List ℕ) (at d : ℕ) → d ≡ 0 → Broken ≡ found vs s at d
@@ -261,12 +200,12 @@ module _ (vs : List ℤ) (s : List ℕ) (at d : ℕ) (deep : d ≡ 0 → ⊥) wh
 
     module _ (x l : Found) (l-is : l ≡ found vs s (at + 1) (d - 1)) where
       pub step-negation : getD s at 0 ≡ 0x14 → x ≡ negated l → x ≡ found vs s at d
-      unfolding readForm readNumber _>>=_ formOf
-      step-negation e q = q ∙ ap negated l-is ∙ sym (one-number vs (length s) (R (drop (at + 1) s))) ∙ by-form a-negation (ap formOf e)
+      unfolding readForm readNumber _>>=_ formOf foundIn valueOf
+      step-negation e q = q ∙ ap negated l-is ∙ sym (one-number vs s _ (λ a. a-number (negation a)) (λ a t. refl) (R (drop (at + 1) s))) ∙ by-form a-negation (ap formOf e)
 
       pub step-opposite : getD s at 0 ≡ 0x2a → x ≡ opposed l → x ≡ found vs s at d
-      unfolding readForm readTruth _>>=_ formOf
-      step-opposite e q = q ∙ ap opposed l-is ∙ sym (one-truth vs (length s) (R (drop (at + 1) s))) ∙ by-form an-opposite (ap formOf e)
+      unfolding readForm readTruth _>>=_ formOf foundIn holds
+      step-opposite e q = q ∙ ap opposed l-is ∙ sym (one-truth vs s _ (λ a. a-truth (opposite a)) (λ a t. refl) (R (drop (at + 1) s))) ∙ by-form an-opposite (ap formOf e)
 
       module _ (n : ℕ) (r : Found) (n-is : n ≡ nextOf l) (r-is : r ≡ found vs s n (d - 1)) where
         right-is : r ≡ found vs s (nextOf (found vs s (at + 1) (d - 1))) (d - 1)
@@ -276,19 +215,19 @@ module _ (vs : List ℤ) (s : List ℕ) (at d : ℕ) (deep : d ≡ 0 → ⊥) wh
         unfolding readForm readNumber _>>=_ foundIn valueOf
         step-operation o e q =
             q ∙ ap₂ (operated o) l-is right-is
-            ∙ sym (two-numbers _ _ vs s R (λ a b. a-number (operate o a b)) (λ a b m t. good-operated o m (length s - length t) (valueOf vs a) (valueOf vs b)) (R (drop (at + 1) s)) (ends edition1 (length vs) (d - 1) s (at + 1)))
+            ∙ sym (two-numbers vs s R _ (λ a b. a-number (operate o a b)) (λ a b t. refl) (R (drop (at + 1) s)) (ends edition1 (length vs) (d - 1) s (at + 1)))
             ∙ by-form (an-operation o) (ap formOf e ∙ operation-form o)
 
         pub step-comparison : (o : Comparison) → getD s at 0 ≡ comparisonCode o → x ≡ related o l r → x ≡ found vs s at d
         unfolding readForm readNumber _>>=_ foundIn holds
         step-comparison o e q =
             q ∙ ap₂ (related o) l-is right-is
-            ∙ sym (two-numbers _ _ vs s R (λ a b. a-truth (compare o a b)) (λ a b m t. good-related o m (length s - length t) (valueOf vs a) (valueOf vs b)) (R (drop (at + 1) s)) (ends edition1 (length vs) (d - 1) s (at + 1)))
+            ∙ sym (two-numbers vs s R _ (λ a b. a-truth (compare o a b)) (λ a b t. refl) (R (drop (at + 1) s)) (ends edition1 (length vs) (d - 1) s (at + 1)))
             ∙ by-form (a-comparison o) (ap formOf e ∙ comparison-form o)
 
         pub step-connective : (o : Connective) → getD s at 0 ≡ connectiveCode o → x ≡ joined o l r → x ≡ found vs s at d
-        unfolding readForm readTruth _>>=_
+        unfolding readForm readTruth _>>=_ foundIn holds
         step-connective o e q =
             q ∙ ap₂ (joined o) l-is right-is
-            ∙ sym (two-truths o vs s R (R (drop (at + 1) s)) (ends edition1 (length vs) (d - 1) s (at + 1)))
+            ∙ sym (two-truths vs s R _ (λ a b. a-truth (connect o a b)) (λ a b t. refl) (R (drop (at + 1) s)) (ends edition1 (length vs) (d - 1) s (at + 1)))
             ∙ by-form (a-connective o) (ap formOf e ∙ connective-form o)
