@@ -1,22 +1,21 @@
 -- One step of evaluation: what is found at a position, by what is found at its operands.
 use mathlib.Core.Path.{_≡_, refl, sym, ap, ap₂, _∙_}
 use mathlib.Core.List.{List, [], _∷_}
-use mathlib.Core.Bool.{Bool, true, false, cond}
+use mathlib.Core.Bool.{Bool, true}
 use Prim.Native.Nat.{ℕ, zero, suc, _+_, _-_, _≤_, _<_}
 use native.Mathlib.Nat.{add-zero}
 use native.Mathlib.Numerals.{add-one, sub-one}
 use native.Mathlib.Omega.{arith}
-use lib.Dec.{ltb, leb}
+use lib.Dec.{ltb}
 use lib.IntN.{ℤ, pos}
 use lib.ListN.{length, drop, getD, length-drop, drop-of-length-le}
 use lib.Seq.{drop-cons, getD-drop, drop-drop}
-use borrow.Author.Tests.{leb-true, leb-false, ltb-true, ltb-false}
+use borrow.Author.Tests.{lt-ltb, le-ltb}
 use Rattle.semantics.specs.Bytes.{be4, signed, Read, broken, read, Reader, _>>=_, andThen, give, fail, guard, from, byte, nat4, int4}
 use Rattle.semantics.specs.Editions.{edition1}
 use Rattle.semantics.specs.Expressions.{above, below, Value, ok, fault, result, Operation, Comparison, Connective, Number, constant, variable, operate, negation, Truth, compare, connect, opposite, valueOf, holds, Form, a-constant, a-variable, an-operation, a-negation, a-comparison, a-connective, an-opposite, a-true, unknown, formOf, operationCode, comparisonCode, connectiveCode, Expression, a-number, a-truth, toNumber, toTruth, readVariableNumber, readNumber, readTruth, readForm, readExpression}
-use Rattle.semantics.proofs.Facts.{by-cases}
 use Rattle.semantics.proofs.ExpressionBytes.{operation-form, comparison-form, connective-form}
-use Rattle.expression.specs.Evaluation.{numberAt, truthAt, foundIn, found, nextOf, wordAt, constantAt, variableAt, ofNumber, ofTruth, operated, related, joined, negated, opposed}
+use Rattle.expression.specs.Evaluation.{numberAt, truthAt, foundIn, found, nextOf, wordAt, formAt, ofNumber, ofTruth, operated, related, joined, negated, opposed}
 use Rattle.expression.specs.declared.Found.{Found}
 use Rattle.expression.specs.declared.Found.the-variants.{ATruth, Broken}
 use Rattle.expression.proofs.Ends.{Ends, nothing, at-end, ends}
@@ -67,33 +66,40 @@ truth-next n (ok b) = refl
 truth-next n (fault u) = refl
 
 -- ---- the forms without operands, at the position after their code
-module _ (vs : List ℤ) (s : List ℕ) (R : Reader Expression) where
-  abbrev pub form-at : Form → ℕ → Found
-  form-at f p = foundIn vs (length s) (readForm edition1 (length vs) R f (drop p s))
+abbrev pub form-at : List ℤ → List ℕ → Reader Expression → Form → ℕ → Found
+form-at vs s R f p = foundIn vs (length s) (readForm edition1 (length vs) R f (drop p s))
 
-  constant-is : (p : ℕ) → constantAt s p ≡ form-at a-constant p
+module _ (vs : List ℤ) (s : List ℕ) (p : ℕ) where
+  abbrev constantOf : Read ℕ → Found
+  constantOf o = foundIn vs (length s) (andThen (andThen o (λ n. give (signed n))) (λ z. give (a-number (constant z))))
+
+  pub constant-there : p + 4 ≤ length s → numberAt (p + 4) (result (signed (wordAt s p))) ≡ formAt vs s a-constant p
   unfolding foundIn readForm int4 _>>=_ andThen give valueOf
-  constant-is p = by-cases (leb (p + 4) (length s))
-      (λ e.
-      let h = leb-true (p + 4) (length s) e in
-      rw e (sym (ap (λ o. foundIn vs (length s) (andThen (andThen o (λ n. give (signed n))) (λ z. give (a-number (constant z))))) (nat4-at s p h)
-      ∙ ap (λ n. numberAt n (result (signed (wordAt s p)))) (after-at s (p + 4) h))))
-      (λ e.
-      rw e (sym (ap (λ o. foundIn vs (length s) (andThen (andThen o (λ n. give (signed n))) (λ z. give (a-number (constant z))))) (nat4-past s p (leb-false (p + 4) (length s) e)))))
+  constant-there h = sym (ap constantOf (nat4-at s p h) ∙ ap (λ n. numberAt n (result (signed (wordAt s p)))) (after-at s (p + 4) h))
 
-  variable-is : (p : ℕ) → variableAt vs s p ≡ form-at a-variable p
-  unfolding foundIn readForm readVariableNumber _>>=_ andThen give valueOf guard fail
-  variable-is p = by-cases (ltb p (length s))
-      (λ e.
-      let h = ltb-true p (length s) e in
-      rw e (go (ltb (getD s p 0) (length vs)) h ∙ sym (ap (λ o. foundIn vs (length s) (andThen o (λ v. guard (ltb v (length vs)) (give (a-number (variable v)))))) (byte-at s p h))))
-      (λ e.
-      rw e (sym (ap (λ o. foundIn vs (length s) (andThen o (λ v. guard (ltb v (length vs)) (give (a-number (variable v)))))) (byte-past s p (ltb-false p (length s) e)))))
-    where
-      go : (b : Bool) → p < length s →
-          cond b (numberAt (p + 1) (result (getD vs (getD s p 0) (pos 0)))) Broken ≡ foundIn vs (length s) (guard b (give (a-number (variable (getD s p 0)))) (drop (p + 1) s))
-      go true h = sym (ap (λ n. numberAt n (result (getD vs (getD s p 0) (pos 0)))) (after-at s (p + 1) (omega arith)))
-      go false h = refl
+  pub constant-cut : length s < p + 4 → Broken ≡ formAt vs s a-constant p
+  unfolding foundIn readForm int4 _>>=_ andThen
+  constant-cut h = sym (ap constantOf (nat4-past s p h))
+
+  abbrev variableOf : Read ℕ → Found
+  variableOf o = foundIn vs (length s) (andThen o (λ v. guard (ltb v (length vs)) (give (a-number (variable v)))))
+
+  pub variable-cut : length s ≤ p → Broken ≡ formAt vs s a-variable p
+  unfolding foundIn readForm readVariableNumber _>>=_ andThen
+  variable-cut h = sym (ap variableOf (byte-past s p h))
+
+  module _ (here : p < length s) where
+    pub variable-there : getD s p 0 < length vs → numberAt (p + 1) (result (getD vs (getD s p 0) (pos 0))) ≡ formAt vs s a-variable p
+    unfolding foundIn readForm readVariableNumber _>>=_ andThen give valueOf guard
+    variable-there h =
+        let e : variableOf (read (getD s p 0) (drop (p + 1) s)) ≡ numberAt (length s - length (drop (p + 1) s)) (result (getD vs (getD s p 0) (pos 0))) = rw (lt-ltb _ _ h) refl in
+        sym (ap variableOf (byte-at s p here) ∙ e ∙ ap (λ n. numberAt n (result (getD vs (getD s p 0) (pos 0)))) (after-at s (p + 1) (omega arith)))
+
+    pub variable-missing : length vs ≤ getD s p 0 → Broken ≡ formAt vs s a-variable p
+    unfolding foundIn readForm readVariableNumber _>>=_ andThen guard fail
+    variable-missing h =
+        let e : variableOf (read (getD s p 0) (drop (p + 1) s)) ≡ Broken = rw (le-ltb _ _ h) refl in
+        sym (ap variableOf (byte-at s p here) ∙ e)
 
 -- ---- a value that was found
 number-seen : (k : Value ℤ → ℕ → Found) (n : ℕ) (v : Value ℤ) → k v n ≡ ofNumber (numberAt n v) k
@@ -192,11 +198,13 @@ module _ (vs : List ℤ) (s : List ℕ) (at d : ℕ) (deep : d ≡ 0 → ⊥) wh
     unfolding foundIn readForm give holds formOf
     step-true e = ap (λ n. ATruth true n) (sym (after-at s (at + 1) (omega arith))) ∙ by-form a-true (ap formOf e)
 
-    pub step-constant : formOf (getD s at 0) ≡ a-constant → constantAt s (at + 1) ≡ found vs s at d
-    step-constant e = constant-is vs s R (at + 1) ∙ by-form a-constant e
+    pub step-constant : formOf (getD s at 0) ≡ a-constant → formAt vs s a-constant (at + 1) ≡ found vs s at d
+    unfolding readForm
+    step-constant e = by-form a-constant e
 
-    pub step-variable : formOf (getD s at 0) ≡ a-variable → variableAt vs s (at + 1) ≡ found vs s at d
-    step-variable e = variable-is vs s R (at + 1) ∙ by-form a-variable e
+    pub step-variable : formOf (getD s at 0) ≡ a-variable → formAt vs s a-variable (at + 1) ≡ found vs s at d
+    unfolding readForm
+    step-variable e = by-form a-variable e
 
     module _ (x l : Found) (l-is : l ≡ found vs s (at + 1) (d - 1)) where
       pub step-negation : getD s at 0 ≡ 0x14 → x ≡ negated l → x ≡ found vs s at d

@@ -1,15 +1,14 @@
 -- What the functions inside the crate find at a position, from what the readers of semantics read there.
 use mathlib.Core.Path.{_≡_}
 use mathlib.Core.List.{List}
-use mathlib.Core.Bool.{Bool, true, false, not, cond, _&&_}
+use mathlib.Core.Bool.{Bool, true, false, not}
 use Prim.Native.Nat.{ℕ, _+_, _-_}
 use lib.ListN.{length, drop, getD}
-use lib.Dec.{ltb, leb}
-use lib.IntN.{ℤ, pos, negℤ}
-use Rattle.semantics.specs.Bytes.{be4, signed, Read, broken, read}
+use lib.IntN.{ℤ, negℤ}
+use Rattle.semantics.specs.Bytes.{be4, Read, broken, read, fail}
 use Rattle.semantics.specs.Editions.{edition1}
 use Rattle.semantics.specs.Expressions.{Side, above, below, Value, ok, fault, result, thenValue, operands, valueOf, holds}
-use Rattle.semantics.specs.Expressions.{Operation, Comparison, Connective, applied, compared, connected, Expression, a-number, a-truth, readExpression}
+use Rattle.semantics.specs.Expressions.{Operation, Comparison, Connective, applied, compared, connected, Form, Expression, a-number, a-truth, readForm, readExpression}
 use Rattle.expression.specs.PaperNumbers.{expressionNumber, paperFound}
 use Rattle.expression.specs.declared.Found.{Found}
 use Rattle.expression.specs.declared.Found.the-variants.{ANumber, NumberFault, ATruth, TruthFault, Broken}
@@ -69,16 +68,13 @@ ofTruth (ATruth b n) k = k (ok b) n
 ofTruth (TruthFault u n) k = k (fault (sideOf u)) n
 ofTruth Broken k = Broken
 
--- ---- the forms without operands, at the position after their code
+-- ---- the forms without operands
+-- at the position after the code
+abbrev pub formAt : List ℤ → List ℕ → Form → ℕ → Found
+formAt vs s f p = foundIn vs (length s) (readForm edition1 (length vs) fail f (drop p s))
+
 abbrev pub wordAt : List ℕ → ℕ → ℕ
 wordAt s p = be4 (getD s p 0) (getD s (p + 1) 0) (getD s (p + 2) 0) (getD s (p + 3) 0)
-
-abbrev pub constantAt : List ℕ → ℕ → Found
-constantAt s p = cond (leb (p + 4) (length s)) (numberAt (p + 4) (result (signed (wordAt s p)))) Broken
-
-abbrev pub variableAt : List ℤ → List ℕ → ℕ → Found
-variableAt vs s p =
-    cond (ltb p (length s) && ltb (getD s p 0) (length vs)) (numberAt (p + 1) (result (getD vs (getD s p 0) (pos 0)))) Broken
 
 -- a constant or a variable at the position of its code: a number of depth 1
 abbrev pub leafAt : List ℤ → List ℕ → ℕ → Found

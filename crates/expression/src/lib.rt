@@ -1,14 +1,15 @@
 // Numbers and truths: judged from their bytes (condition 12) and evaluated.
 ghost use mathlib.Core.Path.{_≡_};
+ghost use mathlib.Core.List.{List};
 ghost use Prim.Native.Nat.{_+_, _≤_};
 ghost use lib.ListN.{length, drop};
-ghost use lib.IntN.{negℤ};
+ghost use lib.IntN.{ℤ, negℤ};
 ghost use Rattle.semantics.specs.Bytes.{be4, signed as signedOf, isSome};
 ghost use Rattle.semantics.specs.Editions.{edition1};
 ghost use Rattle.semantics.specs.Expressions.{Operation, Comparison, Connective, ok, fault, applied, compared, connected, result};
-ghost use Rattle.semantics.specs.Expressions.{operationCode, comparisonCode, connectiveCode, readExpression, numberIn, truthIn};
+ghost use Rattle.semantics.specs.Expressions.{operationCode, comparisonCode, connectiveCode, a-constant, a-variable, readExpression, numberIn, truthIn};
 ghost use Rattle.expression.specs.Answers.{numberOf, truthOf, truthAnswer, NumberSays, TruthSays};
-ghost use Rattle.expression.specs.Evaluation.{sideOf, found, FoundSays, wordAt, numberAt, nextOf, constantAt, variableAt, leafAt};
+ghost use Rattle.expression.specs.Evaluation.{sideOf, found, FoundSays, wordAt, numberAt, nextOf, formAt, leafAt};
 ghost use Rattle.expression.specs.Evaluation.{operated, related, joined, negated, opposed};
 
 // A number's value, or the side on which a result lies outside its range; malformed where condition 12 turns the bytes away.
@@ -418,7 +419,7 @@ fn connective(code: u8, a: bool, b: bool) -> bool
 
 // The forms without operands.
 fn constant(s: &[u8], at: usize) -> Found
-    ensures { λ r. ⌜ r ≡ constantAt (now (s .entry)) at ⌝ }
+    ensures { λ r. ⌜ ((vs : List ℤ) → r ≡ formAt vs (now (s .entry)) a-constant at) ⌝ }
 {
     if s.len() < at {
         return Found::Broken;
@@ -430,7 +431,7 @@ fn constant(s: &[u8], at: usize) -> Found
 }
 
 fn variable(s: &[u8], vars: &[i32], at: usize) -> Found
-    ensures { λ r. ⌜ r ≡ variableAt (now (vars .entry)) (now (s .entry)) at ⌝ }
+    ensures { λ r. ⌜ r ≡ formAt (now (vars .entry)) (now (s .entry)) a-variable at ⌝ }
 {
     if s.len() <= at {
         return Found::Broken;
