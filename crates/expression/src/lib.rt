@@ -1,13 +1,13 @@
 // Numbers and truths: judged from their bytes (condition 12) and evaluated.
 ghost use mathlib.Core.Path.{_≡_};
 ghost use mathlib.Core.List.{List};
-ghost use Prim.Native.Nat.{_+_, _≤_};
+ghost use Prim.Native.Nat.{_+_, _-_, _≤_};
 ghost use lib.ListN.{length, drop};
 ghost use lib.IntN.{ℤ, negℤ};
 ghost use Rattle.semantics.specs.Bytes.{be4, signed as signedOf, isSome};
 ghost use Rattle.semantics.specs.Editions.{edition1};
 ghost use Rattle.semantics.specs.Expressions.{Operation, Comparison, Connective, ok, fault, applied, compared, connected, result};
-ghost use Rattle.semantics.specs.Expressions.{operationCode, comparisonCode, connectiveCode, a-constant, a-variable, readExpression, numberIn, truthIn};
+ghost use Rattle.semantics.specs.Expressions.{operationCode, comparisonCode, connectiveCode, a-constant, a-variable, depthLimit, readExpression, numberIn, truthIn};
 ghost use Rattle.expression.specs.Answers.{numberOf, truthOf, truthAnswer, NumberSays, TruthSays};
 ghost use Rattle.expression.specs.Evaluation.{sideOf, found, FoundSays, wordAt, numberAt, nextOf, formAt, leafAt};
 ghost use Rattle.expression.specs.Evaluation.{operated, related, joined, negated, opposed};
@@ -149,7 +149,7 @@ fn joining(s: &[u8], vars: &[i32]) -> Truth
 
 // A comparison of two leaves at a position; broken for any other bytes.
 fn compared_at(s: &[u8], vars: &[i32], at: usize) -> Found
-    ensures { λ r. ⌜ ((r ≡ Found.Broken → ⊥) → r ≡ found (now (vars .entry)) (now (s .entry)) at 15) ⌝ }
+    ensures { λ r. ⌜ ((r ≡ Found.Broken → ⊥) → r ≡ found (now (vars .entry)) (now (s .entry)) at (depthLimit - 1)) ⌝ }
 {
     if s.len() <= at {
         return Found::Broken;
@@ -199,7 +199,7 @@ fn no_comparison(s: &[u8], vars: &[i32]) -> Truth
 
 // What stands at the front of the bytes. An operation on two leaves takes no recursion.
 fn whole(s: &[u8], vars: &[i32]) -> Found
-    ensures { λ r. ⌜ FoundSays (now (vars .entry)) (length (now (s .entry))) (readExpression edition1 (length (now (vars .entry))) 16 (now (s .entry))) r ⌝ }
+    ensures { λ r. ⌜ FoundSays (now (vars .entry)) (length (now (s .entry))) (readExpression edition1 (length (now (vars .entry))) depthLimit (now (s .entry))) r ⌝ }
 {
     if s.len() == 0 {
         return Found::Broken;
