@@ -15,7 +15,7 @@ use Rattle.semantics.specs.Bytes.{be4, signed, Read, broken, read, Reader, _>>=
 use Rattle.semantics.specs.Editions.{edition1}
 use Rattle.semantics.specs.Expressions.{above, below, Value, ok, fault, result, Operation, Comparison, Connective, Number, constant, variable, operate, negation, Truth, compare, connect, opposite, valueOf, holds, Form, a-constant, a-variable, an-operation, a-negation, a-comparison, a-connective, an-opposite, a-true, unknown, formOf, operationCode, comparisonCode, connectiveCode, Expression, a-number, a-truth, toNumber, toTruth, readVariableNumber, readNumber, readTruth, readForm, readExpression}
 use Rattle.semantics.proofs.ExpressionBytes.{operation-form, comparison-form, connective-form}
-use Rattle.expression.specs.Evaluation.{numberAt, truthAt, foundIn, found, nextOf, wordAt, formAt, ofNumber, ofTruth, operated, related, joined, negated, opposed}
+use Rattle.expression.specs.Evaluation.{numberAt, truthAt, foundIn, found, nextOf, formAt, ofNumber, ofTruth, operated, related, joined, negated, opposed}
 use Rattle.expression.specs.declared.Found.{Found}
 use Rattle.expression.specs.declared.Found.the-variants.{ATruth, Broken}
 use Rattle.expression.proofs.Ends.{Ends, nothing, at-end, ends}
@@ -45,7 +45,8 @@ nat4-short (a ∷ b ∷ []) h = refl
 nat4-short (a ∷ b ∷ c ∷ []) h = refl
 nat4-short (a ∷ b ∷ c ∷ d ∷ t) h = absurd (omega arith)
 
-nat4-at : (s : List ℕ) (p : ℕ) → p + 4 ≤ length s → nat4 (drop p s) ≡ read (wordAt s p) (drop (p + 4) s)
+pub nat4-at : (s : List ℕ) (p : ℕ) → p + 4 ≤ length s →
+    nat4 (drop p s) ≡ read (be4 (getD s p 0) (getD s (p + 1) 0) (getD s (p + 2) 0) (getD s (p + 3) 0)) (drop (p + 4) s)
 nat4-at s p h =
     nat4-long (drop p s) (let e = length-drop p s in omega arith)
     ∙ rw (getD-drop p s 0 0, add-zero p, getD-drop p s 1 0, getD-drop p s 2 0, getD-drop p s 3 0, drop-drop 4 p s) refl
@@ -73,9 +74,9 @@ module _ (vs : List ℤ) (s : List ℕ) (p : ℕ) where
   abbrev constantOf : Read ℕ → Found
   constantOf o = foundIn vs (length s) (andThen (andThen o (λ n. give (signed n))) (λ z. give (a-number (constant z))))
 
-  pub constant-there : p + 4 ≤ length s → numberAt (p + 4) (result (signed (wordAt s p))) ≡ formAt vs s a-constant p
+  pub constant-there : (w : ℕ) → p + 4 ≤ length s → nat4 (drop p s) ≡ read w (drop (p + 4) s) → numberAt (p + 4) (result (signed w)) ≡ formAt vs s a-constant p
   unfolding foundIn readForm int4 _>>=_ andThen give valueOf
-  constant-there h = sym (ap constantOf (nat4-at s p h) ∙ ap (λ n. numberAt n (result (signed (wordAt s p)))) (after-at s (p + 4) h))
+  constant-there w h e = sym (ap constantOf e ∙ ap (λ n. numberAt n (result (signed w))) (after-at s (p + 4) h))
 
   pub constant-cut : length s < p + 4 → Broken ≡ formAt vs s a-constant p
   unfolding foundIn readForm int4 _>>=_ andThen

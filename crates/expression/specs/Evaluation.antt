@@ -2,10 +2,10 @@
 use mathlib.Core.Path.{_≡_}
 use mathlib.Core.List.{List}
 use mathlib.Core.Bool.{Bool, true, false, not}
-use Prim.Native.Nat.{ℕ, _+_, _-_}
-use lib.ListN.{length, drop, getD}
+use Prim.Native.Nat.{ℕ, _-_}
+use lib.ListN.{length, drop}
 use lib.IntN.{ℤ, negℤ}
-use Rattle.semantics.specs.Bytes.{be4, Read, broken, read, fail}
+use Rattle.semantics.specs.Bytes.{Read, broken, read, fail}
 use Rattle.semantics.specs.Editions.{edition1}
 use Rattle.semantics.specs.Expressions.{Side, above, below, Value, ok, fault, result, thenValue, operands, valueOf, holds}
 use Rattle.semantics.specs.Expressions.{Operation, Comparison, Connective, applied, compared, connected, Form, Expression, a-number, a-truth, readForm, readExpression}
@@ -72,9 +72,6 @@ ofTruth Broken k = Broken
 -- at the position after the code
 abbrev pub formAt : List ℤ → List ℕ → Form → ℕ → Found
 formAt vs s f p = foundIn vs (length s) (readForm edition1 (length vs) fail f (drop p s))
-
-abbrev pub wordAt : List ℕ → ℕ → ℕ
-wordAt s p = be4 (getD s p 0) (getD s (p + 1) 0) (getD s (p + 2) 0) (getD s (p + 3) 0)
 
 -- a constant or a variable at the position of its code: a number of depth 1
 abbrev pub leafAt : List ℤ → List ℕ → ℕ → Found

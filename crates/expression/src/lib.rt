@@ -4,12 +4,12 @@ ghost use mathlib.Core.List.{List};
 ghost use Prim.Native.Nat.{_+_, _-_, _≤_};
 ghost use lib.ListN.{length, drop};
 ghost use lib.IntN.{ℤ, negℤ};
-ghost use Rattle.semantics.specs.Bytes.{be4, signed as signedOf, isSome};
+ghost use Rattle.semantics.specs.Bytes.{be4, signed as signedOf, isSome, read, nat4};
 ghost use Rattle.semantics.specs.Editions.{edition1};
 ghost use Rattle.semantics.specs.Expressions.{Operation, Comparison, Connective, ok, fault, applied, compared, connected, result};
 ghost use Rattle.semantics.specs.Expressions.{operationCode, comparisonCode, connectiveCode, a-constant, a-variable, depthLimit, readExpression, numberIn, truthIn};
 ghost use Rattle.expression.specs.Answers.{numberOf, truthOf, truthAnswer, NumberSays, TruthSays};
-ghost use Rattle.expression.specs.Evaluation.{sideOf, found, FoundSays, wordAt, numberAt, nextOf, formAt, leafAt};
+ghost use Rattle.expression.specs.Evaluation.{sideOf, found, FoundSays, numberAt, nextOf, formAt, leafAt};
 ghost use Rattle.expression.specs.Evaluation.{operated, related, joined, negated, opposed};
 
 // A number's value, or the side on which a result lies outside its range; malformed where condition 12 turns the bytes away.
@@ -446,7 +446,7 @@ fn variable(s: &[u8], vars: &[i32], at: usize) -> Found
 // Four bytes, most significant first.
 fn word_at(s: &[u8], at: usize) -> u32
     requires { ⌜ at + 4 ≤ length (now s) ⌝ }
-    ensures { λ r. ⌜ r ≡ wordAt (now (s .entry)) at ⌝ }
+    ensures { λ r. ⌜ nat4 (drop at (now (s .entry))) ≡ read r (drop (at + 4) (now (s .entry))) ⌝ }
 {
     word(s[at], s[at + 1], s[at + 2], s[at + 3])
 }

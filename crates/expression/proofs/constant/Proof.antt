@@ -7,7 +7,6 @@ use lib.IntN.{ℤ}
 use mir.Syntax.{w32}
 use mir.ValLaws.{toZ-ofZ}
 use borrow.Author.Needs.{needs}
-use Rattle.semantics.specs.Bytes.{signed}
 use Rattle.semantics.specs.Expressions.{result}
 use Rattle.expression.specs.Evaluation.{numberAt}
 use Rattle.expression.specs.declared.Found.the-variants.{ANumber}
@@ -44,8 +43,8 @@ returns-3 c = λ vs.
     let f : SFits w32 (c .signed .result) = record { sfits = c .signed .ok } in
     ap (λ (z : ℤ). ANumber z (a .at + 4)) (toZ-ofZ w32 (c .signed .result) f)
     ∙ sym (ap (numberAt (a .at + 4)) (result-fits (c .signed .result) f))
-    ∙ ap (λ (z : ℤ). numberAt (a .at + 4) (result z)) (c .signed .ensures ∙ ap signed (c .before .word-at .ensures))
-    ∙ constant-there vs (a .s .now) (a .at) (omega arith)
+    ∙ ap (λ (z : ℤ). numberAt (a .at + 4) (result z)) (c .signed .ensures)
+    ∙ constant-there vs (a .s .now) (a .at) (c .before .word-at .result) (omega arith) (c .before .word-at .ensures)
 
 pub constant-spec : {M : Type 1} → statement M
 constant-spec =
