@@ -1,13 +1,13 @@
 -- What an arm `_` of a match on what was found knows.
 use mathlib.Core.Path.{_≡_, refl}
-use mathlib.Core.Bool.{Bool}
+use mathlib.Core.Bool.{Bool, true, false}
 use mathlib.Core.List.{[], _∷_}
 use Prim.Native.Nat.{ℕ}
 use lib.IntN.{ℤ}
 use types.Run.{OneOf, miss}
 use denote.Enum.Declared.{tagOf}
-use Rattle.semantics.specs.Expressions.{Connective}
-use Rattle.expression.specs.Evaluation.{of-two, joined, negated, opposed}
+use Rattle.semantics.specs.Expressions.{Value, fault}
+use Rattle.expression.specs.Evaluation.{sideOf, numberAt, truthAt, ofNumber, ofTruth}
 use Rattle.expression.specs.declared.Found.{Found}
 use Rattle.expression.specs.declared.Found.the-variants.{ANumber, NumberFault, ATruth, TruthFault, Broken}
 use Rattle.expression.proofs.Found.{the-type}
@@ -43,44 +43,21 @@ not-truth (ATruth b n) h = absurd (miss (0 ∷ 1 ∷ 4 ∷ []) 2 tt h)
 not-truth (TruthFault u n) h = absurd (miss (0 ∷ 1 ∷ 4 ∷ []) 3 tt h)
 not-truth Broken h = no-truth
 
-module _ (k : ℤ → ℤ → ℕ → Found) (f : Bool → ℕ → Found) where
-  pub off-left : (l r : Found) → NotNumber l → Broken ≡ of-two k f l r
-  off-left _ r truth-found = refl
-  off-left _ r truth-fault = refl
-  off-left _ r no-number = refl
+pub off-number : (k : Value ℤ → ℕ → Found) (f : Found) → NotNumber f → Broken ≡ ofNumber f k
+off-number k _ truth-found = refl
+off-number k _ truth-fault = refl
+off-number k _ no-number = refl
 
-  pub off-right : (z : ℤ) (m : ℕ) (r : Found) → NotNumber r → Broken ≡ of-two k f (ANumber z m) r
-  off-right z m _ truth-found = refl
-  off-right z m _ truth-fault = refl
-  off-right z m _ no-number = refl
+pub off-truth : (k : Value Bool → ℕ → Found) (f : Found) → NotTruth f → Broken ≡ ofTruth f k
+off-truth k _ number-found = refl
+off-truth k _ number-fault = refl
+off-truth k _ no-truth = refl
 
-  pub off-right-fault : (u : Bool) (m : ℕ) (r : Found) → NotNumber r → Broken ≡ of-two k f (NumberFault u m) r
-  off-right-fault u m _ truth-found = refl
-  off-right-fault u m _ truth-fault = refl
-  off-right-fault u m _ no-number = refl
+-- a fault that was found, from its side
+pub number-fault-at : (u : Bool) (n : ℕ) → NumberFault u n ≡ numberAt n (fault (sideOf u))
+number-fault-at true n = refl
+number-fault-at false n = refl
 
-pub off-negated : (f : Found) → NotNumber f → Broken ≡ negated f
-off-negated _ truth-found = refl
-off-negated _ truth-fault = refl
-off-negated _ no-number = refl
-
-pub off-opposed : (f : Found) → NotTruth f → Broken ≡ opposed f
-off-opposed _ number-found = refl
-off-opposed _ number-fault = refl
-off-opposed _ no-truth = refl
-
-module _ (c : Connective) where
-  pub off-joined : (l r : Found) → NotTruth l → Broken ≡ joined c l r
-  off-joined _ r number-found = refl
-  off-joined _ r number-fault = refl
-  off-joined _ r no-truth = refl
-
-  pub off-joined-right : (b : Bool) (m : ℕ) (r : Found) → NotTruth r → Broken ≡ joined c (ATruth b m) r
-  off-joined-right b m _ number-found = refl
-  off-joined-right b m _ number-fault = refl
-  off-joined-right b m _ no-truth = refl
-
-  pub off-joined-right-fault : (u : Bool) (m : ℕ) (r : Found) → NotTruth r → Broken ≡ joined c (TruthFault u m) r
-  off-joined-right-fault u m _ number-found = refl
-  off-joined-right-fault u m _ number-fault = refl
-  off-joined-right-fault u m _ no-truth = refl
+pub truth-fault-at : (u : Bool) (n : ℕ) → TruthFault u n ≡ truthAt n (fault (sideOf u))
+truth-fault-at true n = refl
+truth-fault-at false n = refl

@@ -1,24 +1,23 @@
 -- One step of evaluation: what is found at a position, by what is found at its operands.
 use mathlib.Core.Path.{_≡_, refl, sym, ap, ap₂, _∙_}
 use mathlib.Core.List.{List, [], _∷_}
-use mathlib.Core.Bool.{Bool, true, false, not, cond}
+use mathlib.Core.Bool.{Bool, true}
 use Prim.Native.Nat.{ℕ, zero, suc, _+_, _-_, _≤_, _<_}
 use native.Mathlib.Nat.{add-zero}
 use native.Mathlib.Numerals.{add-one, sub-one}
 use native.Mathlib.Omega.{arith}
-use lib.Dec.{ltb, leb}
-use lib.IntN.{ℤ, pos, negℤ}
+use lib.Dec.{ltb}
+use lib.IntN.{ℤ, pos}
 use lib.ListN.{length, drop, getD, length-drop, drop-of-length-le}
 use lib.Seq.{drop-cons, getD-drop, drop-drop}
-use borrow.Author.Tests.{leb-true, leb-false, ltb-true, ltb-false}
+use borrow.Author.Tests.{lt-ltb, le-ltb}
 use Rattle.semantics.specs.Bytes.{be4, signed, Read, broken, read, Reader, _>>=_, andThen, give, fail, guard, from, byte, nat4, int4}
 use Rattle.semantics.specs.Editions.{edition1}
-use Rattle.semantics.specs.Expressions.{Value, ok, fault, result, thenValue, operands, Operation, Comparison, Connective, applied, compared, connected, Number, constant, variable, operate, negation, Truth, compare, connect, opposite, valueOf, holds, Form, a-constant, a-variable, an-operation, a-negation, a-comparison, a-connective, an-opposite, a-true, unknown, formOf, operationCode, comparisonCode, connectiveCode, Expression, a-number, a-truth, toNumber, toTruth, readVariableNumber, readNumber, readTruth, readForm, readExpression}
-use Rattle.semantics.proofs.Facts.{by-cases}
+use Rattle.semantics.specs.Expressions.{above, below, Value, ok, fault, result, Operation, Comparison, Connective, Number, constant, variable, operate, negation, Truth, compare, connect, opposite, valueOf, holds, Form, a-constant, a-variable, an-operation, a-negation, a-comparison, a-connective, an-opposite, a-true, unknown, formOf, operationCode, comparisonCode, connectiveCode, Expression, a-number, a-truth, toNumber, toTruth, readVariableNumber, readNumber, readTruth, readForm, readExpression}
 use Rattle.semantics.proofs.ExpressionBytes.{operation-form, comparison-form, connective-form}
-use Rattle.expression.specs.Evaluation.{numberAt, truthAt, foundIn, found, nextOf, wordAt, constantAt, variableAt, of-two, operated, related, joined, negated, opposed}
+use Rattle.expression.specs.Evaluation.{numberAt, truthAt, foundIn, found, nextOf, formAt, ofNumber, ofTruth, operated, related, joined, negated, opposed}
 use Rattle.expression.specs.declared.Found.{Found}
-use Rattle.expression.specs.declared.Found.the-variants.{NumberFault, ATruth, TruthFault, Broken}
+use Rattle.expression.specs.declared.Found.the-variants.{ATruth, Broken}
 use Rattle.expression.proofs.Ends.{Ends, nothing, at-end, ends}
 
 -- ---- bytes at a position
@@ -46,7 +45,8 @@ nat4-short (a ∷ b ∷ []) h = refl
 nat4-short (a ∷ b ∷ c ∷ []) h = refl
 nat4-short (a ∷ b ∷ c ∷ d ∷ t) h = absurd (omega arith)
 
-nat4-at : (s : List ℕ) (p : ℕ) → p + 4 ≤ length s → nat4 (drop p s) ≡ read (wordAt s p) (drop (p + 4) s)
+pub nat4-at : (s : List ℕ) (p : ℕ) → p + 4 ≤ length s →
+    nat4 (drop p s) ≡ read (be4 (getD s p 0) (getD s (p + 1) 0) (getD s (p + 2) 0) (getD s (p + 3) 0)) (drop (p + 4) s)
 nat4-at s p h =
     nat4-long (drop p s) (let e = length-drop p s in omega arith)
     ∙ rw (getD-drop p s 0 0, add-zero p, getD-drop p s 1 0, getD-drop p s 2 0, getD-drop p s 3 0, drop-drop 4 p s) refl
@@ -67,154 +67,100 @@ truth-next n (ok b) = refl
 truth-next n (fault u) = refl
 
 -- ---- the forms without operands, at the position after their code
-module _ (vs : List ℤ) (s : List ℕ) (R : Reader Expression) where
-  abbrev pub form-at : Form → ℕ → Found
-  form-at f p = foundIn vs (length s) (readForm edition1 (length vs) R f (drop p s))
+abbrev pub form-at : List ℤ → List ℕ → Reader Expression → Form → ℕ → Found
+form-at vs s R f p = foundIn vs (length s) (readForm edition1 (length vs) R f (drop p s))
 
-  constant-is : (p : ℕ) → constantAt s p ≡ form-at a-constant p
+module _ (vs : List ℤ) (s : List ℕ) (p : ℕ) where
+  abbrev constantOf : Read ℕ → Found
+  constantOf o = foundIn vs (length s) (andThen (andThen o (λ n. give (signed n))) (λ z. give (a-number (constant z))))
+
+  pub constant-there : (w : ℕ) → p + 4 ≤ length s → nat4 (drop p s) ≡ read w (drop (p + 4) s) → numberAt (p + 4) (result (signed w)) ≡ formAt vs s a-constant p
   unfolding foundIn readForm int4 _>>=_ andThen give valueOf
-  constant-is p = by-cases (leb (p + 4) (length s))
-      (λ e.
-      let h = leb-true (p + 4) (length s) e in
-      rw e (sym (ap (λ o. foundIn vs (length s) (andThen (andThen o (λ n. give (signed n))) (λ z. give (a-number (constant z))))) (nat4-at s p h)
-      ∙ ap (λ n. numberAt n (result (signed (wordAt s p)))) (after-at s (p + 4) h))))
-      (λ e.
-      rw e (sym (ap (λ o. foundIn vs (length s) (andThen (andThen o (λ n. give (signed n))) (λ z. give (a-number (constant z))))) (nat4-past s p (leb-false (p + 4) (length s) e)))))
+  constant-there w h e = sym (ap constantOf e ∙ ap (λ n. numberAt n (result (signed w))) (after-at s (p + 4) h))
 
-  variable-is : (p : ℕ) → variableAt vs s p ≡ form-at a-variable p
-  unfolding foundIn readForm readVariableNumber _>>=_ andThen give valueOf guard fail
-  variable-is p = by-cases (ltb p (length s))
-      (λ e.
-      let h = ltb-true p (length s) e in
-      rw e (go (ltb (getD s p 0) (length vs)) h ∙ sym (ap (λ o. foundIn vs (length s) (andThen o (λ v. guard (ltb v (length vs)) (give (a-number (variable v)))))) (byte-at s p h))))
-      (λ e.
-      rw e (sym (ap (λ o. foundIn vs (length s) (andThen o (λ v. guard (ltb v (length vs)) (give (a-number (variable v)))))) (byte-past s p (ltb-false p (length s) e)))))
-    where
-      go : (b : Bool) → p < length s →
-          cond b (numberAt (p + 1) (result (getD vs (getD s p 0) (pos 0)))) Broken ≡ foundIn vs (length s) (guard b (give (a-number (variable (getD s p 0)))) (drop (p + 1) s))
-      go true h = sym (ap (λ n. numberAt n (result (getD vs (getD s p 0) (pos 0)))) (after-at s (p + 1) (omega arith)))
-      go false h = refl
+  pub constant-cut : length s < p + 4 → Broken ≡ formAt vs s a-constant p
+  unfolding foundIn readForm int4 _>>=_ andThen
+  constant-cut h = sym (ap constantOf (nat4-past s p h))
 
--- ---- two numbers
-module _ (k : ℤ → ℤ → ℕ → Found) (f : Bool → ℕ → Found) where
-  wrong-right : (m n : ℕ) (v : Value ℤ) (w : Value Bool) → Broken ≡ of-two k f (numberAt m v) (truthAt n w)
-  wrong-right m n (ok z) (ok b) = refl
-  wrong-right m n (ok z) (fault u) = refl
-  wrong-right m n (fault u) (ok b) = refl
-  wrong-right m n (fault u) (fault t) = refl
+  abbrev variableOf : Read ℕ → Found
+  variableOf o = foundIn vs (length s) (andThen o (λ v. guard (ltb v (length vs)) (give (a-number (variable v)))))
 
-  no-right : (m : ℕ) (v : Value ℤ) → Broken ≡ of-two k f (numberAt m v) Broken
-  no-right m (ok z) = refl
-  no-right m (fault u) = refl
+  pub variable-cut : length s ≤ p → Broken ≡ formAt vs s a-variable p
+  unfolding foundIn readForm readVariableNumber _>>=_ andThen
+  variable-cut h = sym (ap variableOf (byte-past s p h))
 
-  wrong-left : (m : ℕ) (v : Value Bool) (r : Found) → Broken ≡ of-two k f (truthAt m v) r
-  wrong-left m (ok b) r = refl
-  wrong-left m (fault u) r = refl
+  module _ (here : p < length s) where
+    pub variable-there : getD s p 0 < length vs → numberAt (p + 1) (result (getD vs (getD s p 0) (pos 0))) ≡ formAt vs s a-variable p
+    unfolding foundIn readForm readVariableNumber _>>=_ andThen give valueOf guard
+    variable-there h =
+        let e : variableOf (read (getD s p 0) (drop (p + 1) s)) ≡ numberAt (length s - length (drop (p + 1) s)) (result (getD vs (getD s p 0) (pos 0))) = rw (lt-ltb _ _ h) refl in
+        sym (ap variableOf (byte-at s p here) ∙ e ∙ ap (λ n. numberAt n (result (getD vs (getD s p 0) (pos 0)))) (after-at s (p + 1) (omega arith)))
 
-  module _ (vs : List ℤ) (s : List ℕ) (R : Reader Expression) (mk : Number → Number → Expression)
-      (good : (a b : Number) (m : ℕ) (t : List ℕ) → foundIn vs (length s) (read (mk a b) t) ≡ of-two k f (numberAt m (valueOf vs a)) (numberAt (length s - length t) (valueOf vs b))) where
-    second : (a : Number) (m : ℕ) (E : Read Expression) →
-        foundIn vs (length s) (andThen (andThen E (λ e. from (toNumber e))) (λ b. give (mk a b))) ≡ of-two k f (numberAt m (valueOf vs a)) (foundIn vs (length s) E)
+    pub variable-missing : length vs ≤ getD s p 0 → Broken ≡ formAt vs s a-variable p
+    unfolding foundIn readForm readVariableNumber _>>=_ andThen guard fail
+    variable-missing h =
+        let e : variableOf (read (getD s p 0) (drop (p + 1) s)) ≡ Broken = rw (le-ltb _ _ h) refl in
+        sym (ap variableOf (byte-at s p here) ∙ e)
+
+-- ---- a value that was found
+number-seen : (k : Value ℤ → ℕ → Found) (n : ℕ) (v : Value ℤ) → k v n ≡ ofNumber (numberAt n v) k
+number-seen k n (ok z) = refl
+number-seen k n (fault above) = refl
+number-seen k n (fault below) = refl
+
+truth-seen : (k : Value Bool → ℕ → Found) (n : ℕ) (v : Value Bool) → k v n ≡ ofTruth (truthAt n v) k
+truth-seen k n (ok b) = refl
+truth-seen k n (fault above) = refl
+truth-seen k n (fault below) = refl
+
+wrong-number : (k : Value ℤ → ℕ → Found) (n : ℕ) (v : Value Bool) → Broken ≡ ofNumber (truthAt n v) k
+wrong-number k n (ok b) = refl
+wrong-number k n (fault u) = refl
+
+wrong-truth : (k : Value Bool → ℕ → Found) (n : ℕ) (v : Value ℤ) → Broken ≡ ofTruth (numberAt n v) k
+wrong-truth k n (ok z) = refl
+wrong-truth k n (fault u) = refl
+
+-- ---- a form of one operand, and of two
+module _ (vs : List ℤ) (s : List ℕ) where
+  module _ (k : Value ℤ → ℕ → Found) (mk : Number → Expression) (made : (a : Number) (t : List ℕ) → foundIn vs (length s) (read (mk a) t) ≡ k (valueOf vs a) (length s - length t)) where
+    one-number : (D : Read Expression) → foundIn vs (length s) (andThen (andThen D (λ e. from (toNumber e))) (λ a. give (mk a))) ≡ ofNumber (foundIn vs (length s) D) k
     unfolding foundIn andThen from give fail toNumber
-    second a m broken = no-right m (valueOf vs a)
-    second a m (read (a-number b) t) = good a b m t
-    second a m (read (a-truth b) t) = wrong-right m (length s - length t) (valueOf vs a) (holds vs b)
+    one-number broken = refl
+    one-number (read (a-number a) t) = made a t ∙ number-seen k (length s - length t) (valueOf vs a)
+    one-number (read (a-truth a) t) = wrong-number k (length s - length t) (holds vs a)
 
-    two-numbers : (D : Read Expression) → Ends s D →
-        foundIn vs (length s) (andThen (andThen D (λ e. from (toNumber e))) (λ a. readNumber edition1 (length vs) R >>= λ b. give (mk a b)))
-        ≡ of-two k f (foundIn vs (length s) D) (foundIn vs (length s) (R (drop (nextOf (foundIn vs (length s) D)) s)))
-    unfolding foundIn andThen from give fail toNumber readNumber _>>=_
-    two-numbers broken nothing = refl
-    two-numbers (read (a-number a) t) (at-end e) =
-        rw (number-next (length s - length t) (valueOf vs a), e) (second a (length s - length t) (R t))
-    two-numbers (read (a-truth a) t) (at-end e) = wrong-left (length s - length t) (holds vs a) _
+  module _ (k : Value Bool → ℕ → Found) (mk : Truth → Expression) (made : (a : Truth) (t : List ℕ) → foundIn vs (length s) (read (mk a) t) ≡ k (holds vs a) (length s - length t)) where
+    one-truth : (D : Read Expression) → foundIn vs (length s) (andThen (andThen D (λ e. from (toTruth e))) (λ a. give (mk a))) ≡ ofTruth (foundIn vs (length s) D) k
+    unfolding foundIn andThen from give fail toTruth
+    one-truth broken = refl
+    one-truth (read (a-number a) t) = wrong-truth k (length s - length t) (valueOf vs a)
+    one-truth (read (a-truth a) t) = made a t ∙ truth-seen k (length s - length t) (holds vs a)
 
--- ---- two truths
-module _ (c : Connective) where
-  wrong-right-truth : (m n : ℕ) (v : Value Bool) (w : Value ℤ) → Broken ≡ joined c (truthAt m v) (numberAt n w)
-  wrong-right-truth m n (ok b) (ok z) = refl
-  wrong-right-truth m n (ok b) (fault u) = refl
-  wrong-right-truth m n (fault u) (ok z) = refl
-  wrong-right-truth m n (fault u) (fault t) = refl
+  module _ (R : Reader Expression) where
+    module _ (k : Value ℤ → Value ℤ → ℕ → Found) (mk : Number → Number → Expression)
+        (made : (a b : Number) (t : List ℕ) → foundIn vs (length s) (read (mk a b) t) ≡ k (valueOf vs a) (valueOf vs b) (length s - length t)) where
+      two-numbers : (D : Read Expression) → Ends s D →
+          foundIn vs (length s) (andThen (andThen D (λ e. from (toNumber e))) (λ a. readNumber edition1 (length vs) R >>= λ b. give (mk a b)))
+          ≡ ofNumber (foundIn vs (length s) D) (λ a m. ofNumber (foundIn vs (length s) (R (drop (nextOf (foundIn vs (length s) D)) s))) (λ b n. k a b n))
+      unfolding foundIn andThen from give fail toNumber readNumber _>>=_
+      two-numbers broken nothing = refl
+      two-numbers (read (a-number a) t) (at-end e) =
+          rw (number-next (length s - length t) (valueOf vs a), e)
+          (one-number (λ b n. k (valueOf vs a) b n) (mk a) (made a) (R t) ∙ number-seen (λ x m. ofNumber (foundIn vs (length s) (R t)) (λ b n. k x b n)) (length s - length t) (valueOf vs a))
+      two-numbers (read (a-truth a) t) (at-end e) = wrong-number _ (length s - length t) (holds vs a)
 
-  no-right-truth : (m : ℕ) (v : Value Bool) → Broken ≡ joined c (truthAt m v) Broken
-  no-right-truth m (ok b) = refl
-  no-right-truth m (fault u) = refl
-
-  wrong-left-truth : (m : ℕ) (v : Value ℤ) (r : Found) → Broken ≡ joined c (numberAt m v) r
-  wrong-left-truth m (ok z) r = refl
-  wrong-left-truth m (fault u) r = refl
-
-  good-joined : (m n : ℕ) (v w : Value Bool) → truthAt n (operands (connected c) v w) ≡ joined c (truthAt m v) (truthAt n w)
-  unfolding operands
-  good-joined m n (ok a) (ok b) = refl
-  good-joined m n (ok a) (fault t) = refl
-  good-joined m n (fault u) (ok b) = refl
-  good-joined m n (fault u) (fault t) = refl
-
-  module _ (vs : List ℤ) (s : List ℕ) (R : Reader Expression) where
-    second-truth : (a : Truth) (m : ℕ) (E : Read Expression) →
-        foundIn vs (length s) (andThen (andThen E (λ e. from (toTruth e))) (λ b. give (a-truth (connect c a b)))) ≡ joined c (truthAt m (holds vs a)) (foundIn vs (length s) E)
-    unfolding foundIn andThen from give fail toTruth holds
-    second-truth a m broken = no-right-truth m (holds vs a)
-    second-truth a m (read (a-number b) t) = wrong-right-truth m (length s - length t) (holds vs a) (valueOf vs b)
-    second-truth a m (read (a-truth b) t) = good-joined m (length s - length t) (holds vs a) (holds vs b)
-
-    two-truths : (D : Read Expression) → Ends s D →
-        foundIn vs (length s) (andThen (andThen D (λ e. from (toTruth e))) (λ a. readTruth edition1 (length vs) R >>= λ b. give (a-truth (connect c a b))))
-        ≡ joined c (foundIn vs (length s) D) (foundIn vs (length s) (R (drop (nextOf (foundIn vs (length s) D)) s)))
-    unfolding foundIn andThen from give fail toTruth readTruth _>>=_
-    two-truths broken nothing = refl
-    two-truths (read (a-number a) t) (at-end e) = wrong-left-truth (length s - length t) (valueOf vs a) _
-    two-truths (read (a-truth a) t) (at-end e) =
-        rw (truth-next (length s - length t) (holds vs a), e) (second-truth a (length s - length t) (R t))
-
--- ---- what is made of the operands' values
-good-operated : (o : Operation) (m n : ℕ) (v w : Value ℤ) →
-    numberAt n (thenValue (operands (applied o) v w) result) ≡ of-two (λ a b i. numberAt i (result (applied o a b))) NumberFault (numberAt m v) (numberAt n w)
-unfolding operands thenValue
-good-operated o m n (ok a) (ok b) = refl
-good-operated o m n (ok a) (fault t) = refl
-good-operated o m n (fault u) (ok b) = refl
-good-operated o m n (fault u) (fault t) = refl
-
-good-related : (o : Comparison) (m n : ℕ) (v w : Value ℤ) →
-    truthAt n (operands (compared o) v w) ≡ of-two (λ a b i. ATruth (compared o a b) i) TruthFault (numberAt m v) (numberAt n w)
-unfolding operands
-good-related o m n (ok a) (ok b) = refl
-good-related o m n (ok a) (fault t) = refl
-good-related o m n (fault u) (ok b) = refl
-good-related o m n (fault u) (fault t) = refl
-
-good-negated : (n : ℕ) (v : Value ℤ) → numberAt n (thenValue v (λ z. result (negℤ z))) ≡ negated (numberAt n v)
-unfolding thenValue
-good-negated n (ok a) = refl
-good-negated n (fault u) = refl
-
-wrong-negated : (n : ℕ) (v : Value Bool) → Broken ≡ negated (truthAt n v)
-wrong-negated n (ok b) = refl
-wrong-negated n (fault u) = refl
-
-good-opposed : (n : ℕ) (v : Value Bool) → truthAt n (thenValue v (λ b. ok (not b))) ≡ opposed (truthAt n v)
-unfolding thenValue
-good-opposed n (ok b) = refl
-good-opposed n (fault u) = refl
-
-wrong-opposed : (n : ℕ) (v : Value ℤ) → Broken ≡ opposed (numberAt n v)
-wrong-opposed n (ok z) = refl
-wrong-opposed n (fault u) = refl
-
-one-number : (vs : List ℤ) (n : ℕ) (D : Read Expression) → foundIn vs n (andThen (andThen D (λ e. from (toNumber e))) (λ a. give (a-number (negation a)))) ≡ negated (foundIn vs n D)
-unfolding foundIn andThen from give fail toNumber valueOf
-one-number vs n broken = refl
-one-number vs n (read (a-number a) t) = good-negated (n - length t) (valueOf vs a)
-one-number vs n (read (a-truth a) t) = wrong-negated (n - length t) (holds vs a)
-
-one-truth : (vs : List ℤ) (n : ℕ) (D : Read Expression) → foundIn vs n (andThen (andThen D (λ e. from (toTruth e))) (λ a. give (a-truth (opposite a)))) ≡ opposed (foundIn vs n D)
-unfolding foundIn andThen from give fail toTruth holds
-one-truth vs n broken = refl
-one-truth vs n (read (a-number a) t) = wrong-opposed (n - length t) (valueOf vs a)
-one-truth vs n (read (a-truth a) t) = good-opposed (n - length t) (holds vs a)
+    module _ (k : Value Bool → Value Bool → ℕ → Found) (mk : Truth → Truth → Expression)
+        (made : (a b : Truth) (t : List ℕ) → foundIn vs (length s) (read (mk a b) t) ≡ k (holds vs a) (holds vs b) (length s - length t)) where
+      two-truths : (D : Read Expression) → Ends s D →
+          foundIn vs (length s) (andThen (andThen D (λ e. from (toTruth e))) (λ a. readTruth edition1 (length vs) R >>= λ b. give (mk a b)))
+          ≡ ofTruth (foundIn vs (length s) D) (λ a m. ofTruth (foundIn vs (length s) (R (drop (nextOf (foundIn vs (length s) D)) s))) (λ b n. k a b n))
+      unfolding foundIn andThen from give fail toTruth readTruth _>>=_
+      two-truths broken nothing = refl
+      two-truths (read (a-number a) t) (at-end e) = wrong-truth _ (length s - length t) (valueOf vs a)
+      two-truths (read (a-truth a) t) (at-end e) =
+          rw (truth-next (length s - length t) (holds vs a), e)
+          (one-truth (λ b n. k (holds vs a) b n) (mk a) (made a) (R t) ∙ truth-seen (λ x m. ofTruth (foundIn vs (length s) (R t)) (λ b n. k x b n)) (length s - length t) (holds vs a))
 
 -- ---- a step of depth d, which is not 0
 pub no-depth : (vs : List ℤ) (s : List ℕ) (at d : ℕ) → d ≡ 0 → Broken ≡ found vs s at d
@@ -253,20 +199,22 @@ module _ (vs : List ℤ) (s : List ℕ) (at d : ℕ) (deep : d ≡ 0 → ⊥) wh
     unfolding foundIn readForm give holds formOf
     step-true e = ap (λ n. ATruth true n) (sym (after-at s (at + 1) (omega arith))) ∙ by-form a-true (ap formOf e)
 
-    pub step-constant : formOf (getD s at 0) ≡ a-constant → constantAt s (at + 1) ≡ found vs s at d
-    step-constant e = constant-is vs s R (at + 1) ∙ by-form a-constant e
+    pub step-constant : formOf (getD s at 0) ≡ a-constant → formAt vs s a-constant (at + 1) ≡ found vs s at d
+    unfolding readForm
+    step-constant e = by-form a-constant e
 
-    pub step-variable : formOf (getD s at 0) ≡ a-variable → variableAt vs s (at + 1) ≡ found vs s at d
-    step-variable e = variable-is vs s R (at + 1) ∙ by-form a-variable e
+    pub step-variable : formOf (getD s at 0) ≡ a-variable → formAt vs s a-variable (at + 1) ≡ found vs s at d
+    unfolding readForm
+    step-variable e = by-form a-variable e
 
     module _ (x l : Found) (l-is : l ≡ found vs s (at + 1) (d - 1)) where
       pub step-negation : getD s at 0 ≡ 0x14 → x ≡ negated l → x ≡ found vs s at d
-      unfolding readForm readNumber _>>=_ formOf
-      step-negation e q = q ∙ ap negated l-is ∙ sym (one-number vs (length s) (R (drop (at + 1) s))) ∙ by-form a-negation (ap formOf e)
+      unfolding readForm readNumber _>>=_ formOf foundIn valueOf
+      step-negation e q = q ∙ ap negated l-is ∙ sym (one-number vs s _ (λ a. a-number (negation a)) (λ a t. refl) (R (drop (at + 1) s))) ∙ by-form a-negation (ap formOf e)
 
       pub step-opposite : getD s at 0 ≡ 0x2a → x ≡ opposed l → x ≡ found vs s at d
-      unfolding readForm readTruth _>>=_ formOf
-      step-opposite e q = q ∙ ap opposed l-is ∙ sym (one-truth vs (length s) (R (drop (at + 1) s))) ∙ by-form an-opposite (ap formOf e)
+      unfolding readForm readTruth _>>=_ formOf foundIn holds
+      step-opposite e q = q ∙ ap opposed l-is ∙ sym (one-truth vs s _ (λ a. a-truth (opposite a)) (λ a t. refl) (R (drop (at + 1) s))) ∙ by-form an-opposite (ap formOf e)
 
       module _ (n : ℕ) (r : Found) (n-is : n ≡ nextOf l) (r-is : r ≡ found vs s n (d - 1)) where
         right-is : r ≡ found vs s (nextOf (found vs s (at + 1) (d - 1))) (d - 1)
@@ -276,19 +224,19 @@ module _ (vs : List ℤ) (s : List ℕ) (at d : ℕ) (deep : d ≡ 0 → ⊥) wh
         unfolding readForm readNumber _>>=_ foundIn valueOf
         step-operation o e q =
             q ∙ ap₂ (operated o) l-is right-is
-            ∙ sym (two-numbers _ _ vs s R (λ a b. a-number (operate o a b)) (λ a b m t. good-operated o m (length s - length t) (valueOf vs a) (valueOf vs b)) (R (drop (at + 1) s)) (ends edition1 (length vs) (d - 1) s (at + 1)))
+            ∙ sym (two-numbers vs s R _ (λ a b. a-number (operate o a b)) (λ a b t. refl) (R (drop (at + 1) s)) (ends edition1 (length vs) (d - 1) s (at + 1)))
             ∙ by-form (an-operation o) (ap formOf e ∙ operation-form o)
 
         pub step-comparison : (o : Comparison) → getD s at 0 ≡ comparisonCode o → x ≡ related o l r → x ≡ found vs s at d
         unfolding readForm readNumber _>>=_ foundIn holds
         step-comparison o e q =
             q ∙ ap₂ (related o) l-is right-is
-            ∙ sym (two-numbers _ _ vs s R (λ a b. a-truth (compare o a b)) (λ a b m t. good-related o m (length s - length t) (valueOf vs a) (valueOf vs b)) (R (drop (at + 1) s)) (ends edition1 (length vs) (d - 1) s (at + 1)))
+            ∙ sym (two-numbers vs s R _ (λ a b. a-truth (compare o a b)) (λ a b t. refl) (R (drop (at + 1) s)) (ends edition1 (length vs) (d - 1) s (at + 1)))
             ∙ by-form (a-comparison o) (ap formOf e ∙ comparison-form o)
 
         pub step-connective : (o : Connective) → getD s at 0 ≡ connectiveCode o → x ≡ joined o l r → x ≡ found vs s at d
-        unfolding readForm readTruth _>>=_
+        unfolding readForm readTruth _>>=_ foundIn holds
         step-connective o e q =
             q ∙ ap₂ (joined o) l-is right-is
-            ∙ sym (two-truths o vs s R (R (drop (at + 1) s)) (ends edition1 (length vs) (d - 1) s (at + 1)))
+            ∙ sym (two-truths vs s R _ (λ a b. a-truth (connect o a b)) (λ a b t. refl) (R (drop (at + 1) s)) (ends edition1 (length vs) (d - 1) s (at + 1)))
             ∙ by-form (a-connective o) (ap formOf e ∙ connective-form o)

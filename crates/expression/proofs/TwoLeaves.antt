@@ -6,7 +6,7 @@ use Prim.Native.Nat.{ℕ, _+_, _<_}
 use native.Mathlib.Omega.{arith}
 use lib.IntN.{ℤ}
 use lib.ListN.{length, getD}
-use Rattle.semantics.specs.Expressions.{Operation, Comparison, Connective, applied, compared, connected, result, operationCode, comparisonCode, connectiveCode}
+use Rattle.semantics.specs.Expressions.{Operation, Comparison, Connective, applied, compared, connected, result, thenValue, operands, operationCode, comparisonCode, connectiveCode}
 use Rattle.expression.specs.Evaluation.{numberAt, found, nextOf, leafAt, related}
 use Rattle.expression.specs.declared.Found.{Found}
 use Rattle.expression.specs.declared.Found.the-variants.{ANumber, NumberFault, ATruth, TruthFault, Broken}
@@ -36,10 +36,12 @@ module _ (vs : List ℤ) (s : List ℕ) where
 
   module _ (here : 0 < length s) (a b : ℤ) (m n : ℕ) (l : leafAt vs s 1 ≡ ANumber a m) (r : leafAt vs s m ≡ ANumber b n) where
     pub two-related : (o : Comparison) → getD s 0 0 ≡ comparisonCode o → ATruth (compared o a b) n ≡ found vs s 0 16
+    unfolding operands
     two-related o e =
         step-comparison vs s 0 16 (λ e. omega arith) here _ (ANumber a m) (leaf-found 1 15 (λ e. omega arith) a m l) m (ANumber b n) refl (leaf-found m 15 (λ e. omega arith) b n r) o e refl
 
     pub two-operated : (o : Operation) → getD s 0 0 ≡ operationCode o → numberAt n (result (applied o a b)) ≡ found vs s 0 16
+    unfolding operands thenValue
     two-operated o e =
         step-operation vs s 0 16 (λ e. omega arith) here _ (ANumber a m) (leaf-found 1 15 (λ e. omega arith) a m l) m (ANumber b n) refl (leaf-found m 15 (λ e. omega arith) b n r) o e refl
 
@@ -53,4 +55,5 @@ module _ (vs : List ℤ) (s : List ℕ) where
 
   module _ (here : 0 < length s) (a b : Bool) (m n : ℕ) (l : ATruth a m ≡ found vs s 1 15) (r : ATruth b n ≡ found vs s m 15) where
     pub two-joined : (o : Connective) → getD s 0 0 ≡ connectiveCode o → ATruth (connected o a b) n ≡ found vs s 0 16
+    unfolding operands
     two-joined o e = step-connective vs s 0 16 (λ e. omega arith) here _ (ATruth a m) l m (ATruth b n) refl r o e refl

@@ -1,15 +1,14 @@
 -- What the functions inside the crate find at a position, from what the readers of semantics read there.
 use mathlib.Core.Path.{_≡_}
 use mathlib.Core.List.{List}
-use mathlib.Core.Bool.{Bool, true, false, not, cond, _&&_}
-use Prim.Native.Nat.{ℕ, _+_, _-_}
-use lib.ListN.{length, drop, getD}
-use lib.Dec.{ltb, leb}
-use lib.IntN.{ℤ, pos, negℤ}
-use Rattle.semantics.specs.Bytes.{be4, signed, Read, broken, read}
+use mathlib.Core.Bool.{Bool, true, false, not}
+use Prim.Native.Nat.{ℕ, _-_}
+use lib.ListN.{length, drop}
+use lib.IntN.{ℤ, negℤ}
+use Rattle.semantics.specs.Bytes.{Read, broken, read, fail}
 use Rattle.semantics.specs.Editions.{edition1}
-use Rattle.semantics.specs.Expressions.{Side, above, below, Value, ok, fault, result, valueOf, holds, Expression, a-number, a-truth, readExpression}
-use Rattle.semantics.specs.Expressions.{Operation, Comparison, Connective, applied, compared, connected}
+use Rattle.semantics.specs.Expressions.{Side, above, below, Value, ok, fault, result, thenValue, operands, valueOf, holds}
+use Rattle.semantics.specs.Expressions.{Operation, Comparison, Connective, applied, compared, connected, Form, Expression, a-number, a-truth, readForm, readExpression}
 use Rattle.expression.specs.PaperNumbers.{expressionNumber, paperFound}
 use Rattle.expression.specs.declared.Found.{Found}
 use Rattle.expression.specs.declared.Found.the-variants.{ANumber, NumberFault, ATruth, TruthFault, Broken}
@@ -54,77 +53,42 @@ nextOf (ATruth b n) = n
 nextOf (TruthFault u n) = n
 nextOf Broken = 0xffff_ffff_ffff_ffff
 
--- ---- the forms without operands, at the position after their code
-abbrev pub wordAt : List ℕ → ℕ → ℕ
-wordAt s p = be4 (getD s p 0) (getD s (p + 1) 0) (getD s (p + 2) 0) (getD s (p + 3) 0)
+-- what is made of a value that was found and of the position after it; broken for another sort
+abbrev pub ofNumber : Found → (Value ℤ → ℕ → Found) → Found
+ofNumber (ANumber z n) k = k (ok z) n
+ofNumber (NumberFault u n) k = k (fault (sideOf u)) n
+ofNumber (ATruth b n) k = Broken
+ofNumber (TruthFault u n) k = Broken
+ofNumber Broken k = Broken
 
-abbrev pub constantAt : List ℕ → ℕ → Found
-constantAt s p = cond (leb (p + 4) (length s)) (numberAt (p + 4) (result (signed (wordAt s p)))) Broken
+abbrev pub ofTruth : Found → (Value Bool → ℕ → Found) → Found
+ofTruth (ANumber z n) k = Broken
+ofTruth (NumberFault u n) k = Broken
+ofTruth (ATruth b n) k = k (ok b) n
+ofTruth (TruthFault u n) k = k (fault (sideOf u)) n
+ofTruth Broken k = Broken
 
-abbrev pub variableAt : List ℤ → List ℕ → ℕ → Found
-variableAt vs s p =
-    cond (ltb p (length s) && ltb (getD s p 0) (length vs)) (numberAt (p + 1) (result (getD vs (getD s p 0) (pos 0)))) Broken
-
--- what was found, where it is a number
-abbrev pub numberFound : Found → Found
-numberFound (ANumber z n) = ANumber z n
-numberFound (NumberFault u n) = NumberFault u n
-numberFound (ATruth b n) = Broken
-numberFound (TruthFault u n) = Broken
-numberFound Broken = Broken
+-- ---- the forms without operands
+-- at the position after the code
+abbrev pub formAt : List ℤ → List ℕ → Form → ℕ → Found
+formAt vs s f p = foundIn vs (length s) (readForm edition1 (length vs) fail f (drop p s))
 
 -- a constant or a variable at the position of its code: a number of depth 1
 abbrev pub leafAt : List ℤ → List ℕ → ℕ → Found
-leafAt vs s p = numberFound (found vs s p 1)
+leafAt vs s p = ofNumber (found vs s p 1) (λ v n. numberAt n v)
 
--- ---- the forms, from what their operands gave; the left operand's fault comes first
--- two numbers, with what is made of them
-abbrev pub of-two : (ℤ → ℤ → ℕ → Found) → (Bool → ℕ → Found) → Found → Found → Found
-of-two k f (ANumber a m) (ANumber b n) = k a b n
-of-two k f (ANumber a m) (NumberFault v n) = f v n
-of-two k f (ANumber a m) (ATruth b n) = Broken
-of-two k f (ANumber a m) (TruthFault v n) = Broken
-of-two k f (ANumber a m) Broken = Broken
-of-two k f (NumberFault u m) (ANumber b n) = f u n
-of-two k f (NumberFault u m) (NumberFault v n) = f u n
-of-two k f (NumberFault u m) (ATruth b n) = Broken
-of-two k f (NumberFault u m) (TruthFault v n) = Broken
-of-two k f (NumberFault u m) Broken = Broken
-of-two k f (ATruth a m) r = Broken
-of-two k f (TruthFault u m) r = Broken
-of-two k f Broken r = Broken
-
+-- ---- the forms, from what their operands gave
 abbrev pub operated : Operation → Found → Found → Found
-operated o l r = of-two (λ a b n. numberAt n (result (applied o a b))) NumberFault l r
+operated o l r = ofNumber l (λ a m. ofNumber r (λ b n. numberAt n (thenValue (operands (applied o) a b) result)))
 
 abbrev pub related : Comparison → Found → Found → Found
-related c l r = of-two (λ a b n. ATruth (compared c a b) n) TruthFault l r
+related c l r = ofNumber l (λ a m. ofNumber r (λ b n. truthAt n (operands (compared c) a b)))
 
 abbrev pub joined : Connective → Found → Found → Found
-joined c (ATruth a m) (ATruth b n) = ATruth (connected c a b) n
-joined c (ATruth a m) (TruthFault v n) = TruthFault v n
-joined c (ATruth a m) (ANumber b n) = Broken
-joined c (ATruth a m) (NumberFault v n) = Broken
-joined c (ATruth a m) Broken = Broken
-joined c (TruthFault u m) (ATruth b n) = TruthFault u n
-joined c (TruthFault u m) (TruthFault v n) = TruthFault u n
-joined c (TruthFault u m) (ANumber b n) = Broken
-joined c (TruthFault u m) (NumberFault v n) = Broken
-joined c (TruthFault u m) Broken = Broken
-joined c (ANumber a m) r = Broken
-joined c (NumberFault u m) r = Broken
-joined c Broken r = Broken
+joined c l r = ofTruth l (λ a m. ofTruth r (λ b n. truthAt n (operands (connected c) a b)))
 
 abbrev pub negated : Found → Found
-negated (ANumber a n) = numberAt n (result (negℤ a))
-negated (NumberFault u n) = NumberFault u n
-negated (ATruth b n) = Broken
-negated (TruthFault u n) = Broken
-negated Broken = Broken
+negated f = ofNumber f (λ a n. numberAt n (thenValue a (λ z. result (negℤ z))))
 
 abbrev pub opposed : Found → Found
-opposed (ANumber a n) = Broken
-opposed (NumberFault u n) = Broken
-opposed (ATruth b n) = ATruth (not b) n
-opposed (TruthFault u n) = TruthFault u n
-opposed Broken = Broken
+opposed f = ofTruth f (λ a n. truthAt n (thenValue a (λ b. ok (not b))))

@@ -1,14 +1,15 @@
 // Numbers and truths: judged from their bytes (condition 12) and evaluated.
 ghost use mathlib.Core.Path.{_≡_};
-ghost use Prim.Native.Nat.{_+_, _≤_};
+ghost use mathlib.Core.List.{List};
+ghost use Prim.Native.Nat.{_+_, _-_, _≤_};
 ghost use lib.ListN.{length, drop};
-ghost use lib.IntN.{negℤ};
-ghost use Rattle.semantics.specs.Bytes.{be4, signed as signedOf, isSome};
+ghost use lib.IntN.{ℤ, negℤ};
+ghost use Rattle.semantics.specs.Bytes.{be4, signed as signedOf, isSome, read, nat4};
 ghost use Rattle.semantics.specs.Editions.{edition1};
 ghost use Rattle.semantics.specs.Expressions.{Operation, Comparison, Connective, ok, fault, applied, compared, connected, result};
-ghost use Rattle.semantics.specs.Expressions.{operationCode, comparisonCode, connectiveCode, readExpression, numberIn, truthIn};
+ghost use Rattle.semantics.specs.Expressions.{operationCode, comparisonCode, connectiveCode, a-constant, a-variable, depthLimit, readExpression, numberIn, truthIn};
 ghost use Rattle.expression.specs.Answers.{numberOf, truthOf, truthAnswer, NumberSays, TruthSays};
-ghost use Rattle.expression.specs.Evaluation.{sideOf, found, FoundSays, wordAt, numberAt, nextOf, constantAt, variableAt, leafAt};
+ghost use Rattle.expression.specs.Evaluation.{sideOf, found, FoundSays, numberAt, nextOf, formAt, leafAt};
 ghost use Rattle.expression.specs.Evaluation.{operated, related, joined, negated, opposed};
 
 // A number's value, or the side on which a result lies outside its range; malformed where condition 12 turns the bytes away.
@@ -148,7 +149,7 @@ fn joining(s: &[u8], vars: &[i32]) -> Truth
 
 // A comparison of two leaves at a position; broken for any other bytes.
 fn compared_at(s: &[u8], vars: &[i32], at: usize) -> Found
-    ensures { λ r. ⌜ ((r ≡ Found.Broken → ⊥) → r ≡ found (now (vars .entry)) (now (s .entry)) at 15) ⌝ }
+    ensures { λ r. ⌜ ((r ≡ Found.Broken → ⊥) → r ≡ found (now (vars .entry)) (now (s .entry)) at (depthLimit - 1)) ⌝ }
 {
     if s.len() <= at {
         return Found::Broken;
@@ -198,7 +199,7 @@ fn no_comparison(s: &[u8], vars: &[i32]) -> Truth
 
 // What stands at the front of the bytes. An operation on two leaves takes no recursion.
 fn whole(s: &[u8], vars: &[i32]) -> Found
-    ensures { λ r. ⌜ FoundSays (now (vars .entry)) (length (now (s .entry))) (readExpression edition1 (length (now (vars .entry))) 16 (now (s .entry))) r ⌝ }
+    ensures { λ r. ⌜ FoundSays (now (vars .entry)) (length (now (s .entry))) (readExpression edition1 (length (now (vars .entry))) depthLimit (now (s .entry))) r ⌝ }
 {
     if s.len() == 0 {
         return Found::Broken;
@@ -418,7 +419,7 @@ fn connective(code: u8, a: bool, b: bool) -> bool
 
 // The forms without operands.
 fn constant(s: &[u8], at: usize) -> Found
-    ensures { λ r. ⌜ r ≡ constantAt (now (s .entry)) at ⌝ }
+    ensures { λ r. ⌜ ((vs : List ℤ) → r ≡ formAt vs (now (s .entry)) a-constant at) ⌝ }
 {
     if s.len() < at {
         return Found::Broken;
@@ -430,7 +431,7 @@ fn constant(s: &[u8], at: usize) -> Found
 }
 
 fn variable(s: &[u8], vars: &[i32], at: usize) -> Found
-    ensures { λ r. ⌜ r ≡ variableAt (now (vars .entry)) (now (s .entry)) at ⌝ }
+    ensures { λ r. ⌜ r ≡ formAt (now (vars .entry)) (now (s .entry)) a-variable at ⌝ }
 {
     if s.len() <= at {
         return Found::Broken;
@@ -445,7 +446,7 @@ fn variable(s: &[u8], vars: &[i32], at: usize) -> Found
 // Four bytes, most significant first.
 fn word_at(s: &[u8], at: usize) -> u32
     requires { ⌜ at + 4 ≤ length (now s) ⌝ }
-    ensures { λ r. ⌜ r ≡ wordAt (now (s .entry)) at ⌝ }
+    ensures { λ r. ⌜ nat4 (drop at (now (s .entry))) ≡ read r (drop (at + 4) (now (s .entry))) ⌝ }
 {
     word(s[at], s[at + 1], s[at + 2], s[at + 3])
 }

@@ -125,7 +125,7 @@ eval-returns-3 : (t : ℕ) → eval-lts.Need-returns-3 (calls t) (eval-at t) eva
 unfolding formOf
 eval-returns-3 t c =
     let a = c .before .before .before .before .before .before .args in
-    found-says (c .constant .ensures ∙ step-constant (a .vars .now) (a .s .now) (a .at) (a .depth) (c .before .before .before .before .if1 .left) (c .before .before .before .if2 .left) (ap formOf (c .before .match .keys1)))
+    found-says (c .constant .ensures (a .vars .now) ∙ step-constant (a .vars .now) (a .s .now) (a .at) (a .depth) (c .before .before .before .before .if1 .left) (c .before .before .before .if2 .left) (ap formOf (c .before .match .keys1)))
 
 eval-returns-4 : (t : ℕ) → eval-lts.Need-returns-4 (calls t) (eval-at t) eval.Post
 unfolding formOf

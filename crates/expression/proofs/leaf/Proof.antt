@@ -23,7 +23,7 @@ returns-2 : tie.Need-returns-2
 unfolding formOf
 returns-2 c =
     let a = c .before .before .before .before .before .args in
-    c .constant .ensures ∙ sym (leaf-constant (a .vars .now) (a .s .now) (a .at) (c .before .before .before .if1 .left) (ap formOf (c .before .if2 .taken)))
+    c .constant .ensures (a .vars .now) ∙ sym (leaf-constant (a .vars .now) (a .s .now) (a .at) (c .before .before .before .if1 .left) (ap formOf (c .before .if2 .taken)))
 
 add-variable : tie.Need-add-variable
 add-variable c = search needs

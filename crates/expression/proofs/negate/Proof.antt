@@ -1,12 +1,12 @@
--- A number is negated, a fault is kept, anything else is off (`off-negated`).
+-- A number is negated, a fault is kept, anything else is off (`off-number`).
 use mathlib.Core.Path.{sym, ap, _∙_}
 use lib.IntN.{ℤ, negℤ}
 use mir.Syntax.{w32}
 use mir.ValLaws.{toZ-ofZ}
 use borrow.Author.Needs.{needs}
-use Rattle.semantics.specs.Expressions.{result}
+use Rattle.semantics.specs.Expressions.{result, thenValue}
 use Rattle.expression.specs.Evaluation.{numberAt, negated}
-use Rattle.expression.proofs.Cases.{not-number, off-negated}
+use Rattle.expression.proofs.Cases.{not-number, off-number, number-fault-at}
 use Rattle.expression.proofs.negate.Statement.{statement}
 use Rattle.expression.proofs.negate.Tie as tie
 
@@ -20,6 +20,7 @@ enum-known-f-2 : tie.Need-enum-known-f-2
 enum-known-f-2 c = search needs
 
 returns : tie.Need-returns
+unfolding thenValue
 returns c =
     let F = c .before .before .f .given in
     c .negative .ensures
@@ -27,10 +28,11 @@ returns c =
     ∙ sym (ap negated (F .1))
 
 returns-2 : tie.Need-returns-2
-returns-2 c = sym (ap negated (c .before .f2 .given .1))
+unfolding thenValue
+returns-2 c = number-fault-at _ _ ∙ sym (ap negated (c .before .f2 .given .1))
 
 returns-3 : tie.Need-returns-3
-returns-3 c = off-negated (c .before .args .f) (not-number (c .before .args .f) (c .match .keys3))
+returns-3 c = off-number _ (c .before .args .f) (not-number (c .before .args .f) (c .match .keys3))
 
 pub negate-spec : {M : Type 1} → statement M
 negate-spec =

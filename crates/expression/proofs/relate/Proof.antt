@@ -1,15 +1,15 @@
--- By what the two operands gave; where one is no number, `off-left` and its like say that the whole is broken.
+-- By what the two operands gave; where one is no number, `off-number` says that the whole is broken.
 use mathlib.Core.Path.{sym, ap, ap₂, _∙_}
 use mathlib.Core.Bool.{Bool}
 use lib.IntN.{ℤ}
 use mir.Syntax.{w32}
 use mir.ValLaws.{toZ-ofZ}
 use borrow.Author.Needs.{needs}
-use Rattle.semantics.specs.Expressions.{compared}
+use Rattle.semantics.specs.Expressions.{compared, operands}
 use Rattle.expression.specs.Evaluation.{related}
 use Rattle.expression.specs.declared.Found.{Found}
 use Rattle.expression.specs.declared.Found.the-variants.{ATruth}
-use Rattle.expression.proofs.Cases.{not-number, off-left, off-right, off-right-fault}
+use Rattle.expression.proofs.Cases.{not-number, off-number, truth-fault-at}
 use Rattle.expression.proofs.relate.Statement.{statement}
 use Rattle.expression.proofs.relate.Tie as tie
 
@@ -35,6 +35,7 @@ enum-known-r-4 : tie.Need-enum-known-r-4
 enum-known-r-4 c = search needs
 
 returns : tie.Need-returns
+unfolding operands
 returns c = λ o e.
     let L = c .before .before .before .before .before .l .given in
     let R = c .before .before .r .given in
@@ -42,28 +43,31 @@ returns c = λ o e.
     ∙ sym (ap₂ (related o) (L .1) (R .1))
 
 returns-2 : tie.Need-returns-2
-returns-2 c = λ o e. sym (ap₂ (related o) (c .before .before .before .before .l .given .1) (c .before .r2 .given .1))
+unfolding operands
+returns-2 c = λ o e. truth-fault-at _ _ ∙ sym (ap₂ (related o) (c .before .before .before .before .l .given .1) (c .before .r2 .given .1))
 
 returns-3 : tie.Need-returns-3
 returns-3 c = λ o e.
     let s = c .before .before .before .before in
     let L = c .before .before .l .given in
-    off-right _ _ (L .0 .0) (L .0 .1 .0) (s .args .r) (not-number (s .args .r) (c .match2 .keys3)) ∙ sym (ap (λ (x : Found). related o x (s .args .r)) (L .1))
+    off-number _ (s .args .r) (not-number (s .args .r) (c .match2 .keys3)) ∙ sym (ap (λ (x : Found). related o x (s .args .r)) (L .1))
 
 returns-4 : tie.Need-returns-4
-returns-4 c = λ o e. sym (ap₂ (related o) (c .before .before .before .before .l2 .given .1) (c .before .r3 .given .1))
+unfolding operands
+returns-4 c = λ o e. truth-fault-at _ _ ∙ sym (ap₂ (related o) (c .before .before .before .before .l2 .given .1) (c .before .r3 .given .1))
 
 returns-5 : tie.Need-returns-5
-returns-5 c = λ o e. sym (ap₂ (related o) (c .before .before .before .before .l2 .given .1) (c .before .r4 .given .1))
+unfolding operands
+returns-5 c = λ o e. truth-fault-at _ _ ∙ sym (ap₂ (related o) (c .before .before .before .before .l2 .given .1) (c .before .r4 .given .1))
 
 returns-6 : tie.Need-returns-6
 returns-6 c = λ o e.
     let s = c .before .before .before .before in
     let L = c .before .before .l2 .given in
-    off-right-fault _ _ (L .0 .0) (L .0 .1 .0) (s .args .r) (not-number (s .args .r) (c .match3 .keys3)) ∙ sym (ap (λ (x : Found). related o x (s .args .r)) (L .1))
+    off-number _ (s .args .r) (not-number (s .args .r) (c .match3 .keys3)) ∙ sym (ap (λ (x : Found). related o x (s .args .r)) (L .1))
 
 returns-7 : tie.Need-returns-7
-returns-7 c = λ o e. let s = c .before in off-left _ _ (s .args .l) (s .args .r) (not-number (s .args .l) (c .match .keys3))
+returns-7 c = λ o e. let s = c .before in off-number _ (s .args .l) (not-number (s .args .l) (c .match .keys3))
 
 pub relate-spec : {M : Type 1} → statement M
 relate-spec =

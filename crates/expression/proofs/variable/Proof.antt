@@ -2,7 +2,6 @@
 use mathlib.Core.Path.{sym, ap, _∙_}
 use Prim.Native.Nat.{_+_}
 use native.Mathlib.Omega.{arith}
-use borrow.Author.Tests.{lt-ltb, le-ltb}
 use lib.IntN.{ℤ, pos}
 use lib.ListN.{getD}
 use mir.Syntax.{w32}
@@ -10,12 +9,13 @@ use mir.ValLaws.{toZ-ofZ}
 use borrow.Author.Needs.{needs}
 use Rattle.expression.specs.Evaluation.{numberAt}
 use Rattle.expression.specs.declared.Found.the-variants.{ANumber}
+use Rattle.expression.proofs.Steps.{variable-cut, variable-there, variable-missing}
 use Rattle.expression.proofs.Widths.{result-fits}
 use Rattle.expression.proofs.variable.Statement.{statement}
 use Rattle.expression.proofs.variable.Tie as tie
 
 returns : tie.Need-returns
-returns c = rw (le-ltb _ _ (c .if1 .taken))
+returns c = let a = c .before .args in variable-cut (a .vars .now) (a .s .now) (a .at) (c .if1 .taken)
 
 shared-slice-read-i : tie.Need-shared-slice-read-i
 shared-slice-read-i c = search needs
@@ -24,7 +24,7 @@ cast-i : tie.Need-cast-i
 cast-i c = omega (arith, c .shared-slice-known .given (c .before .before .args .at))
 
 returns-2 : tie.Need-returns-2
-returns-2 c = rw (lt-ltb _ _ (c .before .before .if1 .left), le-ltb _ _ (c .if2 .taken))
+returns-2 c = let a = c .before .before .before .args in variable-missing (a .vars .now) (a .s .now) (a .at) (c .before .before .if1 .left) (c .if2 .taken)
 
 mul-t5 : tie.Need-mul-t5
 mul-t5 c = search needs
@@ -39,9 +39,9 @@ returns-3 : tie.Need-returns-3
 returns-3 c =
     let a = c .before .before .before .before .args in
     let x = getD (a .vars .now) (getD (a .s .now) (a .at) 0) (pos 0) in
-    rw (lt-ltb _ _ (c .before .before .before .if1 .left), lt-ltb _ _ (c .before .if2 .left))
-    (ap (λ (z : ℤ). ANumber z (a .at + 1)) (toZ-ofZ w32 x (record { sfits = c .t10 .given }))
-    ∙ sym (ap (numberAt (a .at + 1)) (result-fits x (record { sfits = c .t10 .given }))))
+    ap (λ (z : ℤ). ANumber z (a .at + 1)) (toZ-ofZ w32 x (record { sfits = c .t10 .given }))
+    ∙ sym (ap (numberAt (a .at + 1)) (result-fits x (record { sfits = c .t10 .given })))
+    ∙ variable-there (a .vars .now) (a .s .now) (a .at) (c .before .before .before .if1 .left) (c .before .if2 .left)
 
 pub variable-spec : {M : Type 1} → statement M
 variable-spec =
