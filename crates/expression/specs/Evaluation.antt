@@ -1,14 +1,14 @@
 -- What the functions inside the crate find at a position, from what the readers of semantics read there.
 use mathlib.Core.Path.{_≡_}
 use mathlib.Core.List.{List}
-use mathlib.Core.Bool.{Bool, true, false, not}
+use mathlib.Core.Bool.{Bool, true, false}
 use Prim.Native.Nat.{ℕ, _-_}
 use lib.ListN.{length, drop}
-use lib.IntN.{ℤ, negℤ}
+use lib.IntN.{ℤ}
 use Rattle.semantics.specs.Bytes.{Read, broken, read, fail}
 use Rattle.semantics.specs.Editions.{edition1}
-use Rattle.semantics.specs.Expressions.{Side, above, below, Value, ok, fault, result, thenValue, operands, valueOf, holds}
-use Rattle.semantics.specs.Expressions.{Operation, Comparison, Connective, applied, compared, connected, Form, Expression, a-number, a-truth, readForm, readExpression}
+use Rattle.semantics.specs.Expressions.{Side, above, below, Value, ok, fault, operateValues, negateValue, compareValues, connectValues, opposeValue, valueOf, holds}
+use Rattle.semantics.specs.Expressions.{Operation, Comparison, Connective, Form, Expression, a-number, a-truth, readForm, readExpression}
 use Rattle.expression.specs.PaperNumbers.{expressionNumber, paperFound}
 use Rattle.expression.specs.declared.Found.{Found}
 use Rattle.expression.specs.declared.Found.the-variants.{ANumber, NumberFault, ATruth, TruthFault, Broken}
@@ -79,16 +79,16 @@ leafAt vs s p = ofNumber (found vs s p 1) (λ v n. numberAt n v)
 
 -- ---- the forms, from what their operands gave
 abbrev pub operated : Operation → Found → Found → Found
-operated o l r = ofNumber l (λ a m. ofNumber r (λ b n. numberAt n (thenValue (operands (applied o) a b) result)))
+operated o l r = ofNumber l (λ a m. ofNumber r (λ b n. numberAt n (operateValues o a b)))
 
 abbrev pub related : Comparison → Found → Found → Found
-related c l r = ofNumber l (λ a m. ofNumber r (λ b n. truthAt n (operands (compared c) a b)))
+related c l r = ofNumber l (λ a m. ofNumber r (λ b n. truthAt n (compareValues c a b)))
 
 abbrev pub joined : Connective → Found → Found → Found
-joined c l r = ofTruth l (λ a m. ofTruth r (λ b n. truthAt n (operands (connected c) a b)))
+joined c l r = ofTruth l (λ a m. ofTruth r (λ b n. truthAt n (connectValues c a b)))
 
 abbrev pub negated : Found → Found
-negated f = ofNumber f (λ a n. numberAt n (thenValue a (λ z. result (negℤ z))))
+negated f = ofNumber f (λ a n. numberAt n (negateValue a))
 
 abbrev pub opposed : Found → Found
-opposed f = ofTruth f (λ a n. truthAt n (thenValue a (λ b. ok (not b))))
+opposed f = ofTruth f (λ a n. truthAt n (opposeValue a))

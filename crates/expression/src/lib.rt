@@ -8,6 +8,7 @@ ghost use Rattle.semantics.specs.Bytes.{be4, signed as signedOf, isSome, read, 
 ghost use Rattle.semantics.specs.Editions.{edition1};
 ghost use Rattle.semantics.specs.Expressions.{Operation, Comparison, Connective, ok, fault, applied, compared, connected, result};
 ghost use Rattle.semantics.specs.Expressions.{operationCode, comparisonCode, connectiveCode, a-constant, a-variable, depthLimit, readExpression, numberIn, truthIn};
+ghost use Rattle.semantics.specs.Sections.{variableLimit};
 ghost use Rattle.expression.specs.Answers.{numberOf, truthOf, truthAnswer, NumberSays, TruthSays};
 ghost use Rattle.expression.specs.Evaluation.{sideOf, found, FoundSays, numberAt, nextOf, formAt, leafAt};
 ghost use Rattle.expression.specs.Evaluation.{operated, related, joined, negated, opposed};
@@ -73,7 +74,7 @@ pub fn truth_value(s: &[u8], vars: &[i32]) -> Truth
 
 // Condition 12 of a number, where so many variables are declared.
 pub fn number_reads(s: &[u8], variables: usize) -> bool
-    requires { ⌜ variables ≤ 32 ⌝ }
+    requires { ⌜ variables ≤ variableLimit ⌝ }
     ensures { λ r. ⌜ r ≡ isSome (numberIn edition1 variables (now (s .entry))) ⌝ }
 {
     let zeros = [0i32; paper::VARIABLES];
@@ -85,7 +86,7 @@ pub fn number_reads(s: &[u8], variables: usize) -> bool
 
 // Condition 12 of a truth.
 pub fn truth_reads(s: &[u8], variables: usize) -> bool
-    requires { ⌜ variables ≤ 32 ⌝ }
+    requires { ⌜ variables ≤ variableLimit ⌝ }
     ensures { λ r. ⌜ r ≡ isSome (truthIn edition1 variables (now (s .entry))) ⌝ }
 {
     let zeros = [0i32; paper::VARIABLES];

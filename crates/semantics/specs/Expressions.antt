@@ -94,16 +94,32 @@ unfoldable pub connected : Connective → Bool → Bool → Bool
 connected both a b = a && b
 connected either a b = a || b
 
+-- the forms, on the values of their operands
+abbrev pub operateValues : Operation → Value ℤ → Value ℤ → Value ℤ
+operateValues o a b = thenValue (operands (applied o) a b) result
+
+abbrev pub negateValue : Value ℤ → Value ℤ
+negateValue a = thenValue a (λ z. result (negℤ z))
+
+abbrev pub compareValues : Comparison → Value ℤ → Value ℤ → Value Bool
+compareValues c a b = operands (compared c) a b
+
+abbrev pub connectValues : Connective → Value Bool → Value Bool → Value Bool
+connectValues c a b = operands (connected c) a b
+
+abbrev pub opposeValue : Value Bool → Value Bool
+opposeValue a = thenValue a (λ b. ok (not b))
+
 unfoldable pub valueOf : List ℤ → Number → Value ℤ
 valueOf vs (constant z) = result z
 valueOf vs (variable v) = result (getD vs v (pos 0))
-valueOf vs (operate o a b) = thenValue (operands (applied o) (valueOf vs a) (valueOf vs b)) result
-valueOf vs (negation a) = thenValue (valueOf vs a) (λ z. result (negℤ z))
+valueOf vs (operate o a b) = operateValues o (valueOf vs a) (valueOf vs b)
+valueOf vs (negation a) = negateValue (valueOf vs a)
 
 unfoldable pub holds : List ℤ → Truth → Value Bool
-holds vs (compare c a b) = operands (compared c) (valueOf vs a) (valueOf vs b)
-holds vs (connect c a b) = operands (connected c) (holds vs a) (holds vs b)
-holds vs (opposite a) = thenValue (holds vs a) (λ b. ok (not b))
+holds vs (compare c a b) = compareValues c (valueOf vs a) (valueOf vs b)
+holds vs (connect c a b) = connectValues c (holds vs a) (holds vs b)
+holds vs (opposite a) = opposeValue (holds vs a)
 holds vs always = ok true
 
 -- ---- bytes
