@@ -11,7 +11,7 @@ use Rattle.semantics.specs.Expressions.{Value, ok, fault, above, below, thenVal
 use Rattle.semantics.specs.Plant.{Plant, selectors, stored, rateOf, advance}
 use Rattle.semantics.specs.Events as Events
 use Rattle.semantics.specs.Run as Run
-use Rattle.semantics.specs.Run.{Action, test, wait, assign, switch, stop, away, faulty, pass, _>>=_, _>>_, allow, valued, nobody, mover, Done, isWait, waitTruth, walk, checkModes, assigned, act, judgeSwitch, switchCheck, judgeTick, judgePick, judge}
+use Rattle.semantics.specs.Run.{Action, test, wait, assign, switch, stop, away, faulty, pass, _>>=_, _>>_, allow, valued, nobody, mover, Done, isWait, waitTruth, checkWaits, checkModes, assigned, act, judgeSwitch, switchCheck, judgeTick, judgePick, judge}
 use Rattle.semantics.proofs.Facts.{true-not-false}
 use Rattle.nodeset.specs.Sets.{mem, members}
 use Rattle.nodeset.proofs.Members.{among-members}
@@ -85,7 +85,7 @@ module _ (p : Plant) (f : ℕ → Action) (l : Lent) (ws : List ℕ) (vs : List 
   waiting-is = every-member ws (λ n. isWait (f n)) (isWaitKind (l .kinds)) (λ n e. wait-kind (getD (l .kinds) n 0) (operandAt l n) (q .nodes n e .is))
 
   abbrev walked : Run.Verdict (Unit {0})
-  walked = walk edition1 31 vs (map (operandAt l) (members ws))
+  walked = checkWaits edition1 vs (map (operandAt l) (members ws))
 
   truths-are : waiting ≡ true → map (λ n. waitTruth (f n)) (members ws) ≡ map (operandAt l) (members ws)
   truths-are h = map-member ws (isWaitKind (l .kinds)) (λ n. waitTruth (f n)) (operandAt l) (λ n e k. wait-operand (getD (l .kinds) n 0) (operandAt l n) (q .nodes n e .is) k) h
@@ -99,7 +99,7 @@ module _ (p : Plant) (f : ℕ → Action) (l : Lent) (ws : List ℕ) (vs : List 
 
   tick-is : waiting ≡ true → tick ≡ (check >> (walked >> ticked vs ms (advance (p .variables) (rateOf p ms) vs)))
   unfolding judge judgeTick allow _>>_
-  tick-is e = rw (waiting-is, e) (ap₂ (λ a b. a >> (walk edition1 31 vs b >> ticked vs ms (advance (p .variables) (rateOf p ms) vs))) check-is (truths-are e))
+  tick-is e = rw (waiting-is, e) (ap₂ (λ a b. a >> (checkWaits edition1 vs b >> ticked vs ms (advance (p .variables) (rateOf p ms) vs))) check-is (truths-are e))
 
   module _ (h : waiting ≡ true) (r : Verdict) (e : r ≡ stepVerdict check) where
     pub tick-28 : goesOn r ≡ false → Left tick vs ms r vs ms

@@ -1,15 +1,15 @@
 -- The code's walks over the acting nodes, from one to the next.
 use mathlib.Core.Path.{_≡_, refl, sym, ap, _∙_}
-use mathlib.Core.Bool.{Bool, true, false}
-use mathlib.Core.List.{List, [], map}
+use mathlib.Core.Bool.{Bool, true, false, not}
+use mathlib.Core.List.{List, [], _∷_, map}
 use Prim.Native.Nat.{ℕ, _+_, _-_, _≤_, _<_}
 use native.Mathlib.Omega.{arith}
 use lib.IntN.{ℤ}
 use Rattle.semantics.specs.Bytes.{every}
 use Rattle.semantics.specs.Editions.{edition1}
-use Rattle.semantics.specs.Expressions.{truthValue}
+use Rattle.semantics.specs.Expressions.{Value, ok, fault, above, below, truthValue}
 use Rattle.semantics.specs.Run as Run
-use Rattle.semantics.specs.Run.{walk}
+use Rattle.semantics.specs.Run.{_>>=_, _>>_, allow, valued, walk, checkWaits}
 use Rattle.nodeset.specs.Sets.{mem, members, firstFrom}
 use Rattle.nodeset.proofs.Members.{no-more}
 use Rattle.nodeset.proofs.Firsts.{membersOn, on-start, on-first, on-member, first-in}
@@ -52,22 +52,33 @@ module _ (ks ws : List ℕ) where
   all-end n e f = ap (every (isWaitKind ks)) (on-end ws n e f)
 
 -- ---- none of their truths is true
+-- the truth of one wait, as it is asked
+pub still-one : (vs : List ℤ) (t : List ℕ) → truthVerdict (Away 31) Stay (truthValue edition1 vs t) ≡ stepVerdict (checkWaits edition1 vs (t ∷ []))
+unfolding walk truthVerdict doneVerdict valued allow _>>=_ _>>_
+still-one vs t = go (truthValue edition1 vs t)
+  where
+    go : (u : Value Bool) → truthVerdict (Away 31) Stay u ≡ stepVerdict (valued u >>= (λ b. allow 31 (not b) >> checkWaits edition1 vs []))
+    go (ok true) = refl
+    go (ok false) = refl
+    go (fault above) = refl
+    go (fault below) = refl
+
 module _ (vs : List ℤ) (cut : ℕ → List ℕ) (ws : List ℕ) where
   abbrev pub stillFrom : ℕ → Run.Verdict (Unit {0})
-  stillFrom n = walk edition1 31 vs (map cut (membersOn ws n))
+  stillFrom n = checkWaits edition1 vs (map cut (membersOn ws n))
 
   abbrev asks : List ℕ → Run.Verdict (Unit {0})
-  asks l = walk edition1 31 vs (map cut l)
+  asks l = checkWaits edition1 vs (map cut l)
 
-  pub still-start : {m : ℕ} → m ≡ firstFrom ws 0 256 → walk edition1 31 vs (map cut (members ws)) ≡ stillFrom m
+  pub still-start : {m : ℕ} → m ≡ firstFrom ws 0 256 → checkWaits edition1 vs (map cut (members ws)) ≡ stillFrom m
   still-start e = ap asks (on-start ws ∙ on-first ws 0 (omega arith) e)
 
-  module _ (n : ℕ) (h : n < 64) (x : At ws n) (r : Verdict) (e : r ≡ truthVerdict (Away 31) Stay (truthValue edition1 vs (cut n))) where
+  module _ (n : ℕ) (h : n < 64) (x : At ws n) (r : Verdict) (e : r ≡ stepVerdict (checkWaits edition1 vs (cut n ∷ []))) where
     pub still-out : goesOn r ≡ false → r ≡ stepVerdict (stillFrom n)
-    still-out f = walk-out 31 vs (cut n) (map cut (membersOn ws (n + 1))) r e f ∙ sym (ap (λ l. stepVerdict (asks l)) (on-member ws n (omega arith) (x .member (omega arith))))
+    still-out f = walk-out 31 vs (cut n) (map cut (membersOn ws (n + 1))) r (e ∙ sym (still-one vs (cut n))) f ∙ sym (ap (λ l. stepVerdict (asks l)) (on-member ws n (omega arith) (x .member (omega arith))))
 
     pub still-on : {m : ℕ} → m ≡ firstFrom ws (n + 1) (256 - (n + 1)) → goesOn r ≡ true → stillFrom n ≡ stillFrom m
-    still-on g f = ap asks (on-member ws n (omega arith) (x .member (omega arith))) ∙ walk-on 31 vs (cut n) (map cut (membersOn ws (n + 1))) r e f ∙ ap asks (on-first ws (n + 1) (omega arith) g)
+    still-on g f = ap asks (on-member ws n (omega arith) (x .member (omega arith))) ∙ walk-on 31 vs (cut n) (map cut (membersOn ws (n + 1))) r (e ∙ sym (still-one vs (cut n))) f ∙ ap asks (on-first ws (n + 1) (omega arith) g)
 
   pub still-end : (n : ℕ) → 64 ≤ n → ((m : ℕ) → mem ws m ≡ true → m < 64) → Stay ≡ stepVerdict (stillFrom n)
   unfolding walk doneVerdict
