@@ -16,7 +16,7 @@ use Rattle.semantics.specs.Bytes.{noBytes, twoBytes, byteAndRest}
 use Rattle.semantics.specs.Sections.{Variable}
 use Rattle.semantics.specs.Plant.{declared, declaredAt, stored}
 use Rattle.semantics.specs.Run.{Action, test, wait, assign, switch, stop, _>>=_, _>>_, pass, allow, valued, mover, assigned, act}
-use Rattle.semantics.specs.TableFile.{actionKind, actionOfKind, a-stop, no-kind}
+use Rattle.semantics.specs.TableFile.{actionKind, actionOfKind, an-assignment, a-stop, no-kind}
 use Rattle.semantics.proofs.Facts.{true-not-false, none-not-some, some-is}
 use Rattle.expression.specs.Answers.{numberAnswer}
 use Rattle.expression.specs.declared.Number.{Number}
@@ -93,8 +93,13 @@ pub stored-as : (ls hs vs : List ℤ) (d : Verdict) {v w : ℕ} {z y : ℤ} {r :
 stored-as ls hs vs d e f g = rw (← e, ← f) g
 
 -- an operand of an assignment: its variable, and its number from the second byte on
-pub operand-is : {t : List ℕ} {v : ℕ} {e : List ℕ} → t ≡ v ∷ e → (getD t 0 0 ≡ v) × (take (length t - 1) (drop 1 t) ≡ e)
-operand-is {t} {v} {e} h = rw h (refl, take-all (suc (length e) - 1) e (omega arith))
+pub operand-is : (t : List ℕ) {v : ℕ} {e : List ℕ} → actionOfKind an-assignment t ≡ some (assign v e) → (getD t 0 0 ≡ v) × (take (length t - 1) (drop 1 t) ≡ e)
+unfolding actionOfKind byteAndRest
+operand-is t {v} {e} h = go t h
+  where
+    go : (s : List ℕ) → byteAndRest assign s ≡ some (assign v e) → (getD s 0 0 ≡ v) × (take (length s - 1) (drop 1 s) ≡ e)
+    go [] h = none-not-some h
+    go (b ∷ s) h = let same = some-is h in (cc, take-all (suc (length s) - 1) s (omega arith) ∙ cc)
 
 -- ---- the five kinds
 module _ (k : ℕ) (t : List ℕ) {a : Action} (is : actionOfKind (actionKind k) t ≡ some a) where
@@ -178,8 +183,8 @@ module _ (xs : List Variable) (vs : List ℤ) (ms : List ℕ) (n : ℕ) where
     waits e h = record { leaves = λ a i. rw (is-wait k t i e) (awaited (truthValue edition1 vs t) h) }
 
     pub assigns : {r : Verdict} {ys : List ℤ} → k ≡ 3 → Assigns t xs (Move n true) vs r ys → Does k t xs n vs ms r ys ms
-    unfolding act
-    assigns e g = record { leaves = λ a i. let q = is-assign k t i e in rw (q .3) (put (assigned edition1 xs vs (q .0) (q .1)) (g .gives (q .0) (q .1) (q .2))) }
+    unfolding act actionKind
+    assigns e g = record { leaves = λ a i. let q = is-assign k t i e in rw (q .3) (put (assigned edition1 xs vs (q .0) (q .1)) (g .gives (q .0) (q .1) (by-kind k t i e ∙ ap some (q .3)))) }
 
     pub switches : k ≡ 4 → Does k t xs n vs ms (Move n true) vs (set ms (getD t 0 0) (getD t 1 0))
     unfolding act
