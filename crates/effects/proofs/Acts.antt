@@ -3,7 +3,7 @@ use mathlib.Core.Path.{_≡_, refl, sym, ap, _∙_}
 use mathlib.Core.Bool.{Bool, true, false, cond}
 use mathlib.Core.List.{List, [], _∷_}
 use mathlib.Core.Option.{some}
-use Prim.Native.Nat.{ℕ, zero, suc, _-_, _≤_, _<_}
+use Prim.Native.Nat.{ℕ, suc, _-_, _≤_, _<_}
 use native.Mathlib.Omega.{arith}
 use borrow.Author.Tests.{ne-eqb}
 use lib.IntN.{ℤ, pos}
@@ -14,7 +14,7 @@ use Rattle.semantics.specs.Editions.{edition1}
 use Rattle.semantics.specs.Expressions.{Side, Value, ok, fault, above, below, ranged, thenValue, numberIn, numberValue, truthValue}
 use Rattle.semantics.specs.Bytes.{noBytes, twoBytes, byteAndRest}
 use Rattle.semantics.specs.Sections.{Variable}
-use Rattle.semantics.specs.Plant.{declared, declaredAt, stored}
+use Rattle.semantics.specs.Plant.{declaredAt, stored}
 use Rattle.semantics.specs.Run.{Action, test, wait, assign, switch, stop, _>>=_, _>>_, pass, allow, valued, mover, assigned, act}
 use Rattle.semantics.specs.TableFile.{actionKind, actionOfKind, an-assignment, a-stop, no-kind}
 use Rattle.semantics.proofs.Facts.{true-not-false, none-not-some, some-is}
@@ -28,16 +28,9 @@ use Rattle.effects.specs.Ranges.{rangesOf}
 use Rattle.effects.specs.ActionForms.{Performs, Assigns, Does}
 use Rattle.effects.specs.declared.Verdict.{Verdict}
 use Rattle.effects.specs.declared.Verdict.the-variants.{Away, Above, Below, Move}
-use Rattle.effects.proofs.Adds.{inside}
+use Rattle.effects.proofs.Adds.{declared-at, inside}
 
 -- ---- a variable that is set
-declared-at : (ls hs : List ℤ) (v : ℕ) (z : ℤ) → length ls ≡ length hs → v < length ls → declaredAt (rangesOf ls hs) v z ≡ ranged (getD ls v (pos 0)) (getD hs v (pos 0)) z
-unfolding declaredAt rangesOf declared
-declared-at [] hs v z e h = absurd (omega arith)
-declared-at (l ∷ ls) [] v z e h = absurd (omega arith)
-declared-at (l ∷ ls) (k ∷ hs) zero z e h = refl
-declared-at (l ∷ ls) (k ∷ hs) (suc v) z e h = declared-at ls hs v z (omega arith) (omega arith)
-
 gives-ok : {A : Type 0} (d : Verdict) (a : A) {v : Value A} {b : A} → v ≡ ok b → Gives d a v d b
 unfolding doneVerdict valued orElse
 gives-ok d a e = rw e (record { answer = refl; left = refl })
