@@ -4,20 +4,24 @@ use mathlib.Core.Bool.{Bool, true, false, not}
 use mathlib.Core.List.{List, [], _∷_, map}
 use Prim.Native.Nat.{ℕ, _+_, _-_, _≤_, _<_}
 use native.Mathlib.Omega.{arith}
+use lib.Dec.{eqb}
 use lib.IntN.{ℤ}
+use lib.ListN.{getD}
 use Rattle.semantics.specs.Bytes.{every}
 use Rattle.semantics.specs.Editions.{edition1}
 use Rattle.semantics.specs.Expressions.{Value, ok, fault, above, below, truthValue}
 use Rattle.semantics.specs.Run as Run
-use Rattle.semantics.specs.Run.{_>>=_, _>>_, allow, valued, walk, checkWaits}
+use Rattle.semantics.specs.Run.{Action, _>>=_, _>>_, allow, valued, isWait, walk, checkWaits}
+use Rattle.semantics.specs.TableFile.{WAIT}
 use Rattle.nodeset.specs.Sets.{mem, members, firstFrom}
 use Rattle.nodeset.proofs.Members.{no-more}
 use Rattle.nodeset.proofs.Firsts.{membersOn, on-start, on-first, on-member, first-in}
 use Rattle.effects.specs.Verdicts.{doneVerdict, stepVerdict, goesOn, truthVerdict}
-use Rattle.execution.specs.Operands.{isWaitKind}
+use Rattle.execution.specs.Operands.{KindsOf}
 use Rattle.effects.specs.declared.Verdict.{Verdict}
 use Rattle.effects.specs.declared.Verdict.the-variants.{Away, Stay}
 use Rattle.effects.proofs.Steps.{walk-out, walk-on}
+use Rattle.execution.proofs.Formed.{wait-kind, every-member}
 
 -- a walk stands at n: a member, or beyond all
 pub record At (ws : List ℕ) (n : ℕ) : Type 0 where
@@ -31,6 +35,13 @@ on-end : (ws : List ℕ) (n : ℕ) → 64 ≤ n → ((m : ℕ) → mem ws m ≡ 
 on-end ws n e f = no-more ws n (256 - n) (λ m q. let h = f m q in omega arith)
 
 -- ---- all of them are waits
+-- is node n a wait, by its kind?
+abbrev pub isWaitKind : List ℕ → ℕ → Bool
+isWaitKind kinds n = eqb (getD kinds n 0) WAIT
+
+pub kinds-wait : (f : ℕ → Action) (ks ws : List ℕ) → KindsOf f ks ws → every (isWaitKind ks) (members ws) ≡ every (λ n. isWait (f n)) (members ws)
+kinds-wait f ks ws k = sym (every-member ws (λ n. isWait (f n)) (isWaitKind ks) (λ n e. wait-kind (getD ks n 0) (k .each n e .0) (k .each n e .1)))
+
 module _ (ks ws : List ℕ) where
   abbrev pub all : ℕ → Bool
   all n = every (isWaitKind ks) (membersOn ws n)

@@ -9,18 +9,18 @@ ghost use lib.ListN.{length};
 ghost use Rattle.semantics.specs.Editions.{edition1};
 ghost use Rattle.semantics.specs.Bytes.{every};
 ghost use Rattle.semantics.specs.Events.{tick as ticked, pick as picked};
-ghost use Rattle.semantics.specs.Run.{checkWaits};
+ghost use Rattle.semantics.specs.Run.{Action, isWait, checkWaits};
 ghost use Rattle.nodeset.specs.Sets.{mem, members};
 ghost use Rattle.effects.specs.Verdicts.{stepVerdict};
 ghost use Rattle.codec.specs.Parts.{partAt};
-ghost use Rattle.execution.specs.Operands.{Cut, isWaitKind};
+ghost use Rattle.execution.specs.Operands.{Cut, KindsOf};
 ghost use Rattle.execution.specs.Ready.{Promised, Judges, lent};
 ghost use Rattle.execution.specs.Sense.{Sense, eventOf};
 
 // Are all acting nodes waits?
 fn all_wait(kinds: &[u8], acting: NodeSet) -> bool
     requires { ⌜ ((n : ℕ) → mem (acting .words) n ≡ true → (n < 64) × (n < length (now kinds))) ⌝ }
-    ensures { λ b. ⌜ b ≡ every (isWaitKind (now (kinds .entry))) (members (acting .words)) ⌝ }
+    ensures { λ b. ⌜ ((f : ℕ → Action) → KindsOf f (now (kinds .entry)) (acting .words) → b ≡ every (λ n. isWait (f n)) (members (acting .words))) ⌝ }
 {
     let mut n = nodeset::next(acting, 0);
     while n < paper::NODES {
