@@ -3,7 +3,7 @@ use mathlib.Core.Path.{_≡_, refl, sym, ap, _∙_}
 use mathlib.Core.Bool.{Bool, true, false, cond}
 use mathlib.Core.List.{List, [], _∷_}
 use mathlib.Core.Option.{some}
-use Prim.Native.Nat.{ℕ, zero, suc, _-_, _≤_, _<_}
+use Prim.Native.Nat.{ℕ, suc, _-_, _≤_, _<_}
 use native.Mathlib.Omega.{arith}
 use borrow.Author.Tests.{ne-eqb}
 use lib.IntN.{ℤ, pos}
@@ -14,9 +14,9 @@ use Rattle.semantics.specs.Editions.{edition1}
 use Rattle.semantics.specs.Expressions.{Side, Value, ok, fault, above, below, ranged, thenValue, numberIn, numberValue, truthValue}
 use Rattle.semantics.specs.Bytes.{noBytes, twoBytes, byteAndRest}
 use Rattle.semantics.specs.Sections.{Variable}
-use Rattle.semantics.specs.Plant.{declared, declaredAt, stored}
+use Rattle.semantics.specs.Plant.{declaredAt, stored}
 use Rattle.semantics.specs.Run.{Action, test, wait, assign, switch, stop, _>>=_, _>>_, pass, allow, valued, mover, assigned, act}
-use Rattle.semantics.specs.TableFile.{actionKind, actionOfKind, a-stop, no-kind}
+use Rattle.semantics.specs.TableFile.{actionKind, actionOfKind, an-assignment, a-stop, no-kind}
 use Rattle.semantics.proofs.Facts.{true-not-false, none-not-some, some-is}
 use Rattle.expression.specs.Answers.{numberAnswer}
 use Rattle.expression.specs.declared.Number.{Number}
@@ -28,16 +28,9 @@ use Rattle.effects.specs.Ranges.{rangesOf}
 use Rattle.effects.specs.ActionForms.{Performs, Assigns, Does}
 use Rattle.effects.specs.declared.Verdict.{Verdict}
 use Rattle.effects.specs.declared.Verdict.the-variants.{Away, Above, Below, Move}
-use Rattle.effects.proofs.Adds.{inside}
+use Rattle.effects.proofs.Adds.{declared-at, inside}
 
 -- ---- a variable that is set
-declared-at : (ls hs : List ℤ) (v : ℕ) (z : ℤ) → length ls ≡ length hs → v < length ls → declaredAt (rangesOf ls hs) v z ≡ ranged (getD ls v (pos 0)) (getD hs v (pos 0)) z
-unfolding declaredAt rangesOf declared
-declared-at [] hs v z e h = absurd (omega arith)
-declared-at (l ∷ ls) [] v z e h = absurd (omega arith)
-declared-at (l ∷ ls) (k ∷ hs) zero z e h = refl
-declared-at (l ∷ ls) (k ∷ hs) (suc v) z e h = declared-at ls hs v z (omega arith) (omega arith)
-
 gives-ok : {A : Type 0} (d : Verdict) (a : A) {v : Value A} {b : A} → v ≡ ok b → Gives d a v d b
 unfolding doneVerdict valued orElse
 gives-ok d a e = rw e (record { answer = refl; left = refl })
@@ -93,8 +86,13 @@ pub stored-as : (ls hs vs : List ℤ) (d : Verdict) {v w : ℕ} {z y : ℤ} {r :
 stored-as ls hs vs d e f g = rw (← e, ← f) g
 
 -- an operand of an assignment: its variable, and its number from the second byte on
-pub operand-is : {t : List ℕ} {v : ℕ} {e : List ℕ} → t ≡ v ∷ e → (getD t 0 0 ≡ v) × (take (length t - 1) (drop 1 t) ≡ e)
-operand-is {t} {v} {e} h = rw h (refl, take-all (suc (length e) - 1) e (omega arith))
+pub operand-is : (t : List ℕ) {v : ℕ} {e : List ℕ} → actionOfKind an-assignment t ≡ some (assign v e) → (getD t 0 0 ≡ v) × (take (length t - 1) (drop 1 t) ≡ e)
+unfolding actionOfKind byteAndRest
+operand-is t {v} {e} h = go t h
+  where
+    go : (s : List ℕ) → byteAndRest assign s ≡ some (assign v e) → (getD s 0 0 ≡ v) × (take (length s - 1) (drop 1 s) ≡ e)
+    go [] h = none-not-some h
+    go (b ∷ s) h = let same = some-is h in (cc, take-all (suc (length s) - 1) s (omega arith) ∙ cc)
 
 -- ---- the five kinds
 module _ (k : ℕ) (t : List ℕ) {a : Action} (is : actionOfKind (actionKind k) t ≡ some a) where
@@ -178,8 +176,8 @@ module _ (xs : List Variable) (vs : List ℤ) (ms : List ℕ) (n : ℕ) where
     waits e h = record { leaves = λ a i. rw (is-wait k t i e) (awaited (truthValue edition1 vs t) h) }
 
     pub assigns : {r : Verdict} {ys : List ℤ} → k ≡ 3 → Assigns t xs (Move n true) vs r ys → Does k t xs n vs ms r ys ms
-    unfolding act
-    assigns e g = record { leaves = λ a i. let q = is-assign k t i e in rw (q .3) (put (assigned edition1 xs vs (q .0) (q .1)) (g .gives (q .0) (q .1) (q .2))) }
+    unfolding act actionKind
+    assigns e g = record { leaves = λ a i. let q = is-assign k t i e in rw (q .3) (put (assigned edition1 xs vs (q .0) (q .1)) (g .gives (q .0) (q .1) (by-kind k t i e ∙ ap some (q .3)))) }
 
     pub switches : k ≡ 4 → Does k t xs n vs ms (Move n true) vs (set ms (getD t 0 0) (getD t 1 0))
     unfolding act

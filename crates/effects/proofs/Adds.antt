@@ -16,7 +16,7 @@ use mir.Val.{SFits, toZ, ofZ}
 use mir.ValLaws.{toZ-ofZ}
 use Rattle.semantics.specs.Expressions.{Value, ok, fault, above, below, ranged, thenValue}
 use Rattle.semantics.specs.Sections.{Variable}
-use Rattle.semantics.specs.Plant.{declared, allDeclared, added, advance}
+use Rattle.semantics.specs.Plant.{declared, declaredAt, allDeclared, added, advance}
 use Rattle.semantics.specs.Run.{valued}
 use Rattle.semantics.proofs.Facts.{true-not-false}
 use Rattle.effects.specs.Verdicts.{doneVerdict, stepVerdict, goesOn, orElse, Gives}
@@ -56,6 +56,19 @@ added-at f k (v ∷ vs) (suc i) h =
 
 pub sums-at : (rs vs : List ℤ) (i : ℕ) → i < length vs → getD (added (rateIn rs) 0 vs) i (pos 0) ≡ getD vs i (pos 0) +ℤ getD rs i (pos 0)
 sums-at rs vs i h = let e : 0 + i ≡ i = omega arith in added-at (rateIn rs) 0 vs i h ∙ ap (λ (n : ℕ). getD vs i (pos 0) +ℤ rateIn rs n) e
+
+-- ---- a variable by its range
+pub declared-at : (ls hs : List ℤ) (v : ℕ) (z : ℤ) → length ls ≡ length hs → v < length ls → declaredAt (rangesOf ls hs) v z ≡ ranged (getD ls v (pos 0)) (getD hs v (pos 0)) z
+unfolding declaredAt rangesOf declared
+declared-at [] hs v z e h = absurd (omega arith)
+declared-at (l ∷ ls) [] v z e h = absurd (omega arith)
+declared-at (l ∷ ls) (k ∷ hs) zero z e h = refl
+declared-at (l ∷ ls) (k ∷ hs) (suc v) z e h = declared-at ls hs v z (omega arith) (omega arith)
+
+-- variable v with its rate added, by its numbers
+pub sum-told : (ls hs rs vs : List ℤ) (v : ℕ) → Sized ls hs rs vs → v < length vs → sumTold ls hs rs vs v ≡ stepVerdict (valued (ranged (getD ls v (pos 0)) (getD hs v (pos 0)) (getD vs v (pos 0) +ℤ getD rs v (pos 0))))
+sum-told ls hs rs vs v z h =
+    ap (λ x. stepVerdict (valued x)) (ap (declaredAt (rangesOf ls hs) v) (sums-at rs vs v h) ∙ declared-at ls hs v (getD vs v (pos 0) +ℤ getD rs v (pos 0)) (z .lows ∙ sym (z .highs)) (omega (arith, z .lows)))
 
 -- ---- what passes is what it was
 abbrev pub Passes : {A : Type 0} → Value A → Type 0
@@ -128,13 +141,13 @@ module _ (ls hs rs vs : List ℤ) (i : ℕ) (z : Sized ls hs rs vs) where
       let b = z .highs in
       rw (drop-cons ls i (pos 0) (omega arith), drop-cons hs i (pos 0) (omega arith), drop-cons vs i (pos 0) h, add-one i) refl
 
-  out : i < length vs → (r : Verdict) → r ≡ stepVerdict (valued (ranged (getD ls i (pos 0)) (getD hs i (pos 0)) s)) → goesOn r ≡ false → r ≡ stepVerdict (valued (from ls hs rs vs i))
+  out : i < length vs → (r : Verdict) → r ≡ sumTold ls hs rs vs i → goesOn r ≡ false → r ≡ stepVerdict (valued (from ls hs rs vs i))
   unfolding declared
-  out h r e f = e ∙ sym (ap (λ v. stepVerdict (valued v)) (step h) ∙ first-out x (later (i + 1)) s (added (rateIn rs) (i + 1) (drop (i + 1) vs)) (ap goesOn (sym e) ∙ f))
+  out h r e f = e ∙ sum-told ls hs rs vs i z h ∙ sym (ap (λ v. stepVerdict (valued v)) (step h) ∙ first-out x (later (i + 1)) s (added (rateIn rs) (i + 1) (drop (i + 1) vs)) (ap goesOn (sym (e ∙ sum-told ls hs rs vs i z h)) ∙ f))
 
-  on : i < length vs → (r : Verdict) → r ≡ stepVerdict (valued (ranged (getD ls i (pos 0)) (getD hs i (pos 0)) s)) → goesOn r ≡ true → stepVerdict (valued (from ls hs rs vs i)) ≡ stepVerdict (valued (from ls hs rs vs (i + 1)))
+  on : i < length vs → (r : Verdict) → r ≡ sumTold ls hs rs vs i → goesOn r ≡ true → stepVerdict (valued (from ls hs rs vs i)) ≡ stepVerdict (valued (from ls hs rs vs (i + 1)))
   unfolding declared
-  on h r e f = ap (λ v. stepVerdict (valued v)) (step h) ∙ first-in x (later (i + 1)) s (added (rateIn rs) (i + 1) (drop (i + 1) vs)) (ap goesOn (sym e) ∙ f)
+  on h r e f = ap (λ v. stepVerdict (valued v)) (step h) ∙ first-in x (later (i + 1)) s (added (rateIn rs) (i + 1) (drop (i + 1) vs)) (ap goesOn (sym (e ∙ sum-told ls hs rs vs i z h)) ∙ f)
 
   end : length vs ≤ i → Stay ≡ stepVerdict (valued (from ls hs rs vs i))
   unfolding allDeclared rangesOf valued doneVerdict

@@ -3,11 +3,10 @@ use mathlib.Core.Path.{_≡_}
 use mathlib.Core.Bool.{Bool, true, false}
 use mathlib.Core.List.{List, [], _∷_, _++_}
 use Prim.Native.Nat.{ℕ, _≤_, _<_}
-use lib.IntN.{ℤ, pos, _+ℤ_}
+use lib.IntN.{ℤ, pos}
 use lib.ListN.{length, getD, take, drop}
-use Rattle.semantics.specs.Expressions.{ranged}
 use Rattle.semantics.specs.Sections.{Variable}
-use Rattle.semantics.specs.Plant.{added}
+use Rattle.semantics.specs.Plant.{declaredAt, added}
 use Rattle.semantics.specs.Run.{valued}
 use Rattle.effects.specs.Verdicts.{stepVerdict, goesOn}
 use Rattle.effects.specs.declared.Verdict.{Verdict}
@@ -39,7 +38,7 @@ firstSums rs vs k = take k (added (rateIn rs) 0 vs) ++ drop k vs
 
 -- variable v with its rate added: Stay, or the side on which it leaves its range
 abbrev pub sumTold : List ℤ → List ℤ → List ℤ → List ℤ → ℕ → Verdict
-sumTold ls hs rs vs v = stepVerdict (valued (ranged (getD ls v (pos 0)) (getD hs v (pos 0)) (getD vs v (pos 0) +ℤ getD rs v (pos 0))))
+sumTold ls hs rs vs v = stepVerdict (valued (declaredAt (rangesOf ls hs) v (getD (added (rateIn rs) 0 vs) v (pos 0))))
 
 -- the same for any number v: Stay where there is no such variable
 pub record Side (ls hs rs vs : List ℤ) (v : ℕ) (r : Verdict) : Type 0 where

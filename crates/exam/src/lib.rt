@@ -2,9 +2,8 @@
 use records::Counts;
 use records::Ran;
 ghost use mathlib.Core.Path.{_≡_};
-ghost use mathlib.Core.Bool.{_&&_};
 ghost use mathlib.Core.List.{List};
-ghost use Prim.Native.Nat.{ℕ, _*_};
+ghost use Prim.Native.Nat.{ℕ, _≤_};
 ghost use lib.ListN.{length};
 ghost use Rattle.semantics.specs.Editions.{edition1};
 ghost use Rattle.semantics.specs.Refusals.{refusalOf, accepted};
@@ -12,7 +11,7 @@ ghost use Rattle.semantics.specs.Calls.{recordsSize};
 ghost use Rattle.schedules.specs.Files.{Schedule, judgeFile};
 ghost use Rattle.records.specs.Reported.{told, ranWith};
 ghost use Rattle.schedules.specs.Exam as Exam;
-ghost use Rattle.schedules.specs.Exam.{judgeExam, sameBytes, sameCounts, sameNumbers, refusedExam, examOf};
+ghost use Rattle.schedules.specs.Exam.{judgeExam, sameCounts, refusedExam, examOf};
 ghost use Rattle.exam.specs.Examining.{examinedWith, Room};
 
 // 0, or the first number that applies; the other numbers are 0 then
@@ -85,7 +84,8 @@ fn same_counts(a: Counts, b: Counts) -> bool
 
 // whether two runs, whose records are a and b, say the same
 fn agreed(r: Ran, t: Ran, a: &[u8], b: &[u8]) -> bool
-    ensures { λ q. ⌜ q ≡ (sameNumbers (ranWith r (now (a .entry))) (ranWith t (now (b .entry))) && sameBytes (now (a .entry)) (now (b .entry))) ⌝ }
+    ensures { λ q. ⌜ ((n : ℕ) → length (now (a .entry)) ≤ n → length (now (b .entry)) ≤ n
+        → q ≡ Exam.agreed n (ranWith r (now (a .entry))) (ranWith t (now (b .entry)))) ⌝ }
 {
     if r.refusal != t.refusal {
         return false;

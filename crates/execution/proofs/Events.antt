@@ -11,7 +11,7 @@ use Rattle.semantics.specs.Expressions.{Value, ok, fault, above, below, thenVal
 use Rattle.semantics.specs.Plant.{Plant, selectors, stored, rateOf, advance}
 use Rattle.semantics.specs.Events as Events
 use Rattle.semantics.specs.Run as Run
-use Rattle.semantics.specs.Run.{Action, test, wait, assign, switch, stop, away, faulty, pass, _>>=_, _>>_, allow, valued, nobody, mover, Done, isWait, waitTruth, walk, checkModes, assigned, act, judgeSwitch, switchCheck, judgeTick, judgePick, judge}
+use Rattle.semantics.specs.Run.{Action, test, wait, assign, switch, stop, away, faulty, pass, _>>=_, _>>_, allow, valued, nobody, mover, Done, isWait, waitTruth, checkWaits, checkModes, assigned, act, judgeSwitch, switchCheck, judgeTick, judgePick, judge}
 use Rattle.semantics.proofs.Facts.{true-not-false}
 use Rattle.nodeset.specs.Sets.{mem, members}
 use Rattle.nodeset.proofs.Members.{among-members}
@@ -23,9 +23,9 @@ use Rattle.effects.specs.declared.Verdict.the-variants.{Away, Stay}
 use Rattle.effects.proofs.PaperNumbers.{left-away, left-above, left-below, left-stay}
 use Rattle.effects.proofs.Steps.{then-on}
 use Rattle.modes.specs.Modes.{modesFrom, InForce, Switched}
-use Rattle.execution.specs.Operands.{isWaitKind}
+use Rattle.execution.specs.Operands.{KindsOf}
 use Rattle.execution.specs.Ready.{Lent, PlantLent, Ready, operandAt}
-use Rattle.execution.proofs.Formed.{wait-kind, wait-operand, variable-known, selector-known, every-member, map-member}
+use Rattle.execution.proofs.Formed.{wait-operand, variable-known, selector-known, map-member}
 use Rattle.execution.proofs.Lending.{modes-current, declared-same, advance-is}
 
 -- ---- what is left
@@ -78,28 +78,28 @@ module _ (p : Plant) (f : ℕ → Action) (l : Lent) (ws : List ℕ) (vs : List 
   check-is = ap (λ x. checkModes edition1 x vs) (sym (modes-current p l (q .plant) vs ms (q .fits)))
 
   -- ---- a tick
-  abbrev waiting : Bool
-  waiting = every (isWaitKind (l .kinds)) (members ws)
+  pub kinds-of : KindsOf f (l .kinds) ws
+  kinds-of = record { each = λ n e. (operandAt l n, q .nodes n e .is) }
 
-  waiting-is : every (λ n. isWait (f n)) (members ws) ≡ waiting
-  waiting-is = every-member ws (λ n. isWait (f n)) (isWaitKind (l .kinds)) (λ n e. wait-kind (getD (l .kinds) n 0) (operandAt l n) (q .nodes n e .is))
+  abbrev waiting : Bool
+  waiting = every (λ n. isWait (f n)) (members ws)
 
   abbrev walked : Run.Verdict (Unit {0})
-  walked = walk edition1 31 vs (map (operandAt l) (members ws))
+  walked = checkWaits edition1 vs (map (operandAt l) (members ws))
 
   truths-are : waiting ≡ true → map (λ n. waitTruth (f n)) (members ws) ≡ map (operandAt l) (members ws)
-  truths-are h = map-member ws (isWaitKind (l .kinds)) (λ n. waitTruth (f n)) (operandAt l) (λ n e k. wait-operand (getD (l .kinds) n 0) (operandAt l n) (q .nodes n e .is) k) h
+  truths-are h = map-member ws (λ n. isWait (f n)) (λ n. waitTruth (f n)) (operandAt l) (λ n e k. wait-operand (getD (l .kinds) n 0) (operandAt l n) (q .nodes n e .is) k) h
 
   abbrev tick : Run.Verdict Done
   tick = judge edition1 p f (members ws) vs ms Events.tick
 
   pub tick-27 : waiting ≡ false → Left tick vs ms (Away 27) vs ms
   unfolding judge judgeTick allow _>>_
-  tick-27 e = left-away refl (rw (waiting-is, e) refl)
+  tick-27 e = left-away refl (rw e refl)
 
   tick-is : waiting ≡ true → tick ≡ (check >> (walked >> ticked vs ms (advance (p .variables) (rateOf p ms) vs)))
   unfolding judge judgeTick allow _>>_
-  tick-is e = rw (waiting-is, e) (ap₂ (λ a b. a >> (walk edition1 31 vs b >> ticked vs ms (advance (p .variables) (rateOf p ms) vs))) check-is (truths-are e))
+  tick-is e = rw e (ap₂ (λ a b. a >> (checkWaits edition1 vs b >> ticked vs ms (advance (p .variables) (rateOf p ms) vs))) check-is (truths-are e))
 
   module _ (h : waiting ≡ true) (r : Verdict) (e : r ≡ stepVerdict check) where
     pub tick-28 : goesOn r ≡ false → Left tick vs ms r vs ms

@@ -33,9 +33,9 @@ module _ (k : ℕ) (t : List ℕ) {a : Action} (h : actionOfKind (actionKind k) 
   unfolding isWait
   wait-kind = by-cases (eqb k 2) (λ e. rw (is-wait k t h (eqb-true k 2 e), e) refl) (λ e. no-wait (eqb-false k 2 e) ∙ sym e)
 
-  pub wait-operand : eqb k 2 ≡ true → waitTruth a ≡ t
+  pub wait-operand : isWait a ≡ true → waitTruth a ≡ t
   unfolding waitTruth
-  wait-operand e = rw (is-wait k t h (eqb-true k 2 e)) refl
+  wait-operand e = rw (is-wait k t h (eqb-true k 2 (sym wait-kind ∙ e))) refl
 
 -- ---- what it names exists
 selector-below : (cs : List Selector) (s m : ℕ) → modeExists cs s m ≡ true → s < length cs

@@ -8,7 +8,7 @@ use lib.IntN.{ℤ}
 use lib.ListN.{length, getD, getElem?}
 use Rattle.semantics.specs.Bytes.{every}
 use Rattle.semantics.specs.Editions.{edition1}
-use Rattle.semantics.specs.Sections.{Variable, Selector}
+use Rattle.semantics.specs.Sections.{Variable, Selector, variableLimit, modeLimit}
 use Rattle.semantics.specs.Plant.{Plant, equationNamed, drivenOnce, selectors, noMode, ratesOf}
 use Rattle.semantics.specs.Starts.{modesFit}
 use Rattle.semantics.specs.Events.{Event}
@@ -23,7 +23,7 @@ use Rattle.effects.specs.Verdicts.{Left}
 use Rattle.effects.specs.declared.Verdict.{Verdict}
 
 pub record Lent : Type 0 where
-  -- the equation section, and the place of mode m of selector j at 8 * j + m
+  -- the equation section, and the place of mode m of selector j at modeLimit * j + m
   pub equations : List ℕ
   pub places : List ℕ
   -- of each variable its rate of kind 1, and its range
@@ -52,14 +52,14 @@ lent es places rates lows highs ops kinds starts ends = record {
 -- ---- the plant
 -- mode m of selector j stands at its place
 pub record ModeLent (l : Lent) (j : ℕ) (c : Selector) (m : ℕ) : Type 0 where
-  pub row : 8 * j + m < length (l .places)
-  pub stands : Stands (l .equations) (getD (l .places) (8 * j + m) 0) (getD (c .modes) m noMode)
+  pub row : modeLimit * j + m < length (l .places)
+  pub stands : Stands (l .equations) (getD (l .places) (modeLimit * j + m) 0) (getD (c .modes) m noMode)
 
 pub record PlantLent (p : Plant) (l : Lent) : Type 0 where
   pub lows : l .lows ≡ map (λ (x : Variable). x .minimum) (p .variables)
   pub highs : l .highs ≡ map (λ (x : Variable). x .maximum) (p .variables)
-  pub few : length (p .variables) ≤ 32
-  pub long : length (l .steady) ≡ 32
+  pub few : length (p .variables) ≤ variableLimit
+  pub long : length (l .steady) ≡ variableLimit
   pub steady : RatesIn (l .steady) (ratesOf (p .equations) [])
   pub modes : (j : ℕ) (c : Selector) → getElem? (selectors p) j ≡ some c → (m : ℕ) → m < length (c .modes) → ModeLent l j c m
   -- conditions 7 and 8

@@ -3,26 +3,24 @@ use effects::Verdict;
 use nodeset::NodeSet;
 ghost use mathlib.Core.Path.{_≡_};
 ghost use mathlib.Core.Bool.{true};
-ghost use mathlib.Core.List.{map};
+ghost use mathlib.Core.List.{[], _∷_, map};
 ghost use Prim.Native.Nat.{ℕ, _<_};
 ghost use lib.ListN.{length};
 ghost use Rattle.semantics.specs.Editions.{edition1};
 ghost use Rattle.semantics.specs.Bytes.{every};
 ghost use Rattle.semantics.specs.Events.{tick as ticked, pick as picked};
-ghost use Rattle.semantics.specs.Expressions.{truthValue};
-ghost use Rattle.semantics.specs.Run.{walk};
+ghost use Rattle.semantics.specs.Run.{Action, isWait, checkWaits};
 ghost use Rattle.nodeset.specs.Sets.{mem, members};
-ghost use Rattle.effects.specs.Verdicts.{stepVerdict, truthVerdict};
-ghost use Rattle.effects.specs.declared.Verdict.the-variants.{Away, Stay};
+ghost use Rattle.effects.specs.Verdicts.{stepVerdict};
 ghost use Rattle.codec.specs.Parts.{partAt};
-ghost use Rattle.execution.specs.Operands.{Cut, isWaitKind};
+ghost use Rattle.execution.specs.Operands.{Cut, KindsOf};
 ghost use Rattle.execution.specs.Ready.{Promised, Judges, lent};
 ghost use Rattle.execution.specs.Sense.{Sense, eventOf};
 
 // Are all acting nodes waits?
 fn all_wait(kinds: &[u8], acting: NodeSet) -> bool
     requires { ⌜ ((n : ℕ) → mem (acting .words) n ≡ true → (n < 64) × (n < length (now kinds))) ⌝ }
-    ensures { λ b. ⌜ b ≡ every (isWaitKind (now (kinds .entry))) (members (acting .words)) ⌝ }
+    ensures { λ b. ⌜ ((f : ℕ → Action) → KindsOf f (now (kinds .entry)) (acting .words) → b ≡ every (λ n. isWait (f n)) (members (acting .words))) ⌝ }
 {
     let mut n = nodeset::next(acting, 0);
     while n < paper::NODES {
@@ -37,7 +35,7 @@ fn all_wait(kinds: &[u8], acting: NodeSet) -> bool
 // The truth of the wait n.
 fn still(ops: &[u8], starts: &[usize], ends: &[usize], values: &[i32], n: usize) -> Verdict
     requires { ⌜ Cut (now ops) (now starts) (now ends) n ⌝ }
-    ensures { λ r. ⌜ r ≡ truthVerdict (Away 31) Stay (truthValue edition1 (now (values .entry)) (partAt (now (ops .entry)) (now (starts .entry)) (now (ends .entry)) n)) ⌝ }
+    ensures { λ r. ⌜ r ≡ stepVerdict (checkWaits edition1 (now (values .entry)) (partAt (now (ops .entry)) (now (starts .entry)) (now (ends .entry)) n ∷ [])) ⌝ }
 {
     let b = starts[n];
     let e = ends[n];
@@ -53,7 +51,7 @@ fn all_still(
     values: &[i32],
 ) -> Verdict
     requires { ⌜ ((n : ℕ) → mem (acting .words) n ≡ true → (n < 64) × Cut (now ops) (now starts) (now ends) n) ⌝ }
-    ensures { λ r. ⌜ r ≡ stepVerdict (walk edition1 31 (now (values .entry)) (map (partAt (now (ops .entry)) (now (starts .entry)) (now (ends .entry))) (members (acting .words)))) ⌝ }
+    ensures { λ r. ⌜ r ≡ stepVerdict (checkWaits edition1 (now (values .entry)) (map (partAt (now (ops .entry)) (now (starts .entry)) (now (ends .entry))) (members (acting .words)))) ⌝ }
 {
     let mut n = nodeset::next(acting, 0);
     while n < paper::NODES {

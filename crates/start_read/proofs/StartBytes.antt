@@ -15,7 +15,7 @@ use mir.Syntax.{w32}
 use mir.Val.{SFits, toZ, ofZ}
 use mir.ValLaws.{toZ-ofZ}
 use Rattle.semantics.specs.Bytes as Bytes
-use Rattle.semantics.specs.Bytes.{read, andThen, give, byte, int4, times, just, whole}
+use Rattle.semantics.specs.Bytes.{be4, signed, read, andThen, give, byte, int4, times, just, whole}
 use Rattle.semantics.specs.Refusals.{accepted, need, ensure, _>>=_, _>>_}
 use Rattle.semantics.specs.Expressions.{Value, ok, fault, ranged, thenValue}
 use Rattle.semantics.specs.Sections.{Variable, Selector}
@@ -31,9 +31,18 @@ use Rattle.start_read.specs.declared.Values.{Values}
 use Rattle.start_read.specs.declared.Modes.{Modes}
 use Rattle.start_read.specs.declared.admission.Admitted.{Admitted}
 use Rattle.plant.specs.ModeCounts.{ModesAt}
-use Rattle.start_read.specs.StartRead.{Ranges, Arrays, entries, valueAt, modeAt, ValuesOf, ModesOf}
+use Rattle.start_read.specs.StartRead.{Ranges, Arrays, ValuesOf, ModesOf}
 use Rattle.start_read.specs.Admission.{notAdmitted, admitted}
+use Rattle.start_read.proofs.StartLoop.{entries}
 use Rattle.plant.proofs.Costs.{costs-give, costs-byte, costs-then, costs-int4, costs-times}
+
+-- ---- a value and a mode at their places
+-- value k, in the four bytes from 4 * k on
+abbrev pub valueAt : List ℕ → ℕ → ℤ
+valueAt s k = signed (be4 (getD s (4 * k) 0) (getD s (4 * k + 1) 0) (getD s (4 * k + 2) 0) (getD s (4 * k + 3) 0))
+
+abbrev pub modeAt : List ℕ → ℕ → ℕ
+modeAt s k = getD s k 0
 
 -- ---- a value against its range, a mode against its count
 -- a number that is read back from its bits
@@ -110,6 +119,13 @@ modes-read s (suc n) k h =
     let m : times n byte (drop (k + 1) s) ≡ read (entries (modeAt s) (suc k) n) (drop (k + suc n) s) = ap (λ q. times n byte (drop q s)) e ∙ modes-read s n (suc k) (omega arith) ∙ ap (λ q. read (entries (modeAt s) (suc k) n) (drop q s)) g in
     rw (drop-some k s (omega arith), m) refl
 
+-- what the reader gave
+pub values-told : (s : List ℕ) (n : ℕ) → 4 * n ≤ length s → {vs : List ℤ} {rest : List ℕ} → times n int4 s ≡ read vs rest → vs ≡ entries (valueAt s) 0 n
+values-told s n h e = let same = sym e ∙ values-read s n 0 (omega arith) in cc
+
+pub modes-told : (s : List ℕ) (n : ℕ) → n ≤ length s → {ms rest : List ℕ} → times n byte s ≡ read ms rest → ms ≡ entries (modeAt s) 0 n
+modes-told s n h e = let same = sym e ∙ modes-read s n 0 (omega arith) in cc
+
 start-from : (p : Plant) (s : List ℕ) {vs : List ℤ} {ms l : List ℕ} → times (length (p .variables)) int4 s ≡ read vs l → times (length (selectors p)) byte l ≡ read ms [] → startIn p s ≡ some (record { values = vs; modes = ms })
 unfolding startIn readStart whole just Bytes._>>=_ andThen give
 start-from p s a b = rw (a, b) refl
@@ -151,17 +167,20 @@ module _ (p : Plant) (s : List ℕ) {x : PlantRead} (a : Arrays p x) where
     abbrev started : Start
     started = record { values = entries (valueAt s) 0 n; modes = entries (modeAt rest) 0 (x .selectors) }
 
-    there : startIn p s ≡ some started
-    there =
-        let z : 4 * (0 + n) ≡ 4 * n = omega arith in
-        let v : times n int4 s ≡ read (started .values) rest = values-read s n 0 (omega arith) ∙ ap (λ q. read (started .values) (drop q s)) z in
+    values-there : times n int4 s ≡ read (started .values) rest
+    values-there = let z : 4 * (0 + n) ≡ 4 * n = omega arith in values-read s n 0 (omega arith) ∙ ap (λ q. read (started .values) (drop q s)) z
+
+    modes-there : times (x .selectors) byte rest ≡ read (started .modes) []
+    modes-there =
         let l = length-drop (4 * n) s in
-        let k : times (x .selectors) byte rest ≡ read (started .modes) [] = modes-read rest (x .selectors) 0 (omega arith) ∙ ap (read (started .modes)) (drop-past (0 + x .selectors) rest (omega arith)) in
-        start-from p s (ap (λ q. times q int4 s) (sym (a .ranges .count)) ∙ v) (ap (λ q. times q byte rest) (a .counts .counted) ∙ k)
+        modes-read rest (x .selectors) 0 (omega arith) ∙ ap (read (started .modes)) (drop-past (0 + x .selectors) rest (omega arith))
+
+    there : startIn p s ≡ some started
+    there = start-from p s (ap (λ q. times q int4 s) (sym (a .ranges .count)) ∙ values-there) (ap (λ q. times q byte rest) (a .counts .counted) ∙ modes-there)
 
     pub values-unfit : {r : Values} → ValuesOf s n (x .lows) (x .highs) r → r .ok ≡ false → notAdmitted 20 ≡ admitted (judgeStart p s)
     unfolding startFits
-    values-unfit v e = not-fit p s there (rw (v .fit (p .variables) (a .ranges) ∙ e) refl)
+    values-unfit v e = not-fit p s there (rw (v .fit values-there (p .variables) (a .ranges) ∙ e) refl)
 
     module _ {r : Values} {t : Modes} (v : ValuesOf s n (x .lows) (x .highs) r) (m : ModesOf (take (length s - 4 * n) rest) (x .selectors) (x .modes) t) where
       -- all bytes from that place on
@@ -169,7 +188,7 @@ module _ (p : Plant) (s : List ℕ) {x : PlantRead} (a : Arrays p x) where
       modes-are = subst (λ l. ModesOf l (x .selectors) (x .modes) t) (take-all (length s - 4 * n) rest (omega (arith, length-drop (4 * n) s))) m
 
       modes-fit : modesFit (selectors p) (started .modes) ≡ t .ok
-      modes-fit = modes-are .fit (selectors p) (a .counts)
+      modes-fit = modes-are .fit modes-there (selectors p) (a .counts)
 
       pub modes-unfit : t .ok ≡ false → notAdmitted 20 ≡ admitted (judgeStart p s)
       unfolding startFits
@@ -178,8 +197,8 @@ module _ (p : Plant) (s : List ℕ) {x : PlantRead} (a : Arrays p x) where
       pub all-fit : r .ok ≡ true → t .ok ≡ true → record { refusal = 0; values = r .values; modes = t .modes } ≡ admitted (judgeStart p s)
       unfolding startFits admitted
       all-fit e i =
-          let k = start-judged p s (record { is-read = there; fits = and-both (v .fit (p .variables) (a .ranges) ∙ e) (modes-fit ∙ i) }) in
-          let y = v .are e in
-          let z = modes-are .are i in
+          let k = start-judged p s (record { is-read = there; fits = and-both (v .fit values-there (p .variables) (a .ranges) ∙ e) (modes-fit ∙ i) }) in
+          let y = v .are values-there e in
+          let z = modes-are .are modes-there i in
           let q : _≡_ {A = Admitted} (record { refusal = 0; values = r .values; modes = t .modes }) (admitted (accepted started)) = λ j. record { refusal = 0; values = y j; modes = z j } in
           q ∙ ap admitted (sym k)

@@ -11,9 +11,13 @@ use lib.ListN.{length, set, drop, getElem?, drop-of-length-le}
 use Rattle.semantics.proofs.Facts.{none-not-some, some-is, at-exists}
 use Rattle.codec.specs.Padding.{pad}
 use Rattle.codec.proofs.Padding.{set-pad}
-use Rattle.start_read.specs.StartRead.{entries}
 
 -- ---- entries
+-- f i and the n - 1 after it
+unfoldable pub entries : {A : Type 0} → (ℕ → A) → ℕ → ℕ → List A
+entries f i zero = []
+entries f i (suc n) = f i ∷ entries f (suc i) n
+
 pub entries-length : {A : Type 0} (f : ℕ → A) (i n : ℕ) → length (entries f i n) ≡ n
 unfolding entries
 entries-length f i zero = refl

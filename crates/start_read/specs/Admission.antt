@@ -3,14 +3,15 @@ use mathlib.Core.List.{[]}
 use Prim.Native.Nat.{ℕ}
 use lib.IntN.{pos}
 use Rattle.semantics.specs.Refusals.{Judged, refused, accepted}
+use Rattle.semantics.specs.Sections.{variableLimit, equationLimit}
 use Rattle.semantics.specs.Starts.{Start}
 use Rattle.codec.specs.Padding.{pad}
 use Rattle.start_read.specs.declared.admission.Admitted.{Admitted}
 
 -- a refusal
 unfoldable pub notAdmitted : ℕ → Admitted
-notAdmitted n = record { refusal = n; values = pad 32 (pos 0) []; modes = pad 16 0 [] }
+notAdmitted n = record { refusal = n; values = pad variableLimit (pos 0) []; modes = pad equationLimit 0 [] }
 
 unfoldable pub admitted : Judged Start → Admitted
 admitted (refused n) = notAdmitted n
-admitted (accepted st) = record { refusal = 0; values = pad 32 (pos 0) (st .values); modes = pad 16 0 (st .modes) }
+admitted (accepted st) = record { refusal = 0; values = pad variableLimit (pos 0) (st .values); modes = pad equationLimit 0 (st .modes) }

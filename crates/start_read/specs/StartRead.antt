@@ -1,13 +1,13 @@
 -- Condition 20: what the code that reads a start's bytes asks and answers.
 use mathlib.Core.Path.{_≡_}
 use mathlib.Core.Bool.{true}
-use mathlib.Core.List.{List, [], _∷_}
+use mathlib.Core.List.{List}
 use mathlib.Core.Option.{some}
-use Prim.Native.Nat.{ℕ, zero, suc, _+_, _*_, _≤_}
+use Prim.Native.Nat.{ℕ, _*_, _≤_}
 use lib.ListN.{length, getD, getElem?}
 use lib.IntN.{ℤ, pos}
-use Rattle.semantics.specs.Bytes.{be4, signed}
-use Rattle.semantics.specs.Sections.{Variable, Selector}
+use Rattle.semantics.specs.Bytes.{read, byte, int4, times}
+use Rattle.semantics.specs.Sections.{Variable, Selector, variableLimit, equationLimit}
 use Rattle.semantics.specs.Plant.{Plant, selectors}
 use Rattle.semantics.specs.Starts.{valuesFit, modesFit}
 use Rattle.codec.specs.Padding.{pad}
@@ -30,40 +30,30 @@ pub record Arrays (p : Plant) (x : PlantRead) : Type 0 where
 
 -- an entry for each of them
 pub record Room (x : PlantRead) : Type 0 where
-  pub variables-most : x .variables ≤ 32
+  pub variables-most : x .variables ≤ variableLimit
   pub lows-there : x .variables ≤ length (x .lows)
   pub highs-there : x .variables ≤ length (x .highs)
-  pub cases-most : x .selectors ≤ 16
+  pub cases-most : x .selectors ≤ equationLimit
   pub counts-there : x .selectors ≤ length (x .modes)
 
 -- ---- for the parts of the code
--- f i and the n - 1 after it
-unfoldable pub entries : {A : Type 0} → (ℕ → A) → ℕ → ℕ → List A
-entries f i zero = []
-entries f i (suc n) = f i ∷ entries f (suc i) n
-
--- value k, in the four bytes from 4 * k on
-abbrev pub valueAt : List ℕ → ℕ → ℤ
-valueAt s k = signed (be4 (getD s (4 * k) 0) (getD s (4 * k + 1) 0) (getD s (4 * k + 2) 0) (getD s (4 * k + 3) 0))
-
-abbrev pub modeAt : List ℕ → ℕ → ℕ
-modeAt s k = getD s k 0
-
 pub record RoomForValues (s : List ℕ) (n : ℕ) (lows highs : List ℤ) : Type 0 where
-  pub most : n ≤ 32
+  pub most : n ≤ variableLimit
   pub bytes-there : 4 * n ≤ length s
   pub lows-there : n ≤ length lows
   pub highs-there : n ≤ length highs
 
+-- the values that `readStart` reads: whether they fit, and the array where they do
 pub record ValuesOf (s : List ℕ) (n : ℕ) (lows highs : List ℤ) (r : Values) : Type 0 where
-  pub fit : (xs : List Variable) → Ranges xs n lows highs → valuesFit xs (entries (valueAt s) 0 n) ≡ r .ok
-  pub are : r .ok ≡ true → r .values ≡ pad 32 (pos 0) (entries (valueAt s) 0 n)
+  pub fit : {vs : List ℤ} {rest : List ℕ} → times n int4 s ≡ read vs rest → (xs : List Variable) → Ranges xs n lows highs → valuesFit xs vs ≡ r .ok
+  pub are : {vs : List ℤ} {rest : List ℕ} → times n int4 s ≡ read vs rest → r .ok ≡ true → r .values ≡ pad variableLimit (pos 0) vs
 
 pub record RoomForModes (s : List ℕ) (n : ℕ) (counts : List ℕ) : Type 0 where
-  pub most : n ≤ 16
+  pub most : n ≤ equationLimit
   pub bytes-there : n ≤ length s
   pub counts-there : n ≤ length counts
 
+-- the modes that it reads after them, likewise
 pub record ModesOf (s : List ℕ) (n : ℕ) (counts : List ℕ) (r : Modes) : Type 0 where
-  pub fit : (cs : List Selector) → ModesAt counts n cs → modesFit cs (entries (modeAt s) 0 n) ≡ r .ok
-  pub are : r .ok ≡ true → r .modes ≡ pad 16 0 (entries (modeAt s) 0 n)
+  pub fit : {ms rest : List ℕ} → times n byte s ≡ read ms rest → (cs : List Selector) → ModesAt counts n cs → modesFit cs ms ≡ r .ok
+  pub are : {ms rest : List ℕ} → times n byte s ≡ read ms rest → r .ok ≡ true → r .modes ≡ pad equationLimit 0 ms

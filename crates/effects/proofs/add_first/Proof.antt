@@ -9,7 +9,7 @@ use Rattle.semantics.specs.Plant.{added}
 use Rattle.semantics.specs.Run.{valued}
 use Rattle.effects.specs.Verdicts.{stepVerdict, goesOn}
 use Rattle.effects.specs.Ranges.{rateIn, firstSums}
-use Rattle.effects.proofs.Adds.{fill-here, fill-more, length-sums, sums-at, Held, held, held-sum, held-ranged}
+use Rattle.effects.proofs.Adds.{fill-here, fill-more, length-sums, sums-at, sum-told, Held, held, held-sum, held-ranged}
 use native.Mathlib.Omega.{arith}
 use Rattle.effects.proofs.add_first.Statement.{statement}
 use Rattle.effects.proofs.add_first.Tie as tie
@@ -62,8 +62,9 @@ sum-requires c κs = let k = c .before .before .before .before in
     let i = l .loop .v in
     let lo = getD (b .lows .now) i (pos 0) in
     let hi = getD (b .highs .now) i (pos 0) in
+    let h : i < length (b .values .now) = omega arith in
     let e = held-ranged lo hi (getD (l .loop .values) i (pos 0)) (getD (b .rates .now) i (pos 0)) (c .before .before .before .sum-arg .given) (c .before .before .sum-arg2 .given) (c .before .sum-arg3 .given) (c .sum-arg4 .given) in
-    ap (λ x. goesOn (stepVerdict (valued x))) (e ∙ ap (λ (z : ℤ). ranged lo hi (z +ℤ getD (b .rates .now) i (pos 0))) (old k)) ∙ l .before .pre .1 .each i (omega arith)
+    ap (λ x. goesOn (stepVerdict (valued x))) (e ∙ ap (λ (z : ℤ). ranged lo hi (z +ℤ getD (b .rates .now) i (pos 0))) (old k)) ∙ ap goesOn (sym (sum-told _ _ _ _ i (l .before .pre .0) h)) ∙ l .before .pre .1 .each i (omega arith)
 
 mul-t21 : tie.Need-mul-t21 Inv-loop μ-loop
 mul-t21 c = omega arith

@@ -1,10 +1,13 @@
 -- The number of the operand is asked, then stored; a fault of it is the answer.
 use mathlib.Core.Path.{_≡_, ap, _∙_}
-use mathlib.Core.List.{List, _∷_}
+use mathlib.Core.List.{List}
+use mathlib.Core.Option.{some}
 use Prim.Native.Nat.{ℕ}
 use lib.ListN.{length}
 use Rattle.semantics.specs.Editions.{edition1}
 use Rattle.semantics.specs.Expressions.{numberIn}
+use Rattle.semantics.specs.Run.{assign}
+use Rattle.semantics.specs.TableFile.{an-assignment, actionOfKind}
 use Rattle.expression.specs.Answers.{numberAnswer}
 use Rattle.effects.proofs.Adds.{held}
 use Rattle.effects.proofs.Acts.{operand-is, stored-as, assigned-number, assigned-above, assigned-below, assigned-malformed}
@@ -49,16 +52,17 @@ same-length : tie.Need-same-length
 same-length c = search needs
 
 -- what was asked is the number of the operand
-asked : (c : tie.After-number-value) {v : ℕ} {e : List ℕ} → c .before .before .before .before .before .args .t .now ≡ v ∷ e
+asked : (c : tie.After-number-value) {v : ℕ} {e : List ℕ} → actionOfKind an-assignment (c .before .before .before .before .before .args .t .now) ≡ some (assign v e)
     → c .number-value .result ≡ numberAnswer (c .before .before .before .before .before .args .values .now) (numberIn edition1 (length (c .before .before .before .before .before .args .values .now)) e)
-asked c h = let vs = c .before .before .before .before .before .args .values .now in
-    c .number-value .ensures .is ∙ ap (λ l. numberAnswer vs (numberIn edition1 (length vs) l)) (operand-is h .1)
+asked c h = let a = c .before .before .before .before .before .args in
+    let vs = a .values .now in
+    c .number-value .ensures .is ∙ ap (λ l. numberAnswer vs (numberIn edition1 (length vs) l)) (operand-is (a .t .now) h .1)
 
 returns : tie.Need-returns
 returns c = let n = c .before .before .before .before .before .before in
     let F = c .before .before .before .before .z .given in
     let z = F .0 .0 in
-    record { gives = λ v e h. assigned-number _ _ _ _ _ e _ (asked n h) z _ _ (F .1) (stored-as _ _ _ _ (operand-is h .0) (held z (c .before .before .before .known-told .given .0 .1)) (c .before .store .ensures)) }
+    record { gives = λ v e h. assigned-number _ _ _ _ _ e _ (asked n h) z _ _ (F .1) (stored-as _ _ _ _ (operand-is (n .before .before .before .before .before .args .t .now) h .0) (held z (c .before .before .before .known-told .given .0 .1)) (c .before .store .ensures)) }
 
 same-length-2 : tie.Need-same-length-2
 same-length-2 c = search needs

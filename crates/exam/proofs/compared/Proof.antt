@@ -1,9 +1,9 @@
 -- Both fronts are as long as the records; what is said of them is `agreed`.
+use mathlib.Core.Path.{_∙_}
 use native.Mathlib.Omega.{arith}
 use borrow.Author.Needs.{needs}
-use Rattle.records.specs.Reported.{ranWith}
 use Rattle.records.proofs.Records.{room-for}
-use Rattle.schedules.specs.Exam.{agreed, sameNumbers}
+use Rattle.exam.proofs.Comparing.{front-most, front-agreed}
 use Rattle.exam.proofs.Sizes.{front-length}
 use Rattle.exam.proofs.compared.Statement.{statement}
 use Rattle.exam.proofs.compared.Tie as tie
@@ -21,8 +21,10 @@ agreed-requires : tie.Need-agreed-requires
 agreed-requires c κs = search needs
 
 returns : tie.Need-returns
-unfolding agreed sameNumbers ranWith
-returns c = λ s h. rw (c .before .before .before .records-length .ensures s h) at (c .agreed .ensures)
+returns c = λ s h.
+    let a = c .before .before .before .before .before .before .before .before .args in
+    let n = c .before .before .before .records-length .result in
+    rw (← c .before .before .before .records-length .ensures s h) (c .agreed .ensures n (front-most n (a .a .now)) (front-most n (a .b .now)) ∙ front-agreed n (a .r) (a .t) (a .a .now) (a .b .now))
 
 pub compared-spec : {M : Type 1} → statement M
 compared-spec = tie.close (tie.spec records-length-requires slice-aggregate-agreed slice-aggregate-agreed-2 agreed-requires returns)

@@ -6,7 +6,7 @@ use native.Mathlib.Omega.{arith}
 use borrow.Author.Tests.{not-true, not-false}
 use borrow.Author.Needs.{needs}
 use Rattle.semantics.specs.Editions.{edition1}
-use Rattle.semantics.specs.Run.{walk}
+use Rattle.semantics.specs.Run.{checkWaits}
 use Rattle.nodeset.specs.Sets.{members}
 use Rattle.nodeset.proofs.Firsts.{first-on}
 use Rattle.effects.specs.Verdicts.{stepVerdict}
@@ -16,7 +16,7 @@ use Rattle.execution.proofs.all_still.Statement.{statement}
 use Rattle.execution.proofs.all_still.Tie as tie
 
 abbrev Inv-loop : tie.InvT-loop
-Inv-loop ops starts ends acting values n₀ n = At (acting .words) n × (walk edition1 31 values (map (partAt ops starts ends) (members (acting .words))) ≡ stillFrom values (partAt ops starts ends) (acting .words) n)
+Inv-loop ops starts ends acting values n₀ n = At (acting .words) n × (checkWaits edition1 values (map (partAt ops starts ends) (members (acting .words))) ≡ stillFrom values (partAt ops starts ends) (acting .words) n)
 
 abbrev μ-loop : tie.MeasureT-loop
 μ-loop ops starts ends acting values n₀ n = 256 - n

@@ -33,7 +33,7 @@ returns : tie.Need-returns Inv-loop μ-loop
 returns c =
     let a = c .before .before .before .before .before .args in
     let l = c .before .before .before .before .loop in
-    modes-stop (a .s .now) (a .n) (a .counts .now) (l .i) (l .inv .1) (omega arith) (omega arith)
+    modes-stop (a .s .now) (a .n) (a .counts .now) (l .i) (l .inv .1) (omega arith) (omega arith) (omega arith)
 
 array-write-modes : tie.Need-array-write-modes Inv-loop μ-loop
 array-write-modes c = omega arith
@@ -54,7 +54,7 @@ returns-2 : tie.Need-returns-2 Inv-loop μ-loop
 returns-2 c =
     let a = c .before .before .args in
     let l = c .before .loop in
-    modes-end (a .s .now) (a .n) (a .counts .now) (l .i) (l .inv .1) (omega arith)
+    modes-end (a .s .now) (a .n) (a .counts .now) (l .i) (l .inv .1) (omega arith) (omega arith)
 
 pub read-modes-spec : {M : Type 1} → statement M
 read-modes-spec =

@@ -52,7 +52,7 @@ returns c =
     let z = c .before .before .before .before .int4 in
     let f : SFits w32 (z .result) = record { sfits = z .ok } in
     let t = inside-held (getD (a .lows .now) (l .i) (pos 0)) (getD (a .highs .now) (l .i) (pos 0)) (record { sfits = c .before .before .before .inside-arg .given }) (record { sfits = c .before .before .inside-arg2 .given }) f (z .ensures) (c .before .inside .ensures) in
-    values-stop (a .s .now) (a .n) (a .lows .now) (a .highs .now) (l .i) (l .inv .1) (omega arith) (t ∙ not-true _ (c .if1 .taken))
+    values-stop (a .s .now) (a .n) (a .lows .now) (a .highs .now) (l .i) (l .inv .1) (omega arith) (omega arith) (t ∙ not-true _ (c .if1 .taken))
 
 mul-values : tie.Need-mul-values Inv-loop μ-loop
 mul-values c = omega arith
@@ -79,7 +79,7 @@ returns-2 : tie.Need-returns-2 Inv-loop μ-loop
 returns-2 c =
     let a = c .before .before .before .args in
     let l = c .before .loop in
-    values-end (a .s .now) (a .n) (a .lows .now) (a .highs .now) (l .i) (l .inv .1) (omega arith)
+    values-end (a .s .now) (a .n) (a .lows .now) (a .highs .now) (l .i) (l .inv .1) (omega arith) (omega arith)
 
 pub read-values-spec : {M : Type 1} → statement M
 read-values-spec =
