@@ -34,9 +34,9 @@ use Rattle.schedule_read.specs.Actions.{ActionKinds}
 use Rattle.schedule_read.specs.Promised.{Slice}
 use Rattle.schedule_read.proofs.Promises.{index-refused}
 use Rattle.numbering.specs.Meeting.{testsIn}
-use Rattle.sizes.specs.Rows.{Measures, Exact}
+use Rattle.sizes.specs.Rows.{Measures}
 use Rattle.sizes.specs.declared.Measured.{Measured as Sizes}
-use Rattle.sizes.proofs.Nodes.{laid-weighed}
+use Rattle.sizes.proofs.Nodes.{laid-weighed, Exact, measured-exact}
 use Rattle.table_write.specs.ActionTable.{actionsTo, Operands, Listed, Measured}
 use Rattle.table_write.specs.LocationTable.{Counts}
 use Rattle.compiler.specs.Answers.{Told}
@@ -93,7 +93,7 @@ module _ {f : List ℕ} {ix : ScheduleIndex} (g : Indexed f ix) {m : Sizes} (x :
   size = (sizeOf (s .root)) .locations
 
   exact : Exact (s .root) m
-  exact = x .exact (s .root) (g .promise .tree)
+  exact = measured-exact x (g .promise .tree)
 
   limit : leb (length (scheduleLocations s)) locationLimit ≡ leb size locationLimit
   unfolding scheduleLocations
