@@ -1,5 +1,5 @@
 -- Compiling, a law for each return.
-use mathlib.Core.Path.{_≡_, refl, _∙_}
+use mathlib.Core.Path.{_≡_, refl, sym, ap, _∙_}
 use mathlib.Core.List.{List}
 use Prim.Native.Nat.{ℕ, _≤_, _<_}
 use native.Mathlib.Nat.{zero-add}
@@ -29,9 +29,9 @@ module _ (ed : Edition) (f room : List ℕ) where
   unfolding judgeCompile
   long-enough {t} e l = go-then _ e ∙ go-ensure 14 _ (le-leb (length t) (length room) l)
 
-pub compile-refused : (f room : List ℕ) {n m l : ℕ} → judgeCompile edition1 f room ≡ refused n → (m ≡ n) × (l ≡ 0) → returned m l room ≡ compile edition1 f room
-unfolding compile compiledInto
-compile-refused f room e p = rw (p .0, p .1, e) refl
+pub compile-refused : (f room : List ℕ) {n m l : ℕ} → judgeCompile edition1 f room ≡ refused n → ((d : List ℕ) → returned m l d ≡ compiledInto d (refused n)) → returned m l room ≡ compile edition1 f room
+unfolding compile
+compile-refused f room e p = p room ∙ ap (compiledInto room) (sym e)
 
 pub compile-done : (f room : List ℕ) {t e : List ℕ} {r : ℕ} → judgeCompile edition1 f room ≡ accepted t → Put room 0 t e r → returned 0 r e ≡ compile edition1 f room
 unfolding compile compiledInto

@@ -20,7 +20,7 @@ use Rattle.schedules.specs.Nodes.{actionsOf}
 use Rattle.schedules.specs.Numbering.{locations}
 use Rattle.schedules.specs.Files.{Schedule, fileLength}
 use Rattle.schedules.specs.Compiling.{testsOf, scheduleLocations, tableOf, judgeTableOf}
-use Rattle.schedules.specs.Calls.{compiledInto}
+use Rattle.schedules.specs.Calls.{Compiled, compiledInto}
 use Rattle.schedules.specs.Sizes.{sizeOf}
 use Rattle.schedules.specs.TableSizes.{rowsLength, lengthOfParts, tableLength}
 use Rattle.schedules.proofs.Counting.{total}
@@ -34,21 +34,26 @@ use Rattle.schedule_read.specs.Actions.{ActionKinds}
 use Rattle.schedule_read.specs.Promised.{Slice}
 use Rattle.schedule_read.proofs.Promises.{index-refused}
 use Rattle.numbering.specs.Meeting.{testsIn}
-use Rattle.sizes.specs.Rows.{Measures, Exact}
+use Rattle.sizes.specs.Rows.{Measures}
 use Rattle.sizes.specs.declared.Measured.{Measured as Sizes}
-use Rattle.sizes.proofs.Nodes.{laid-weighed}
+use Rattle.sizes.proofs.Nodes.{laid-weighed, Exact, measured-exact}
 use Rattle.table_write.specs.ActionTable.{actionsTo, Operands, Listed, Measured}
 use Rattle.table_write.specs.LocationTable.{Counts}
-use Rattle.compiler.specs.Answers.{Told}
+use Rattle.compiler.specs.Answers.{returned, Told}
 use Rattle.compiler.specs.Plans.{Found, Planned}
 use Rattle.compiler.specs.declared.call.Plan.{Plan}
 use Rattle.compiler.proofs.ActionForms.{actions-listed, operands, tests-are}
 use Rattle.compiler.proofs.Indexes.{Indexed}
 
 -- ---- what is told
-pub told-refused : {j : Judged (List ℕ)} {n a b : ℕ} → (n ≡ 0 → ⊥) → j ≡ refused n → (a ≡ n) × (b ≡ 0) → Told j a b
-unfolding compiledInto refusalOf
-told-refused z e p = rw e (record { number = p .0; length = p .1; numbered = λ y. z (ap refusalOf y) })
+-- the number of a refusal that was told
+pub told-number : {n a b : ℕ} → ((d : List ℕ) → returned a b d ≡ compiledInto d (refused n)) → a ≡ n
+unfolding compiledInto
+told-number p = ap (λ (c : Compiled). c .refusal) (p [])
+
+pub told-refused : {j : Judged (List ℕ)} {n a b : ℕ} → (n ≡ 0 → ⊥) → j ≡ refused n → ((d : List ℕ) → returned a b d ≡ compiledInto d (refused n)) → Told j a b
+unfolding refusalOf
+told-refused z e p = rw e (record { number = ap (λ (c : Compiled). c .refusal) (p []); length = ap (λ (c : Compiled). c .written) (p []); numbered = λ y. z (ap refusalOf y) })
 
 pub told-planned : {f : List ℕ} {p : Plan} → p .refusal ≡ 0 → Planned f p → Told (judgeTableOf edition1 f) (p .refusal) (p .length)
 unfolding compiledInto
@@ -93,7 +98,7 @@ module _ {f : List ℕ} {ix : ScheduleIndex} (g : Indexed f ix) {m : Sizes} (x :
   size = (sizeOf (s .root)) .locations
 
   exact : Exact (s .root) m
-  exact = x .exact (s .root) (g .promise .tree)
+  exact = measured-exact x (g .promise .tree)
 
   limit : leb (length (scheduleLocations s)) locationLimit ≡ leb size locationLimit
   unfolding scheduleLocations

@@ -14,6 +14,7 @@ use Rattle.schedule_read.specs.declared.call.ScheduleIndex.{ScheduleIndex}
 use Rattle.schedule_read.proofs.Promises.{index-refused}
 use Rattle.sizes.specs.Rows.{Measures}
 use Rattle.sizes.specs.declared.Measured.{Measured}
+use Rattle.sizes.proofs.Nodes.{measured-exact}
 use Rattle.compiler.specs.Answers.{sized}
 use Rattle.compiler.proofs.Indexes.{Indexed}
 
@@ -27,13 +28,13 @@ module _ {f : List ℕ} {ix : ScheduleIndex} (g : Indexed f ix) where
     pub size-over : r .over ≡ true → sized 0 1025 0 ≡ size edition1 f
     size-over h =
         let s = sizeOf (g .schedule .root) in
-        let m = x .exact (g .schedule .root) (g .promise .tree) in
+        let m = measured-exact x (g .promise .tree) in
         sym (size-accepted edition1 f (g .promise .judged) ∙ told-over s (lt-leb (s .locations) locationLimit (ltb-true 1024 (s .locations) (sym (m .over) ∙ h))))
 
     pub size-exact : r .over ≡ false → sized 0 (r .locations) (r .entries) ≡ size edition1 f
     size-exact h =
         let s = sizeOf (g .schedule .root) in
-        let m = x .exact (g .schedule .root) (g .promise .tree) in
+        let m = measured-exact x (g .promise .tree) in
         numbers (m .locations h) (m .entries h)
         ∙ sym (size-accepted edition1 f (g .promise .judged) ∙ told-exact s (le-leb (s .locations) locationLimit (ltb-false 1024 (s .locations) (sym (m .over) ∙ h))))
       where

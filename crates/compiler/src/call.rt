@@ -10,7 +10,7 @@ ghost use mathlib.Core.List.{List};
 ghost use Prim.Native.Nat.{ℕ, _+_, _-_, _≤_, _<_};
 ghost use lib.ListN.{length};
 ghost use Rattle.semantics.specs.Editions.{edition1};
-ghost use Rattle.semantics.specs.Refusals.{accepted};
+ghost use Rattle.semantics.specs.Refusals.{refused, accepted};
 ghost use Rattle.semantics.specs.TableFile.{locationLimit};
 ghost use Rattle.schedules.specs.Compiling.{judgeTableOf};
 ghost use Rattle.schedules.specs.Calls as calls;
@@ -37,7 +37,7 @@ struct Plan {
 }
 
 fn refused(n: u8) -> Compiled
-    ensures { λ r. ⌜ (r .refusal ≡ n) × (r .length ≡ 0) ⌝ }
+    ensures { λ r. ⌜ ((d : List ℕ) → returned (r .refusal) (r .length) d ≡ calls.compiledInto d (refused n)) ⌝ }
 {
     Compiled {
         refusal: n,
@@ -47,7 +47,7 @@ fn refused(n: u8) -> Compiled
 
 // no table
 fn no_plan(n: u8, x: ScheduleIndex) -> Plan
-    ensures { λ r. ⌜ (r .refusal ≡ n) × (r .length ≡ 0) ⌝ }
+    ensures { λ r. ⌜ ((d : List ℕ) → returned (r .refusal) (r .length) d ≡ calls.compiledInto d (refused n)) ⌝ }
 {
     Plan {
         refusal: n,
