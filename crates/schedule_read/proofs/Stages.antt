@@ -37,7 +37,7 @@ use Rattle.schedule_read.specs.declared.parts.Parts.{Parts}
 use Rattle.tree_read.specs.declared.nodes.Nodes.{Nodes}
 use Rattle.tree_read.specs.declared.tree.Subtrees.{Subtrees}
 use Rattle.schedule_read.proofs.PartsStand.{Accepted, accepted-parts, layout-number}
-use Rattle.tree_read.proofs.NodeIndex.{nodes-accepted, nodes-refused, indexed}
+use Rattle.tree_read.proofs.NodeIndex.{not-nodes, nodes-accepted, nodes-refused, indexed}
 use Rattle.schedule_read.proofs.FoundNodes.{found-nodes}
 use Rattle.tree_read.proofs.WholeTree.{of-nodes}
 
@@ -234,7 +234,7 @@ unfolding scheduleIndex indexAt numbers readSchedule scheduleCounts refusedPlant
 counted f h = ap countsIn h ∙ go (judgeFile edition1 f) refl
   where
     go : (j : Judged Schedule) → judgeFile edition1 f ≡ j → countsIn (indexAt (partsOf f) j) ≡ numbers (scheduleCounts j)
-    go (refused n) e = refl
+    go (refused n) e = rw not-nodes refl
     go (accepted s) e =
         let a = FirstNumber.passed edition1 f s e in
         same-counts (variables-of _ _ (a .plant)) (selectors-of _ _ (a .plant)) (sym (indexed _ (a .nodes) .counted))
