@@ -8,9 +8,11 @@ use native.Mathlib.Numerals.{add-one, sub-one}
 use native.Mathlib.Omega.{arith}
 use lib.ListN.{length, getD, take, drop, set, getElem?, drop-of-length-le, length-map}
 use lib.Seq.{length-take-le, set-append-left, take-set-lt, take-suc-set, append-snoc}
+use Rattle.semantics.specs.Refusals.{refusalOf, need}
 use Rattle.semantics.proofs.Facts.{none-not-some, some-is, at-exists}
 use Rattle.schedules.specs.Nodes.{Node}
-use Rattle.schedules.specs.Trees.{Tree, Forest, cons, children, treeFrom, Walked, lost, walked, onward, found, readForest, readTree}
+use Rattle.schedules.specs.Trees.{Tree, Forest, cons, children, treeFrom, Walked, lost, walked, onward, found, readForest, readTree, noneLeft, treeOf}
+use Rattle.schedules.specs.Files.{judgeTree}
 use Rattle.schedules.proofs.OneTree.{forest-sound, read-written}
 use Rattle.codec.specs.Writing.{put, Wrote}
 use Rattle.codec.proofs.Writing.{put-none, put-more}
@@ -22,8 +24,8 @@ use Rattle.tree_read.specs.declared.tree.Walk.the-variants.{Next, Lost}
 use Rattle.tree_read.proofs.TreeEnds.{length-tree-ends, rooted}
 
 -- ---- the paper's number and the next node, by the answer's case
-pub lost-number : {r : Walk} → r ≡ Lost → paperWalk r ≡ 10
-unfolding paperWalk
+pub lost-number : {r : Walk} → r ≡ Lost → paperWalk r ≡ refusalOf (judgeTree [])
+unfolding paperWalk refusalOf need treeOf noneLeft readTree
 lost-number e = ap paperWalk e
 
 pub next-is : {r : Walk} {m : ℕ} → r ≡ Next m → nextNode r ≡ some m
@@ -35,8 +37,8 @@ pub no-next : {C : Type 0} {r : Walk} {m : ℕ} → r ≡ Lost → nextNode r �
 unfolding nextNode
 no-next p q = none-not-some (sym (ap nextNode p) ∙ q)
 
-pub not-10 : {C : Type 0} {r : Walk} {m : ℕ} → r ≡ Next m → paperWalk r ≡ 10 → C
-unfolding paperWalk
+pub not-10 : {C : Type 0} {r : Walk} {m : ℕ} → r ≡ Next m → paperWalk r ≡ refusalOf (judgeTree []) → C
+unfolding paperWalk refusalOf need treeOf noneLeft readTree
 not-10 p q = let z : _≡_ {A = ℕ} 0 10 = sym (ap paperWalk p) ∙ q in absurd (omega arith)
 
 pub next-same : {r : Walk} {m n : ℕ} → r ≡ Next m → nextNode r ≡ some n → m ≡ n

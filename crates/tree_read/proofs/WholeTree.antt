@@ -10,9 +10,11 @@ use lib.ListN.{length, take, drop, replicate, length-drop, length-map}
 use lib.Seq.{take-at}
 use Rattle.semantics.specs.Bytes.{overwrite}
 use Rattle.semantics.specs.Editions.{edition1}
+use Rattle.semantics.specs.Refusals.{refusalOf}
 use Rattle.semantics.proofs.Facts.{none-not-some, some-is, at-below}
 use Rattle.schedules.specs.Nodes.{Node, nodesIn}
 use Rattle.schedules.specs.Trees.{Tree, children, Walked, lost, walked, readTree, noneLeft, treeOf}
+use Rattle.schedules.specs.Files.{judgeTree}
 use Rattle.codec.specs.Writing.{Wrote}
 use Rattle.codec.specs.Padding.{pad}
 use Rattle.codec.proofs.Writing.{wrote-front}
@@ -66,7 +68,7 @@ module _ (s cs e : List ℕ) (w : Walk) (c : (ns : List Node) → nodesIn editio
       p ns k (length ns) (omega (arith, ap length (k .is) ∙ length-map ns children))
 
   -- without nodes nothing is read
-  empty : nodesIn edition1 s ≡ none → paperWalk w ≡ 10
+  empty : nodesIn edition1 s ≡ none → paperWalk w ≡ refusalOf (judgeTree [])
   unfolding readTree
   empty h =
       let z : nodesOf s .count ≡ 0 = ap (λ (r : Nodes). r .count) (nodes-none s h) in

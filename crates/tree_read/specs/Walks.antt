@@ -1,12 +1,14 @@
 -- What the walk of a node and the walk over its children say, for the code's own contracts.
 use mathlib.Core.Path.{_≡_}
-use mathlib.Core.List.{List, map}
+use mathlib.Core.List.{List, [], map}
 use mathlib.Core.Option.{some}
 use Prim.Native.Nat.{ℕ, _+_, _≤_}
 use lib.ListN.{drop, getElem?, length}
+use Rattle.semantics.specs.Refusals.{refusalOf}
 use Rattle.schedules.specs.Nodes.{Node, kindOf, nodeOf}
 use Rattle.schedules.specs.Trees.{Tree, Forest, children, treeFrom, Walked, lost, walked, readTree, readForest}
 use Rattle.schedules.specs.Preorder.{forestLength}
+use Rattle.schedules.specs.Files.{judgeTree}
 use Rattle.codec.specs.Parts.{between}
 use Rattle.codec.specs.Writing.{Wrote}
 use Rattle.tree_read.specs.Ends.{treeSize, forestSize, treeEnds, forestEnds}
@@ -38,13 +40,13 @@ pub record Passed (ns : List Node) (n m size : ℕ) (ms : List Node) (bs d e : L
   pub rest : ms ≡ drop m ns
   pub wrote : Wrote d n bs e
 
--- where no tree is read, 10: "The nodes do not make just one tree."; else the next node and what was written
+-- where no tree is read, the number of nodes that do not make just one tree, as no nodes do; else the next node and what was written
 abbrev pub TreeWalked : List Node → ℕ → List ℕ → List ℕ → Walked Tree → Walk → Type 0
-TreeWalked ns n d e lost r = paperWalk r ≡ 10
+TreeWalked ns n d e lost r = paperWalk r ≡ refusalOf (judgeTree [])
 TreeWalked ns n d e (walked t m ms) r = Passed ns n m (treeSize t) ms (treeEnds t n) d e r
 
 abbrev pub ForestWalked : List Node → ℕ → List ℕ → List ℕ → Walked Forest → Walk → Type 0
-ForestWalked ns n d e lost r = paperWalk r ≡ 10
+ForestWalked ns n d e lost r = paperWalk r ≡ refusalOf (judgeTree [])
 ForestWalked ns n d e (walked ts m ms) r = Passed ns n m (forestSize ts) ms (forestEnds ts n) d e r
 
 -- a walk from node n on, whatever nodes have these child counts; f bounds the depth
