@@ -4,7 +4,7 @@ use mathlib.Core.List.{List}
 use Prim.Native.Nat.{ℕ}
 use Rattle.schedules.specs.Files.{Schedule}
 use Rattle.moves.specs.Contracts.{Planted}
-use Rattle.schedule_read.specs.ScheduleFile.{scheduleIndex}
+use Rattle.schedule_read.specs.ScheduleFile.{ScheduleIndexed}
 use Rattle.schedule_read.specs.declared.call.ScheduleIndex.{ScheduleIndex}
 use Rattle.schedule_read.proofs.Promises.{Promised, index-schedule, promised}
 
@@ -12,7 +12,7 @@ pub record Indexed (f : List ℕ) (ix : ScheduleIndex) : Type 0 where
   pub schedule : Schedule
   pub promise : Promised f ix schedule
 
-pub indexed : (f : List ℕ) {ix : ScheduleIndex} → ix ≡ scheduleIndex f → ix .refusal ≡ 0 → Indexed f ix
+pub indexed : (f : List ℕ) {ix : ScheduleIndex} → ScheduleIndexed f ix → ix .refusal ≡ 0 → Indexed f ix
 indexed f h z = let p = index-schedule f h z in record { schedule = p .0; promise = promised f h (p .1) }
 
 pub planted : {f : List ℕ} {ix : ScheduleIndex} → Indexed f ix → Planted (ix .nodes .kinds) (ix .subtrees .ends)

@@ -27,7 +27,7 @@ use Rattle.schedules.proofs.Counting.{total}
 use Rattle.schedules.proofs.FirstNumber.{passed}
 use Rattle.schedules.proofs.LocationCount.{entriesAt, locations-counted, few-locations}
 use Rattle.schedules.proofs.TableLength.{rows-length, table-of-length}
-use Rattle.schedule_read.specs.ScheduleFile.{scheduleIndex}
+use Rattle.schedule_read.specs.ScheduleFile.{ScheduleIndexed}
 use Rattle.schedule_read.specs.declared.call.ScheduleIndex.{ScheduleIndex}
 use Rattle.schedule_read.specs.declared.parts.Parts.{Parts}
 use Rattle.schedule_read.specs.Actions.{ActionKinds}
@@ -77,7 +77,7 @@ module _ {j : Judged (List ℕ)} {a b : ℕ} (t : Told j a b) where
       go (accepted l) e = (l, e, t .length ∙ ap (λ k. (compiledInto [] k) .written) e)
 
 -- 1 to 12
-pub measure-refused : (f : List ℕ) {ix : ScheduleIndex} → ix ≡ scheduleIndex f → (ix .refusal ≡ 0 → ⊥) → judgeTableOf edition1 f ≡ refused (ix .refusal)
+pub measure-refused : (f : List ℕ) {ix : ScheduleIndex} → ScheduleIndexed f ix → (ix .refusal ≡ 0 → ⊥) → judgeTableOf edition1 f ≡ refused (ix .refusal)
 unfolding judgeTableOf _>>=_
 measure-refused f h z = rw (index-refused f h z) refl
 

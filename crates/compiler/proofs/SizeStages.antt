@@ -9,7 +9,7 @@ use Rattle.semantics.specs.TableFile.{locationLimit}
 use Rattle.schedules.specs.Sizes.{sizeOf}
 use Rattle.schedules.specs.Calls.{sizeCounts, size}
 use Rattle.schedules.proofs.SizeCall.{told-exact, told-over, size-accepted}
-use Rattle.schedule_read.specs.ScheduleFile.{scheduleIndex}
+use Rattle.schedule_read.specs.ScheduleFile.{ScheduleIndexed}
 use Rattle.schedule_read.specs.declared.call.ScheduleIndex.{ScheduleIndex}
 use Rattle.schedule_read.proofs.Promises.{index-refused}
 use Rattle.sizes.specs.Rows.{Measures}
@@ -18,7 +18,7 @@ use Rattle.sizes.proofs.Nodes.{measured-exact}
 use Rattle.compiler.specs.Answers.{sized}
 use Rattle.compiler.proofs.Indexes.{Indexed}
 
-module _ (f : List ℕ) {ix : ScheduleIndex} (h : ix ≡ scheduleIndex f) where
+module _ (f : List ℕ) {ix : ScheduleIndex} (h : ScheduleIndexed f ix) where
   pub size-refused : (ix .refusal ≡ 0 → ⊥) → sized (ix .refusal) 0 0 ≡ size edition1 f
   unfolding size sizeCounts
   size-refused z = rw (index-refused f h z) refl

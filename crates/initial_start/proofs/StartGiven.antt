@@ -24,9 +24,9 @@ use Rattle.plant.specs.declared.sections.PlantRead.{PlantRead}
 use Rattle.plant.specs.declared.variables.Variables.{Variables}
 use Rattle.plant.proofs.VariableLaws.{Accepted, count-of, initials-of, column-long, column-front}
 use Rattle.plant.proofs.PlantLaws.{passed-all, variables-high, Passes, passes, not-refused}
-use Rattle.schedule_read.specs.ScheduleFile.{indexAt, scheduleIndex}
+use Rattle.schedule_read.specs.ScheduleFile.{ScheduleIndexed}
 use Rattle.schedule_read.specs.declared.call.ScheduleIndex.{ScheduleIndex}
-use Rattle.schedule_read.proofs.Promises.{promised}
+use Rattle.schedule_read.proofs.Promises.{index-empty, promised}
 use Rattle.table_read.specs.TableIndex.{indexOf, tableIndex}
 use Rattle.table_read.specs.TableParts.{partsOf, sectionsAt}
 use Rattle.table_read.specs.declared.call.TableIndex.{TableIndex}
@@ -116,13 +116,13 @@ none-stand : (f : List ℕ) → Gives f 0 0 0 0 []
 unfolding sectionsStart startOf Computes.bytes Computes.refusals Computes.sections Computes.plant
 none-stand f = record { stand = record { first-ordered = omega arith; first-inside = omega arith; second-ordered = omega arith; second-inside = omega arith }; is = refl }
 
-module _ (f : List ℕ) {ix : ScheduleIndex} (h : ix ≡ scheduleIndex f) where
+module _ (f : List ℕ) {ix : ScheduleIndex} (h : ScheduleIndexed f ix) where
   pub schedule-gives : Gives f (ix .parts .«variables_from») (ix .parts .«variables_to») (ix .parts .«equations_from») (ix .parts .«equations_to») (scheduleStart f)
-  unfolding sectionsStart startOf scheduleStart scheduleIndex indexAt
+  unfolding sectionsStart startOf scheduleStart
   schedule-gives = go (judgeFile edition1 f) refl
     where
       go : (j : Judged Schedule) → judgeFile edition1 f ≡ j → Gives f (ix .parts .«variables_from») (ix .parts .«variables_to») (ix .parts .«equations_from») (ix .parts .«equations_to») (scheduleStart f)
-      go (refused n) e = rw (h, e) (none-stand f)
+      go (refused n) e = rw (index-empty f h e, e) (none-stand f)
       go (accepted s) e =
           let p = promised f h e in
           let v = p .variables in

@@ -14,7 +14,7 @@ use Rattle.schedules.specs.Calls.{programOf, ruleProgram, ruleRun}
 use Rattle.plant.specs.declared.sections.PlantRead.{PlantRead}
 use Rattle.plant.proofs.PlantLaws.{variables-of, selectors-of}
 use Rattle.schedule_read.specs.Actions.{ActionKinds}
-use Rattle.schedule_read.specs.ScheduleFile.{scheduleIndex}
+use Rattle.schedule_read.specs.ScheduleFile.{ScheduleIndexed}
 use Rattle.schedule_read.specs.declared.call.ScheduleIndex.{ScheduleIndex}
 use Rattle.schedule_read.proofs.PartsStand.{Inside}
 use Rattle.schedule_read.proofs.Promises.{Promised, index-refused, index-schedule, promised}
@@ -53,7 +53,7 @@ pub lent-from : (f : List ℕ) (ix : ScheduleIndex) {acts : List ℕ} → Action
     (take (ix .parts .«schedule_to» - ix .parts .«schedule_from») (drop (ix .parts .«schedule_from») f)) acts (ix .nodes .starts) (ix .nodes .ends))
 lent-from f ix e = record { equations = refl; places = refl; steady = refl; lows = refl; highs = refl; operands = refl; kinds = e; starts = refl; ends = refl }
 
-module _ (f : List ℕ) {ix : ScheduleIndex} (h : ix ≡ scheduleIndex f) {asked : Admitted} {events d : List ℕ} where
+module _ (f : List ℕ) {ix : ScheduleIndex} (h : ScheduleIndexed f ix) {asked : Admitted} {events d : List ℕ} where
   pub promised-of : {s : Schedule} → Admits f asked events d s → Promised f ix s
   promised-of a = promised f h (a .judged)
 
@@ -108,7 +108,7 @@ program-accepted : (f : List ℕ) {s : Schedule} → judgeFile edition1 f ≡ ac
 unfolding ruleProgram _>>=_
 program-accepted f e = rw e refl
 
-module _ (f start events d : List ℕ) {ix : ScheduleIndex} (h : ix ≡ scheduleIndex f) where
+module _ (f start events d : List ℕ) {ix : ScheduleIndex} (h : ScheduleIndexed f ix) where
   not-run : {n : ℕ} → judgeRun edition1 (ruleProgram edition1 f) start events d ≡ refused n → report d (refused n) ≡ ruleRun edition1 f start events d
   unfolding ruleRun
   not-run e = sym (ap (report d) e)

@@ -12,7 +12,7 @@ ghost use Rattle.semantics.specs.Editions.{edition1};
 ghost use Rattle.semantics.specs.Refusals.{refusalOf};
 ghost use Rattle.semantics.specs.Calls.{judgeRun};
 ghost use Rattle.schedules.specs.Calls.{ruleProgram, ruleRun};
-ghost use Rattle.schedule_read.specs.ScheduleFile.{scheduleIndex};
+ghost use Rattle.schedule_read.specs.ScheduleFile.{ScheduleIndexed};
 ghost use Rattle.records.specs.Reported.{ranWith};
 ghost use Rattle.rule_run.specs.Called.{Admitting, Carried};
 
@@ -24,7 +24,7 @@ fn lend(
     events: &[u8],
     records: &mut [u8],
 ) -> Counts
-    requires { ⌜ (ix ≡ scheduleIndex (now file)) × Admitting (now file) asked (now events) (now records) ⌝ }
+    requires { ⌜ ScheduleIndexed (now file) ix × Admitting (now file) asked (now events) (now records) ⌝ }
     ensures { λ r. ⌜ Carried (now (file .entry)) asked (now (events .entry)) (now (records .entry)) r (now (records .exit)) ⌝ }
 {
     let parts = ix.parts;

@@ -2,7 +2,7 @@
 use mathlib.Core.Path.{_≡_, refl, sym, ap, subst, _∙_}
 use mathlib.Core.Bool.{Bool, true, false, _&&_}
 use mathlib.Core.List.{List}
-use mathlib.Core.Option.{Option, none, some}
+use mathlib.Core.Option.{some}
 use Prim.Native.Nat.{ℕ, _-_, _≤_}
 use native.Mathlib.Omega.{arith}
 use lib.ListN.{length, take, drop}
@@ -11,7 +11,6 @@ use Rattle.semantics.specs.Editions.{edition1}
 use Rattle.semantics.specs.Refusals.{Judged, refused, accepted, refusalOf, need, ensure, _>>=_, _>>_}
 use Rattle.semantics.specs.Sections.{Selector, Equation, equationsIn}
 use Rattle.semantics.specs.Plant.{Plant, judgePlant, switchesRead, equationReads, selectors}
-use Rattle.semantics.proofs.Facts.{true-not-false}
 use Rattle.semantics.proofs.Judging.{refused-not-accepted, refused-is, go-then, go-need}
 use Rattle.schedules.specs.FileSections.{FileSections}
 use Rattle.schedules.specs.Nodes.{Node, nodesIn, nodeNamed, nodeReads}
@@ -29,33 +28,32 @@ use Rattle.schedule_read.specs.FileParts.{noParts, partsIn, partsRead, p
 use Rattle.tree_read.specs.Index.{NodesAt}
 use Rattle.schedule_read.specs.Indexed.{Indexed, Passes}
 use Rattle.tree_read.specs.Index.{notNodes, nodesOf}
-use Rattle.tree_read.specs.Ends.{noTree, subtreesOf, treeIn}
-use Rattle.schedule_read.specs.ScheduleFile.{numbers, noSchedule, indexAt, scheduleIndex, sectionsIndex, PlantAt, Planted, NodesJudged}
+use Rattle.tree_read.specs.Ends.{noTree, TreeAt, TreeIn}
+use Rattle.schedule_read.specs.ScheduleFile.{numbers, noSchedule, IndexAt, ScheduleIndexed, SectionsIndexed, PlantAt, Planted, NodesJudged}
 use Rattle.schedule_read.specs.declared.call.FileRead.{FileRead}
 use Rattle.schedule_read.specs.declared.call.ScheduleIndex.{ScheduleIndex}
 use Rattle.schedule_read.specs.declared.parts.Parts.{Parts}
 use Rattle.tree_read.specs.declared.nodes.Nodes.{Nodes}
 use Rattle.tree_read.specs.declared.tree.Subtrees.{Subtrees}
 use Rattle.schedule_read.proofs.PartsStand.{Accepted, accepted-parts, layout-number}
-use Rattle.tree_read.proofs.NodeIndex.{nodes-accepted, nodes-refused, indexed}
+use Rattle.tree_read.proofs.NodeIndex.{not-nodes, nodes-accepted, nodes-refused, indexed}
 use Rattle.schedule_read.proofs.FoundNodes.{found-nodes}
-use Rattle.tree_read.proofs.WholeTree.{of-nodes}
+use Rattle.tree_read.proofs.LaidTree.{tree-at, tree-accepted, tree-refused}
 
-answer-refused : (q : Parts) {j : Judged Schedule} {n : ℕ} → j ≡ refused n → noSchedule n ≡ indexAt q j
-unfolding indexAt
-answer-refused q e = rw e refl
+answer-refused : (q : Parts) {j : Judged Schedule} {n : ℕ} {ix : ScheduleIndex} → j ≡ refused n → ix ≡ noSchedule n → IndexAt q j ix
+answer-refused q {ix = ix} e x = subst (λ j. IndexAt q j ix) (sym e) x
 
 pub nothing-else : (r : ℕ) {q : Parts} {p : PlantRead} {n : Nodes} {t : Subtrees} → q ≡ noParts r → p ≡ refusedPlant 0 → n ≡ notNodes → t ≡ noTree → _≡_ {A = ScheduleIndex} (record { refusal = r; parts = q; plant = p; nodes = n; subtrees = t }) (noSchedule r)
 nothing-else r e f g h = cc
 
 -- ---- 1 to 3
 module _ (f : List ℕ) {p : Parts} (h : p ≡ partsOf f) where
-  pub by-parts : (p .refusal ≡ 0 → ⊥) → noSchedule (p .refusal) ≡ scheduleIndex f
-  unfolding scheduleIndex judgeFile partsOf partsRead partsIn _>>=_
-  by-parts z = go (judgeFileLayout edition1 f) refl
+  pub by-parts : {ix : ScheduleIndex} → (p .refusal ≡ 0 → ⊥) → ix ≡ noSchedule (p .refusal) → ScheduleIndexed f ix
+  unfolding judgeFile partsOf partsRead partsIn _>>=_
+  by-parts {ix} z x = record { at = go (judgeFileLayout edition1 f) refl }
     where
-      go : (j : Judged FileSections) → judgeFileLayout edition1 f ≡ j → noSchedule (p .refusal) ≡ scheduleIndex f
-      go (refused n) e = ap (λ (p : Parts). noSchedule (p .refusal)) (h ∙ ap partsRead e) ∙ answer-refused _ (rw e refl)
+      go : (j : Judged FileSections) → judgeFileLayout edition1 f ≡ j → IndexAt (partsOf f) (judgeFile edition1 f) ix
+      go (refused n) e = answer-refused (partsOf f) {j = judgeFile edition1 f} (rw e refl) (x ∙ ap (λ (p : Parts). noSchedule (p .refusal)) (h ∙ ap partsRead e))
       go (accepted s) e = absurd (z (ap (λ (p : Parts). p .refusal) (h ∙ ap partsRead e)))
 
   pub parts-stand : p .refusal ≡ 0 → Accepted f p
@@ -66,10 +64,10 @@ module _ (f : List ℕ) {p : Parts} (h : p ≡ partsOf f) where
       go (refused n) e = let i : p .refusal ≡ n = ap (λ (p : Parts). p .refusal) (h ∙ ap partsRead e) in absurd (omega (arith, layout-number f e))
       go (accepted s) e = subst (Accepted f) (sym h) (accepted-parts f e)
 
-  pub by-sections : p .refusal ≡ 0 →
-      sectionsIndex p (take (p .«variables_to» - p .«variables_from») (drop (p .«variables_from») f)) (take (p .«equations_to» - p .«equations_from») (drop (p .«equations_from») f)) (take (p .«schedule_to» - p .«schedule_from») (drop (p .«schedule_from») f)) ≡ scheduleIndex f
-  unfolding scheduleIndex sectionsIndex sectionsAt judgeFile
-  by-sections z = ap (indexAt p) (sym (go-then _ (parts-stand z .are))) ∙ ap (λ q. indexAt q (judgeFile edition1 f)) h
+  pub by-sections : {ix : ScheduleIndex} → p .refusal ≡ 0 →
+      SectionsIndexed p (take (p .«variables_to» - p .«variables_from») (drop (p .«variables_from») f)) (take (p .«equations_to» - p .«equations_from») (drop (p .«equations_from») f)) (take (p .«schedule_to» - p .«schedule_from») (drop (p .«schedule_from») f)) ix → ScheduleIndexed f ix
+  unfolding sectionsAt judgeFile
+  by-sections {ix} z x = record { at = subst (λ q. IndexAt q (judgeFile edition1 f) ix) h (subst (λ j. IndexAt p j ix) (sym (go-then _ (parts-stand z .are))) (x .at)) }
 
 -- ---- 11 and 12
 then-refused : {j : Judged (Unit {0})} {n : ℕ} (k : Judged Schedule) → j ≡ refused n → (j >> k) ≡ refused n
@@ -120,19 +118,16 @@ module _ {es s kinds starts ends modes : List ℕ} {count v c : ℕ} where
       nodes-passed y ns d p e = rw (sym (names-are ns d p e) ∙ x, sym (all-read ns d p e) ∙ y) refl
 
 -- ---- 4 to 8
-joined : (q : Parts) {p p′ : PlantRead} {n n′ : Nodes} {t t′ : Subtrees} → p ≡ p′ → n ≡ n′ → t ≡ t′ → _≡_ {A = ScheduleIndex} (record { refusal = 0; parts = q; plant = p; nodes = n; subtrees = t }) (record { refusal = 0; parts = q; plant = p′; nodes = n′; subtrees = t′ })
-joined q e f g = cc
-
 module _ (at-parts : Parts) (vs es s : List ℕ) {p : PlantRead} (h : p ≡ plantOf vs es) where
   sections : FileSections
   sections = record { variables = vs; equations = es; schedule = s }
 
-  pub by-plant : (p .refusal ≡ 0 → ⊥) → noSchedule (p .refusal) ≡ sectionsIndex at-parts vs es s
-  unfolding sectionsIndex judgeFileSections plantOf plantAnswer refusedPlant acceptedPlant _>>=_
-  by-plant z = go (judgePlant edition1 vs es) refl
+  pub by-plant : {ix : ScheduleIndex} → (p .refusal ≡ 0 → ⊥) → ix ≡ noSchedule (p .refusal) → SectionsIndexed at-parts vs es s ix
+  unfolding judgeFileSections plantOf plantAnswer refusedPlant acceptedPlant _>>=_
+  by-plant {ix} z x = record { at = go (judgePlant edition1 vs es) refl }
     where
-      go : (j : Judged Plant) → judgePlant edition1 vs es ≡ j → noSchedule (p .refusal) ≡ sectionsIndex at-parts vs es s
-      go (refused n) e = ap (λ (p : PlantRead). noSchedule (p .refusal)) (h ∙ ap plantAnswer e) ∙ answer-refused at-parts (rw e refl)
+      go : (j : Judged Plant) → judgePlant edition1 vs es ≡ j → IndexAt at-parts (judgeFileSections edition1 (record { variables = vs; equations = es; schedule = s })) ix
+      go (refused n) e = answer-refused at-parts {j = judgeFileSections edition1 (record { variables = vs; equations = es; schedule = s })} (rw e refl) (x ∙ ap (λ (p : PlantRead). noSchedule (p .refusal)) (h ∙ ap plantAnswer e))
       go (accepted q) e = absurd (z (ap (λ (p : PlantRead). p .refusal) (h ∙ ap plantAnswer e)))
 
   module _ (z : p .refusal ≡ 0) where
@@ -162,9 +157,9 @@ module _ (at-parts : Parts) (vs es s : List ℕ) {p : PlantRead} (h : p ≡ plan
 
     -- ---- 9
     module _ {n : Nodes} (k : n ≡ nodesOf s) where
-      pub by-nodes : (n .refusal ≡ 0 → ⊥) → noSchedule 9 ≡ sectionsIndex at-parts vs es s
-      unfolding sectionsIndex judgeFileSections need _>>=_
-      by-nodes y = answer-refused at-parts (go-then _ plant-is ∙ rw (nodes-refused s (λ i. y (ap (λ (n : Nodes). n .refusal) k ∙ i))) refl)
+      pub by-nodes : {ix : ScheduleIndex} → (n .refusal ≡ 0 → ⊥) → ix ≡ noSchedule 9 → SectionsIndexed at-parts vs es s ix
+      unfolding judgeFileSections need _>>=_
+      by-nodes y x = record { at = answer-refused at-parts (go-then _ plant-is ∙ rw (nodes-refused s (λ i. y (ap (λ (n : Nodes). n .refusal) k ∙ i))) refl) x }
 
       module _ (y : n .refusal ≡ 0) where
         ns : List Node
@@ -181,60 +176,62 @@ module _ (at-parts : Parts) (vs es s : List ℕ) {p : PlantRead} (h : p ≡ plan
         index-of = record { nodes = ns; at = at }
 
         -- ---- 10
-        module _ {t : Subtrees} (w : t ≡ treeIn s) where
-          tree-answer : t ≡ subtreesOf (treeOf ns)
-          tree-answer = w ∙ of-nodes s nodes-are
-
-          pub by-tree : t .ok ≡ false → noSchedule 10 ≡ sectionsIndex at-parts vs es s
-          unfolding sectionsIndex judgeFileSections subtreesOf need _>>=_
-          by-tree x = go (treeOf ns) refl
-            where
-              go : (o : Option Tree) → treeOf ns ≡ o → noSchedule 10 ≡ sectionsIndex at-parts vs es s
-              go none e = answer-refused at-parts (go-then _ plant-is ∙ go-need 9 _ nodes-are ∙ rw e refl)
-              go (some u) e = true-not-false (sym (ap (λ (t : Subtrees). t .ok) (tree-answer ∙ ap subtreesOf e)) ∙ x)
+        module _ {t : Subtrees} (w : TreeIn s t) where
+          pub by-tree : {ix : ScheduleIndex} → t .ok ≡ false → ix ≡ noSchedule 10 → SectionsIndexed at-parts vs es s ix
+          unfolding judgeFileSections need _>>=_
+          by-tree x v = record { at = answer-refused at-parts (go-then _ plant-is ∙ go-need 9 _ nodes-are ∙ rw (tree-refused s nodes-are w x) refl) v }
 
           -- ---- 11 and 12
           module _ (x : t .ok ≡ true) {r : ℕ} (q : NodesJudged es s (n .kinds) (n .starts) (n .ends) (n .count) (p .variables) (p .selectors) (p .modes) r) where
             last : r ≡ refusalOf (judgeNodes edition1 plant ns)
             last = q ns at plant plant-at
 
-            after-10 : (u : Tree) × (judgeFileSections edition1 sections ≡ (judgeNodes edition1 plant ns >> accepted (record { sections = sections; plant = plant; nodes = ns; root = u })))
-            unfolding judgeFileSections subtreesOf sections
-            after-10 = go (treeOf ns) refl
-              where
-                go : (o : Option Tree) → treeOf ns ≡ o → (u : Tree) × (judgeFileSections edition1 sections ≡ (judgeNodes edition1 plant ns >> accepted (record { sections = sections; plant = plant; nodes = ns; root = u })))
-                go none e = true-not-false (sym x ∙ ap (λ (t : Subtrees). t .ok) (tree-answer ∙ ap subtreesOf e))
-                go (some u) e = (u, go-then _ plant-is ∙ go-need 9 _ nodes-are ∙ go-need 10 _ e)
+            tree : Tree
+            tree = tree-accepted s nodes-are w x .0
 
-            pub by-last : (r ≡ 0 → ⊥) → noSchedule r ≡ sectionsIndex at-parts vs es s
-            unfolding sectionsIndex sections refusalOf
-            by-last v = go (judgeNodes edition1 plant ns) refl
+            tree-is : treeOf ns ≡ some tree
+            unfolding tree
+            tree-is = tree-accepted s nodes-are w x .1
+
+            after-10 : judgeFileSections edition1 sections ≡ (judgeNodes edition1 plant ns >> accepted (record { sections = sections; plant = plant; nodes = ns; root = tree }))
+            unfolding judgeFileSections sections
+            after-10 = go-then _ plant-is ∙ go-need 9 _ nodes-are ∙ go-need 10 _ tree-is
+
+            pub by-last : {ix : ScheduleIndex} → (r ≡ 0 → ⊥) → ix ≡ noSchedule r → SectionsIndexed at-parts vs es s ix
+            unfolding sections refusalOf
+            by-last {ix} v y = record { at = go (judgeNodes edition1 plant ns) refl }
               where
-                go : (j : Judged (Unit {0})) → judgeNodes edition1 plant ns ≡ j → noSchedule r ≡ sectionsIndex at-parts vs es s
-                go (refused m) e = ap noSchedule (last ∙ ap refusalOf e) ∙ answer-refused at-parts (after-10 .1 ∙ then-refused _ e)
+                go : (j : Judged (Unit {0})) → judgeNodes edition1 plant ns ≡ j → IndexAt at-parts (judgeFileSections edition1 sections) ix
+                go (refused m) e = answer-refused at-parts (after-10 ∙ then-refused _ e) (y ∙ ap noSchedule (last ∙ ap refusalOf e))
                 go (accepted m) e = absurd (v (last ∙ ap refusalOf e))
 
-            pub all-passed : r ≡ 0 → record { refusal = 0; parts = at-parts; plant = p; nodes = n; subtrees = t } ≡ sectionsIndex at-parts vs es s
-            unfolding sectionsIndex sections refusalOf indexAt
-            all-passed v = go (judgeNodes edition1 plant ns) refl
+            subtrees-at : TreeAt (n .kinds) (n .count) tree t
+            subtrees-at = subst (λ (n : Nodes). TreeAt (n .kinds) (n .count) tree t) (sym k) (tree-at s nodes-are w tree-is)
+
+            pub all-passed : r ≡ 0 → SectionsIndexed at-parts vs es s (record { refusal = 0; parts = at-parts; plant = p; nodes = n; subtrees = t })
+            unfolding sections refusalOf
+            all-passed v = record { at = go (judgeNodes edition1 plant ns) refl }
               where
-                go : (j : Judged (Unit {0})) → judgeNodes edition1 plant ns ≡ j → record { refusal = 0; parts = at-parts; plant = p; nodes = n; subtrees = t } ≡ sectionsIndex at-parts vs es s
+                ix : ScheduleIndex
+                ix = record { refusal = 0; parts = at-parts; plant = p; nodes = n; subtrees = t }
+
+                go : (j : Judged (Unit {0})) → judgeNodes edition1 plant ns ≡ j → IndexAt at-parts (judgeFileSections edition1 sections) ix
                 go (refused m) e = let i : r ≡ m = last ∙ ap refusalOf e in absurd (omega (arith, some-number plant ns e))
-                go (accepted m) e = joined at-parts h k w ∙ sym (ap (indexAt at-parts) (after-10 .1 ∙ then-accepted _ e))
+                go (accepted m) e = subst (λ j. IndexAt at-parts j ix) (sym (after-10 ∙ then-accepted _ e)) (record { refusal = refl; parts = refl; plant = h; nodes = k; subtrees = subtrees-at })
 
 -- ---- the counts of the call
 abbrev countsIn : ScheduleIndex → FileRead
 countsIn x = record { refusal = x .refusal; variables = x .plant .variables; selectors = x .plant .selectors; nodes = x .nodes .count }
 
-same-counts : {a b c x y z : ℕ} → a ≡ x → b ≡ y → c ≡ z → _≡_ {A = FileRead} (record { refusal = 0; variables = a; selectors = b; nodes = c }) (record { refusal = 0; variables = x; selectors = y; nodes = z })
-same-counts e f g = cc
+same-counts : {r a b c x y z : ℕ} → r ≡ 0 → a ≡ x → b ≡ y → c ≡ z → _≡_ {A = FileRead} (record { refusal = r; variables = a; selectors = b; nodes = c }) (record { refusal = 0; variables = x; selectors = y; nodes = z })
+same-counts d e f g = cc
 
-pub counted : (f : List ℕ) {x : ScheduleIndex} → x ≡ scheduleIndex f → countsIn x ≡ numbers (readSchedule edition1 f)
-unfolding scheduleIndex indexAt numbers readSchedule scheduleCounts refusedPlant
-counted f h = ap countsIn h ∙ go (judgeFile edition1 f) refl
+pub counted : (f : List ℕ) {x : ScheduleIndex} → ScheduleIndexed f x → countsIn x ≡ numbers (readSchedule edition1 f)
+unfolding numbers readSchedule scheduleCounts refusedPlant
+counted f {x} h = go (judgeFile edition1 f) refl (h .at)
   where
-    go : (j : Judged Schedule) → judgeFile edition1 f ≡ j → countsIn (indexAt (partsOf f) j) ≡ numbers (scheduleCounts j)
-    go (refused n) e = refl
-    go (accepted s) e =
+    go : (j : Judged Schedule) → judgeFile edition1 f ≡ j → IndexAt (partsOf f) j x → countsIn x ≡ numbers (scheduleCounts j)
+    go (refused n) e i = ap countsIn i ∙ rw not-nodes refl
+    go (accepted s) e i =
         let a = FirstNumber.passed edition1 f s e in
-        same-counts (variables-of _ _ (a .plant)) (selectors-of _ _ (a .plant)) (sym (indexed _ (a .nodes) .counted))
+        same-counts (i .refusal) (ap (λ (p : PlantRead). p .variables) (i .plant) ∙ variables-of _ _ (a .plant)) (ap (λ (p : PlantRead). p .selectors) (i .plant) ∙ selectors-of _ _ (a .plant)) (ap (λ (n : Nodes). n .count) (i .nodes) ∙ sym (indexed _ (a .nodes) .counted))

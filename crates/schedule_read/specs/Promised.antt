@@ -10,7 +10,6 @@ use Rattle.schedules.specs.Laid.{Laid, Lies}
 use Rattle.schedules.specs.Files.{Schedule, judgeFile}
 use Rattle.codec.specs.Parts.{between}
 use Rattle.plant.specs.PlantRead.{plantOf}
-use Rattle.tree_read.specs.Ends.{treeSize}
 use Rattle.tree_read.specs.Index.{NodesAt}
 use Rattle.schedule_read.specs.declared.call.ScheduleIndex.{ScheduleIndex}
 
@@ -35,5 +34,4 @@ pub record Promised (f : List ℕ) (ix : ScheduleIndex) (s : Schedule) : Type 0 
   pub nodes : NodesAt (s .sections .schedule) (ix .nodes .kinds) (ix .nodes .starts) (ix .nodes .ends) (ix .nodes .count) (s .nodes)
   pub tree : Lies (ix .nodes .kinds) (ix .subtrees .ends) (s .root)
   pub tree-laid : Laid (ix .nodes .kinds) (ix .subtrees .ends) (s .root) 0 (ix .nodes .count)
-  pub tree-count : treeSize (s .root) ≡ ix .nodes .count
   pub ends-full : length (ix .subtrees .ends) ≡ 64

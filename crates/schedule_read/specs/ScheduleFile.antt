@@ -16,7 +16,7 @@ use Rattle.plant.specs.PlantRead.{refusedPlant, plantOf}
 use Rattle.tree_read.specs.Index.{NodesAt}
 use Rattle.schedule_read.specs.FileParts.{noParts, partsOf}
 use Rattle.tree_read.specs.Index.{notNodes, nodesOf}
-use Rattle.tree_read.specs.Ends.{noTree, treeIn}
+use Rattle.tree_read.specs.Ends.{noTree, TreeAt}
 use Rattle.schedule_read.specs.declared.call.FileRead.{FileRead}
 use Rattle.schedule_read.specs.declared.call.ScheduleIndex.{ScheduleIndex}
 use Rattle.schedule_read.specs.declared.parts.Parts.{Parts}
@@ -29,25 +29,26 @@ numbers r = record { refusal = r .refusal; variables = r .variables; selectors =
 abbrev pub noSchedule : ℕ → ScheduleIndex
 noSchedule n = record { refusal = n; parts = noParts n; plant = refusedPlant 0; nodes = notNodes; subtrees = noTree }
 
--- a call of which the sections stand there
-unfoldable pub indexAt : Parts → Judged Schedule → ScheduleIndex
-indexAt p (refused n) = noSchedule n
-indexAt p (accepted s) = record {
-  refusal = 0;
-  parts = p;
-  plant = plantOf (s .sections .variables) (s .sections .equations);
-  nodes = nodesOf (s .sections .schedule);
-  subtrees = treeIn (s .sections .schedule);
-}
+-- an accepted file of which the sections stand there: its plant, nodes and subtrees
+pub record Opened (p : Parts) (s : Schedule) (ix : ScheduleIndex) : Type 0 where
+  pub refusal : ix .refusal ≡ 0
+  pub parts : ix .parts ≡ p
+  pub plant : ix .plant ≡ plantOf (s .sections .variables) (s .sections .equations)
+  pub nodes : ix .nodes ≡ nodesOf (s .sections .schedule)
+  pub subtrees : TreeAt (ix .nodes .kinds) (ix .nodes .count) (s .root) (ix .subtrees)
+
+abbrev pub IndexAt : Parts → Judged Schedule → ScheduleIndex → Type 0
+IndexAt p (refused n) ix = ix ≡ noSchedule n
+IndexAt p (accepted s) ix = Opened p s ix
 
 -- a schedule file: refused, or where its parts stand
-unfoldable pub scheduleIndex : List ℕ → ScheduleIndex
-scheduleIndex f = indexAt (partsOf f) (judgeFile edition1 f)
+pub record ScheduleIndexed (f : List ℕ) (ix : ScheduleIndex) : Type 0 where
+  pub at : IndexAt (partsOf f) (judgeFile edition1 f) ix
 
 -- ---- for the code's own contracts
 -- 4 to 12, of the sections that stand there
-unfoldable pub sectionsIndex : Parts → List ℕ → List ℕ → List ℕ → ScheduleIndex
-sectionsIndex p vs es s = indexAt p (judgeFileSections edition1 (record { variables = vs; equations = es; schedule = s }))
+pub record SectionsIndexed (p : Parts) (vs es s : List ℕ) (ix : ScheduleIndex) : Type 0 where
+  pub at : IndexAt p (judgeFileSections edition1 (record { variables = vs; equations = es; schedule = s })) ix
 
 -- p is a plant of v variables and c selectors with these equations and mode counts
 pub record PlantAt (es : List ℕ) (v c : ℕ) (modes : List ℕ) (p : Plant) : Type 0 where

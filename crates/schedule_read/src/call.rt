@@ -3,7 +3,7 @@ ghost use mathlib.Core.Path.{_≡_};
 ghost use Rattle.semantics.specs.Editions.{edition1};
 ghost use Rattle.schedules.specs.Calls.{readSchedule};
 ghost use Rattle.schedule_read.specs.Indexed.{Indexed};
-ghost use Rattle.schedule_read.specs.ScheduleFile.{numbers, noSchedule, sectionsIndex, scheduleIndex, Planted, NodesJudged};
+ghost use Rattle.schedule_read.specs.ScheduleFile.{numbers, noSchedule, SectionsIndexed, ScheduleIndexed, Planted, NodesJudged};
 use super::names;
 use super::operands;
 use super::parts;
@@ -81,7 +81,7 @@ fn checked(
 
 // 4 to 12, of the three sections that stand at these places
 fn sections(parts: Parts, vs: &[u8], es: &[u8], s: &[u8]) -> ScheduleIndex
-    ensures { λ r. ⌜ r ≡ sectionsIndex parts (now (vs .entry)) (now (es .entry)) (now (s .entry)) ⌝ }
+    ensures { λ r. ⌜ SectionsIndexed parts (now (vs .entry)) (now (es .entry)) (now (s .entry)) r ⌝ }
 {
     let p = plant::sections::read(vs, es);
     let first = p.refusal;
@@ -127,7 +127,7 @@ fn sections(parts: Parts, vs: &[u8], es: &[u8], s: &[u8]) -> ScheduleIndex
 }
 
 pub fn index(file: &[u8]) -> ScheduleIndex
-    ensures { λ r. ⌜ r ≡ scheduleIndex (now (file .entry)) ⌝ }
+    ensures { λ r. ⌜ ScheduleIndexed (now (file .entry)) r ⌝ }
 {
     let p = parts::read(file);
     let first = p.refusal;

@@ -4,7 +4,8 @@ pub mod NodeIndex
 pub mod NodeKinds
 -- the tree
 pub mod ChildCounts
-pub mod TreeEnds
+mod LaidSteps
 mod WalkSteps
 pub mod WholeTree
 pub mod LaidTree
+pub mod OneAnswer

@@ -8,6 +8,7 @@ use native.Mathlib.Omega.{arith}
 use lib.ListN.{length, getD, drop, set, replicate, length-map}
 use Rattle.semantics.specs.Bytes.{Read, broken, read, andThen, _>>=_, guard, fail, byte, number, times, just, whole, within}
 use Rattle.semantics.specs.Editions.{edition1}
+use Rattle.semantics.specs.Refusals.{need}
 use Rattle.semantics.proofs.Facts.{true-not-false, within-both, within-low, within-high}
 use Rattle.semantics.proofs.Readers.{split, guarded, byte-read, whole-read}
 use Rattle.schedules.specs.Nodes.{Node, readNode, readNodes, nodesIn}
@@ -17,7 +18,7 @@ use Rattle.codec.proofs.Reading.{drop-past, drop-some, within-below, within-abo
 use Rattle.codec.proofs.Known.{snoc-none, times-length}
 use Rattle.codec.proofs.Loops.{loop-start, loop-next, counted}
 use Rattle.codec.proofs.Places.{places-start, places-length, places-more, places-count, placed}
-use Rattle.tree_read.specs.Index.{kindAt, startAt, endAt, nodePlaces, notNodes, index, nodesOf, isRead, NodeAt, NodesAt}
+use Rattle.tree_read.specs.Index.{kindAt, startAt, endAt, nodePlaces, noNodes, index, nodesRead, nodesOf, notNodes, isRead, NodeAt, NodesAt}
 use Rattle.tree_read.specs.declared.nodes.Nodes.{Nodes}
 use Rattle.codec.proofs.Padding.{pad-none, pad-map-snoc, pad-map, length-pad}
 use Rattle.tree_read.proofs.NodeForms.{was, takes-node}
@@ -26,18 +27,25 @@ abbrev Any : {A : Type 0} → A → Unit {0} → Type 0
 Any a x = Unit {0}
 
 -- ---- the answer, by what the reader of the section gives
-pub nodes-none : (s : List ℕ) → nodesIn edition1 s ≡ none → nodesOf s ≡ notNodes
-unfolding nodesOf
-nodes-none s e = rw (e, nodesOf) refl
+pub nodes-none : (s : List ℕ) → nodesIn edition1 s ≡ none → nodesOf s ≡ noNodes 9
+unfolding nodesOf nodesRead need
+nodes-none s e = ap (λ o. nodesRead s (need 9 o)) e
 
 pub nodes-some : (s : List ℕ) {ns : List Node} → nodesIn edition1 s ≡ some ns → nodesOf s ≡ index s (length ns)
-unfolding nodesOf
-nodes-some s e = rw (e, nodesOf) refl
+unfolding nodesOf nodesRead need
+nodes-some s e = ap (λ o. nodesRead s (need 9 o)) e
 
 pub no-section : (s : List ℕ) → length s ≤ 0 → nodesIn edition1 s ≡ none
 unfolding nodesIn readNodes whole just number _>>=_ andThen byte
 no-section [] h = refl
 no-section (a ∷ s) h = absurd (omega arith)
+
+pub not-nodes : notNodes ≡ noNodes 9
+not-nodes = nodes-none [] (no-section [] (omega arith))
+
+-- every refused section has the same answer
+pub nodes-refuse : (s : List ℕ) → nodesIn edition1 s ≡ none → notNodes ≡ nodesOf s
+nodes-refuse s e = not-nodes ∙ sym (nodes-none s e)
 
 pub too-few : (s : List ℕ) → 0 < length s → getD s 0 0 < 1 → nodesIn edition1 s ≡ none
 unfolding nodesIn readNodes whole just number _>>=_ andThen byte guard fail

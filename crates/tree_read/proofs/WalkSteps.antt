@@ -1,29 +1,29 @@
 -- What a step of the walk makes of what its calls said.
-use mathlib.Core.Path.{_≡_, refl, sym, ap, ap₂, _∙_, subst}
-use mathlib.Core.List.{List, [], _∷_, _++_, map}
+use mathlib.Core.Path.{_≡_, refl, sym, ap, _∙_, subst}
+use mathlib.Core.List.{List, [], _∷_, map}
 use mathlib.Core.Option.{some}
 use Prim.Native.Nat.{ℕ, zero, suc, _+_, _-_, _≤_, _<_}
-use native.Mathlib.Nat.{add-zero}
 use native.Mathlib.Numerals.{add-one, sub-one}
 use native.Mathlib.Omega.{arith}
-use lib.ListN.{length, getD, take, drop, set, getElem?, drop-of-length-le, length-map}
-use lib.Seq.{length-take-le, set-append-left, take-set-lt, take-suc-set, append-snoc}
-use Rattle.semantics.proofs.Facts.{none-not-some, some-is, at-exists}
+use lib.ListN.{length, getD, drop, set, getElem?, drop-of-length-le, length-map, length-set}
+use lib.Seq.{getD-set-same, getD-set-other}
+use Rattle.semantics.specs.Refusals.{refusalOf, need}
+use Rattle.semantics.proofs.Facts.{none-not-some, some-is, at-exists, at-below}
 use Rattle.schedules.specs.Nodes.{Node}
-use Rattle.schedules.specs.Trees.{Tree, Forest, cons, children, treeFrom, Walked, lost, walked, onward, found, readForest, readTree}
+use Rattle.schedules.specs.Trees.{Tree, Forest, cons, children, treeFrom, Walked, lost, walked, onward, found, readForest, readTree, noneLeft, treeOf}
+use Rattle.schedules.specs.Laid.{NodeRow, Laid, LaidF, laid-nil, laid-cons}
+use Rattle.schedules.specs.Files.{judgeTree}
 use Rattle.schedules.proofs.OneTree.{forest-sound, read-written}
-use Rattle.codec.specs.Writing.{put, Wrote}
-use Rattle.codec.proofs.Writing.{put-none, put-more}
-use Rattle.tree_read.specs.Ends.{treeSize, forestSize, treeEnds, forestEnds}
 use Rattle.tree_read.specs.PaperNumbers.{paperWalk, nextNode}
-use Rattle.tree_read.specs.Walks.{Parent, Counts, Bound, Passed, TreeWalked, ForestWalked}
+use Rattle.tree_read.specs.Walks.{Parent, Counts, KindsOf, Bound, Kept, TreeWalked, ForestWalked}
 use Rattle.tree_read.specs.declared.tree.Walk.{Walk}
 use Rattle.tree_read.specs.declared.tree.Walk.the-variants.{Next, Lost}
-use Rattle.tree_read.proofs.TreeEnds.{length-tree-ends, rooted}
+use Rattle.tree_read.proofs.NodeKinds.{kindNumber, says}
+use Rattle.tree_read.proofs.LaidSteps.{Same, laid-same, laidF-same, laid-root}
 
 -- ---- the paper's number and the next node, by the answer's case
-pub lost-number : {r : Walk} → r ≡ Lost → paperWalk r ≡ 10
-unfolding paperWalk
+pub lost-number : {r : Walk} → r ≡ Lost → paperWalk r ≡ refusalOf (judgeTree [])
+unfolding paperWalk refusalOf need treeOf noneLeft readTree
 lost-number e = ap paperWalk e
 
 pub next-is : {r : Walk} {m : ℕ} → r ≡ Next m → nextNode r ≡ some m
@@ -35,8 +35,8 @@ pub no-next : {C : Type 0} {r : Walk} {m : ℕ} → r ≡ Lost → nextNode r �
 unfolding nextNode
 no-next p q = none-not-some (sym (ap nextNode p) ∙ q)
 
-pub not-10 : {C : Type 0} {r : Walk} {m : ℕ} → r ≡ Next m → paperWalk r ≡ 10 → C
-unfolding paperWalk
+pub not-10 : {C : Type 0} {r : Walk} {m : ℕ} → r ≡ Next m → paperWalk r ≡ refusalOf (judgeTree []) → C
+unfolding paperWalk refusalOf need treeOf noneLeft readTree
 not-10 p q = let z : _≡_ {A = ℕ} 0 10 = sym (ap paperWalk p) ∙ q in absurd (omega arith)
 
 pub next-same : {r : Walk} {m n : ℕ} → r ≡ Next m → nextNode r ≡ some n → m ≡ n
@@ -56,6 +56,7 @@ bound-wider h b = record { within = λ k e. omega (arith, b .within k e) }
 -- ---- a node and the nodes after it
 pub record Head (ks : List ℕ) (ns : List Node) (n : ℕ) : Type 0 where
   pub node : Node
+  pub at : getElem? ns n ≡ some node
   pub is : drop n ns ≡ node ∷ drop (n + 1) ns
   pub counts : children node ≡ getD ks n 0
   pub parent : Parent node
@@ -78,16 +79,44 @@ head {ks} {ns} n c h =
     let x = at-exists ns n (omega (arith, counts-length c)) in
     record {
       node = x .0;
+      at = x .1;
       is = drop-next ns n (x .1) ∙ ap (λ k. x .0 ∷ drop k ns) (sym (add-one n));
       counts = sym (ap (λ l. getD l n 0) (c .is) ∙ map-at children ns n (x .1));
       parent = c .parents n (x .1);
     }
 
+-- ---- the entries that a walk leaves as they were
+kept-none : (d : List ℕ) (n : ℕ) → Kept d d n n
+kept-none d n = record { ordered = omega arith; long = refl; before = λ i h. refl; behind = λ i h. refl }
+
+kept-more : {d e e′ : List ℕ} {n m k : ℕ} → Kept d e n m → Kept e e′ m k → Kept d e′ n k
+kept-more p q =
+    let a = p .ordered in
+    let b = q .ordered in
+    record { ordered = omega arith; long = q .long ∙ p .long; before = λ i h. q .before i (omega arith) ∙ p .before i h; behind = λ i h. q .behind i h ∙ p .behind i (omega arith) }
+
+kept-before : {e e′ : List ℕ} {n m k : ℕ} → Kept e e′ m k → Same e e′ n m
+kept-before p = record { long = p .long; at = λ i h l. p .before i l }
+
+-- a write before what is written already
+kept-set : {d e : List ℕ} {n m : ℕ} (v : ℕ) → Kept d e (n + 1) m → Kept d (set e n v) n m
+kept-set {d} {e} {n} {m} v p =
+    let a = p .ordered in
+    record {
+      ordered = omega arith;
+      long = length-set e n v ∙ p .long;
+      before = λ i h. getD-set-other e n i v 0 (λ q. omega arith) ∙ p .before i (omega arith);
+      behind = λ i h. getD-set-other e n i v 0 (λ q. omega arith) ∙ p .behind i h;
+    }
+
+same-set : (e : List ℕ) (n v m : ℕ) → Same e (set e n v) (suc n) m
+same-set e n v m = record { long = length-set e n v; at = λ i h l. getD-set-other e n i v 0 (λ q. omega arith) }
+
 -- ---- children
 module _ (ns : List Node) (r : ℕ → List Node → Walked Tree) where
   pub forest-none : (d : List ℕ) (k n : ℕ) → k ≡ 0 → ForestWalked ns n d d (readForest r k n (drop n ns)) (Next n)
-  unfolding readForest forestSize forestEnds
-  forest-none d k n e = rw e (record { answer = next-is refl; here = sym (add-zero n); rest = refl; wrote = record { is = put-none d n } })
+  unfolding readForest
+  forest-none d k n e = rw e (record { answer = next-is refl; rest = refl; kept = kept-none d n }, λ ks h. laid-nil refl)
 
   pub forest-lost : (d e e′ : List ℕ) (k n : ℕ) {w : Walk} → (k ≡ 0 → ⊥) → TreeWalked ns n d e (r n (drop n ns)) w → w ≡ Lost → ForestWalked ns n d e′ (readForest r k n (drop n ns)) Lost
   unfolding readForest onward
@@ -96,47 +125,33 @@ module _ (ns : List Node) (r : ℕ → List Node → Walked Tree) where
     where
       go : (o : Walked Tree) → TreeWalked ns n d e o w → ForestWalked ns n d e′ (onward o (λ t m ms. onward (readForest r k m ms) (λ ts l ls. walked (cons t ts) l ls))) Lost
       go lost p = lost-number refl
-      go (walked t m ms) p = no-next q (p .answer)
+      go (walked t m ms) p = no-next q (p .0 .answer)
 
 -- a tree, and then the others
-forest-cons : (ns : List Node) (d e e′ : List ℕ) (t : Tree) (n m : ℕ) (z : Walk) (o : Walked Forest) → n ≤ length d → m ≡ n + treeSize t → Wrote d n (treeEnds t n) e → ForestWalked ns m e e′ o z →
+forest-cons : (ns : List Node) (d e e′ : List ℕ) (t : Tree) (n m : ℕ) (z : Walk) (o : Walked Forest) → Kept d e n m → ((ks : List ℕ) → KindsOf ks ns → Laid ks e t n m) → ForestWalked ns m e e′ o z →
     ForestWalked ns n d e′ (onward o (λ ts l ls. walked (cons t ts) l ls)) z
-unfolding onward forestSize forestEnds
-forest-cons ns d e e′ t n m z lost l h w p = p
-forest-cons ns d e e′ t n m z (walked ts k ms) l h w p = record {
-  answer = p .answer;
-  here = omega (arith, p .here);
-  rest = p .rest;
-  wrote = put-more w (rw (← h) (p .wrote)) l (h ∙ ap (λ (k : ℕ). n + k) (sym (length-tree-ends t n)));
-}
+unfolding onward
+forest-cons ns d e e′ t n m z lost k l p = p
+forest-cons ns d e e′ t n m z (walked ts j ms) k l p = (
+  record { answer = p .0 .answer; rest = p .0 .rest; kept = kept-more k (p .0 .kept) },
+  λ ks h. laid-cons (laid-same (l ks h) (kept-before (p .0 .kept))) (p .1 ks h),
+)
 
 module _ (ns : List Node) (r : ℕ → List Node → Walked Tree) where
-  pub forest-more : (d e e′ : List ℕ) (k n m : ℕ) {w : Walk} (z : Walk) → (k ≡ 0 → ⊥) → n ≤ length d → TreeWalked ns n d e (r n (drop n ns)) w → w ≡ Next m →
+  pub forest-more : (d e e′ : List ℕ) (k n m : ℕ) {w : Walk} (z : Walk) → (k ≡ 0 → ⊥) → TreeWalked ns n d e (r n (drop n ns)) w → w ≡ Next m →
       ForestWalked ns m e e′ (readForest r (k - 1) m (drop m ns)) z → ForestWalked ns n d e′ (readForest r k n (drop n ns)) z
   unfolding readForest onward
-  forest-more d e e′ zero n m z f l p q s = absurd (f refl)
-  forest-more d e e′ (suc k) n m {w} z f l p q s = go (r n (drop n ns)) p
+  forest-more d e e′ zero n m z f p q s = absurd (f refl)
+  forest-more d e e′ (suc k) n m {w} z f p q s = go (r n (drop n ns)) p
     where
       go : (o : Walked Tree) → TreeWalked ns n d e o w → ForestWalked ns n d e′ (onward o (λ t m ms. onward (readForest r k m ms) (λ ts l ls. walked (cons t ts) l ls))) z
       go lost p = not-10 q p
       go (walked t j ms) p =
-          let same : m ≡ j = next-same q (p .answer) in
-          let g : ForestWalked ns j e e′ (readForest r k j ms) z = subst (λ i. ForestWalked ns j e e′ (readForest r k j i) z) (sym (p .rest)) (subst (λ i. ForestWalked ns i e e′ (readForest r k i (drop i ns)) z) same (subst (λ i. ForestWalked ns m e e′ (readForest r i m (drop m ns)) z) (sub-one (suc k)) s)) in
-          forest-cons ns d e e′ t n j z (readForest r k j ms) l (p .here) (p .wrote) g
+          let same : m ≡ j = next-same q (p .0 .answer) in
+          let g : ForestWalked ns j e e′ (readForest r k j ms) z = subst (λ i. ForestWalked ns j e e′ (readForest r k j i) z) (sym (p .0 .rest)) (subst (λ i. ForestWalked ns i e e′ (readForest r k i (drop i ns)) z) same (subst (λ i. ForestWalked ns m e e′ (readForest r i m (drop m ns)) z) (sub-one (suc k)) s)) in
+          forest-cons ns d e e′ t n j z (readForest r k j ms) (p .0 .kept) (p .1) g
 
 -- ---- a node
--- a write before what is written already
-put-before : (d : List ℕ) (n v : ℕ) (xs : List ℕ) → n < length d → set (put d (n + 1) xs) n v ≡ put d n (v ∷ xs)
-unfolding put
-put-before d n v xs h =
-    let r = xs ++ drop (n + 1 + length xs) d in
-    let l : n < length (take (n + 1) d) = omega (arith, length-take-le (n + 1) d (omega arith)) in
-    let last : n + 1 + length xs ≡ n + suc (length xs) = omega arith in
-    set-append-left (take (n + 1) d) r n v l
-    ∙ ap (λ (z : List ℕ). z ++ r) (sym (take-set-lt (n + 1) d n v (omega arith)) ∙ ap (λ (k : ℕ). take k (set d n v)) (add-one n) ∙ take-suc-set d n v h)
-    ∙ append-snoc (take n d) v r
-    ∙ ap (λ (k : ℕ). take n d ++ v ∷ (xs ++ drop k d)) last
-
 -- what the walk over the children of node n says
 abbrev Below : List ℕ → List Node → ℕ → List ℕ → List ℕ → Walk → Type 0
 Below ks ns n d e w = (f : ℕ) → length ks ≤ n + 1 + f → ForestWalked ns (n + 1) d e (readForest (readTree f) (getD ks n 0) (n + 1) (drop (n + 1) ns)) w
@@ -164,7 +179,7 @@ module _ (ks : List ℕ) (ns : List Node) (n : ℕ) (c : Counts ks ns) where
     where
       go : (o : Walked Forest) → ForestWalked ns (n + 1) d e o w → TreeWalked ns n d e′ (onward o (λ ts m ms. found (treeFrom n (head n c h .node) ts) m ms)) Lost
       go lost p = lost-number refl
-      go (walked ts m ms) p = no-next q (p .answer)
+      go (walked ts m ms) p = no-next q (p .0 .answer)
 
   pub tree-read : (d e : List ℕ) (m : ℕ) {w : Walk} → n < length ks → n < length d → Below ks ns n d e w → w ≡ Next m → (f : ℕ) → length ks ≤ n + f →
       TreeWalked ns n d (set e n m) (readTree f n (drop n ns)) (Next m)
@@ -175,19 +190,22 @@ module _ (ks : List ℕ) (ns : List Node) (n : ℕ) (c : Counts ks ns) where
       x : Node
       x = head n c h .node
 
-      made : (ts : Forest) (j : ℕ) (ms : List Node) {t : Tree} → treeFrom n x ts ≡ some t → Passed ns (n + 1) j (forestSize ts) ms (forestEnds ts (n + 1)) d e w →
-          Passed ns n j (treeSize t) ms (treeEnds t n) d (set e n m) (Next m)
-      made ts j ms {t} g p =
-          let r = rooted n x ts g in
-          let same : m ≡ j = next-same q (p .answer) in
-          let here : j ≡ n + suc (forestSize ts) = omega (arith, p .here) in
-          let ends : m ∷ forestEnds ts (n + 1) ≡ treeEnds t n = ap₂ (λ (a k : ℕ). a ∷ forestEnds ts k) (same ∙ here) (add-one n) ∙ sym (r .ends n) in
+      here : (ks : List ℕ) → KindsOf ks ns → (j : ℕ) → m ≡ j → length e ≡ length d → NodeRow ks (set e n m) n (kindNumber x) j
+      here ks k j same z =
+          let y = k .made n (head n c h .at) in
           record {
-            answer = next-is (ap Next same);
-            here = omega (arith, r .size);
-            rest = p .rest;
-            wrote = record { is = ap (λ (z : List ℕ). set z n m) (p .wrote .is) ∙ put-before d n m (forestEnds ts (n + 1)) b ∙ ap (put d n) ends };
+            in-kinds = omega (arith, at-below ns n (head n c h .at), k .inside);
+            in-ends = omega (arith, length-set e n m);
+            kind = says _ (y .0) (y .1) .number;
+            ends = getD-set-same e n m 0 (omega arith) ∙ same;
           }
+
+      made : (ts : Forest) (j : ℕ) (ms : List Node) {t : Tree} → treeFrom n x ts ≡ some t → ForestWalked ns (n + 1) d e (walked ts j ms) w → TreeWalked ns n d (set e n m) (walked t j ms) (Next m)
+      made ts j ms {t} g p =
+          let same : m ≡ j = next-same q (p .0 .answer) in (
+            record { answer = next-is (ap Next same); rest = p .0 .rest; kept = kept-set m (p .0 .kept) },
+            λ ks k. laid-root x ts g (here ks k j same (p .0 .kept .long)) (laidF-same (subst (λ i. LaidF ks e ts i j) (add-one n) (p .1 ks k)) (same-set e n m j)),
+          )
 
       go : (o : Walked Forest) → readForest (readTree f) (children x) (suc n) (drop (n + 1) ns) ≡ o → ForestWalked ns (n + 1) d e o w →
           TreeWalked ns n d (set e n m) (onward o (λ ts m ms. found (treeFrom n x ts) m ms)) (Next m)

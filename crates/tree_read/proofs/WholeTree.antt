@@ -1,57 +1,80 @@
 -- The walk of node 0 against condition 10.
 use mathlib.Core.Path.{_≡_, refl, sym, ap, _∙_, subst}
 use mathlib.Core.Bool.{true}
-use mathlib.Core.List.{List, [], _∷_, _++_, map}
+use mathlib.Core.List.{List, [], _∷_, map}
 use mathlib.Core.Option.{Option, none, some}
-use Prim.Native.Nat.{ℕ, zero, suc, _+_, _-_, _≤_, _<_}
-use native.Mathlib.Nat.{sub-zero}
+use Prim.Native.Nat.{ℕ, zero, suc, _+_, _≤_, _<_}
 use native.Mathlib.Omega.{arith}
-use lib.ListN.{length, take, drop, replicate, length-drop, length-map}
+use lib.ListN.{length, getD, take, drop, replicate, length-drop, length-map, length-replicate}
 use lib.Seq.{take-at}
-use Rattle.semantics.specs.Bytes.{overwrite}
 use Rattle.semantics.specs.Editions.{edition1}
+use Rattle.semantics.specs.Refusals.{refusalOf, need, _>>=_}
 use Rattle.semantics.proofs.Facts.{none-not-some, some-is, at-below}
+use Rattle.semantics.proofs.Judging.{go-need}
 use Rattle.schedules.specs.Nodes.{Node, nodesIn}
 use Rattle.schedules.specs.Trees.{Tree, children, Walked, lost, walked, readTree, noneLeft, treeOf}
-use Rattle.codec.specs.Writing.{Wrote}
+use Rattle.schedules.specs.Laid.{Laid}
+use Rattle.schedules.specs.Files.{judgeTree}
 use Rattle.codec.specs.Padding.{pad}
-use Rattle.codec.proofs.Writing.{wrote-front}
 use Rattle.tree_read.specs.Index.{nodesOf}
-use Rattle.tree_read.specs.Ends.{noTree, subtreesOf, treeIn}
+use Rattle.tree_read.specs.Ends.{noTree, TreeAt, TreeRead, TreeIn}
 use Rattle.tree_read.specs.PaperNumbers.{paperWalk}
-use Rattle.tree_read.specs.Walks.{Parent, Counts, TreeWalked}
+use Rattle.tree_read.specs.Walks.{Parent, Counts, KindsOf, Kept, TreeWalked}
 use Rattle.tree_read.specs.declared.nodes.Nodes.{Nodes}
+use Rattle.tree_read.specs.declared.tree.Subtrees.{Subtrees}
 use Rattle.tree_read.specs.declared.tree.Walk.{Walk}
 use Rattle.tree_read.specs.declared.tree.Walk.the-variants.{Next, Lost}
 use Rattle.tree_read.proofs.NodeIndex.{nodes-none, indexed}
 use Rattle.tree_read.proofs.ChildCounts.{known, said}
+use Rattle.tree_read.proofs.LaidSteps.{laid-end}
 use Rattle.tree_read.proofs.WalkSteps.{no-next, not-10, next-same}
 
 -- ---- the answer, by the nodes
-pub no-nodes : (s : List ℕ) → nodesIn edition1 s ≡ none → treeIn s ≡ noTree
-unfolding treeIn
-no-nodes s e = rw (e, treeIn) refl
+module _ (s : List ℕ) {r : Subtrees} where
+  no-nodes : nodesIn edition1 s ≡ none → r ≡ noTree → TreeIn s r
+  unfolding need _>>=_
+  no-nodes e q = record { read = subst (λ o. TreeRead s (need 9 o >>= judgeTree) r) (sym e) q }
 
-pub of-nodes : (s : List ℕ) {ns : List Node} → nodesIn edition1 s ≡ some ns → treeIn s ≡ subtreesOf (treeOf ns)
-unfolding treeIn
-of-nodes s e = rw (e, treeIn) refl
+  module _ {ns : List Node} (e : nodesIn edition1 s ≡ some ns) where
+    of-nodes : TreeRead s (judgeTree ns) r → TreeIn s r
+    of-nodes h = record { read = subst (λ j. TreeRead s j r) (sym (go-need 9 judgeTree e)) h }
 
--- ---- what is written over zeros
-drop-replicate : (n k d : ℕ) → drop k (replicate n d) ≡ replicate (n - k) d
-drop-replicate n zero d = rw sub-zero refl
-drop-replicate zero (suc k) d = let e : 0 - suc k ≡ 0 = omega arith in rw e refl
-drop-replicate (suc n) (suc k) d = let e : suc n - suc k ≡ n - k = omega arith in rw e (drop-replicate n k d)
+    pub of-tree : TreeIn s r → TreeRead s (judgeTree ns) r
+    of-tree h = subst (λ j. TreeRead s j r) (go-need 9 judgeTree e) (h .read)
 
-over-zeros : {l e : List ℕ} → Wrote (replicate 64 0) 0 l e → e ≡ pad 64 0 l
-unfolding pad overwrite
-over-zeros {l} w = wrote-front w ∙ ap (λ z. l ++ z) (drop-replicate 64 (length l) 0)
+    none-made : treeOf ns ≡ none → r ≡ noTree → TreeIn s r
+    unfolding need
+    none-made g q = of-nodes (subst (λ o. TreeRead s (need 10 o) r) (sym g) q)
 
--- ---- the child counts that the walk is given
+-- ---- the child counts that the walk is given, and the nodes' kinds
 counts-of : (s cs : List ℕ) {ns : List Node} → nodesIn edition1 s ≡ some ns → cs ≡ pad 64 0 (map children ns) → Counts (take (nodesOf s .count) cs) ns
 unfolding pad
 counts-of s cs {ns} h e = record {
   is = ap (take (nodesOf s .count)) e ∙ take-at (map children ns) _ (nodesOf s .count) (length-map ns children ∙ indexed s h .counted);
   parents = λ i g. subst Parent (some-is (sym (known s h i (at-below ns i g) .is) ∙ g)) (said (known s h i (at-below ns i g) .made) .parent);
+}
+
+kinds-of : (s : List ℕ) {ns : List Node} → nodesIn edition1 s ≡ some ns → KindsOf (nodesOf s .kinds) ns
+kinds-of s {ns} h =
+    let x = indexed s h in
+    record {
+      inside = omega (arith, x .counted, x .few, x .kinds-full);
+      made = λ i g. (_, x .entries i (omega (arith, x .counted, at-below ns i g)) .node ∙ g);
+    }
+
+-- ---- over zeros
+getD-zeros : (n i : ℕ) → _≡_ {A = ℕ} (getD (replicate n 0) i 0) 0
+getD-zeros zero i = refl
+getD-zeros (suc n) zero = refl
+getD-zeros (suc n) (suc i) = getD-zeros n i
+
+lies-over : {kinds e : List ℕ} {t : Tree} {count : ℕ} → length kinds ≡ 64 → Kept (replicate 64 0) e 0 count → Laid kinds e t 0 count → TreeAt kinds count t (record { ok = true; ends = e })
+lies-over {kinds} {e} {t} {count} k p l = record {
+  ok = refl;
+  full = p .long ∙ length-replicate {A = ℕ} 64 0;
+  lies = record { laid = subst (Laid kinds e t 0) (sym (laid-end l)) l; small = omega arith };
+  whole = laid-end l;
+  behind = λ i h. p .behind i h ∙ getD-zeros 64 i;
 }
 
 -- what the walk of node 0 says of any nodes with these child counts
@@ -66,7 +89,7 @@ module _ (s cs e : List ℕ) (w : Walk) (c : (ns : List Node) → nodesIn editio
       p ns k (length ns) (omega (arith, ap length (k .is) ∙ length-map ns children))
 
   -- without nodes nothing is read
-  empty : nodesIn edition1 s ≡ none → paperWalk w ≡ 10
+  empty : nodesIn edition1 s ≡ none → paperWalk w ≡ refusalOf (judgeTree [])
   unfolding readTree
   empty h =
       let z : nodesOf s .count ≡ 0 = ap (λ (r : Nodes). r .count) (nodes-none s h) in
@@ -79,7 +102,7 @@ module _ (s cs e : List ℕ) (w : Walk) (c : (ns : List Node) → nodesIn editio
     where
       go : (o : Walked Tree) → TreeWalked ns 0 (replicate 64 0) e o w → noneLeft o ≡ none
       go lost k = refl
-      go (walked t m ms) k = no-next q (k .answer)
+      go (walked t m ms) k = no-next q (k .0 .answer)
 
   is-over : {ns : List Node} {m : ℕ} → nodesIn edition1 s ≡ some ns → w ≡ Next m → m < length ns → treeOf ns ≡ none
   unfolding treeOf noneLeft
@@ -88,20 +111,22 @@ module _ (s cs e : List ℕ) (w : Walk) (c : (ns : List Node) → nodesIn editio
       go : (o : Walked Tree) → TreeWalked ns 0 (replicate 64 0) e o w → noneLeft o ≡ none
       go lost k = refl
       go (walked t j []) k =
-          let same : m ≡ j = next-same q (k .answer) in
-          absurd (omega (arith, ap length (k .rest) ∙ length-drop j ns))
+          let same : m ≡ j = next-same q (k .0 .answer) in
+          absurd (omega (arith, ap length (k .0 .rest) ∙ length-drop j ns))
       go (walked t j (x ∷ ms)) k = refl
 
-  is-tree : {ns : List Node} → nodesIn edition1 s ≡ some ns → w ≡ Next (length ns) → record { ok = true; ends = e } ≡ subtreesOf (treeOf ns)
-  unfolding treeOf noneLeft subtreesOf
+  is-tree : {ns : List Node} → nodesIn edition1 s ≡ some ns → w ≡ Next (length ns) → TreeRead s (judgeTree ns) (record { ok = true; ends = e })
+  unfolding treeOf noneLeft need
   is-tree {ns} h q = go (readTree (length ns) 0 ns) (root h)
     where
-      go : (o : Walked Tree) → TreeWalked ns 0 (replicate 64 0) e o w → record { ok = true; ends = e } ≡ subtreesOf (noneLeft o)
+      go : (o : Walked Tree) → TreeWalked ns 0 (replicate 64 0) e o w → TreeRead s (need 10 (noneLeft o)) (record { ok = true; ends = e })
       go lost k = not-10 q k
-      go (walked t j []) k = ap (λ (z : List ℕ). record { ok = true; ends = z }) (over-zeros (k .wrote))
+      go (walked t j []) k =
+          let same : j ≡ nodesOf s .count = sym (next-same q (k .0 .answer)) ∙ indexed s h .counted in
+          lies-over (indexed s h .kinds-full) (subst (Kept (replicate 64 0) e 0) same (k .0 .kept)) (subst (Laid (nodesOf s .kinds) e t 0) same (k .1 (nodesOf s .kinds) (kinds-of s h)))
       go (walked t j (x ∷ ms)) k =
-          let same : length ns ≡ j = next-same q (k .answer) in
-          absurd (omega (arith, ap length (k .rest) ∙ length-drop j ns))
+          let same : length ns ≡ j = next-same q (k .0 .answer) in
+          absurd (omega (arith, ap length (k .0 .rest) ∙ length-drop j ns))
 
 -- ---- as the code has them: the index is a parameter
 module _ (s cs e : List ℕ) (w : Walk) (r : Nodes) (i : r ≡ nodesOf s) (c : (ns : List Node) → nodesIn edition1 s ≡ some ns → cs ≡ pad 64 0 (map children ns)) (p : Root (take (r .count) cs) e w) where
@@ -111,28 +136,27 @@ module _ (s cs e : List ℕ) (w : Walk) (r : Nodes) (i : r ≡ nodesOf s) (c : (
   counted : {ns : List Node} → nodesIn edition1 s ≡ some ns → r .count ≡ length ns
   counted h = ap (λ (x : Nodes). x .count) i ∙ sym (indexed s h .counted)
 
-  pub tree-found : {m : ℕ} → w ≡ Next m → m ≡ r .count → record { ok = true; ends = e } ≡ treeIn s
+  pub tree-found : {m : ℕ} → w ≡ Next m → m ≡ r .count → TreeIn s (record { ok = true; ends = e })
   tree-found {m} q g = go (nodesIn edition1 s) refl
     where
-      go : (o : Option (List Node)) → nodesIn edition1 s ≡ o → record { ok = true; ends = e } ≡ treeIn s
+      go : (o : Option (List Node)) → nodesIn edition1 s ≡ o → TreeIn s (record { ok = true; ends = e })
       go none h = not-10 q (empty s cs e w c given h)
-      go (some ns) h = is-tree s cs e w c given h (q ∙ ap Next (g ∙ counted h)) ∙ sym (of-nodes s h)
+      go (some ns) h = of-nodes s h (is-tree s cs e w c given h (q ∙ ap Next (g ∙ counted h)))
 
-  pub tree-over : {m : ℕ} → w ≡ Next m → (m ≡ r .count → ⊥) → m ≤ r .count → treeIn s ≡ noTree
-  unfolding subtreesOf
-  tree-over {m} q g b = go (nodesIn edition1 s) refl
-    where
-      go : (o : Option (List Node)) → nodesIn edition1 s ≡ o → treeIn s ≡ noTree
-      go none h = no-nodes s h
-      go (some ns) h =
-          let n = counted h in
-          let l : m < length ns = omega arith in
-          of-nodes s h ∙ ap subtreesOf (is-over s cs e w c given h q l)
+  module _ {t : Subtrees} (n : t ≡ noTree) where
+    pub tree-over : {m : ℕ} → w ≡ Next m → (m ≡ r .count → ⊥) → m ≤ r .count → TreeIn s t
+    tree-over {m} q g b = go (nodesIn edition1 s) refl
+      where
+        go : (o : Option (List Node)) → nodesIn edition1 s ≡ o → TreeIn s t
+        go none h = no-nodes s h n
+        go (some ns) h =
+            let z = counted h in
+            let l : m < length ns = omega arith in
+            none-made s h (is-over s cs e w c given h q l) n
 
-  pub tree-lost : w ≡ Lost → treeIn s ≡ noTree
-  unfolding subtreesOf
-  tree-lost q = go (nodesIn edition1 s) refl
-    where
-      go : (o : Option (List Node)) → nodesIn edition1 s ≡ o → treeIn s ≡ noTree
-      go none h = no-nodes s h
-      go (some ns) h = of-nodes s h ∙ ap subtreesOf (is-lost s cs e w c given h q)
+    pub tree-lost : w ≡ Lost → TreeIn s t
+    tree-lost q = go (nodesIn edition1 s) refl
+      where
+        go : (o : Option (List Node)) → nodesIn edition1 s ≡ o → TreeIn s t
+        go none h = no-nodes s h n
+        go (some ns) h = none-made s h (is-lost s cs e w c given h q) n

@@ -1,13 +1,14 @@
 -- Condition 9, and the nodes by number: the kind of each, and where its payload starts and ends in the schedule section.
 use mathlib.Core.Path.{_≡_}
 use mathlib.Core.Bool.{Bool, true, false}
-use mathlib.Core.List.{List, map}
-use mathlib.Core.Option.{none, some}
+use mathlib.Core.List.{List, [], map}
 use Prim.Native.Nat.{ℕ, _+_, _≤_, _<_}
 use lib.ListN.{length, getD, drop, replicate, getElem?}
 use Rattle.semantics.specs.Bytes.{Read, broken, read}
 use Rattle.semantics.specs.Editions.{edition1}
-use Rattle.schedules.specs.Nodes.{Node, kindOf, nodeOf, readNode, nodesIn}
+use Rattle.semantics.specs.Refusals.{Judged, refused, accepted}
+use Rattle.schedules.specs.Nodes.{Node, kindOf, nodeOf, readNode}
+use Rattle.schedules.specs.Files.{judgeNodeSection}
 use Rattle.codec.specs.Parts.{partAt}
 use Rattle.codec.specs.Places.{placesFrom}
 use Rattle.codec.specs.Padding.{pad}
@@ -28,8 +29,9 @@ unfoldable pub nodePlaces : List ℕ → ℕ → List ℕ
 nodePlaces s n = placesFrom (length s) (readNode edition1) n (drop 1 s)
 
 -- ---- the answer
-abbrev pub notNodes : Nodes
-notNodes = record { refusal = 9; count = 0; kinds = replicate 64 0; starts = replicate 64 0; ends = replicate 64 0 }
+-- a refusal
+abbrev pub noNodes : ℕ → Nodes
+noNodes n = record { refusal = n; count = 0; kinds = replicate 64 0; starts = replicate 64 0; ends = replicate 64 0 }
 
 unfoldable pub index : List ℕ → ℕ → Nodes
 index s n = record {
@@ -40,8 +42,16 @@ index s n = record {
   ends = pad 64 0 (map (endAt s) (nodePlaces s n));
 }
 
+unfoldable pub nodesRead : List ℕ → Judged (List Node) → Nodes
+nodesRead s (refused n) = noNodes n
+nodesRead s (accepted ns) = index s (length ns)
+
 unfoldable pub nodesOf : List ℕ → Nodes
-nodesOf s = elim (nodesIn edition1 s) [ none ↦ notNodes | some ns ↦ index s (length ns) ]
+nodesOf s = nodesRead s (judgeNodeSection edition1 s)
+
+-- the answer to every section that breaks its layout: that to one without bytes
+abbrev pub notNodes : Nodes
+notNodes = nodesOf []
 
 -- ---- what the index says of the nodes
 -- entry i has the kind of node i, and where its payload starts and ends in s

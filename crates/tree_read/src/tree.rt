@@ -10,7 +10,7 @@ ghost use Rattle.schedules.specs.Nodes.{Node, nodesIn};
 ghost use Rattle.schedules.specs.Trees.{children};
 ghost use Rattle.codec.specs.Padding.{pad};
 ghost use Rattle.tree_read.specs.Index.{nodesOf};
-ghost use Rattle.tree_read.specs.Ends.{noTree, treeIn};
+ghost use Rattle.tree_read.specs.Ends.{noTree, TreeIn};
 ghost use Rattle.tree_read.specs.Walks.{Makes, NodeWalked, NodesWalked};
 
 pub struct Subtrees {
@@ -104,7 +104,7 @@ fn forest(counts: &[u8], ends: &mut [usize], n: usize, k: u8) -> Walk
 // n is the index of the nodes of s
 pub fn read(s: &[u8], n: Nodes) -> Subtrees
     requires { ⌜ n ≡ nodesOf (now s) ⌝ }
-    ensures { λ r. ⌜ r ≡ treeIn (now (s .entry)) ⌝ }
+    ensures { λ r. ⌜ TreeIn (now (s .entry)) r ⌝ }
 {
     let m = n.count;
     let counts = child_counts(s, n);

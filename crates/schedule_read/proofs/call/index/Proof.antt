@@ -1,4 +1,3 @@
-use mathlib.Core.Path.{_∙_}
 use borrow.Author.Needs.{needs}
 use Rattle.schedule_read.proofs.Stages.{by-parts, parts-stand, by-sections}
 use Rattle.schedule_read.proofs.call.index.Statement.{statement}
@@ -11,7 +10,7 @@ refused-requires : tie.Need-refused-requires
 refused-requires c κs = search needs
 
 returns : tie.Need-returns
-returns c = c .refused .ensures ∙ by-parts (c .before .before .before .before .args .file .now) (c .before .before .read .ensures) (c .before .if1 .taken)
+returns c = by-parts (c .before .before .before .before .args .file .now) (c .before .before .read .ensures) (c .before .if1 .taken) (c .refused .ensures)
 
 sub-sections : tie.Need-sub-sections
 sub-sections c = parts-stand (c .before .before .before .args .file .now) (c .before .read .ensures) (c .if1 .left) .variables .ordered
@@ -44,7 +43,7 @@ sections-requires : tie.Need-sections-requires
 sections-requires c κs = search needs
 
 returns-2 : tie.Need-returns-2
-returns-2 c = c .sections .ensures ∙ by-sections (c .before .before .before .before .before .before .before .args .file .now) (c .before .before .before .before .before .read .ensures) (c .before .before .before .before .if1 .left)
+returns-2 c = by-sections (c .before .before .before .before .before .before .before .args .file .now) (c .before .before .before .before .before .read .ensures) (c .before .before .before .before .if1 .left) (c .sections .ensures)
 
 pub index-spec : {M : Type 1} → statement M
 index-spec =

@@ -1,5 +1,5 @@
 -- One law of Stages for each return: the plant, the nodes, the tree or the last check refuses, or all have passed.
-use mathlib.Core.Path.{sym, _∙_}
+use mathlib.Core.Path.{sym}
 use borrow.Author.Needs.{needs}
 use borrow.Author.Tests.{not-true, not-false}
 use Rattle.schedule_read.proofs.Stages.{by-plant, planted, counts-full, by-nodes, index-of, by-tree, by-last, all-passed}
@@ -13,7 +13,7 @@ refused-requires : tie.Need-refused-requires
 refused-requires c κs = search needs
 
 returns : tie.Need-returns
-returns c = c .refused .ensures ∙ by-plant (c .before .before .before .before .before .before .args .parts) (c .before .before .before .before .before .before .args .vs .now) (c .before .before .before .before .before .before .args .es .now) (c .before .before .before .before .before .before .args .s .now) (c .before .before .read .ensures) (c .before .if1 .taken)
+returns c = by-plant (c .before .before .before .before .before .before .args .parts) (c .before .before .before .before .before .before .args .vs .now) (c .before .before .before .before .before .before .args .es .now) (c .before .before .before .before .before .before .args .s .now) (c .before .before .read .ensures) (c .before .if1 .taken) (c .refused .ensures)
 
 read-requires-2 : tie.Need-read-requires-2
 read-requires-2 c κs = search needs
@@ -25,7 +25,7 @@ returns-2 : tie.Need-returns-2
 returns-2 c =
     let c7 = c .before .before .before .before .before .before .before in
     let a = c7 .before .before .args in
-    c .refused2 .ensures ∙ by-nodes (a .parts) (a .vs .now) (a .es .now) (a .s .now) (c .before .before .before .before .before .read .ensures) (c .before .before .before .before .if1 .left) (c .before .before .before .read2 .ensures) (c .before .if2 .taken)
+    by-nodes (a .parts) (a .vs .now) (a .es .now) (a .s .now) (c .before .before .before .before .before .read .ensures) (c .before .before .before .before .if1 .left) (c .before .before .before .read2 .ensures) (c .before .if2 .taken) (c .refused2 .ensures)
 
 read-requires-3 : tie.Need-read-requires-3
 read-requires-3 c κs = c .before .before .before .before .before .before .read2 .ensures
@@ -38,7 +38,7 @@ returns-3 c =
     let c7 = c .before .before .before .before .before .before .before in
     let c14 = c7 .before .before .before .before .before .before .before in
     let a = c14 .before .before .args in
-    c .refused3 .ensures ∙ by-tree (a .parts) (a .vs .now) (a .es .now) (a .s .now) (c7 .before .before .before .before .before .read .ensures) (c7 .before .before .before .before .if1 .left) (c7 .before .before .before .read2 .ensures) (c7 .before .if2 .left) (c .before .before .before .read3 .ensures) (not-true _ (c .before .if3 .taken))
+    by-tree (a .parts) (a .vs .now) (a .es .now) (a .s .now) (c7 .before .before .before .before .before .read .ensures) (c7 .before .before .before .before .if1 .left) (c7 .before .before .before .read2 .ensures) (c7 .before .if2 .left) (c .before .before .before .read3 .ensures) (not-true _ (c .before .if3 .taken)) (c .refused3 .ensures)
 
 slice-aggregate-checked : tie.Need-slice-aggregate-checked
 slice-aggregate-checked c =
@@ -84,7 +84,7 @@ returns-4 c =
     let c14 = c7 .before .before .before .before .before .before .before in
     let c21 = c14 .before .before .before .before .before .before .before in
     let a = c21 .before .args in
-    c .refused4 .ensures ∙ by-last (a .parts) (a .vs .now) (a .es .now) (a .s .now) (c14 .before .before .before .before .read .ensures) (c14 .before .before .before .if1 .left) (c14 .before .before .read2 .ensures) (c14 .if2 .left) (c7 .before .before .read3 .ensures) (not-false _ (c7 .if3 .left)) (c .before .before .checked .ensures) (c .before .if4 .taken)
+    by-last (a .parts) (a .vs .now) (a .es .now) (a .s .now) (c14 .before .before .before .before .read .ensures) (c14 .before .before .before .if1 .left) (c14 .before .before .read2 .ensures) (c14 .if2 .left) (c7 .before .before .read3 .ensures) (not-false _ (c7 .if3 .left)) (c .before .before .checked .ensures) (c .before .if4 .taken) (c .refused4 .ensures)
 
 returns-5 : tie.Need-returns-5
 returns-5 c =

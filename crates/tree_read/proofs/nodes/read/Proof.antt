@@ -4,7 +4,7 @@ use Prim.Native.Nat.{_≤_, _-_}
 use native.Mathlib.Omega.{arith}
 use borrow.Author.Needs.{needs}
 use borrow.Author.Tests.{not-true, not-false}
-use Rattle.tree_read.proofs.NodeIndex.{Filled, nodes-none, no-section, too-few, too-many, fill-start, fill-next, fill-broken, fill-over, fill-end, stands-inside}
+use Rattle.tree_read.proofs.NodeIndex.{Filled, nodes-refuse, no-section, too-few, too-many, fill-start, fill-next, fill-broken, fill-over, fill-end, stands-inside}
 use Rattle.tree_read.proofs.nodes.read.Statement.{statement}
 use Rattle.tree_read.proofs.nodes.read.Tie as tie
 
@@ -18,7 +18,7 @@ refused-requires : tie.Need-refused-requires Inv-loop μ-loop
 refused-requires c κs = search needs
 
 returns : tie.Need-returns Inv-loop μ-loop
-returns c = c .refused .ensures ∙ sym (nodes-none _ (no-section (c .before .before .before .args .s .now) (omega arith)))
+returns c = c .refused .ensures ∙ nodes-refuse _ (no-section (c .before .before .before .args .s .now) (omega arith))
 
 shared-slice-read-n : tie.Need-shared-slice-read-n Inv-loop μ-loop
 shared-slice-read-n c = omega arith
@@ -30,13 +30,13 @@ refused-requires-2 : tie.Need-refused-requires-2 Inv-loop μ-loop
 refused-requires-2 c κs = search needs
 
 returns-2 : tie.Need-returns-2 Inv-loop μ-loop
-returns-2 c = c .refused2 .ensures ∙ sym (nodes-none _ (too-few (c .before .before .before .before .before .args .s .now) (omega arith) (omega arith)))
+returns-2 c = c .refused2 .ensures ∙ nodes-refuse _ (too-few (c .before .before .before .before .before .args .s .now) (omega arith) (omega arith))
 
 refused-requires-3 : tie.Need-refused-requires-3 Inv-loop μ-loop
 refused-requires-3 c κs = search needs
 
 returns-3 : tie.Need-returns-3 Inv-loop μ-loop
-returns-3 c = c .refused3 .ensures ∙ sym (nodes-none _ (too-many (c .before .before .before .before .before .before .args .s .now) (omega arith) (omega arith)))
+returns-3 c = c .refused3 .ensures ∙ nodes-refuse _ (too-many (c .before .before .before .before .before .before .args .s .now) (omega arith) (omega arith))
 
 loop-holds : tie.Need-loop-holds Inv-loop μ-loop
 loop-holds c = (omega arith, fill-start _ (omega arith))
@@ -48,7 +48,7 @@ refused-requires-4 : tie.Need-refused-requires-4 Inv-loop μ-loop
 refused-requires-4 c κs = search needs
 
 returns-4 : tie.Need-returns-4 Inv-loop μ-loop
-returns-4 c = c .refused4 .ensures ∙ sym (nodes-none _ (fill-broken _ _ _ _ _ _ (c .before .before .before .before .loop .inv .1) (omega arith) (omega arith) (omega arith) (c .before .before .before .loop-test .taken) (sym (not-true _ (c .before .if4 .taken)) ∙ c .before .before .node .ensures)))
+returns-4 c = c .refused4 .ensures ∙ nodes-refuse _ (fill-broken _ _ _ _ _ _ (c .before .before .before .before .loop .inv .1) (omega arith) (omega arith) (omega arith) (c .before .before .before .loop-test .taken) (sym (not-true _ (c .before .if4 .taken)) ∙ c .before .before .node .ensures))
 
 add-e : tie.Need-add-e Inv-loop μ-loop
 add-e c =
@@ -111,7 +111,7 @@ refused-requires-5 : tie.Need-refused-requires-5 Inv-loop μ-loop
 refused-requires-5 c κs = search needs
 
 returns-5 : tie.Need-returns-5 Inv-loop μ-loop
-returns-5 c = c .refused5 .ensures ∙ sym (nodes-none _ (fill-over _ _ _ _ _ _ (c .before .before .before .loop .inv .1) (omega arith) (omega arith) (omega arith) (omega arith) (omega arith)))
+returns-5 c = c .refused5 .ensures ∙ nodes-refuse _ (fill-over _ _ _ _ _ _ (c .before .before .before .loop .inv .1) (omega arith) (omega arith) (omega arith) (omega arith) (omega arith))
 
 returns-6 : tie.Need-returns-6 Inv-loop μ-loop
 returns-6 c = fill-end _ _ _ _ _ _ (c .before .before .loop .inv .1) (omega arith) (omega arith) (omega arith) (omega arith) (omega arith)

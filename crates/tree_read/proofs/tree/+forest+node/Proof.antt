@@ -69,10 +69,9 @@ forest-same-length t c =
 forest-returns-2 : (t : ℕ) → forest-lts.Need-returns-2 (forest-calls t) (forest-at t) forest.Post
 forest-returns-2 t c =
     let c7 = c .before .before .before .before .before .before .before in
-    let c14 = c7 .before .before .before .before .before .before .before in
     let b = c7 .before .before .node .ensures .0 .within _ (next-is (c .before .before .before .before .before .w .given .1)) in (
       bound-wider (omega arith) (c .before .before .forest .ensures .0),
-      λ ns k f l. forest-more ns _ _ _ _ _ _ _ _ (c7 .before .before .before .before .if1 .left) (omega (arith, c14 .pre)) (c7 .before .before .node .ensures .1 ns k f l) (c .before .before .before .before .before .w .given .1) (c .before .before .forest .ensures .1 ns k f (omega arith)),
+      λ ns k f l. forest-more ns _ _ _ _ _ _ _ _ (c7 .before .before .before .before .if1 .left) (c7 .before .before .node .ensures .1 ns k f l) (c .before .before .before .before .before .w .given .1) (c .before .before .forest .ensures .1 ns k f (omega arith)),
     )
 
 forest-same-length-2 : (t : ℕ) → forest-lts.Need-same-length-2 (forest-calls t) (forest-at t) forest.Post

@@ -1,5 +1,5 @@
 -- One law of WholeTree for each return: `tree-found`, `tree-over`, `tree-lost`.
-use mathlib.Core.Path.{_≡_, sym, _∙_}
+use mathlib.Core.Path.{_≡_, sym}
 use native.Mathlib.Omega.{arith}
 use lib.ListN.{length, length-take}
 use lib.Seq.{length-take-le}
@@ -45,12 +45,12 @@ returns c =
 returns-2 : tie.Need-returns-2
 returns-2 c =
     let c7 = c .before .before .before .before .before .before .before in
-    let b = c .before .before .before .before .before .before .node .ensures .0 .within _ (next-is (c .before .before .before .w .given .1)) in c .no-tree .ensures ∙ sym (tree-over _ _ _ _ (c7 .before .before .before .before .args .n) (c7 .before .before .before .before .pre) (c7 .before .before .child-counts .ensures) (c .before .before .before .before .before .before .node .ensures .1) (c .before .before .before .w .given .1) (c .before .if1 .left) (omega (arith, length-take (c7 .before .before .before .before .args .n .count) (c7 .before .before .child-counts .result))))
+    let b = c .before .before .before .before .before .before .node .ensures .0 .within _ (next-is (c .before .before .before .w .given .1)) in tree-over _ _ _ _ (c7 .before .before .before .before .args .n) (c7 .before .before .before .before .pre) (c7 .before .before .child-counts .ensures) (c .before .before .before .before .before .before .node .ensures .1) (c .no-tree .ensures) (c .before .before .before .w .given .1) (c .before .if1 .left) (omega (arith, length-take (c7 .before .before .before .before .args .n .count) (c7 .before .before .child-counts .result)))
 
 returns-3 : tie.Need-returns-3
 returns-3 c =
     let c7 = c .before .before .before .before .before .before .before in
-    c .no-tree2 .ensures ∙ sym (tree-lost _ _ _ _ (c7 .before .before .args .n) (c7 .before .before .pre) (c .before .before .before .before .before .before .before .child-counts .ensures) (c .before .before .before .before .node .ensures .1) (c .before .enum-told .given .1))
+    tree-lost _ _ _ _ (c7 .before .before .args .n) (c7 .before .before .pre) (c .before .before .before .before .before .before .before .child-counts .ensures) (c .before .before .before .before .node .ensures .1) (c .no-tree2 .ensures) (c .before .enum-told .given .1)
 
 pub read-spec : {M : Type 1} → statement M
 read-spec =
