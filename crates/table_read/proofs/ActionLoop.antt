@@ -7,13 +7,13 @@ use Prim.Native.Nat.{ℕ, _+_, _≤_, _<_}
 use native.Mathlib.Numerals.{add-one}
 use native.Mathlib.Omega.{arith}
 use borrow.Author.Tests.{leb-true, ltb-true, lt-ltb, le-ltb, le-leb, lt-leb}
-use lib.Dec.{leb, ltb}
+use lib.Dec.{ltb}
 use lib.ListN.{length, getD, set, drop, replicate, length-drop}
 use Rattle.semantics.specs.Bytes.{number, broken, read, andThen, _>>=_, byte, give, guard, times, just, whole}
 use Rattle.semantics.specs.Editions.{edition1}
 use Rattle.semantics.specs.Refusals.{Judged, accepted}
 use Rattle.semantics.specs.TableFile.{NodeAction, readAction, readActions, actionsIn}
-use Rattle.semantics.specs.Tables.{actionNodes, actionAt, nodeExists, actionsNumbered, judgeActions}
+use Rattle.semantics.specs.Tables.{risingFrom, actionNodes, actionAt, nodeExists, actionsNumbered, judgeActions}
 use Rattle.semantics.proofs.Facts.{and-left, and-right, and-both, within-both, none-not-some}
 use Rattle.semantics.proofs.Judging.{go-need, go-ensure}
 use Rattle.semantics.proofs.Readers.{broken-not-read, read-rest, guarded, whole-read}
@@ -28,7 +28,7 @@ use Rattle.table_read.specs.Ends.{anything, follows, EndsWith, good-at, 
 use Rattle.table_read.specs.ActionIndex.{kindCode, kindAt, nodeOf, placeAt, operandStart, operandEnd, byNode, noActions, actionIndex, indexRead, actionsOf, Counted, counted, miscounted}
 use Rattle.table_read.proofs.Early.{early}
 use Rattle.table_read.proofs.Fitted.{Fitted, fit, unfit, fitted}
-use Rattle.table_read.proofs.Rising.{laid, Laid, laid-none, laid-more, laid-true, not-laid, laid-fronts}
+use Rattle.table_read.proofs.Rising.{rising-one, laid, Laid, laid-none, laid-more, laid-true, not-laid, laid-fronts}
 use Rattle.table_read.proofs.ActionForms.{was, ends, kind-is}
 use Rattle.table_read.proofs.ByNode.{listed-set, listed-zero, action-other, action-new, place-other, place-new, place-none, not-yet}
 
@@ -140,18 +140,18 @@ module _ {s : List ℕ} {p : ℕ} (low : ℕ) where
 
   pub next-low : getD s (p + 1) 0 < low → EndsWith (readAction edition1) (follows nodeOf (nodeExists edition1) low) s p 0
   unfolding follows
-  next-low h = good-none refl (λ a e k. rw (lt-leb low (a .node) (subst (λ n. n < low) (was s p k .node) h)) refl)
+  next-low h = good-none refl (λ a e k. rw (rising-one low (a .node), lt-leb low (a .node) (subst (λ n. n < low) (was s p k .node) h)) refl)
 
   pub next-high : 64 ≤ getD s (p + 1) 0 → EndsWith (readAction edition1) (follows nodeOf (nodeExists edition1) low) s p 0
   unfolding follows nodeExists
-  next-high h = good-none refl (λ a e k. rw (le-ltb (a .node) 64 (subst (λ n. 64 ≤ n) (was s p k .node) h), and-false (leb low (a .node))) refl)
+  next-high h = good-none refl (λ a e k. rw (le-ltb (a .node) 64 (subst (λ n. 64 ≤ n) (was s p k .node) h), and-false (risingFrom low (a .node ∷ []))) refl)
 
   pub next-found : {q : ℕ} → (q ≡ 0 → ⊥) → Took (readAction edition1) anything s p q tt → low ≤ getD s (p + 1) 0 → getD s (p + 1) 0 < 64 → EndsWith (readAction edition1) (follows nodeOf (nodeExists edition1) low) s p q
   unfolding follows nodeExists
   next-found {q} z t h k =
       let node = was s p (t .got) .node in
       let n = t .value .node in
-      good-at {q = q} (omega arith) (record { value = t .value; got = t .got; inside = t .inside; means = and-both (le-leb low n (subst (λ n. low ≤ n) node h)) (lt-ltb n 64 (subst (λ n. n < 64) node k)) })
+      good-at {q = q} (omega arith) (record { value = t .value; got = t .got; inside = t .inside; means = and-both (rising-one low n ∙ le-leb low n (subst (λ n. low ≤ n) node h)) (lt-ltb n 64 (subst (λ n. n < 64) node k)) })
 
 abbrev Next : List ℕ → ℕ → ℕ → ℕ → Type 0
 Next s p q low = Took (readAction edition1) (λ a (x : Unit {0}). follows nodeOf (nodeExists edition1) low a ≡ true) s p q tt
@@ -161,8 +161,8 @@ pub next-node : {s : List ℕ} {p q low : ℕ} → Next s p q low → (low ≤ g
 unfolding follows nodeExists
 next-node {s} {p} {q} {low} u =
     let node = was s p (u .got) .node in
-    let l = leb-true low (u .value .node) (and-left (leb low (u .value .node)) (ltb (u .value .node) 64) (u .means)) in
-    let h = ltb-true (u .value .node) 64 (and-right (leb low (u .value .node)) (ltb (u .value .node) 64) (u .means)) in
+    let l = leb-true low (u .value .node) (sym (rising-one low (u .value .node)) ∙ and-left (risingFrom low (u .value .node ∷ [])) (ltb (u .value .node) 64) (u .means)) in
+    let h = ltb-true (u .value .node) 64 (and-right (risingFrom low (u .value .node ∷ [])) (ltb (u .value .node) 64) (u .means)) in
     (omega arith, omega arith)
 
 module _ {s : List ℕ} {i p low : ℕ} {ks ss es : List ℕ} (x : Indexing s i p low ks ss es) {q : ℕ} (u : Next s p q low) where

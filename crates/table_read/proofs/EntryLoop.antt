@@ -12,7 +12,7 @@ use lib.ListN.{length, getD, drop, List·getD-eq-default}
 use Rattle.semantics.specs.Bytes.{broken, read, give, times}
 use Rattle.semantics.specs.Editions.{edition1}
 use Rattle.semantics.specs.TableFile.{Entry, actionKind, readEntry, readLocation}
-use Rattle.semantics.specs.Tables.{entryFits, entryNodes, locationFits}
+use Rattle.semantics.specs.Tables.{risingFrom, entryFits, entryNodes, locationFits}
 use Rattle.semantics.proofs.Facts.{true-not-false, by-cases, and-both}
 use Rattle.semantics.proofs.Readers.{broken-not-read, read-value, guarded}
 use Rattle.codec.specs.Reading.{Took, reads-at}
@@ -21,7 +21,7 @@ use Rattle.codec.proofs.Known.{after-byte, not-past, snoc}
 use Rattle.table_read.specs.Ends.{anything, follows, EndsWith, good-at, good-none}
 use Rattle.table_read.specs.LocationIndex.{entryNode, entryAt, actionsLike, likeKind, kindFits}
 use Rattle.table_read.proofs.Early.{early}
-use Rattle.table_read.proofs.Rising.{laid, Laid, laid-none, laid-more, laid-true, not-laid, laid-fronts}
+use Rattle.table_read.proofs.Rising.{rising-one, laid, Laid, laid-none, laid-more, laid-true, not-laid, laid-fronts}
 use Rattle.table_read.proofs.LikeKinds.{entry-like}
 
 -- ---- the entry at place p
@@ -56,11 +56,11 @@ module _ (n : ℕ) (ks : List ℕ) (low : ℕ) where
 
     pub entry-low : getD s p 0 < low → EndsWith (readEntry edition1) good s p 0
     unfolding follows
-    entry-low h = good-none refl (λ a e k. rw (lt-leb low (a .node) (subst (λ m. m < low) (sym (entry-node s p k)) h)) refl)
+    entry-low h = good-none refl (λ a e k. rw (rising-one low (a .node), lt-leb low (a .node) (subst (λ m. m < low) (sym (entry-node s p k)) h)) refl)
 
     unfit : ((a : Entry) → a ≡ entryAt s p → entryFits n (actionsLike ks) a ≡ false) → EndsWith (readEntry edition1) good s p 0
     unfolding follows
-    unfit h = good-none refl (λ a e k. rw (h a (entry-is s p k .1), and-false (leb low (a .node))) refl)
+    unfit h = good-none refl (λ a e k. rw (h a (entry-is s p k .1), and-false (risingFrom low (a .node ∷ []))) refl)
 
     pub entry-outside : length ks ≤ getD s p 0 → EndsWith (readEntry edition1) good s p 0
     unfolding kindFits actionKind likeKind
@@ -84,7 +84,7 @@ module _ (n : ℕ) (ks : List ℕ) (low : ℕ) where
             value = k .value;
             got = k .got;
             inside = k .inside;
-            means = and-both (le-leb low (k .value .node) (subst (λ m. low ≤ m) (sym (entry-node s p (k .got))) l)) (ap (entryFits n (actionsLike ks)) (k .means) ∙ sym here ∙ e);
+            means = and-both (rising-one low (k .value .node) ∙ le-leb low (k .value .node) (subst (λ m. low ≤ m) (sym (entry-node s p (k .got))) l)) (ap (entryFits n (actionsLike ks)) (k .means) ∙ sym here ∙ e);
           })
 
 -- ---- the first i entries of the location at p, the last of which ends at q; the next node is low or above
