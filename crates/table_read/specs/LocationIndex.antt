@@ -1,15 +1,14 @@
 -- The locations of a table: whether they fit the kinds of the actions, and where each stands.
-use mathlib.Core.Path.{_≡_}
 use mathlib.Core.Bool.{Bool, false}
 use mathlib.Core.List.{List, [], _∷_}
 use mathlib.Core.Option.{Option, none, some}
-use Prim.Native.Nat.{ℕ, suc, _+_, _≤_}
+use Prim.Native.Nat.{ℕ, suc, _+_}
 use lib.ListN.{length, getD, drop, replicate}
 use Rattle.semantics.specs.Bytes.{be2}
 use Rattle.semantics.specs.Editions.{edition1}
 use Rattle.semantics.specs.Refusals.{Judged, refused, accepted}
 use Rattle.semantics.specs.Run.{Action, test, wait, assign, switch, stop}
-use Rattle.semantics.specs.TableFile.{NodeAction, Entry, ActionKind, a-test, a-wait, an-assignment, a-switch, a-stop, no-kind, actionKind, locationLimit, readLocation, locationsIn}
+use Rattle.semantics.specs.TableFile.{NodeAction, Entry, ActionKind, a-test, a-wait, an-assignment, a-switch, a-stop, no-kind, actionKind, locationLimit, readLocation}
 use Rattle.semantics.specs.Tables.{targetsFit, judgeLocations}
 use Rattle.codec.specs.Places.{placesFrom}
 use Rattle.codec.specs.Padding.{pad}
@@ -57,8 +56,3 @@ locationsRead s (accepted ls) = locationIndex s (length ls)
 -- where each location stands, or the number that judging the section by these actions gives
 unfoldable pub locationsOf : List NodeAction → List ℕ → Locations
 locationsOf l s = locationsRead s (judgeLocations edition1 l s)
-
--- the count at the front of the section, or 0 where that is outside its bounds
-pub data LocationsCounted (s : List ℕ) (n : ℕ) : Type 0 where
-  locations-counted : 2 ≤ length s → n ≡ be2 (getD s 0 0) (getD s 1 0) → 1 ≤ n → n ≤ locationLimit → LocationsCounted s n
-  locations-miscounted : n ≡ 0 → locationsIn edition1 s ≡ none → LocationsCounted s n

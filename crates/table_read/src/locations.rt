@@ -4,10 +4,10 @@ ghost use mathlib.Core.Bool.{_&&_};
 ghost use Prim.Native.Nat.{_≤_};
 ghost use lib.ListN.{length};
 ghost use Rattle.semantics.specs.Editions.{edition1};
-ghost use Rattle.semantics.specs.TableFile.{readEntry, readLocation};
+ghost use Rattle.semantics.specs.TableFile.{readEntry, readLocation, readLocationCount};
 ghost use Rattle.semantics.specs.Tables.{goesOn, entryFits, locationFits};
-ghost use Rattle.table_read.specs.Ends.{EndsWith, follows};
-ghost use Rattle.table_read.specs.LocationIndex.{entryNode, actionsLike, kindFits, LocationsCounted, noLocations, locationsOf};
+ghost use Rattle.table_read.specs.Ends.{EndsWith, follows, orZero};
+ghost use Rattle.table_read.specs.LocationIndex.{entryNode, actionsLike, kindFits, noLocations, locationsOf};
 
 // 0, or the number that applies; how many locations there are; the place of each, and then 0
 pub struct Locations {
@@ -113,7 +113,7 @@ fn location(s: &[u8], at: usize, n: usize, kinds: &[u8]) -> usize
 
 // how many locations there are; 0 where that is outside 1..1024
 fn count(s: &[u8]) -> usize
-    ensures { λ r. ⌜ LocationsCounted (now (s .entry)) r ⌝ }
+    ensures { λ r. ⌜ r ≡ orZero (readLocationCount (now (s .entry))) ⌝ }
 {
     if s.len() < 2 {
         return 0;
