@@ -206,10 +206,16 @@ nowhere-above l n h k = go (every-all (nodeExists edition1) l h)
 
 pub kinds-say : (s : List ℕ) {l : List NodeAction} → actionsIn edition1 s ≡ some l → actionsOf s .refusal ≡ 0 → KindsSay l (actionsOf s .kinds)
 unfolding actionsNumbered actionIndex byNode kindAt kindCode
-kinds-say s {l} e h = record { says = λ n. ap (λ x. getD (x .kinds) n 0) (index-is s e h) ∙ either n 64 (λ k. listed-at 64 (kindAt l) n k) (λ k. List·getD-eq-default (byNode (kindAt l)) 0 (size k) ∙ sym (ap kindCode (nowhere-above l n exist k))) }
+kinds-say s {l} e h = record {
+  known = λ n a i. sym (said n ∙ ap kindCode i);
+  unknown = λ n i a j. (let z : getD (actionsOf s .kinds) n 0 ≡ 0 = said n ∙ ap kindCode i in omega (arith, code-some a));
+}
   where
     exist : every (nodeExists edition1) l ≡ true
     exist = and-right (risingFrom 0 (actionNodes l)) (every (nodeExists edition1) l) (laid-actions s e h)
 
     size : {n : ℕ} → 64 ≤ n → length (byNode (kindAt l)) ≤ n
     size k = let z = listed-length 64 (kindAt l) in omega arith
+
+    said : (n : ℕ) → getD (actionsOf s .kinds) n 0 ≡ kindAt l n
+    said n = ap (λ x. getD (x .kinds) n 0) (index-is s e h) ∙ either n 64 (λ k. listed-at 64 (kindAt l) n k) (λ k. List·getD-eq-default (byNode (kindAt l)) 0 (size k) ∙ sym (ap kindCode (nowhere-above l n exist k)))

@@ -22,9 +22,10 @@ kindCode (some a) = kindNumber a
 unfoldable pub kindAt : List NodeAction → ℕ → ℕ
 kindAt l n = kindCode (actionAt l n)
 
--- a list of kinds by node says what the actions are
+-- a list of numbers by node says what the actions are: their kinds, and no kind where a node has none
 pub record KindsSay (l : List NodeAction) (ks : List ℕ) : Type 0 where
-  pub says : (n : ℕ) → getD ks n 0 ≡ kindAt l n
+  pub known : (n : ℕ) (a : Action) → actionAt l n ≡ some a → kindNumber a ≡ getD ks n 0
+  pub unknown : (n : ℕ) → actionAt l n ≡ none → (a : Action) → kindNumber a ≡ getD ks n 0 → ⊥
 
 -- the place of a node's action, where ps are the places of the actions
 unfoldable pub placeAt : List NodeAction → List ℕ → ℕ → Option ℕ
