@@ -17,7 +17,7 @@ use Rattle.semantics.specs.Plant.{Plant, selectors}
 use Rattle.semantics.specs.Starts.{Start, startIn, readStart}
 use Rattle.semantics.specs.Run.{Action, test, wait, assign, switch, stop, possible, isTest, to, halted, Control, at, answers, recordOf, countsOf, noCounts}
 use Rattle.semantics.specs.Rules.{at-start, stands-at, Sound}
-use Rattle.semantics.specs.TableFile.{NodeAction, Entry, FINISHED, HALTED, NONE, locationLimit, readLocation, readLocations, locationsIn}
+use Rattle.semantics.specs.TableFile.{NodeAction, Entry, FINISHED, HALTED, NONE, locationLimit, readLocation, locationsIn}
 use Rattle.semantics.specs.Tables.{Table, judgeTable, operandFits, operandsFit, actionsNumbered, actionsFit, actionAt, actionOrStop, goesOn, targetsFit, entryFits, entryNodes, locationFits, locationsFit, risingFrom, goingTo, entryTarget, entryNext, entriesAt, tableControl}
 use Rattle.semantics.specs.Calls.{Program, Outcome, outcomeOf, runFrom, judgeAdmission, judgeRun, report, eventCount, recordSize, roomForRecords, tableProgram, tableRun, tableCounts, readTable}
 use Rattle.semantics.specs.Conditions.{Condition, First, here, further, Firsts, refuses, accepts, tableConditions, runConditions, tableRunConditions}
@@ -34,13 +34,14 @@ use Rattle.semantics.proofs.RecordForms.{overwritten}
 use Rattle.semantics.proofs.RunCounts.{written-length, answers-counted}
 use Rattle.semantics.proofs.StepRules.{answers-derived}
 use Rattle.semantics.proofs.TablePassed.{table-passed}
+use Rattle.semantics.proofs.TableBack.{locations-in-order}
 use Rattle.semantics.proofs.WrittenSources.{found}
 
 -- ---- an accepted table
 pub few-locations : (ed : Edition) (s : List ℕ) {ls : List (List Entry)} → locationsIn ed s ≡ some ls → length ls ≤ locationLimit
-unfolding locationsIn readLocations
+unfolding locationsIn
 few-locations ed s h =
-    let a = Readers.split nat2 _ (Readers.whole-read _ s h) in
+    let a = Readers.split nat2 _ (sym (ap (λ r. r s) (locations-in-order ed)) ∙ Readers.whole-read _ s h) in
     let b = Readers.guarded _ _ (a .then) in
     let c = Readers.times-read {P = λ es. Unit {0}} (readLocation ed) (λ es u v k. tt) (a .value) (a .rest) (b .1) in
     let d = within-high 1 locationLimit (a .value) (b .0) in

@@ -42,7 +42,7 @@ unfolding Run.isTest Run.possible Run._>>=_ Run._>>_ Run.allow Run.find Run.valu
 run = tt
 
 unfoldable pub tableFile : Unit {0}
-unfolding TableFile.FINISHED TableFile.HALTED TableFile.NONE TableFile.actionKind TableFile.actionOfKind TableFile.readTableSections TableFile.tableSectionsIn TableFile.readAction TableFile.readActions TableFile.actionsIn TableFile.readEntry TableFile.readLocation TableFile.readLocations TableFile.locationsIn TableFile.kindNumber TableFile.operandBytes TableFile.actionBytes TableFile.inSection2 TableFile.inSection4 TableFile.writeAction TableFile.writeActions TableFile.writeEntry TableFile.writeLocation TableFile.writeLocations TableFile.tableBody TableFile.tableBytes
+unfolding TableFile.FINISHED TableFile.HALTED TableFile.NONE TableFile.actionKind TableFile.actionOfKind TableFile.readTableSections TableFile.tableSectionsIn TableFile.readAction TableFile.readActionCount TableFile.readActions TableFile.actionsIn TableFile.readEntry TableFile.readLocation TableFile.readLocationCount TableFile.readLocations TableFile.locationsIn TableFile.kindNumber TableFile.operandBytes TableFile.actionBytes TableFile.inSection2 TableFile.inSection4 TableFile.writeAction TableFile.writeActions TableFile.writeEntry TableFile.writeLocation TableFile.writeLocations TableFile.tableBody TableFile.tableBytes
 tableFile = tt
 
 unfoldable pub tables : Unit {0}

@@ -1,5 +1,5 @@
 -- Readers taken apart, and what is written read back.
-use mathlib.Core.Path.{_≡_, refl, sym, ap, subst}
+use mathlib.Core.Path.{_≡_, refl, sym, ap, subst, fun-ext}
 use mathlib.Core.Bool.{Bool, true, false, cond}
 use mathlib.Core.List.{List, [], _∷_, _++_, flatMap, append-assoc, append-nil}
 use mathlib.Core.Option.{Option, none, some}
@@ -49,6 +49,19 @@ pub guarded : {A : Type 0} (g : Bool) (r : Reader A) {s : List ℕ} {a : A} {t :
 unfolding guard fail
 guarded true r h = (refl, h)
 guarded false r h = broken-not-read h
+
+-- a number read and tested, then what is read by it
+pub counted-then : {A : Type 0} (r : Reader ℕ) (g : ℕ → Bool) (f : ℕ → Reader A) → ((r >>= λ n. guard (g n) (give n)) >>= f) ≡ (r >>= λ n. guard (g n) (f n))
+unfolding _>>=_ andThen give guard fail
+counted-then {A} r g f = fun-ext (λ s. go (r s))
+  where
+    test : (b : Bool) (n : ℕ) (t : List ℕ) → andThen (guard b (give n) t) f ≡ guard b (f n) t
+    test true n t = refl
+    test false n t = refl
+
+    go : (o : Read ℕ) → andThen (andThen o (λ n. guard (g n) (give n))) f ≡ andThen o (λ n. guard (g n) (f n))
+    go broken = refl
+    go (read n t) = test (g n) n t
 
 pub from-some : {A : Type 0} (o : Option A) {s : List ℕ} {a : A} {t : List ℕ} → from o s ≡ read a t → (o ≡ some a) × (s ≡ t)
 unfolding from give fail

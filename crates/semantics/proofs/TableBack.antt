@@ -7,17 +7,17 @@ use Prim.Native.Nat.{ℕ, suc, _+_, _-_, _*_, _/_, _%_, _≤_}
 use native.Mathlib.Omega.{arith}
 use borrow.Author.Tests.{eq-eqb, le-leb}
 use lib.ListN.{length, drop}
-use Rattle.semantics.specs.Bytes.{be4, out4, widthOf, Reader, andThen, _>>=_, give, from, byte, nat2, nat4, number, bytes, section2, section4, noBytes, twoBytes, byteAndRest}
+use Rattle.semantics.specs.Bytes.{be4, out4, widthOf, within, Reader, andThen, _>>=_, give, guard, from, byte, nat2, nat4, number, bytes, times, whole, section2, section4, noBytes, twoBytes, byteAndRest}
 use Rattle.semantics.specs.Editions.{Edition}
 use Rattle.semantics.specs.Refusals.{accepted}
 use Rattle.semantics.specs.Plant.{Plant, judgePlant, switchesRead}
 use Rattle.semantics.specs.Run.{Action, test, wait, assign, switch, stop}
-use Rattle.semantics.specs.TableFile.{TEST, WAIT, ASSIGN, SWITCH, STOP, NodeAction, Entry, locationLimit, actionKind, actionOfKind, readTableSections, tableSectionsIn, readAction, readActions, actionsIn, readEntry, readLocation, readLocations, locationsIn, actionBytes, kindNumber, operandBytes, inSection2, inSection4, writeAction, writeActions, writeEntry, writeLocation, writeLocations, tableBody, tableBytes}
+use Rattle.semantics.specs.TableFile.{TEST, WAIT, ASSIGN, SWITCH, STOP, NodeAction, Entry, locationLimit, actionKind, actionOfKind, readTableSections, tableSectionsIn, readAction, readActionCount, readActions, actionsIn, readEntry, readLocation, readLocationCount, readLocations, locationsIn, actionBytes, kindNumber, operandBytes, inSection2, inSection4, writeAction, writeActions, writeEntry, writeLocation, writeLocations, tableBody, tableBytes}
 use Rattle.semantics.specs.Tables.{tableHeader, actionsFit, locationsFit, judgeTable}
 use Rattle.semantics.proofs.Facts.{and-both, within-both, All, all-nil, all-cons}
 use Rattle.semantics.proofs.TableJudged.{table-in-order}
 use Rattle.semantics.proofs.Judging.{go-then, go-need, go-ensure, go-only}
-use Rattle.semantics.proofs.Readers.{Reads, reads-then, reads-last, reads-byte, reads-nat2, reads-nat4, reads-number, reads-bytes, reads-guard, reads-from, reads-times, whole-reads}
+use Rattle.semantics.proofs.Readers.{counted-then, Reads, reads-then, reads-last, reads-byte, reads-nat2, reads-nat4, reads-number, reads-bytes, reads-guard, reads-from, reads-times, whole-reads}
 
 -- a second reader that takes no bytes
 pub reads-nothing-more : {A B : Type 0} (r : Reader A) (f : A → Reader B) {w : List ℕ} {a : A} {b : B} → Reads r w a → Reads (f a) [] b → Reads (r >>= f) w b
@@ -78,10 +78,15 @@ module _ (ed : Edition) where
       (reads-guard _ (within-both (widthOf w + 1) (widthOf w + 200) (widthOf w + length b) (omega arith) (omega arith))
       (reads-then (number w) _ (reads-number w (a .node)) (reads-coded a c (widthOf w + length b - (widthOf w + 1)) l)))
 
+  -- the count, then the actions
+  pub actions-in-order : readActions ed ≡ (number (ed .width) >>= λ n. guard (within 1 (ed .nodes) n) (times n (readAction ed)))
+  unfolding readActions readActionCount
+  actions-in-order = counted-then (number (ed .width)) (within 1 (ed .nodes)) (λ n. times n (readAction ed))
+
   pub actions-back : (l : List NodeAction) → 1 ≤ length l → length l ≤ ed .nodes → All Short l → actionsIn ed (writeActions ed l) ≡ some l
-  unfolding actionsIn readActions writeActions
+  unfolding actionsIn writeActions
   actions-back l p q h =
-      whole-reads _ (reads-then (number (ed .width)) _ (reads-number (ed .width) (length l))
+      ap (λ r. whole r (writeActions ed l)) actions-in-order ∙ whole-reads _ (reads-then (number (ed .width)) _ (reads-number (ed .width) (length l))
       (reads-guard _ (within-both 1 (ed .nodes) (length l) p q) (reads-times (readAction ed) (writeAction ed) reads-action h)))
 
   -- ---- locations
@@ -97,10 +102,14 @@ module _ (ed : Edition) where
       reads-then byte _ (reads-byte (length es))
       (reads-guard _ (le-leb 1 (length es) h) (reads-times (readEntry ed) (writeEntry ed) (λ e u. reads-entry e) (anything es)))
 
+  pub locations-in-order : readLocations ed ≡ (nat2 >>= λ n. guard (within 1 locationLimit n) (times n (readLocation ed)))
+  unfolding readLocations readLocationCount
+  locations-in-order = counted-then nat2 (within 1 locationLimit) (λ n. times n (readLocation ed))
+
   pub locations-back : (ls : List (List Entry)) → 1 ≤ length ls → length ls ≤ locationLimit → All (λ es. 1 ≤ length es) ls → locationsIn ed (writeLocations ed ls) ≡ some ls
-  unfolding locationsIn readLocations writeLocations
+  unfolding locationsIn writeLocations
   locations-back ls p q h =
-      whole-reads _ (reads-then nat2 _ (reads-nat2 (length ls))
+      ap (λ r. whole r (writeLocations ed ls)) locations-in-order ∙ whole-reads _ (reads-then nat2 _ (reads-nat2 (length ls))
       (reads-guard _ (within-both 1 locationLimit (length ls) p q) (reads-times (readLocation ed) (writeLocation ed) reads-location h)))
 
   -- ---- sections

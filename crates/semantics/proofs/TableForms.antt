@@ -18,7 +18,7 @@ use Rattle.semantics.specs.Writing.{AllBytes, writeVariables, writeEquat
 use Rattle.semantics.proofs.Facts.{none-not-some, some-is, true-not-false, by-cases, and-left, and-right, within-low, within-high, within-both, all-cons, all-append, all-map, all-flat}
 use Rattle.semantics.proofs.Readers.{reads-then, reads-last, reads-nat2, reads-number}
 use Rattle.semantics.proofs.SignedBytes.{be4-fits, out4-be4}
-use Rattle.semantics.proofs.TableBack.{reads-section2, reads-section4, reads-action, reads-location, sections-back, body-back, header-back}
+use Rattle.semantics.proofs.TableBack.{actions-in-order, locations-in-order, reads-section2, reads-section4, reads-action, reads-location, sections-back, body-back, header-back}
 use Rattle.semantics.proofs.WrittenRecords.{out2-bytes, out4-bytes, out-bytes}
 use Rattle.semantics.proofs.WrittenSources.{all-drop}
 use Rattle.semantics.proofs.WrittenTables.{width-small, capacity-large, section4-written, table-length}
@@ -90,8 +90,8 @@ module _ (ed : Edition) where
       all-append (out-bytes (ed .width) (widthOf (ed .width) + length b) (omega arith)) (all-append (out-bytes (ed .width) (a .node) (h .node)) (h .bytes))
 
   actions-form : Exact (readActions ed) (writeActions ed) (ActionsLimits ed)
-  unfolding readActions writeActions
-  actions-form = record {
+  unfolding writeActions
+  actions-form = subst (λ r. Exact r (writeActions ed) (ActionsLimits ed)) (sym (actions-in-order ed)) (record {
     taken = takes-as (λ l w i. record {
       written = i .written;
       fits = record { at-least = within-low 1 (ed .nodes) (length l) (i .fits .tested); at-most = within-high 1 (ed .nodes) (length l) (i .fits .tested); each = i .fits .each };
@@ -99,7 +99,7 @@ module _ (ed : Edition) where
     back = λ l h. reads-counted (number (ed .width)) (within 1 (ed .nodes)) (readAction ed) (reads-number (ed .width)) (λ a k. reads-action ed a (k .at-most))
         (within-both 1 (ed .nodes) (length l) (h .at-least) (h .at-most)) (h .each);
     in-bytes = λ l h. (let k = h .at-most in let f = ed .nodes-fit in all-append (out-bytes (ed .width) (length l) (omega arith)) (all-flat (writeAction ed) (all-map action-written (h .each))));
-  }
+  })
 
   pub actions-bytes : (s : List ℕ) (l : List NodeAction) → (AllBytes s × (actionsIn ed s ≡ some l)) ↔ ((s ≡ writeActions ed l) × ActionsLimits ed l)
   unfolding actionsIn
@@ -128,15 +128,15 @@ module _ (ed : Edition) where
   row-written es h = all-cons (h .at-most) (all-flat (writeEntry ed) (all-map entry-written (h .each)))
 
   locations-form : Exact (readLocations ed) (writeLocations ed) (LocationsLimits ed)
-  unfolding readLocations writeLocations
-  locations-form = record {
+  unfolding writeLocations
+  locations-form = subst (λ r. Exact r (writeLocations ed) (LocationsLimits ed)) (sym (locations-in-order ed)) (record {
     taken = takes-as (λ l w i. record {
       written = i .written;
       fits = record { at-least = within-low 1 1024 (length l) (i .fits .tested); at-most = within-high 1 1024 (length l) (i .fits .tested); each = i .fits .each };
     }) (takes-counted nat2 (within 1 1024) (readLocation ed) takes-nat2 row-taken);
     back = λ l h. reads-counted nat2 (within 1 1024) (readLocation ed) reads-nat2 (λ es k. reads-location ed es (k .at-least)) (within-both 1 1024 (length l) (h .at-least) (h .at-most)) (h .each);
     in-bytes = λ l h. (let k = h .at-most in all-append (out2-bytes (length l) (omega arith)) (all-flat (writeLocation ed) (all-map row-written (h .each))));
-  }
+  })
 
   pub locations-bytes : (s : List ℕ) (l : List (List Entry)) → (AllBytes s × (locationsIn ed s ≡ some l)) ↔ ((s ≡ writeLocations ed l) × LocationsLimits ed l)
   unfolding locationsIn

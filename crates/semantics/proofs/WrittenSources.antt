@@ -1,5 +1,5 @@
 -- What is read from bytes: numbers that fit theirs, and plants, starts and tables that keep a run's records bytes.
-use mathlib.Core.Path.{_≡_, refl, ap, subst}
+use mathlib.Core.Path.{_≡_, refl, sym, ap, subst}
 use mathlib.Core.Bool.{Bool, true, false, cond}
 use mathlib.Core.List.{List·Memᴰ as Mem, List·Memᴰ·head as first, List·Memᴰ·tail as later, List, [], _∷_, _++_}
 use mathlib.Core.Option.{Option, none, some}
@@ -23,6 +23,7 @@ use Rattle.semantics.specs.Tables.{Table, judgeTable, actionAt, actionOr
 use Rattle.semantics.specs.Calls.{Program, Outcome, runFrom, outcomeOf, judgeAdmission, judgeRun, report, tableProgram, tableRun}
 use Rattle.semantics.proofs.Facts.{all-mem, none-not-some, some-is, All, all-nil, all-cons, all-append}
 use Rattle.semantics.proofs.TablePassed.{table-passed}
+use Rattle.semantics.proofs.TableBack.{actions-in-order}
 use Rattle.semantics.proofs.PlantPassed.{plant-passed}
 use Rattle.semantics.proofs.Judging.{accepted-is, passed-then}
 use Rattle.semantics.proofs.Admission.{admission-passed}
@@ -238,10 +239,9 @@ module _ (ed : Edition) where
       makes-then (from (actionOfKind (actionKind k) b)) _ (makes-from {P = λ a. All Byte (actionBytes a)} _ (λ a e. action-bytes (actionKind k) b c e)) (λ a w. makes-give _ w))))))
 
   makes-actions : Makes (readActions ed) (All ActionWritten)
-  unfolding readActions
   makes-actions =
-      makes-then (number (ed .width)) _ (makes-number (ed .width)) (λ n h. makes-guard (within 1 (ed .nodes) n) _ (λ g.
-      makes-weaker (λ l q. q .each) (makes-times n (readAction ed) makes-action)))
+      subst (λ r. Makes r (All ActionWritten)) (sym (actions-in-order ed)) (makes-then (number (ed .width)) _ (makes-number (ed .width)) (λ n h. makes-guard (within 1 (ed .nodes) n) _ (λ g.
+      makes-weaker (λ l q. q .each) (makes-times n (readAction ed) makes-action))))
 
 pub record SectionsBytes (t : TableSections) : Type 0 where
   pub variables : All Byte (t .variables)

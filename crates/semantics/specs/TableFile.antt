@@ -84,6 +84,12 @@ readTableSections = do
 unfoldable pub tableSectionsIn : List ℕ → Option TableSections
 tableSectionsIn = whole readTableSections
 
+-- 19: "A location count is outside 1..1,024"
+unfoldable pub readLocationCount : Reader ℕ
+readLocationCount = do
+  n ← nat2
+  guard (within 1 locationLimit n) (give n)
+
 module _ (ed : Edition) where
   -- "a length byte, node, kind (..), operand bytes"; "kind and operand make 1..200 bytes"
   unfoldable pub readAction : Reader NodeAction
@@ -97,10 +103,15 @@ module _ (ed : Edition) where
       give (record { node = n; action = a }))
 
   -- 18: "An action count is outside 1..64"
+  unfoldable pub readActionCount : Reader ℕ
+  readActionCount = do
+    n ← number (ed .width)
+    guard (within 1 (ed .nodes) n) (give n)
+
   unfoldable pub readActions : Reader (List NodeAction)
   readActions = do
-    n ← number (ed .width)
-    guard (within 1 (ed .nodes) n) (times n readAction)
+    n ← readActionCount
+    times n readAction
 
   unfoldable pub actionsIn : List ℕ → Option (List NodeAction)
   actionsIn = whole readActions
@@ -119,11 +130,10 @@ module _ (ed : Edition) where
     n ← byte
     guard (leb 1 n) (times n readEntry)
 
-  -- 19: "A location count is outside 1..1,024"
   unfoldable pub readLocations : Reader (List (List Entry))
   readLocations = do
-    n ← nat2
-    guard (within 1 locationLimit n) (times n readLocation)
+    n ← readLocationCount
+    times n readLocation
 
   unfoldable pub locationsIn : List ℕ → Option (List (List Entry))
   locationsIn = whole readLocations

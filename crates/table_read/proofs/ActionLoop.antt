@@ -7,28 +7,28 @@ use Prim.Native.Nat.{ℕ, _+_, _≤_, _<_}
 use native.Mathlib.Numerals.{add-one}
 use native.Mathlib.Omega.{arith}
 use borrow.Author.Tests.{leb-true, ltb-true, lt-ltb, le-ltb, le-leb, lt-leb}
-use lib.Dec.{leb, ltb}
+use lib.Dec.{ltb}
 use lib.ListN.{length, getD, set, drop, replicate, length-drop}
-use Rattle.semantics.specs.Bytes.{number, broken, read, andThen, _>>=_, byte, give, guard, times, just, whole}
+use Rattle.semantics.specs.Bytes.{number, Read, broken, read, andThen, _>>=_, byte, give, fail, guard, times, just, whole}
 use Rattle.semantics.specs.Editions.{edition1}
 use Rattle.semantics.specs.Refusals.{Judged, accepted}
-use Rattle.semantics.specs.TableFile.{NodeAction, readAction, readActions, actionsIn}
-use Rattle.semantics.specs.Tables.{actionNodes, actionAt, nodeExists, actionsNumbered, judgeActions}
-use Rattle.semantics.proofs.Facts.{and-left, and-right, and-both, within-both, none-not-some}
+use Rattle.semantics.specs.TableFile.{NodeAction, readAction, readActionCount, readActions, actionsIn}
+use Rattle.semantics.specs.Tables.{risingFrom, actionNodes, actionAt, nodeExists, actionsNumbered, judgeActions}
+use Rattle.semantics.proofs.Facts.{and-left, and-right, and-both, within-both, within-low, within-high, none-not-some}
 use Rattle.semantics.proofs.Judging.{go-need, go-ensure}
-use Rattle.semantics.proofs.Readers.{broken-not-read, read-rest, guarded, whole-read}
+use Rattle.semantics.proofs.Readers.{broken-not-read, read-rest, guarded, given, given-rest, whole-read}
 use Rattle.codec.specs.Reading.{Took}
 use Rattle.codec.specs.Places.{placesFrom}
-use Rattle.codec.proofs.Reading.{none-kept, no-number, then-number, no-guard, within-below, within-above, drop-past, either}
-use Rattle.codec.proofs.Known.{after-number, snoc}
+use Rattle.codec.proofs.Reading.{lost, no-number, then-number, no-guard, within-below, within-above, drop-past, either}
+use Rattle.codec.proofs.Known.{after-number, not-number, snoc}
 use Rattle.codec.proofs.Loops.{counted as as-many}
 use Rattle.codec.proofs.Places.{places-more, places-count}
 use Rattle.table_read.specs.declared.actions.Actions.{Actions}
-use Rattle.table_read.specs.Ends.{anything, follows, EndsWith, good-at, good-none}
-use Rattle.table_read.specs.ActionIndex.{kindCode, kindAt, nodeOf, placeAt, operandStart, operandEnd, byNode, noActions, actionIndex, indexRead, actionsOf, Counted, counted, miscounted}
+use Rattle.table_read.specs.Ends.{anything, follows, orZero, EndsWith, good-at, good-none}
+use Rattle.table_read.specs.ActionIndex.{kindCode, kindAt, nodeOf, placeAt, operandStart, operandEnd, byNode, noActions, actionIndex, indexRead, actionsOf}
 use Rattle.table_read.proofs.Early.{early}
 use Rattle.table_read.proofs.Fitted.{Fitted, fit, unfit, fitted}
-use Rattle.table_read.proofs.Rising.{laid, Laid, laid-none, laid-more, laid-true, not-laid, laid-fronts}
+use Rattle.table_read.proofs.Rising.{rising-one, laid, Laid, laid-none, laid-more, laid-true, not-laid, laid-fronts}
 use Rattle.table_read.proofs.ActionForms.{was, ends, kind-is}
 use Rattle.table_read.proofs.ByNode.{listed-set, listed-zero, action-other, action-new, place-other, place-new, place-none, not-yet}
 
@@ -54,41 +54,67 @@ module _ (s : List ℕ) {l : List NodeAction} (e : actionsIn edition1 s ≡ some
   accept = rw judged refl
 
 -- ---- the count
-pub no-count : (s : List ℕ) → length s ≤ 0 → Counted s 0
-unfolding actionsIn readActions
-no-count s h = miscounted refl (none-kept {K = anything} (no-number _ h) refl)
+pub no-count : (s : List ℕ) → length s ≤ 0 → 0 ≡ orZero (readActionCount edition1 s)
+unfolding readActionCount orZero
+no-count s h = sym (ap orZero (lost {K = anything} {s = s} {p = 0} (no-number _ h) refl))
 
-pub many : (s : List ℕ) → 0 < length s → 64 < getD s 0 0 → Counted s 0
-unfolding actionsIn readActions
-many s i h = miscounted refl (none-kept {K = anything} (then-number _ i (no-guard _ _ (within-above 1 64 _ h))) refl)
+pub many : (s : List ℕ) → 0 < length s → 64 < getD s 0 0 → 0 ≡ orZero (readActionCount edition1 s)
+unfolding readActionCount orZero
+many s i h = sym (ap orZero (lost {K = anything} {s = s} {p = 0} (then-number _ i (no-guard _ _ (within-above 1 64 _ h))) refl))
 
-pub count-is : (s : List ℕ) → 0 < length s → getD s 0 0 ≤ 64 → Counted s (getD s 0 0)
-unfolding actionsIn readActions
-count-is s i h = either 0 (getD s 0 0) (λ k. counted i refl k h) (λ k. miscounted (omega arith) (none-kept {K = anything} (then-number _ i (no-guard _ _ (within-below 1 64 _ (omega arith)))) refl))
-
-pub refuse-count : {s : List ℕ} {n : ℕ} → Counted s n → n ≡ 0 → noActions 18 ≡ actionsOf s
-refuse-count (counted i e l h) k = absurd (omega arith)
-refuse-count {s} (miscounted e h) k = refuse s (λ l i g. none-not-some (sym h ∙ i))
+pub count-is : (s : List ℕ) → 0 < length s → getD s 0 0 ≤ 64 → getD s 0 0 ≡ orZero (readActionCount edition1 s)
+unfolding readActionCount orZero _>>=_ andThen number byte guard give fail
+count-is [] i h = absurd (omega arith)
+count-is (a ∷ s) i h = either 0 a (λ k. rw (within-both 1 64 a (omega arith) h) refl) (λ k. rw (within-below 1 64 a (omega arith)) (omega arith))
 
 pub record Count (s : List ℕ) (n : ℕ) : Type 0 where
   pub some-bytes : 0 < length s
-  pub is : n ≡ getD s 0 0
   pub low : 1 ≤ n
   pub high : n ≤ 64
+  pub first : readActionCount edition1 s ≡ read n (drop 1 s)
 
-pub count-of : {s : List ℕ} {n : ℕ} → Counted s n → (n ≡ 0 → ⊥) → Count s n
-count-of (counted i e l h) k = record { some-bytes = i; is = e; low = l; high = h }
-count-of (miscounted e h) k = absurd (k e)
+pub count-was : (s : List ℕ) {n : ℕ} {e : List ℕ} → readActionCount edition1 s ≡ read n e → Count s n
+unfolding readActionCount
+count-was s {n} h = either 0 (length s) (λ i.
+    let g = guarded _ _ (after-number _ s 0 i h) in
+    let is : getD s 0 0 ≡ n = given _ _ (g .1) in
+    record {
+      some-bytes = i;
+      low = subst (λ n. 1 ≤ n) is (within-low 1 64 _ (g .0));
+      high = subst (λ n. n ≤ 64) is (within-high 1 64 _ (g .0));
+      first = h ∙ ap (read n) (sym (given-rest _ _ (g .1)));
+    }) (λ i. not-number _ s 0 i h)
+
+pub count-of : {s : List ℕ} {n : ℕ} → n ≡ orZero (readActionCount edition1 s) → (n ≡ 0 → ⊥) → Count s n
+unfolding orZero
+count-of {s} {n} e k = go (readActionCount edition1 s) refl
+  where
+    go : (o : Read ℕ) → readActionCount edition1 s ≡ o → Count s n
+    go broken h = absurd (k (e ∙ ap orZero h))
+    go (read m t) h = subst (Count s) (sym (e ∙ ap orZero h)) (count-was s h)
+
+pub refuse-count : (s : List ℕ) {n : ℕ} → n ≡ orZero (readActionCount edition1 s) → n ≡ 0 → noActions 18 ≡ actionsOf s
+unfolding orZero actionsIn readActions whole just _>>=_ andThen
+refuse-count s {n} e k = go (readActionCount edition1 s) refl
+  where
+    go : (o : Read ℕ) → readActionCount edition1 s ≡ o → noActions 18 ≡ actionsOf s
+    go broken h = refuse s (λ l i g. none-not-some (sym (ap (λ o. just (andThen o (λ n. times n (readAction edition1)))) h) ∙ i))
+    go (read m t) h =
+        let z : m ≡ 0 = sym (e ∙ ap orZero h) ∙ k in
+        absurd (omega (arith, count-was s h .low))
 
 -- ---- what the section's reader does after the count
-in-times : {s : List ℕ} {n : ℕ} {l : List NodeAction} → Count s n → actionsIn edition1 s ≡ some l → times n (readAction edition1) (drop 1 s) ≡ read l []
-unfolding actionsIn readActions
-in-times {s} c e = rw (c .is) (guarded _ _ (after-number _ s 0 (c .some-bytes) (whole-read (readActions edition1) s e)) .1)
+after-count : {s : List ℕ} {n : ℕ} → Count s n → readActions edition1 s ≡ times n (readAction edition1) (drop 1 s)
+unfolding readActions _>>=_ andThen
+after-count c = rw (c .first) refl
 
-times-in : (s : List ℕ) {l : List NodeAction} → 0 < length s → 1 ≤ getD s 0 0 → getD s 0 0 ≤ 64 → times (getD s 0 0) (readAction edition1) (drop 1 s) ≡ read l [] → actionsIn edition1 s ≡ some l
-unfolding actionsIn readActions whole just _>>=_ andThen number byte guard
-times-in [] i g h e = absurd (omega arith)
-times-in (a ∷ s) i g h e = rw (within-both 1 64 a g h, e) refl
+pub in-times : {s : List ℕ} {n : ℕ} {l : List NodeAction} → Count s n → actionsIn edition1 s ≡ some l → times n (readAction edition1) (drop 1 s) ≡ read l []
+unfolding actionsIn
+in-times {s} c e = sym (after-count c) ∙ whole-read (readActions edition1) s e
+
+times-in : {s : List ℕ} {n : ℕ} {l : List NodeAction} → Count s n → times n (readAction edition1) (drop 1 s) ≡ read l [] → actionsIn edition1 s ≡ some l
+unfolding actionsIn whole just
+times-in c e = ap just (after-count c ∙ e)
 
 -- ---- the first i actions, the last of which ends at p, are in the lists; the next node is low or above
 pub record Indexing (s : List ℕ) (i p low : ℕ) (ks ss es : List ℕ) : Type 0 where
@@ -140,18 +166,18 @@ module _ {s : List ℕ} {p : ℕ} (low : ℕ) where
 
   pub next-low : getD s (p + 1) 0 < low → EndsWith (readAction edition1) (follows nodeOf (nodeExists edition1) low) s p 0
   unfolding follows
-  next-low h = good-none refl (λ a e k. rw (lt-leb low (a .node) (subst (λ n. n < low) (was s p k .node) h)) refl)
+  next-low h = good-none refl (λ a e k. rw (rising-one low (a .node), lt-leb low (a .node) (subst (λ n. n < low) (was s p k .node) h)) refl)
 
   pub next-high : 64 ≤ getD s (p + 1) 0 → EndsWith (readAction edition1) (follows nodeOf (nodeExists edition1) low) s p 0
   unfolding follows nodeExists
-  next-high h = good-none refl (λ a e k. rw (le-ltb (a .node) 64 (subst (λ n. 64 ≤ n) (was s p k .node) h), and-false (leb low (a .node))) refl)
+  next-high h = good-none refl (λ a e k. rw (le-ltb (a .node) 64 (subst (λ n. 64 ≤ n) (was s p k .node) h), and-false (risingFrom low (a .node ∷ []))) refl)
 
   pub next-found : {q : ℕ} → (q ≡ 0 → ⊥) → Took (readAction edition1) anything s p q tt → low ≤ getD s (p + 1) 0 → getD s (p + 1) 0 < 64 → EndsWith (readAction edition1) (follows nodeOf (nodeExists edition1) low) s p q
   unfolding follows nodeExists
   next-found {q} z t h k =
       let node = was s p (t .got) .node in
       let n = t .value .node in
-      good-at {q = q} (omega arith) (record { value = t .value; got = t .got; inside = t .inside; means = and-both (le-leb low n (subst (λ n. low ≤ n) node h)) (lt-ltb n 64 (subst (λ n. n < 64) node k)) })
+      good-at {q = q} (omega arith) (record { value = t .value; got = t .got; inside = t .inside; means = and-both (rising-one low n ∙ le-leb low n (subst (λ n. low ≤ n) node h)) (lt-ltb n 64 (subst (λ n. n < 64) node k)) })
 
 abbrev Next : List ℕ → ℕ → ℕ → ℕ → Type 0
 Next s p q low = Took (readAction edition1) (λ a (x : Unit {0}). follows nodeOf (nodeExists edition1) low a ≡ true) s p q tt
@@ -161,8 +187,8 @@ pub next-node : {s : List ℕ} {p q low : ℕ} → Next s p q low → (low ≤ g
 unfolding follows nodeExists
 next-node {s} {p} {q} {low} u =
     let node = was s p (u .got) .node in
-    let l = leb-true low (u .value .node) (and-left (leb low (u .value .node)) (ltb (u .value .node) 64) (u .means)) in
-    let h = ltb-true (u .value .node) 64 (and-right (leb low (u .value .node)) (ltb (u .value .node) 64) (u .means)) in
+    let l = leb-true low (u .value .node) (sym (rising-one low (u .value .node)) ∙ and-left (risingFrom low (u .value .node ∷ [])) (ltb (u .value .node) 64) (u .means)) in
+    let h = ltb-true (u .value .node) 64 (and-right (risingFrom low (u .value .node ∷ [])) (ltb (u .value .node) 64) (u .means)) in
     (omega arith, omega arith)
 
 module _ {s : List ℕ} {i p low : ℕ} {ks ss es : List ℕ} (x : Indexing s i p low ks ss es) {q : ℕ} (u : Next s p q low) where
@@ -205,11 +231,7 @@ module _ {s : List ℕ} {i p low n : ℕ} {ks ss es : List ℕ} (x : Indexing s 
   index-over h = refuse s (λ l k g. let n : length (drop p s) ≡ 0 = ap length (read-rest (sym all ∙ in-times c k)) in omega (arith, length-drop p s))
 
   all-read : length s ≤ p → actionsIn edition1 s ≡ some (x .took .value)
-  all-read k =
-      let is = c .is in
-      let low = c .low in
-      let high = c .high in
-      times-in s (c .some-bytes) (omega arith) (omega arith) (subst (λ n. times n (readAction edition1) (drop 1 s) ≡ read (x .took .value) []) is (all ∙ ap (read (x .took .value)) (drop-past p s k)))
+  all-read k = times-in c (all ∙ ap (read (x .took .value)) (drop-past p s k))
 
   pub index-end : length s ≤ p → _≡_ {A = Actions} (record { refusal = 0; count = n; kinds = ks; starts = ss; ends = es }) (actionsOf s)
   unfolding actionIndex

@@ -13,12 +13,12 @@ use Rattle.semantics.specs.Bytes.{every, read, give, times}
 use Rattle.semantics.specs.Editions.{edition1}
 use Rattle.semantics.specs.Refusals.{Judged, refused}
 use Rattle.semantics.specs.Run.{Action, test, wait, assign, switch, stop}
-use Rattle.semantics.specs.TableFile.{NodeAction, actionKind, actionOfKind, kindNumber, readAction, readActions, actionsIn}
+use Rattle.semantics.specs.TableFile.{NodeAction, actionKind, actionOfKind, kindNumber, readAction, readActionCount, readActions, actionsIn}
 use Rattle.semantics.specs.Tables.{risingFrom, actionNodes, actionAt, nodeExists, actionsNumbered, judgeActions}
 use Rattle.semantics.proofs.Facts.{All, all-nil, all-cons, every-all, none-not-some, some-is, and-right}
-use Rattle.semantics.proofs.Readers.{read-value, guarded, whole-read}
+use Rattle.semantics.proofs.Readers.{read-value, split, whole-read}
 use Rattle.codec.specs.Places.{placesFrom}
-use Rattle.codec.proofs.Known.{cons, times-length, after-number, not-number}
+use Rattle.codec.proofs.Known.{cons, times-length}
 use Rattle.codec.proofs.Reading.{either}
 use Rattle.codec.proofs.Places.{Takes, takes-then, takes-guard, takes-byte, takes-number, takes-bytes, takes-from, takes-give, places-next}
 use Rattle.table_read.specs.declared.actions.Actions.{Actions}
@@ -26,7 +26,7 @@ use Rattle.table_read.specs.ActionIndex.{kindCode, kindAt, KindsSay, pla
 use Rattle.table_read.proofs.ActionForms.{was, kind-is}
 use Rattle.table_read.proofs.Fitted.{Fitted, fit, unfit, fitted}
 use Rattle.table_read.proofs.ByNode.{listed-length, listed-at}
-use Rattle.table_read.proofs.ActionLoop.{accept}
+use Rattle.table_read.proofs.ActionLoop.{accept, count-was, in-times}
 
 -- ---- where nothing is refused
 pub accepted-actions : (s : List ℕ) → actionsOf s .refusal ≡ 0 → (l : List NodeAction) × (actionsIn edition1 s ≡ some l) × (actionsNumbered edition1 l ≡ true)
@@ -117,10 +117,12 @@ pub data Here (s : List ℕ) (x : Actions) (o : Option Action) (n : ℕ) : Type 
 
 times-of : (s : List ℕ) {l : List NodeAction} → actionsIn edition1 s ≡ some l → (1 ≤ length s) × (times (length l) (readAction edition1) (drop 1 s) ≡ read l [])
 unfolding actionsIn readActions
-times-of s {l} e = either 0 (length s) (λ i.
-    let g = guarded _ _ (after-number _ s 0 i (whole-read (readActions edition1) s e)) .1 in
-    (i, subst (λ n. times n (readAction edition1) (drop 1 s) ≡ read l []) (sym (times-length (readAction edition1) (getD s 0 0) (drop 1 s) g)) g))
-    (λ i. not-number _ s 0 i (whole-read (readActions edition1) s e))
+times-of s {l} e =
+    let k = split (readActionCount edition1) _ (whole-read (readActions edition1) s e) in
+    let c = count-was s (k .first) in
+    let g = in-times c e in
+    let i = c .some-bytes in
+    (omega arith, subst (λ n. times n (readAction edition1) (drop 1 s) ≡ read l []) (sym (times-length (readAction edition1) (k .value) (drop 1 s) g)) g)
 
 module _ (s : List ℕ) {l : List NodeAction} (e : actionsIn edition1 s ≡ some l) (n : ℕ) where
   abbrev places : List ℕ
@@ -204,10 +206,16 @@ nowhere-above l n h k = go (every-all (nodeExists edition1) l h)
 
 pub kinds-say : (s : List ℕ) {l : List NodeAction} → actionsIn edition1 s ≡ some l → actionsOf s .refusal ≡ 0 → KindsSay l (actionsOf s .kinds)
 unfolding actionsNumbered actionIndex byNode kindAt kindCode
-kinds-say s {l} e h = record { says = λ n. ap (λ x. getD (x .kinds) n 0) (index-is s e h) ∙ either n 64 (λ k. listed-at 64 (kindAt l) n k) (λ k. List·getD-eq-default (byNode (kindAt l)) 0 (size k) ∙ sym (ap kindCode (nowhere-above l n exist k))) }
+kinds-say s {l} e h = record {
+  known = λ n a i. sym (said n ∙ ap kindCode i);
+  unknown = λ n i a j. (let z : getD (actionsOf s .kinds) n 0 ≡ 0 = said n ∙ ap kindCode i in omega (arith, code-some a));
+}
   where
     exist : every (nodeExists edition1) l ≡ true
     exist = and-right (risingFrom 0 (actionNodes l)) (every (nodeExists edition1) l) (laid-actions s e h)
 
     size : {n : ℕ} → 64 ≤ n → length (byNode (kindAt l)) ≤ n
     size k = let z = listed-length 64 (kindAt l) in omega arith
+
+    said : (n : ℕ) → getD (actionsOf s .kinds) n 0 ≡ kindAt l n
+    said n = ap (λ x. getD (x .kinds) n 0) (index-is s e h) ∙ either n 64 (λ k. listed-at 64 (kindAt l) n k) (λ k. List·getD-eq-default (byNode (kindAt l)) 0 (size k) ∙ sym (ap kindCode (nowhere-above l n exist k)))

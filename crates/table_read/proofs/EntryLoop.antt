@@ -11,18 +11,19 @@ use lib.Dec.{leb}
 use lib.ListN.{length, getD, drop, List·getD-eq-default}
 use Rattle.semantics.specs.Bytes.{broken, read, give, times}
 use Rattle.semantics.specs.Editions.{edition1}
-use Rattle.semantics.specs.TableFile.{Entry, actionKind, readEntry, readLocation}
-use Rattle.semantics.specs.Tables.{entryFits, entryNodes, locationFits}
+use Rattle.semantics.specs.TableFile.{NodeAction, Entry, readEntry, readLocation}
+use Rattle.semantics.specs.Tables.{risingFrom, entryFits, entryNodes, locationFits}
 use Rattle.semantics.proofs.Facts.{true-not-false, by-cases, and-both}
 use Rattle.semantics.proofs.Readers.{broken-not-read, read-value, guarded}
 use Rattle.codec.specs.Reading.{Took, reads-at}
 use Rattle.codec.proofs.Reading.{taken, lost, gives, then-byte, then-guard, then-number, no-number, then-nat2, no-nat2, nat2At, either}
 use Rattle.codec.proofs.Known.{after-byte, not-past, snoc}
 use Rattle.table_read.specs.Ends.{anything, follows, EndsWith, good-at, good-none}
-use Rattle.table_read.specs.LocationIndex.{entryNode, entryAt, actionsLike, likeKind, kindFits}
+use Rattle.table_read.specs.ActionIndex.{KindsSay}
+use Rattle.table_read.specs.LocationIndex.{entryNode, entryAt, FitsKind}
 use Rattle.table_read.proofs.Early.{early}
-use Rattle.table_read.proofs.Rising.{laid, Laid, laid-none, laid-more, laid-true, not-laid, laid-fronts}
-use Rattle.table_read.proofs.LikeKinds.{entry-like}
+use Rattle.table_read.proofs.Rising.{rising-one, laid, Laid, laid-none, laid-more, laid-true, not-laid, laid-fronts}
+use Rattle.table_read.proofs.LikeKinds.{actionsLike, none-fits, entry-told, location-same}
 
 -- ---- the entry at place p
 pub entry-took : (s : List ℕ) (p : ℕ) → p + 5 ≤ length s → Took (readEntry edition1) (λ e (x : Unit {0}). e ≡ entryAt s p) s p (p + 1 + 2 + 2) tt
@@ -46,9 +47,9 @@ entry-node : (s : List ℕ) (p : ℕ) {a : Entry} {e : List ℕ} → readEntry e
 entry-node s p h = ap (λ e. e .node) (entry-is s p h .1)
 
 -- ---- what the code says of it, for n locations and actions of the kinds ks
-module _ (n : ℕ) (ks : List ℕ) (low : ℕ) where
+module _ (n : ℕ) {ks : List ℕ} {l : List NodeAction} (said : KindsSay l ks) (low : ℕ) where
   abbrev good : Entry → Bool
-  good = follows entryNode (entryFits n (actionsLike ks)) low
+  good = follows entryNode (entryFits n l) low
 
   module _ (s : List ℕ) (p : ℕ) where
     pub entry-none : length s < p + 5 → EndsWith (readEntry edition1) good s p 0
@@ -56,38 +57,38 @@ module _ (n : ℕ) (ks : List ℕ) (low : ℕ) where
 
     pub entry-low : getD s p 0 < low → EndsWith (readEntry edition1) good s p 0
     unfolding follows
-    entry-low h = good-none refl (λ a e k. rw (lt-leb low (a .node) (subst (λ m. m < low) (sym (entry-node s p k)) h)) refl)
+    entry-low h = good-none refl (λ a e k. rw (rising-one low (a .node), lt-leb low (a .node) (subst (λ m. m < low) (sym (entry-node s p k)) h)) refl)
 
-    unfit : ((a : Entry) → a ≡ entryAt s p → entryFits n (actionsLike ks) a ≡ false) → EndsWith (readEntry edition1) good s p 0
+    unfit : ((a : Entry) → a ≡ entryAt s p → entryFits n l a ≡ false) → EndsWith (readEntry edition1) good s p 0
     unfolding follows
-    unfit h = good-none refl (λ a e k. rw (h a (entry-is s p k .1), and-false (leb low (a .node))) refl)
+    unfit h = good-none refl (λ a e k. rw (h a (entry-is s p k .1), and-false (risingFrom low (a .node ∷ []))) refl)
 
     pub entry-outside : length ks ≤ getD s p 0 → EndsWith (readEntry edition1) good s p 0
-    unfolding kindFits actionKind likeKind
-    entry-outside h = unfit (λ a e. entry-like n ks a ∙ ap (λ k. kindFits n k (a .target) (a .other)) (ap (λ m. getD ks m 0) (at-node a e) ∙ List·getD-eq-default ks 0 h))
+    entry-outside h = unfit (λ a e. sym (entry-told n l ks a said (subst (λ k. FitsKind n k (a .target) (a .other) false) (sym (no-kind a e)) (none-fits n (a .target) (a .other)))))
       where
-        at-node : (a : Entry) → a ≡ entryAt s p → a .node ≡ getD s p 0
-        at-node a e = ap (λ z. z .node) e
+        no-kind : (a : Entry) → a ≡ entryAt s p → getD ks (a .node) 0 ≡ 0
+        no-kind a e = ap (λ (z : Entry). getD ks (z .node) 0) e ∙ List·getD-eq-default ks 0 h
 
-    module _ {x : Bool} {t u : ℕ} (f : x ≡ kindFits n (getD ks (getD s p 0) 0) t u) (i : t ≡ nat2At s (p + 1)) (j : u ≡ nat2At s (p + 1 + 2)) where
-      here : x ≡ entryFits n (actionsLike ks) (entryAt s p)
-      here = f ∙ ap (λ z. kindFits n (getD ks (getD s p 0) 0) z u) i ∙ ap (kindFits n (getD ks (getD s p 0) 0) (nat2At s (p + 1))) j ∙ sym (entry-like n ks (entryAt s p))
+    module _ {x : Bool} {t u : ℕ} (f : FitsKind n (getD ks (getD s p 0) 0) t u x) (i : t ≡ nat2At s (p + 1)) (j : u ≡ nat2At s (p + 1 + 2)) where
+      here : x ≡ entryFits n l (entryAt s p)
+      here =
+          entry-told n l ks (entryAt s p) said (subst (λ z. FitsKind n (getD ks (getD s p 0) 0) (nat2At s (p + 1)) z x) j (subst (λ z. FitsKind n (getD ks (getD s p 0) 0) z u x) i f))
 
       pub entry-bad : x ≡ false → EndsWith (readEntry edition1) good s p 0
-      entry-bad e = unfit (λ a k. ap (entryFits n (actionsLike ks)) k ∙ sym here ∙ e)
+      entry-bad e = unfit (λ a k. ap (entryFits n l) k ∙ sym here ∙ e)
 
       pub entry-ok : x ≡ true → low ≤ getD s p 0 → p + 5 ≤ length s → EndsWith (readEntry edition1) good s p (p + 1 + 2 + 2)
       unfolding follows
-      entry-ok e l h =
+      entry-ok e m h =
           let k = entry-took s p h in
           good-at {q = p + 1 + 2 + 2} (omega arith) (record {
             value = k .value;
             got = k .got;
             inside = k .inside;
-            means = and-both (le-leb low (k .value .node) (subst (λ m. low ≤ m) (sym (entry-node s p (k .got))) l)) (ap (entryFits n (actionsLike ks)) (k .means) ∙ sym here ∙ e);
+            means = and-both (rising-one low (k .value .node) ∙ le-leb low (k .value .node) (subst (λ i. low ≤ i) (sym (entry-node s p (k .got))) m)) (ap (entryFits n l) (k .means) ∙ sym here ∙ e);
           })
 
--- ---- the first i entries of the location at p, the last of which ends at q; the next node is low or above
+-- ---- the first i entries of the location at p, the last of which ends at q, fit actions of the kinds ks; the next node is low or above
 pub record Entries (n : ℕ) (ks s : List ℕ) (p i q low : ℕ) : Type 0 where
   pub took : Took (times i (readEntry edition1)) anything s (p + 1) q tt
   pub sound : Laid entryNode (entryFits n (actionsLike ks)) (took .value) low
@@ -103,9 +104,16 @@ module _ (n : ℕ) (ks s : List ℕ) (p : ℕ) where
     sound = subst (λ m. Laid entryNode (entryFits n (actionsLike ks)) (x .took .value ++ (u .value ∷ [])) (m + 1)) (entry-node s q (u .got)) (laid-more entryNode (entryFits n (actionsLike ks)) (u .value) (x .sound) (u .means));
   }
 
-  pub location-none : length s ≤ p → EndsWith (readLocation edition1) (locationFits n (actionsLike ks)) s p 0
+  -- whatever actions have these kinds
+  abbrev LocationEnds : ℕ → Type 0
+  LocationEnds q = (l : List NodeAction) → KindsSay l ks → EndsWith (readLocation edition1) (locationFits n l) s p q
+
+  for-all : (q : ℕ) → EndsWith (readLocation edition1) (locationFits n (actionsLike ks)) s p q → LocationEnds q
+  for-all q h l k = subst (λ f. EndsWith (readLocation edition1) f s p q) (location-same n l ks k) h
+
+  pub location-none : length s ≤ p → LocationEnds 0
   unfolding readLocation
-  location-none h = good-none refl (λ a e k. not-past _ s p h k)
+  location-none h l said = good-none refl (λ a e k. not-past _ s p h k)
 
   module _ (h : p < length s) where
     -- what is read after the count
@@ -113,17 +121,17 @@ module _ (n : ℕ) (ks s : List ℕ) (p : ℕ) where
     unfolding readLocation
     counted-entries k = guarded _ _ (after-byte _ s p h k)
 
-    pub location-empty : getD s p 0 < 1 → EndsWith (readLocation edition1) (locationFits n (actionsLike ks)) s p 0
-    location-empty i = good-none refl (λ a e k. true-not-false (sym (counted-entries k .0) ∙ lt-leb 1 (getD s p 0) i))
+    pub location-empty : getD s p 0 < 1 → LocationEnds 0
+    location-empty i l said = good-none refl (λ a e k. true-not-false (sym (counted-entries k .0) ∙ lt-leb 1 (getD s p 0) i))
 
-    pub location-stop : {i q low : ℕ} → Entries n ks s p i q low → i < getD s p 0 → ((a : Entry) (e : List ℕ) → readEntry edition1 (drop q s) ≡ read a e → follows entryNode (entryFits n (actionsLike ks)) low a ≡ false) → EndsWith (readLocation edition1) (locationFits n (actionsLike ks)) s p 0
+    pub location-stop : {i q low : ℕ} → Entries n ks s p i q low → i < getD s p 0 → ((a : Entry) (e : List ℕ) → readEntry edition1 (drop q s) ≡ read a e → follows entryNode (entryFits n (actionsLike ks)) low a ≡ false) → LocationEnds 0
     unfolding locationFits entryNodes laid
-    location-stop {i} x k bad = good-none refl (λ es e g. by-cases (locationFits n (actionsLike ks) es)
+    location-stop {i} x k bad = for-all 0 (good-none refl (λ es e g. by-cases (locationFits n (actionsLike ks) es)
         (λ fit. absurd (early (readEntry edition1) (laid entryNode (entryFits n (actionsLike ks))) (laid-fronts entryNode (entryFits n (actionsLike ks))) i (x .took) k
         (λ a r j. not-laid entryNode (entryFits n (actionsLike ks)) a (x .sound) (bad a r j)) (counted-entries g .1) fit))
-        (λ unfit. unfit))
+        (λ unfit. unfit)))
 
-    pub location-ok : {i q low c : ℕ} → Entries n ks s p i q low → 0 < q → i ≡ c → c ≡ getD s p 0 → 1 ≤ c → EndsWith (readLocation edition1) (locationFits n (actionsLike ks)) s p q
+    pub location-ok : {i q low c : ℕ} → Entries n ks s p i q low → 0 < q → i ≡ c → c ≡ getD s p 0 → 1 ≤ c → LocationEnds q
     unfolding readLocation locationFits entryNodes laid
     location-ok {i} {q} {low} {c} x z e f g =
         let t : Took (times (getD s p 0) (readEntry edition1)) (λ es (x : Unit {0}). locationFits n (actionsLike ks) es ≡ true) s (p + 1) q tt = record {
@@ -132,4 +140,4 @@ module _ (n : ℕ) (ks s : List ℕ) (p : ℕ) where
           inside = x .took .inside;
           means = laid-true entryNode (entryFits n (actionsLike ks)) (x .sound);
         } in
-        good-at z (taken (then-byte _ h (then-guard _ _ (le-leb 1 (getD s p 0) (omega arith)) (reads-at t))) refl)
+        for-all q (good-at z (taken (then-byte _ h (then-guard _ _ (le-leb 1 (getD s p 0) (omega arith)) (reads-at t))) refl))

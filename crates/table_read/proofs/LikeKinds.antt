@@ -1,4 +1,4 @@
--- Whether targets fit depends on the kinds of the actions alone.
+-- Whether targets fit depends on the kinds of the actions alone, and there are actions of any kinds.
 use mathlib.Core.Path.{_≡_, refl, sym, ap, fun-ext, _∙_}
 use mathlib.Core.Bool.{Bool, false, _&&_}
 use mathlib.Core.List.{List, [], _∷_}
@@ -8,43 +8,89 @@ use native.Mathlib.Omega.{arith}
 use borrow.Author.Tests.{eq-eqb, ne-eqb}
 use lib.Dec.{eqb}
 use lib.ListN.{length, getD}
-use Rattle.semantics.specs.Bytes.{every}
+use Rattle.semantics.specs.Bytes.{every, noBytes, twoBytes, byteAndRest}
 use Rattle.semantics.specs.Editions.{edition1}
 use Rattle.semantics.specs.Refusals.{accepted, ensure, need, _>>_}
 use Rattle.semantics.specs.Run.{Action, test, wait, assign, switch, stop}
-use Rattle.semantics.specs.TableFile.{NodeAction, Entry, HALTED, NONE, no-kind, actionKind, kindNumber, locationsIn}
+use Rattle.semantics.specs.TableFile.{NodeAction, Entry, HALTED, NONE, ActionKind, a-test, a-wait, an-assignment, a-switch, a-stop, no-kind, actionKind, actionOfKind, kindNumber, locationsIn}
 use Rattle.semantics.specs.Tables.{risingFrom, actionAt, goesOn, targetsFit, entryFits, entryNodes, locationFits, locationsFit, judgeLocations}
+use Rattle.semantics.proofs.Facts.{none-not-some}
 use Rattle.semantics.proofs.Judging.{then-same}
-use Rattle.table_read.specs.ActionIndex.{kindCode, kindAt, KindsSay}
-use Rattle.table_read.specs.LocationIndex.{likeKind, actionsFrom, actionsLike, kindFits, locationsRead, locationsOf}
+use Rattle.table_read.specs.ActionIndex.{kindCode, KindsSay}
+use Rattle.table_read.specs.LocationIndex.{FitsKind, locationsRead, locationsOf}
+use Rattle.table_read.proofs.ActionForms.{kind-is}
+
+-- an operand of the form that a kind has
+unfoldable pub operandLike : ActionKind → List ℕ
+operandLike a-test = []
+operandLike a-wait = []
+operandLike an-assignment = 0 ∷ []
+operandLike a-switch = 0 ∷ 0 ∷ []
+operandLike a-stop = []
+operandLike no-kind = []
+
+-- an action of this kind
+unfoldable pub likeKind : ActionKind → Option Action
+likeKind k = actionOfKind k (operandLike k)
+
+-- actions of these kinds, by node; none where the number is of no kind
+unfoldable pub actionsFrom : ℕ → List ℕ → List NodeAction
+actionsFrom n [] = []
+actionsFrom n (k ∷ ks) = elim (likeKind (actionKind k)) [ none ↦ actionsFrom (suc n) ks | some a ↦ record { node = n; action = a } ∷ actionsFrom (suc n) ks ]
+
+unfoldable pub actionsLike : List ℕ → List NodeAction
+actionsLike ks = actionsFrom 0 ks
+
+-- whether targets fit an action of this kind
+unfoldable pub kindFits : ℕ → ℕ → ℕ → ℕ → Bool
+kindFits n k t u = elim (likeKind (actionKind k)) [ none ↦ false | some a ↦ targetsFit n a t u ]
+
+fits-code : (n t u : ℕ) (a : Action) → targetsFit n a t u ≡ kindFits n (kindNumber a) t u
+unfolding kindFits kindNumber likeKind operandLike actionOfKind byteAndRest twoBytes noBytes actionKind targetsFit
+fits-code n t u (test c) = refl
+fits-code n t u (wait c) = refl
+fits-code n t u (assign v b) = refl
+fits-code n t u (switch s m) = refl
+fits-code n t u stop = refl
 
 -- ---- what the code tests, kind by kind
 module _ (n k t u : ℕ) where
   pub test-fits : k ≡ 1 → (goesOn n t && goesOn n u) ≡ kindFits n k t u
-  unfolding kindFits likeKind actionKind targetsFit
+  unfolding kindFits likeKind operandLike actionOfKind byteAndRest twoBytes noBytes actionKind targetsFit
   test-fits e = rw e refl
 
   pub wait-fits : k ≡ 2 → (goesOn n t && eqb u 65535) ≡ kindFits n k t u
-  unfolding kindFits likeKind actionKind targetsFit NONE
+  unfolding kindFits likeKind operandLike actionOfKind byteAndRest twoBytes noBytes actionKind targetsFit NONE
   wait-fits e = rw e refl
 
   pub assignment-fits : k ≡ 3 → (goesOn n t && eqb u 65535) ≡ kindFits n k t u
-  unfolding kindFits likeKind actionKind targetsFit NONE
+  unfolding kindFits likeKind operandLike actionOfKind byteAndRest twoBytes noBytes actionKind targetsFit NONE
   assignment-fits e = rw e refl
 
   pub switch-fits : k ≡ 4 → (goesOn n t && eqb u 65535) ≡ kindFits n k t u
-  unfolding kindFits likeKind actionKind targetsFit NONE
+  unfolding kindFits likeKind operandLike actionOfKind byteAndRest twoBytes noBytes actionKind targetsFit NONE
   switch-fits e = rw e refl
 
   pub stop-fits : k ≡ 5 → (eqb t 65533 && eqb u 65535) ≡ kindFits n k t u
-  unfolding kindFits likeKind actionKind targetsFit HALTED NONE
+  unfolding kindFits likeKind operandLike actionOfKind byteAndRest twoBytes noBytes actionKind targetsFit HALTED NONE
   stop-fits e = rw e refl
 
   pub unknown-fits : (k ≡ 1 → ⊥) → (k ≡ 2 → ⊥) → (k ≡ 3 → ⊥) → (k ≡ 4 → ⊥) → (k ≡ 5 → ⊥) → false ≡ kindFits n k t u
-  unfolding kindFits likeKind actionKind
+  unfolding kindFits likeKind operandLike actionOfKind byteAndRest twoBytes noBytes actionKind
   unknown-fits a b c d e =
       let kind : actionKind k ≡ no-kind = rw (actionKind, ne-eqb k 1 a, ne-eqb k 2 b, ne-eqb k 3 c, ne-eqb k 4 d, ne-eqb k 5 e) refl in
       rw (kindFits, kind) refl
+
+pub told : (n k t u : ℕ) {r : Bool} → r ≡ kindFits n k t u → FitsKind n k t u r
+unfolding kindNumber
+told n k t u h = record {
+  of-kind = λ a e. h ∙ ap (λ k. kindFits n k t u) (sym e) ∙ sym (fits-code n t u a);
+  of-none = λ f. h ∙ sym (unknown-fits n k t u (λ e. f (test []) (sym e)) (λ e. f (wait []) (sym e)) (λ e. f (assign 0 []) (sym e)) (λ e. f (switch 0 0) (sym e)) (λ e. f stop (sym e)));
+}
+
+-- 0 is no kind
+pub none-fits : (n t u : ℕ) → FitsKind n 0 t u false
+none-fits n t u = told n 0 t u (unknown-fits n 0 t u (λ e. omega arith) (λ e. omega arith) (λ e. omega arith) (λ e. omega arith) (λ e. omega arith))
 
 -- ---- the actions that are made up
 before-first : (m n : ℕ) (ks : List ℕ) → n < m → actionAt (actionsFrom m ks) n ≡ none
@@ -57,7 +103,7 @@ before-first m n (k ∷ ks) h = go (likeKind (actionKind k)) (before-first (suc 
     go (some a) i = rw (actionAt, ne-eqb m n (λ e. omega arith)) i
 
 kind-from : (m n : ℕ) (ks : List ℕ) → actionAt (actionsFrom m ks) (m + n) ≡ likeKind (actionKind (getD ks n 0))
-unfolding actionsFrom actionAt actionKind likeKind
+unfolding actionsFrom actionAt actionKind likeKind operandLike actionOfKind
 kind-from m n [] = refl
 kind-from m zero (k ∷ ks) = go (likeKind (actionKind k))
   where
@@ -73,36 +119,49 @@ kind-from m (suc n) (k ∷ ks) = go (likeKind (actionKind k)) (kind-from (suc m)
     go none h = ap (actionAt (actionsFrom (suc m) ks)) (sym next) ∙ h
     go (some a) h = rw (actionAt, ne-eqb m (m + suc n) (λ e. omega arith)) (ap (actionAt (actionsFrom (suc m) ks)) (sym next) ∙ h)
 
-pub kind-like : (ks : List ℕ) (n : ℕ) → actionAt (actionsLike ks) n ≡ likeKind (actionKind (getD ks n 0))
+kind-like : (ks : List ℕ) (n : ℕ) → actionAt (actionsLike ks) n ≡ likeKind (actionKind (getD ks n 0))
 unfolding actionsLike
 kind-like ks n = let z : n ≡ 0 + n = omega arith in ap (actionAt (actionsFrom 0 ks)) z ∙ kind-from 0 n ks
 
+like-some : (a : Action) → likeKind (actionKind (kindNumber a)) ≡ none → ⊥
+unfolding kindNumber likeKind operandLike actionOfKind byteAndRest twoBytes noBytes actionKind
+like-some (test c) h = none-not-some (sym h)
+like-some (wait c) h = none-not-some (sym h)
+like-some (assign v b) h = none-not-some (sym h)
+like-some (switch s m) h = none-not-some (sym h)
+like-some stop h = none-not-some (sym h)
+
+like-code : (k : ℕ) {a : Action} → likeKind (actionKind k) ≡ some a → kindNumber a ≡ k
+unfolding likeKind kindCode
+like-code k h = kind-is k (operandLike (actionKind k)) h
+
+pub like-says : (ks : List ℕ) → KindsSay (actionsLike ks) ks
+like-says ks = record {
+  known = λ n a h. like-code (getD ks n 0) (sym (kind-like ks n) ∙ h);
+  unknown = λ n h a e. like-some a (ap (λ k. likeKind (actionKind k)) e ∙ sym (kind-like ks n) ∙ h);
+}
+
 -- ---- an entry, by the kind of its node's action
-pub entry-like : (n : ℕ) (ks : List ℕ) (e : Entry) → entryFits n (actionsLike ks) e ≡ kindFits n (getD ks (e .node) 0) (e .target) (e .other)
-unfolding entryFits kindFits
-entry-like n ks e = rw (entryFits, kind-like ks (e .node)) refl
+pub entry-told : (n : ℕ) (l : List NodeAction) (ks : List ℕ) (e : Entry) {x : Bool} → KindsSay l ks → FitsKind n (getD ks (e .node) 0) (e .target) (e .other) x → x ≡ entryFits n l e
+unfolding entryFits
+entry-told n l ks e {x} k f = go (actionAt l (e .node)) refl
+  where
+    go : (o : Option Action) → actionAt l (e .node) ≡ o → _≡_ {A = Bool} x (elim o [ none ↦ false | some a ↦ targetsFit n a (e .target) (e .other) ])
+    go none h = f .of-none (k .unknown (e .node) h)
+    go (some a) h = f .of-kind a (k .known (e .node) a h)
 
-fits-code : (n t u : ℕ) (o : Option Action) → _≡_ {A = Bool} (elim o [ none ↦ false | some a ↦ targetsFit n a t u ]) (kindFits n (kindCode o) t u)
-unfolding kindFits kindCode kindNumber likeKind actionKind targetsFit
-fits-code n t u none = refl
-fits-code n t u (some (test c)) = refl
-fits-code n t u (some (wait c)) = refl
-fits-code n t u (some (assign v b)) = refl
-fits-code n t u (some (switch s m)) = refl
-fits-code n t u (some stop) = refl
+-- ---- so what fits actions of the kinds fits all actions that have these kinds
+module _ (n : ℕ) (l : List NodeAction) (ks : List ℕ) (k : KindsSay l ks) where
+  entries-same : entryFits n (actionsLike ks) ≡ entryFits n l
+  entries-same = fun-ext (λ e.
+      let f = told n (getD ks (e .node) 0) (e .target) (e .other) refl in
+      sym (entry-told n (actionsLike ks) ks e (like-says ks) f) ∙ entry-told n l ks e k f)
 
-pub entry-kind : (n : ℕ) (l : List NodeAction) (ks : List ℕ) (e : Entry) → KindsSay l ks → entryFits n l e ≡ kindFits n (getD ks (e .node) 0) (e .target) (e .other)
-unfolding entryFits kindAt
-entry-kind n l ks e k = fits-code n (e .target) (e .other) (actionAt l (e .node)) ∙ ap (λ c. kindFits n c (e .target) (e .other)) (sym (k .says (e .node)))
+  pub location-same : locationFits n (actionsLike ks) ≡ locationFits n l
+  unfolding locationFits
+  location-same = fun-ext (λ es. ap (λ f. risingFrom 0 (entryNodes es) && every f es) entries-same)
 
--- ---- so locations fit actions where they fit the kinds
-pub fit-like : (l : List NodeAction) (ks : List ℕ) (ls : List (List Entry)) → KindsSay l ks → locationsFit (actionsLike ks) ls ≡ locationsFit l ls
-unfolding locationsFit locationFits
-fit-like l ks ls k =
-    let same : entryFits (length ls) (actionsLike ks) ≡ entryFits (length ls) l = fun-ext (λ e. entry-like (length ls) ks e ∙ sym (entry-kind (length ls) l ks e k)) in
-    ap (λ f. every (λ es. risingFrom 0 (entryNodes es) && every f es) ls) same
-
--- the answer for kinds is the answer for actions
+-- the answer for such actions is the answer for all
 pub locations-like : (l : List NodeAction) (ks s : List ℕ) → KindsSay l ks → locationsOf (actionsLike ks) s ≡ locationsOf l s
-unfolding locationsOf judgeLocations
-locations-like l ks s k = ap (locationsRead s) (then-same (need 19 (locationsIn edition1 s)) (λ ls. ap (λ b. ensure 19 b >> accepted ls) (fit-like l ks ls k)))
+unfolding locationsOf judgeLocations locationsFit
+locations-like l ks s k = ap (locationsRead s) (then-same (need 19 (locationsIn edition1 s)) (λ ls. ap (λ f. ensure 19 (every f ls) >> accepted ls) (location-same (length ls) l ks k)))

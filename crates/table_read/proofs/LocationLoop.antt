@@ -7,25 +7,25 @@ use Prim.Native.Nat.{ℕ, _+_, _≤_, _<_}
 use native.Mathlib.Numerals.{add-one}
 use native.Mathlib.Omega.{arith}
 use lib.ListN.{length, set, drop, replicate, length-drop}
-use Rattle.semantics.specs.Bytes.{every, read, andThen, _>>=_, give, guard, times, just, whole}
+use Rattle.semantics.specs.Bytes.{every, Read, broken, read, andThen, _>>=_, give, fail, guard, times, just, whole}
 use Rattle.semantics.specs.Editions.{edition1}
 use Rattle.semantics.specs.Refusals.{Judged, accepted}
-use Rattle.semantics.specs.TableFile.{NodeAction, Entry, readLocation, readLocations, locationsIn}
+use Rattle.semantics.specs.TableFile.{NodeAction, Entry, readLocation, readLocationCount, readLocations, locationsIn}
 use Rattle.semantics.specs.Tables.{locationFits, locationsFit, judgeLocations}
-use Rattle.semantics.proofs.Facts.{and-both, within-both, none-not-some}
+use Rattle.semantics.proofs.Facts.{and-both, within-both, within-low, within-high, none-not-some}
 use Rattle.semantics.proofs.Judging.{go-need, go-ensure}
-use Rattle.semantics.proofs.Readers.{read-rest, guarded, whole-read}
+use Rattle.semantics.proofs.Readers.{read-rest, guarded, given, given-rest, whole-read}
 use Rattle.codec.specs.Reading.{Took}
 use Rattle.codec.specs.Places.{placesFrom}
 use Rattle.codec.specs.Padding.{pad}
-use Rattle.codec.proofs.Reading.{none-kept, then-nat2, no-nat2, no-guard, within-below, within-above, nat2At, nat2-at, drop-past, either}
-use Rattle.codec.proofs.Known.{after-nat2, snoc, times-length}
+use Rattle.codec.proofs.Reading.{lost, then-nat2, no-nat2, no-guard, within-below, within-above, nat2At, nat2-at, drop-past, either}
+use Rattle.codec.proofs.Known.{after-nat2, not-nat2, snoc, times-length}
 use Rattle.codec.proofs.Loops.{every-snoc}
 use Rattle.codec.proofs.Padding.{pad-none, set-pad}
 use Rattle.codec.proofs.Places.{places-start, places-more, places-count}
 use Rattle.table_read.specs.declared.locations.Locations.{Locations}
-use Rattle.table_read.specs.Ends.{anything}
-use Rattle.table_read.specs.LocationIndex.{noLocations, locationIndex, locationsRead, locationsOf, LocationsCounted, locations-counted, locations-miscounted}
+use Rattle.table_read.specs.Ends.{anything, orZero}
+use Rattle.table_read.specs.LocationIndex.{noLocations, locationIndex, locationsRead, locationsOf}
 use Rattle.table_read.proofs.Early.{early}
 use Rattle.table_read.proofs.Fitted.{Fitted, fit, unfit, fitted}
 use Rattle.table_read.proofs.Rising.{every-append}
@@ -49,44 +49,66 @@ module _ (acts : List NodeAction) (s : List ℕ) {ls : List (List Entry)} (e : l
   accept = rw judged refl
 
 -- ---- the count
-pub no-count : (s : List ℕ) → length s < 2 → LocationsCounted s 0
-unfolding locationsIn readLocations
-no-count s h = locations-miscounted refl (none-kept {K = anything} (no-nat2 _ h (omega arith)) refl)
+pub no-count : (s : List ℕ) → length s < 2 → 0 ≡ orZero (readLocationCount s)
+unfolding readLocationCount orZero
+no-count s h = sym (ap orZero (lost {K = anything} {s = s} {p = 0} (no-nat2 _ h (omega arith)) refl))
 
-pub many : (s : List ℕ) {n : ℕ} → n ≡ nat2At s 0 → 2 ≤ length s → 1024 < n → LocationsCounted s 0
-unfolding locationsIn readLocations
-many s {n} e i h = locations-miscounted refl (none-kept {K = anything} (then-nat2 _ i (no-guard _ _ (within-above 1 1024 _ (subst (λ n. 1024 < n) e h)))) refl)
+pub many : (s : List ℕ) {n : ℕ} → n ≡ nat2At s 0 → 2 ≤ length s → 1024 < n → 0 ≡ orZero (readLocationCount s)
+unfolding readLocationCount orZero
+many s {n} e i h = sym (ap orZero (lost {K = anything} {s = s} {p = 0} (then-nat2 _ i (no-guard _ _ (within-above 1 1024 _ (subst (λ n. 1024 < n) e h)))) refl))
 
-pub count-is : (s : List ℕ) {n : ℕ} → n ≡ nat2At s 0 → 2 ≤ length s → n ≤ 1024 → LocationsCounted s n
-unfolding locationsIn readLocations
-count-is s {n} e i h = either 0 n (λ k. locations-counted i e k h) (λ k. locations-miscounted (omega arith) (none-kept {K = anything} (then-nat2 _ i (no-guard _ _ (within-below 1 1024 _ (omega arith)))) refl))
+pub count-is : (s : List ℕ) {n : ℕ} → n ≡ nat2At s 0 → 2 ≤ length s → n ≤ 1024 → n ≡ orZero (readLocationCount s)
+unfolding readLocationCount orZero _>>=_ andThen guard give fail
+count-is s {n} e i h = rw (nat2-at s 0 i, ← e) (either 0 n (λ k. rw (within-both 1 1024 n (omega arith) h) refl) (λ k. rw (within-below 1 1024 n (omega arith)) (omega arith)))
 
 pub record Count (s : List ℕ) (n : ℕ) : Type 0 where
   pub room : 2 ≤ length s
-  pub is : n ≡ nat2At s 0
   pub low : 1 ≤ n
   pub high : n ≤ 1024
+  pub first : readLocationCount s ≡ read n (drop 2 s)
 
-pub count-of : {s : List ℕ} {n : ℕ} → LocationsCounted s n → (n ≡ 0 → ⊥) → Count s n
-count-of (locations-counted i e l h) k = record { room = i; is = e; low = l; high = h }
-count-of (locations-miscounted e h) k = absurd (k e)
+pub count-was : (s : List ℕ) {n : ℕ} {e : List ℕ} → readLocationCount s ≡ read n e → Count s n
+unfolding readLocationCount
+count-was s {n} h = either (length s) 2 (λ i. not-nat2 _ s 0 i (omega arith) h) (λ i.
+    let g = guarded _ _ (after-nat2 _ s 0 i h) in
+    let is : nat2At s 0 ≡ n = given _ _ (g .1) in
+    record {
+      room = i;
+      low = subst (λ n. 1 ≤ n) is (within-low 1 1024 _ (g .0));
+      high = subst (λ n. n ≤ 1024) is (within-high 1 1024 _ (g .0));
+      first = h ∙ ap (read n) (sym (given-rest _ _ (g .1)));
+    })
 
-pub refuse-count : (acts : List NodeAction) {s : List ℕ} {n : ℕ} → LocationsCounted s n → n ≡ 0 → noLocations 19 ≡ locationsOf acts s
-refuse-count acts (locations-counted i e l h) k = absurd (omega arith)
-refuse-count acts {s} (locations-miscounted e h) k = refuse acts s (λ l i g. none-not-some (sym h ∙ i))
+pub count-of : {s : List ℕ} {n : ℕ} → n ≡ orZero (readLocationCount s) → (n ≡ 0 → ⊥) → Count s n
+unfolding orZero
+count-of {s} {n} e k = go (readLocationCount s) refl
+  where
+    go : (o : Read ℕ) → readLocationCount s ≡ o → Count s n
+    go broken h = absurd (k (e ∙ ap orZero h))
+    go (read m t) h = subst (Count s) (sym (e ∙ ap orZero h)) (count-was s h)
+
+pub refuse-count : (acts : List NodeAction) (s : List ℕ) {n : ℕ} → n ≡ orZero (readLocationCount s) → n ≡ 0 → noLocations 19 ≡ locationsOf acts s
+unfolding orZero locationsIn readLocations whole just _>>=_ andThen
+refuse-count acts s {n} e k = go (readLocationCount s) refl
+  where
+    go : (o : Read ℕ) → readLocationCount s ≡ o → noLocations 19 ≡ locationsOf acts s
+    go broken h = refuse acts s (λ l i g. none-not-some (sym (ap (λ o. just (andThen o (λ n. times n (readLocation edition1)))) h) ∙ i))
+    go (read m t) h =
+        let z : m ≡ 0 = sym (e ∙ ap orZero h) ∙ k in
+        absurd (omega (arith, count-was s h .low))
 
 -- ---- what the section's reader does after the count
-in-times : {s : List ℕ} {n : ℕ} {ls : List (List Entry)} → Count s n → locationsIn edition1 s ≡ some ls → times n (readLocation edition1) (drop 2 s) ≡ read ls []
-unfolding locationsIn readLocations
-in-times {s} c e = rw (c .is) (guarded _ _ (after-nat2 _ s 0 (c .room) (whole-read (readLocations edition1) s e)) .1)
+after-count : {s : List ℕ} {n : ℕ} → Count s n → readLocations edition1 s ≡ times n (readLocation edition1) (drop 2 s)
+unfolding readLocations _>>=_ andThen
+after-count c = rw (c .first) refl
+
+pub in-times : {s : List ℕ} {n : ℕ} {ls : List (List Entry)} → Count s n → locationsIn edition1 s ≡ some ls → times n (readLocation edition1) (drop 2 s) ≡ read ls []
+unfolding locationsIn
+in-times {s} c e = sym (after-count c) ∙ whole-read (readLocations edition1) s e
 
 times-in : {s : List ℕ} {n : ℕ} {ls : List (List Entry)} → Count s n → times n (readLocation edition1) (drop 2 s) ≡ read ls [] → locationsIn edition1 s ≡ some ls
-unfolding locationsIn readLocations whole just _>>=_ andThen guard
-times-in {s} c e =
-    let l = c .low in
-    let h = c .high in
-    let is = c .is in
-    rw (nat2-at s 0 (c .room), ← is, within-both 1 1024 _ l h, e) refl
+unfolding locationsIn whole just
+times-in c e = ap just (after-count c ∙ e)
 
 -- ---- the first i of n locations, the last of which ends at p; all fit, and their places are in the list
 pub record Located (acts : List NodeAction) (n : ℕ) (s : List ℕ) (i p : ℕ) (places : List ℕ) : Type 0 where

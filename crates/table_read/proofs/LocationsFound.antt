@@ -10,20 +10,20 @@ use lib.ListN.{length, getD, drop, replicate, getElem?, length-append, length-re
 use Rattle.semantics.specs.Bytes.{read, broken, byte, andThen, _>>=_, give, times}
 use Rattle.semantics.specs.Editions.{edition1}
 use Rattle.semantics.specs.Refusals.{Judged, refused}
-use Rattle.semantics.specs.TableFile.{NodeAction, Entry, readEntry, readLocation, readLocations, locationsIn}
+use Rattle.semantics.specs.TableFile.{NodeAction, Entry, readEntry, readLocation, readLocationCount, readLocations, locationsIn}
 use Rattle.semantics.specs.Tables.{locationsFit, judgeLocations}
-use Rattle.semantics.proofs.Facts.{none-not-some, some-is, within-low, within-high}
-use Rattle.semantics.proofs.Readers.{read-value, read-rest, guarded, whole-read}
+use Rattle.semantics.proofs.Facts.{none-not-some, some-is}
+use Rattle.semantics.proofs.Readers.{read-value, read-rest, split, guarded, whole-read}
 use Rattle.codec.specs.Places.{placesFrom}
 use Rattle.codec.specs.Padding.{pad}
-use Rattle.codec.proofs.Reading.{either, nat2At}
-use Rattle.codec.proofs.Known.{cons, times-length, after-byte, not-past, after-nat2, not-nat2}
+use Rattle.codec.proofs.Reading.{either}
+use Rattle.codec.proofs.Known.{cons, times-length, after-byte, not-past}
 use Rattle.codec.proofs.Places.{Takes, takes-then, takes-guard, takes-byte, takes-number, takes-nat2, takes-give, takes-times, places-length, placed, placed-before}
 use Rattle.table_read.specs.LocationIndex.{entryAt, locationIndex, locationsRead, locationsOf}
 use Rattle.table_read.specs.Promised.{EntriesAt}
 use Rattle.table_read.proofs.Fitted.{Fitted, fit, unfit, fitted}
 use Rattle.table_read.proofs.EntryLoop.{entry-is, entry-took}
-use Rattle.table_read.proofs.LocationLoop.{accept}
+use Rattle.table_read.proofs.LocationLoop.{accept, count-was, in-times}
 
 -- ---- where nothing is refused
 pub accepted-locations : (acts : List NodeAction) (s : List ℕ) → locationsOf acts s .refusal ≡ 0 → (ls : List (List Entry)) × (locationsIn edition1 s ≡ some ls) × (locationsFit acts ls ≡ true)
@@ -54,12 +54,14 @@ index-is acts s e h = accept acts s e (fit-locations acts s e h)
 
 times-of : (s : List ℕ) {ls : List (List Entry)} → locationsIn edition1 s ≡ some ls → (2 ≤ length s) × (1 ≤ length ls) × (length ls ≤ 1024) × (times (length ls) (readLocation edition1) (drop 2 s) ≡ read ls [])
 unfolding locationsIn readLocations
-times-of s {ls} e = either (length s) 2 (λ i. not-nat2 _ s 0 i (omega arith) (whole-read (readLocations edition1) s e)) (λ i.
-    let g = guarded _ _ (after-nat2 _ s 0 i (whole-read (readLocations edition1) s e)) in
-    let n = times-length (readLocation edition1) (nat2At s 0) (drop 2 s) (g .1) in
-    let low = within-low 1 1024 _ (g .0) in
-    let high = within-high 1 1024 _ (g .0) in
-    (i, omega arith, omega arith, subst (λ n. times n (readLocation edition1) (drop 2 s) ≡ read ls []) (sym n) (g .1)))
+times-of s {ls} e =
+    let k = split readLocationCount _ (whole-read (readLocations edition1) s e) in
+    let c = count-was s (k .first) in
+    let g = in-times c e in
+    let n = times-length (readLocation edition1) (k .value) (drop 2 s) g in
+    let low = c .low in
+    let high = c .high in
+    (c .room, omega arith, omega arith, subst (λ n. times n (readLocation edition1) (drop 2 s) ≡ read ls []) (sym n) g)
 
 takes-entry : Takes (readEntry edition1)
 unfolding readEntry

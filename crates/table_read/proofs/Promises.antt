@@ -13,10 +13,12 @@ use Rattle.semantics.specs.Bytes.{every}
 use Rattle.semantics.specs.Editions.{edition1}
 use Rattle.semantics.specs.Refusals.{Judged, refused, accepted, refusalOf}
 use Rattle.semantics.specs.Plant.{Plant, judgePlant, switchesRead, selectors}
-use Rattle.semantics.specs.Run.{Action, test, wait, assign, switch, stop, isTest, possible}
+use Rattle.semantics.specs.Run.{Action, test, wait, assign, switch, stop, isTest, possible, to, finished, halted}
 use Rattle.semantics.specs.TableFile.{NodeAction, Entry, HALTED, NONE, actionKind, actionOfKind, actionsIn, locationsIn}
 use Rattle.semantics.specs.Tables.{actionsFit, Table, risingFrom, operandFits, actionNodes, actionAt, goesOn, targetsFit, entryFits, entryNodes, locationFits, locationsFit, judgeTable, operandsFit, nodeExists, actionsNumbered}
 use Rattle.semantics.specs.Conditions.{Condition, First, here, further, Firsts, refuses, accepts, _if_, is15, is16, is17, is18, is19, tableConditions}
+use Rattle.semantics.specs.Proper.{GoesOn}
+use Rattle.semantics.specs.TableRuns.{Coded, coded-location, coded-finished, coded-halted}
 use Rattle.semantics.proofs.TablesProper.{goes-there}
 use Rattle.semantics.proofs.Facts.{All, all-nil, all-cons, all-map, every-all, true-not-false, none-not-some, and-left, and-right}
 use Rattle.semantics.proofs.Judging.{refused-not-accepted, refused-is, accepted-is}
@@ -265,17 +267,25 @@ entries-few t {tb} o k h =
     same (e ∷ es) = ap suc (same es)
 
 -- ---- where a move leads
+leads-on : (n t : ℕ) → GoesOn n t → Leads n t
+leads-on n t (inl h) = (to t, coded-location h)
+leads-on n t (inr e) = (finished, subst (Coded n finished) (sym e) coded-finished)
+
+leads-halted : (n t : ℕ) → t ≡ HALTED → Leads n t
+unfolding HALTED
+leads-halted n t e = (halted, subst (Coded n halted) (sym e) coded-halted)
+
 pub leads : (n : ℕ) (a : Action) (t u : ℕ) (b : Bool) → targetsFit n a t u ≡ true → possible a b ≡ true → Leads n (cond b t u)
 unfolding targetsFit possible isTest
-leads n (test c) t u true h p = inl (goes-there n t (and-left (goesOn n t) (goesOn n u) h))
-leads n (test c) t u false h p = inl (goes-there n u (and-right (goesOn n t) (goesOn n u) h))
-leads n (wait c) t u true h p = inl (goes-there n t (and-left (goesOn n t) (eqb u NONE) h))
+leads n (test c) t u true h p = leads-on n t (goes-there n t (and-left (goesOn n t) (goesOn n u) h))
+leads n (test c) t u false h p = leads-on n u (goes-there n u (and-right (goesOn n t) (goesOn n u) h))
+leads n (wait c) t u true h p = leads-on n t (goes-there n t (and-left (goesOn n t) (eqb u NONE) h))
 leads n (wait c) t u false h p = true-not-false (sym p)
-leads n (assign v e) t u true h p = inl (goes-there n t (and-left (goesOn n t) (eqb u NONE) h))
+leads n (assign v e) t u true h p = leads-on n t (goes-there n t (and-left (goesOn n t) (eqb u NONE) h))
 leads n (assign v e) t u false h p = true-not-false (sym p)
-leads n (switch s m) t u true h p = inl (goes-there n t (and-left (goesOn n t) (eqb u NONE) h))
+leads n (switch s m) t u true h p = leads-on n t (goes-there n t (and-left (goesOn n t) (eqb u NONE) h))
 leads n (switch s m) t u false h p = true-not-false (sym p)
-leads n stop t u true h p = inr (eqb-true t HALTED (and-left (eqb t HALTED) (eqb u NONE) h))
+leads n stop t u true h p = leads-halted n t (eqb-true t HALTED (and-left (eqb t HALTED) (eqb u NONE) h))
 leads n stop t u false h p = true-not-false (sym p)
 
 -- no second target but a test's

@@ -34,7 +34,7 @@ unfolding nextFrom
 next-append low [] m = refl
 next-append low (n ∷ l) m = next-append (suc n) l m
 
-rising-one : (low n : ℕ) → risingFrom low (n ∷ []) ≡ leb low n
+pub rising-one : (low n : ℕ) → risingFrom low (n ∷ []) ≡ leb low n
 unfolding risingFrom
 rising-one low n = go (leb low n)
   where
@@ -64,14 +64,14 @@ module _ {A : Type 0} (number : A → ℕ) (fits : A → Bool) where
   unfolding risingFrom every nextFrom
   laid-none = record { rises = refl; all-fit = refl; next = refl }
 
-  rising-more : (l : List A) (a : A) → risingFrom 0 (map number (l ++ (a ∷ []))) ≡ (risingFrom 0 (map number l) && leb (nextFrom 0 (map number l)) (number a))
-  rising-more l a = rw (map-append number l (a ∷ []), rising-append 0 (map number l) (number a ∷ []), rising-one (nextFrom 0 (map number l)) (number a)) refl
+  rising-more : (l : List A) (a : A) → risingFrom 0 (map number (l ++ (a ∷ []))) ≡ (risingFrom 0 (map number l) && risingFrom (nextFrom 0 (map number l)) (number a ∷ []))
+  rising-more l a = rw (map-append number l (a ∷ []), rising-append 0 (map number l) (number a ∷ [])) refl
 
   pub laid-more : {l : List A} {low : ℕ} (a : A) → Laid l low → follows number fits low a ≡ true → Laid (l ++ (a ∷ [])) (number a + 1)
   unfolding nextFrom follows
   laid-more {l} {low} a k h = record {
-    rises = rising-more l a ∙ and-both (k .rises) (ap (λ z. leb z (number a)) (k .next) ∙ and-left (leb low (number a)) (fits a) h);
-    all-fit = every-snoc fits l a ∙ and-both (k .all-fit) (and-right (leb low (number a)) (fits a) h);
+    rises = rising-more l a ∙ and-both (k .rises) (ap (λ z. risingFrom z (number a ∷ [])) (k .next) ∙ and-left (risingFrom low (number a ∷ [])) (fits a) h);
+    all-fit = every-snoc fits l a ∙ and-both (k .all-fit) (and-right (risingFrom low (number a ∷ [])) (fits a) h);
     next = rw (map-append number l (a ∷ []), next-append 0 (map number l) (number a ∷ []), add-one (number a)) refl;
   }
 

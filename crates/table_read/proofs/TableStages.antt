@@ -25,14 +25,13 @@ use Rattle.table_read.specs.declared.actions.Actions.{Actions}
 use Rattle.table_read.specs.declared.locations.Locations.{Locations}
 use Rattle.table_read.specs.declared.call.TableIndex.{TableIndex}
 use Rattle.table_read.specs.TableParts.{noParts, partsIn, partsRead, partsOf, sectionsAt}
-use Rattle.table_read.specs.ActionIndex.{noActions, actionsOf}
+use Rattle.table_read.specs.ActionIndex.{KindsSay, noActions, actionsOf}
 use Rattle.table_read.specs.OperandForms.{AllFit}
-use Rattle.table_read.specs.LocationIndex.{noLocations, actionsLike, locationsOf}
+use Rattle.table_read.specs.LocationIndex.{noLocations, locationsOf}
 use Rattle.table_read.specs.TableIndex.{noTable, indexOf, tableIndex, sectionsFrom, sectionsIndex}
 use Rattle.table_read.proofs.PartsStand.{AllStand, read-parts, parts-are}
 use Rattle.table_read.proofs.ActionLoop.{judged as actions-judged}
 use Rattle.table_read.proofs.ActionsFound.{accepted-actions, refused-actions, kinds-say}
-use Rattle.table_read.proofs.LikeKinds.{locations-like}
 use Rattle.table_read.proofs.LocationLoop.{judged as locations-judged}
 use Rattle.table_read.proofs.LocationsFound.{accepted-locations, refused-locations}
 
@@ -163,12 +162,9 @@ module _ (p : Parts) (vs es ops locs : List ℕ) {q : PlantRead} (h : q ≡ plan
               by-operands f = refuses (go-then _ (go-only 17 passed-plant) ∙ go-ensure 17 _ passed-17 ∙ go-then _ acts-judged ∙ rw (sym operands-are ∙ f) refl)
 
               -- ---- 19
-              module _ (f : r ≡ true) {l : Locations} (w : l ≡ locationsOf (actionsLike (a .kinds)) locs) where
-                by-kinds : locationsOf (actionsLike (a .kinds)) locs ≡ locationsOf acts locs
-                by-kinds = ap (λ (a : Actions). locationsOf (actionsLike (a .kinds)) locs) i ∙ locations-like acts (actionsOf ops .kinds) locs (kinds-say ops acts-are index-passed)
-
+              module _ (f : r ≡ true) {l : Locations} (w : (m : List NodeAction) → KindsSay m (a .kinds) → l ≡ locationsOf m locs) where
                 locations-are : l ≡ locationsOf acts locs
-                locations-are = w ∙ by-kinds
+                locations-are = w acts (subst (λ (a : Actions). KindsSay acts (a .kinds)) (sym i) (kinds-say ops acts-are index-passed))
 
                 pub by-locations : (l .refusal ≡ 0 → ⊥) → noTable 19 ≡ sectionsIndex p vs es ops locs
                 unfolding judgeTableSections _>>=_

@@ -3,13 +3,13 @@ use mathlib.Core.Path.{_≡_}
 use mathlib.Core.Bool.{true, false}
 use mathlib.Core.List.{List, [], _∷_}
 use mathlib.Core.Option.{Option, none, some}
-use Prim.Native.Nat.{ℕ, zero, suc, _+_, _≤_, _<_}
+use Prim.Native.Nat.{ℕ, zero, suc, _+_}
 use lib.Dec.{eqb}
 use lib.ListN.{length, getD, drop, replicate}
 use Rattle.semantics.specs.Editions.{edition1}
 use Rattle.semantics.specs.Refusals.{Judged, refused, accepted}
 use Rattle.semantics.specs.Run.{Action}
-use Rattle.semantics.specs.TableFile.{NodeAction, kindNumber, readAction, actionsIn}
+use Rattle.semantics.specs.TableFile.{NodeAction, kindNumber, readAction}
 use Rattle.semantics.specs.Tables.{actionAt, judgeActions}
 use Rattle.codec.specs.Places.{placesFrom}
 use Rattle.table_read.specs.declared.actions.Actions.{Actions}
@@ -22,9 +22,10 @@ kindCode (some a) = kindNumber a
 unfoldable pub kindAt : List NodeAction → ℕ → ℕ
 kindAt l n = kindCode (actionAt l n)
 
--- a list of kinds by node says what the actions are
+-- a list of numbers by node says what the actions are: their kinds, and no kind where a node has none
 pub record KindsSay (l : List NodeAction) (ks : List ℕ) : Type 0 where
-  pub says : (n : ℕ) → getD ks n 0 ≡ kindAt l n
+  pub known : (n : ℕ) (a : Action) → actionAt l n ≡ some a → kindNumber a ≡ getD ks n 0
+  pub unknown : (n : ℕ) → actionAt l n ≡ none → (a : Action) → kindNumber a ≡ getD ks n 0 → ⊥
 
 -- the place of a node's action, where ps are the places of the actions
 unfoldable pub placeAt : List NodeAction → List ℕ → ℕ → Option ℕ
@@ -80,8 +81,3 @@ indexRead s (accepted l) = actionIndex s l
 -- the index of the section, or the number that judging it alone gives; operands are not looked at
 unfoldable pub actionsOf : List ℕ → Actions
 actionsOf s = indexRead s (judgeActions edition1 s)
-
--- the count at the front of the section, or 0 where that is outside its bounds
-pub data Counted (s : List ℕ) (n : ℕ) : Type 0 where
-  counted : 0 < length s → n ≡ getD s 0 0 → 1 ≤ n → n ≤ edition1 .nodes → Counted s n
-  miscounted : n ≡ 0 → actionsIn edition1 s ≡ none → Counted s n

@@ -1,15 +1,14 @@
 -- The locations of a table: whether they fit the kinds of the actions, and where each stands.
 use mathlib.Core.Path.{_≡_}
 use mathlib.Core.Bool.{Bool, false}
-use mathlib.Core.List.{List, [], _∷_}
-use mathlib.Core.Option.{Option, none, some}
-use Prim.Native.Nat.{ℕ, suc, _+_, _≤_}
+use mathlib.Core.List.{List}
+use Prim.Native.Nat.{ℕ, _+_}
 use lib.ListN.{length, getD, drop, replicate}
 use Rattle.semantics.specs.Bytes.{be2}
 use Rattle.semantics.specs.Editions.{edition1}
 use Rattle.semantics.specs.Refusals.{Judged, refused, accepted}
-use Rattle.semantics.specs.Run.{Action, test, wait, assign, switch, stop}
-use Rattle.semantics.specs.TableFile.{NodeAction, Entry, ActionKind, a-test, a-wait, an-assignment, a-switch, a-stop, no-kind, actionKind, locationLimit, readLocation, locationsIn}
+use Rattle.semantics.specs.Run.{Action}
+use Rattle.semantics.specs.TableFile.{NodeAction, Entry, kindNumber, locationLimit, readLocation}
 use Rattle.semantics.specs.Tables.{targetsFit, judgeLocations}
 use Rattle.codec.specs.Places.{placesFrom}
 use Rattle.codec.specs.Padding.{pad}
@@ -22,26 +21,10 @@ entryNode e = e .node
 abbrev pub entryAt : List ℕ → ℕ → Entry
 entryAt s p = record { node = getD s p 0; target = be2 (getD s (p + 1) 0) (getD s (p + 1 + 1) 0); other = be2 (getD s (p + 1 + 2) 0) (getD s (p + 1 + 2 + 1) 0) }
 
--- an action of this kind; whether targets fit says nothing of operands
-unfoldable pub likeKind : ActionKind → Option Action
-likeKind a-test = some (test [])
-likeKind a-wait = some (wait [])
-likeKind an-assignment = some (assign 0 [])
-likeKind a-switch = some (switch 0 0)
-likeKind a-stop = some stop
-likeKind no-kind = none
-
--- actions of these kinds, by node; none where the number is of no kind
-unfoldable pub actionsFrom : ℕ → List ℕ → List NodeAction
-actionsFrom n [] = []
-actionsFrom n (k ∷ ks) = elim (likeKind (actionKind k)) [ none ↦ actionsFrom (suc n) ks | some a ↦ record { node = n; action = a } ∷ actionsFrom (suc n) ks ]
-
-unfoldable pub actionsLike : List ℕ → List NodeAction
-actionsLike ks = actionsFrom 0 ks
-
--- whether targets fit an action of this kind
-unfoldable pub kindFits : ℕ → ℕ → ℕ → ℕ → Bool
-kindFits n k t u = elim (likeKind (actionKind k)) [ none ↦ false | some a ↦ targetsFit n a t u ]
+-- r is whether targets fit an action of kind k; false where k is no kind
+pub record FitsKind (n k t u : ℕ) (r : Bool) : Type 0 where
+  pub of-kind : (a : Action) → kindNumber a ≡ k → r ≡ targetsFit n a t u
+  pub of-none : ((a : Action) → kindNumber a ≡ k → ⊥) → r ≡ false
 
 -- a refusal
 abbrev pub noLocations : ℕ → Locations
@@ -57,8 +40,3 @@ locationsRead s (accepted ls) = locationIndex s (length ls)
 -- where each location stands, or the number that judging the section by these actions gives
 unfoldable pub locationsOf : List NodeAction → List ℕ → Locations
 locationsOf l s = locationsRead s (judgeLocations edition1 l s)
-
--- the count at the front of the section, or 0 where that is outside its bounds
-pub data LocationsCounted (s : List ℕ) (n : ℕ) : Type 0 where
-  locations-counted : 2 ≤ length s → n ≡ be2 (getD s 0 0) (getD s 1 0) → 1 ≤ n → n ≤ locationLimit → LocationsCounted s n
-  locations-miscounted : n ≡ 0 → locationsIn edition1 s ≡ none → LocationsCounted s n

@@ -2,13 +2,13 @@
 use mathlib.Core.Path.{_≡_}
 use mathlib.Core.Bool.{true}
 use mathlib.Core.List.{List}
-use mathlib.Core.Logic.{_⊎_}
 use mathlib.Core.Option.{some}
 use Prim.Native.Nat.{ℕ, _+_, _*_, _≤_, _<_}
 use lib.ListN.{length, getD, getElem?}
-use Rattle.semantics.specs.TableFile.{NodeAction, Entry, HALTED}
+use Rattle.semantics.specs.Run.{Next}
+use Rattle.semantics.specs.TableFile.{NodeAction, Entry}
 use Rattle.semantics.specs.Tables.{locationFits}
-use Rattle.semantics.specs.Proper.{GoesOn}
+use Rattle.semantics.specs.TableRuns.{Coded}
 use Rattle.table_read.specs.LocationIndex.{entryAt}
 
 -- entries stand one after the other, 5 bytes each
@@ -24,6 +24,6 @@ pub record LocationPromised (s : List ℕ) (p : ℕ) (n : ℕ) (acts : List Node
   pub entries : EntriesAt s (p + 1) es
   pub fits : locationFits n acts es ≡ true
 
--- where a move can lead: "a location or FFFE", or FFFD
+-- a target that leads somewhere: to one of n locations or to an end
 abbrev pub Leads : ℕ → ℕ → Type 0
-Leads n t = GoesOn n t ⊎ (t ≡ HALTED)
+Leads n t = (x : Next ℕ) × Coded n x t

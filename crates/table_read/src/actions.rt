@@ -5,9 +5,9 @@ ghost use lib.ListN.{length};
 ghost use Rattle.semantics.specs.Bytes.{isSome};
 ghost use Rattle.semantics.specs.Editions.{edition1};
 ghost use Rattle.semantics.specs.Tables.{nodeExists};
-ghost use Rattle.semantics.specs.TableFile.{actionKind, actionOfKind, readAction};
-ghost use Rattle.table_read.specs.Ends.{Ends, EndsWith, follows};
-ghost use Rattle.table_read.specs.ActionIndex.{nodeOf, Counted, actionsOf, noActions};
+ghost use Rattle.semantics.specs.TableFile.{actionKind, actionOfKind, readAction, readActionCount};
+ghost use Rattle.table_read.specs.Ends.{Ends, EndsWith, follows, orZero};
+ghost use Rattle.table_read.specs.ActionIndex.{nodeOf, actionsOf, noActions};
 
 // The most actions, as their count's byte.
 const MOST: u8 = paper::NODES as u8;
@@ -98,7 +98,7 @@ fn next(s: &[u8], at: usize, low: usize) -> usize
 
 // how many actions there are; 0 where that is outside 1..64
 fn count(s: &[u8]) -> usize
-    ensures { λ r. ⌜ Counted (now (s .entry)) r ⌝ }
+    ensures { λ r. ⌜ r ≡ orZero (readActionCount edition1 (now (s .entry))) ⌝ }
 {
     if s.len() < 1 {
         return 0;

@@ -1,13 +1,15 @@
 // The location section of a table (19), and where each location stands.
 ghost use mathlib.Core.Path.{_≡_};
 ghost use mathlib.Core.Bool.{_&&_};
+ghost use mathlib.Core.List.{List};
 ghost use Prim.Native.Nat.{_≤_};
 ghost use lib.ListN.{length};
 ghost use Rattle.semantics.specs.Editions.{edition1};
-ghost use Rattle.semantics.specs.TableFile.{readEntry, readLocation};
+ghost use Rattle.semantics.specs.TableFile.{NodeAction, readEntry, readLocation, readLocationCount};
 ghost use Rattle.semantics.specs.Tables.{goesOn, entryFits, locationFits};
-ghost use Rattle.table_read.specs.Ends.{EndsWith, follows};
-ghost use Rattle.table_read.specs.LocationIndex.{entryNode, actionsLike, kindFits, LocationsCounted, noLocations, locationsOf};
+ghost use Rattle.table_read.specs.Ends.{EndsWith, follows, orZero};
+ghost use Rattle.table_read.specs.ActionIndex.{KindsSay};
+ghost use Rattle.table_read.specs.LocationIndex.{entryNode, FitsKind, noLocations, locationsOf};
 
 // 0, or the number that applies; how many locations there are; the place of each, and then 0
 pub struct Locations {
@@ -48,7 +50,7 @@ fn goes_on(t: usize, n: usize) -> bool
 
 // whether the targets fit the kind
 fn fits(k: u8, n: usize, t: usize, u: usize) -> bool
-    ensures { λ r. ⌜ r ≡ kindFits n k t u ⌝ }
+    ensures { λ r. ⌜ FitsKind n k t u r ⌝ }
 {
     match k {
         paper::actions::TEST => both(goes_on(t, n), goes_on(u, n)),
@@ -63,7 +65,7 @@ fn fits(k: u8, n: usize, t: usize, u: usize) -> bool
 // where the entry at a place ends; 0 where there is none, its node is below low or the entry does not fit
 fn entry(s: &[u8], at: usize, low: usize, n: usize, kinds: &[u8]) -> usize
     requires { ⌜ at ≤ length (now s) ⌝ }
-    ensures { λ r. ⌜ EndsWith (readEntry edition1) (follows entryNode (entryFits n (actionsLike (now (kinds .entry)))) low) (now (s .entry)) at r ⌝ }
+    ensures { λ r. ⌜ ((l : List NodeAction) → KindsSay l (now (kinds .entry)) → EndsWith (readEntry edition1) (follows entryNode (entryFits n l) low) (now (s .entry)) at r) ⌝ }
 {
     if s.len() - at < 5 {
         return 0;
@@ -87,7 +89,7 @@ fn entry(s: &[u8], at: usize, low: usize, n: usize, kinds: &[u8]) -> usize
 // where the location at a place ends; 0 where there is none or it does not fit
 fn location(s: &[u8], at: usize, n: usize, kinds: &[u8]) -> usize
     requires { ⌜ at ≤ length (now s) ⌝ }
-    ensures { λ r. ⌜ EndsWith (readLocation edition1) (locationFits n (actionsLike (now (kinds .entry)))) (now (s .entry)) at r ⌝ }
+    ensures { λ r. ⌜ ((l : List NodeAction) → KindsSay l (now (kinds .entry)) → EndsWith (readLocation edition1) (locationFits n l) (now (s .entry)) at r) ⌝ }
 {
     if s.len() <= at {
         return 0;
@@ -113,7 +115,7 @@ fn location(s: &[u8], at: usize, n: usize, kinds: &[u8]) -> usize
 
 // how many locations there are; 0 where that is outside 1..1024
 fn count(s: &[u8]) -> usize
-    ensures { λ r. ⌜ LocationsCounted (now (s .entry)) r ⌝ }
+    ensures { λ r. ⌜ r ≡ orZero (readLocationCount (now (s .entry))) ⌝ }
 {
     if s.len() < 2 {
         return 0;
@@ -127,7 +129,7 @@ fn count(s: &[u8]) -> usize
 
 // kinds: of each node's action, 0 where there is none
 pub fn read(s: &[u8], kinds: &[u8]) -> Locations
-    ensures { λ r. ⌜ r ≡ locationsOf (actionsLike (now (kinds .entry))) (now (s .entry)) ⌝ }
+    ensures { λ r. ⌜ ((l : List NodeAction) → KindsSay l (now (kinds .entry)) → r ≡ locationsOf l (now (s .entry))) ⌝ }
 {
     let n = count(s);
     if n == 0 {

@@ -2,7 +2,6 @@
 use mathlib.Core.Path.{_≡_, refl, sym, ap, _∙_, subst}
 use mathlib.Core.Bool.{Bool, true, false}
 use mathlib.Core.List.{List}
-use mathlib.Core.Logic.{inl, inr}
 use mathlib.Core.Option.{Option, none, some}
 use Prim.Native.Nat.{ℕ, _<_}
 use native.Mathlib.Omega.{arith}
@@ -16,13 +15,13 @@ use Rattle.semantics.specs.Run as Run
 use Rattle.semantics.specs.Run.{Next, to, finished, halted, arrive, judge}
 use Rattle.semantics.specs.TableFile.{FINISHED, HALTED, NONE}
 use Rattle.semantics.specs.Tables.{Table, actionOrStop, entryNodes, goingTo, entryTarget, entryNext, entriesAt, tableControl}
+use Rattle.semantics.specs.TableRuns.{Coded, coded-location, coded-finished, coded-halted}
 use Rattle.semantics.proofs.Facts.{true-not-false, mem-among}
 use Rattle.semantics.proofs.Verdicts.{judged-possible}
 use Rattle.nodeset.specs.Sets.{members, emptySet, Words}
 use Rattle.nodeset.specs.declared.NodeSet.{NodeSet}
 use Rattle.nodeset.proofs.Members.{among-set, members-empty}
 use Rattle.nodeset.proofs.Membership.{words-empty}
-use Rattle.table_read.specs.Promised.{Leads}
 use Rattle.execution.specs.Ready.{Lent, Fits, Ready}
 use Rattle.execution.specs.Ready as Judged
 use Rattle.effects.specs.Verdicts.{Left}
@@ -89,13 +88,12 @@ module _ {locs places : List ℕ} {x : ℕ} where
     next-goes t m = ap goingTo (sym (target-is t m))
 
     goes-on : (t : Table) → Movable t locs places x (Move n b) → (y ≡ 65534 → ⊥) → (y ≡ 65533 → ⊥) → y < length (t .locations)
-    unfolding FINISHED HALTED
-    goes-on t m d h = go (m .leads n b refl)
+    goes-on t m d h = go (target-is t m) (m .leads n b refl .1)
       where
-        go : Leads (length (t .locations)) (entryTarget (entriesAt t x) n b) → y < length (t .locations)
-        go (inl (inl i)) = omega (arith, target-is t m)
-        go (inl (inr e)) = absurd (d (target-is t m ∙ e))
-        go (inr e) = absurd (h (target-is t m ∙ e))
+        go : {z : Next ℕ} {k : ℕ} → y ≡ k → Coded (length (t .locations)) z k → y < length (t .locations)
+        go e (coded-location i) = omega (arith, e)
+        go e coded-finished = absurd (d e)
+        go e coded-halted = absurd (h e)
 
     pub row-next : Moving locs places x (Move n b) → (y ≡ 65534 → ⊥) → (y ≡ 65533 → ⊥) → y < length places
     row-next m d h = m .movable .lent .at y (goes-on (m .table) (m .movable) d h) .row

@@ -21,7 +21,7 @@ refused-requires : tie.Need-refused-requires Inv-loop μ-loop
 refused-requires c κs = search needs
 
 returns : tie.Need-returns Inv-loop μ-loop
-returns c = c .refused .ensures ∙ refuse-count (c .before .before .count .ensures) (c .before .if1 .taken)
+returns c = c .refused .ensures ∙ refuse-count _ (c .before .before .count .ensures) (c .before .if1 .taken)
 
 loop-holds : tie.Need-loop-holds Inv-loop μ-loop
 loop-holds c = (omega arith, index-start _ ((count-of (c .before .count .ensures) (c .if1 .left)) .some-bytes))

@@ -9,7 +9,7 @@ sub-if1 : tie.Need-sub-if1
 sub-if1 c = search needs
 
 returns : tie.Need-returns
-returns c = entry-none _ _ _ _ _ (omega arith)
+returns c = λ l k. entry-none _ k _ _ _ (omega arith)
 
 shared-slice-read-node : tie.Need-shared-slice-read-node
 shared-slice-read-node c = search needs
@@ -18,10 +18,10 @@ cast-node : tie.Need-cast-node
 cast-node c = omega (arith, c .shared-slice-known3 .given (c .before .before .before .before .args .at))
 
 returns-2 : tie.Need-returns-2
-returns-2 c = entry-low _ _ _ _ _ (omega arith)
+returns-2 c = λ l k. entry-low _ k _ _ _ (omega arith)
 
 returns-3 : tie.Need-returns-3
-returns-3 c = entry-outside _ _ _ _ _ (omega arith)
+returns-3 c = λ l k. entry-outside _ k _ _ _ (omega arith)
 
 add-nat2 : tie.Need-add-nat2
 add-nat2 c = search needs
@@ -54,10 +54,10 @@ add-result-3 : tie.Need-add-result-3
 add-result-3 c = search needs
 
 returns-4 : tie.Need-returns-4
-returns-4 c = entry-ok _ _ _ _ _ (c .before .fits2 .ensures) (c .before .before .before .before .nat2 .ensures) (c .before .before .before .nat22 .ensures) (c .if4 .taken) (omega arith) (omega arith)
+returns-4 c = λ l k. entry-ok _ k _ _ _ (c .before .fits2 .ensures) (c .before .before .before .before .nat2 .ensures) (c .before .before .before .nat22 .ensures) (c .if4 .taken) (omega arith) (omega arith)
 
 returns-5 : tie.Need-returns-5
-returns-5 c = entry-bad _ _ _ _ _ (c .before .fits2 .ensures) (c .before .before .before .before .nat2 .ensures) (c .before .before .before .nat22 .ensures) (c .if4 .left)
+returns-5 c = λ l k. entry-bad _ k _ _ _ (c .before .fits2 .ensures) (c .before .before .before .before .nat2 .ensures) (c .before .before .before .nat22 .ensures) (c .if4 .left)
 
 pub entry-spec : {M : Type 1} → statement M
 entry-spec =

@@ -4,6 +4,7 @@ use Prim.Native.Nat.{_-_, _≤_, _<_}
 use native.Mathlib.Omega.{arith}
 use Rattle.table_read.proofs.Ended.{found, not-found}
 use Rattle.table_read.proofs.EntryLoop.{Entries, entry-inside, location-none, location-empty, entries-start, entries-next, location-stop, location-ok}
+use Rattle.table_read.proofs.LikeKinds.{like-says}
 use Rattle.table_read.proofs.locations.location.Statement.{statement}
 use Rattle.table_read.proofs.locations.location.Tie as tie
 
@@ -35,10 +36,10 @@ entry-requires : tie.Need-entry-requires Inv-loop μ-loop
 entry-requires c κs = c .before .loop .inv .2 .took .inside
 
 returns-3 : tie.Need-returns-3 Inv-loop μ-loop
-returns-3 c = location-stop _ _ _ _ (omega arith) (c .before .before .before .loop .inv .2) (c .before .before .loop-test .taken) (not-found (c .before .entry .ensures) (c .if3 .taken))
+returns-3 c = location-stop _ _ _ _ (omega arith) (c .before .before .before .loop .inv .2) (c .before .before .loop-test .taken) (not-found (c .before .entry .ensures _ (like-says _)) (c .if3 .taken))
 
 shared-slice-read-low : tie.Need-shared-slice-read-low Inv-loop μ-loop
-shared-slice-read-low c = omega (arith, entry-inside (found (c .before .before .entry .ensures) (c .before .if3 .left)))
+shared-slice-read-low c = omega (arith, entry-inside (found (c .before .before .entry .ensures _ (like-says _)) (c .before .if3 .left)))
 
 cast-low : tie.Need-cast-low Inv-loop μ-loop
 cast-low c = omega (arith, c .shared-slice-known4 .given (c .before .before .before .before .loop .p))
@@ -55,7 +56,7 @@ loop-less : tie.Need-loop-less Inv-loop μ-loop
 loop-less c = omega arith
 
 loop-again : tie.Need-loop-again Inv-loop μ-loop
-loop-again c = (omega arith, omega arith, entries-next _ _ _ _ (c .before .before .before .before .loop .inv .2) (found (c .before .before .entry .ensures) (c .before .if3 .left)))
+loop-again c = (omega arith, omega arith, entries-next _ _ _ _ (c .before .before .before .before .loop .inv .2) (found (c .before .before .entry .ensures _ (like-says _)) (c .before .if3 .left)))
 
 returns-4 : tie.Need-returns-4 Inv-loop μ-loop
 returns-4 c = location-ok _ _ _ _ (omega arith) (c .before .loop .inv .2) (c .before .loop .inv .1) (omega arith) refl (omega arith)
