@@ -2,13 +2,13 @@
 use mathlib.Core.Path.{_≡_}
 use mathlib.Core.Bool.{true}
 use mathlib.Core.List.{List, [], _∷_}
-use Prim.Native.Nat.{ℕ, suc, _+_, _*_, _-_, _≤_, _<_}
+use Prim.Native.Nat.{ℕ, suc, _+_, _*_, _≤_, _<_}
 use lib.IntN.{ℤ, pos}
-use lib.ListN.{length, getD, take, drop}
+use lib.ListN.{length, getD, drop}
 use Rattle.semantics.specs.Bytes.{every, read}
 use Rattle.semantics.specs.Editions.{edition1}
 use Rattle.semantics.specs.Expressions.{truthValue}
-use Rattle.semantics.specs.Sections.{Rate, Switch, Mode, Equation, readMode}
+use Rattle.semantics.specs.Sections.{Rate, Switch, Mode, Equation, readSwitch, readMode}
 use Rattle.semantics.specs.Plant.{rateNamed, drivenOnce, selectorsOf, currentOf, ratesOf, rateAmong}
 use Rattle.semantics.specs.Run.{judgeSwitch}
 use Rattle.effects.specs.Verdicts.{truthVerdict, Left}
@@ -21,12 +21,10 @@ pub record Stands (es : List ℕ) (at : ℕ) (m : Mode) : Type 0 where
   pub rest : List ℕ
   pub reads : readMode (drop at es) ≡ read m rest
 
--- a switch at a place: its length, its target, its truth
+-- the switch that is read at a place
 pub record SwitchAt (es : List ℕ) (at : ℕ) (w : Switch) : Type 0 where
-  pub long : 1 ≤ getD es at 0
-  pub inside : at + 1 + getD es at 0 ≤ length es
-  pub target : w .target ≡ getD es (at + 1) 0
-  pub truth : w .truth ≡ take (getD es at 0 - 1) (drop (at + 2) es)
+  pub rest : List ℕ
+  pub reads : readSwitch (drop at es) ≡ read w rest
 
 -- some switch stands there
 pub record SwitchHere (es : List ℕ) (at : ℕ) : Type 0 where
