@@ -3,16 +3,17 @@ use mathlib.Core.Path.{_≡_}
 use mathlib.Core.Bool.{true}
 use mathlib.Core.List.{List, [], _∷_}
 use Prim.Native.Nat.{ℕ, suc, _+_, _*_, _≤_, _<_}
-use lib.IntN.{ℤ, pos}
+use lib.IntN.{ℤ}
 use lib.ListN.{length, getD, drop}
 use Rattle.semantics.specs.Bytes.{every, read}
 use Rattle.semantics.specs.Editions.{edition1}
 use Rattle.semantics.specs.Expressions.{truthValue}
 use Rattle.semantics.specs.Sections.{Rate, Switch, Mode, Equation, readSwitch, readMode}
-use Rattle.semantics.specs.Plant.{rateNamed, drivenOnce, selectorsOf, currentOf, ratesOf, rateAmong}
+use Rattle.semantics.specs.Plant.{rateNamed, drivenOnce, selectorsOf, currentOf, ratesOf}
 use Rattle.semantics.specs.Run.{judgeSwitch}
 use Rattle.effects.specs.Verdicts.{truthVerdict, Left}
 use Rattle.effects.specs.declared.Verdict.{Verdict}
+use Rattle.plant.specs.Equations.{ratesFrom}
 -- the mode that is read at a place
 unfoldable pub use Rattle.plant.specs.Equations.{modeAt}
 
@@ -55,7 +56,7 @@ pub record Driving (es places ms : List ℕ) (n : ℕ) : Type 0 where
 
 -- ---- an array with a rate for each variable
 pub record RatesIn (zs : List ℤ) (rs : List Rate) : Type 0 where
-  pub each : (v : ℕ) → v < length zs → getD zs v (pos 0) ≡ rateAmong rs v
+  pub are : zs ≡ ratesFrom rs 0 (length zs)
 
 -- rates put before others one after the other: the last stands first
 unfoldable pub before : List Rate → List Rate → List Rate

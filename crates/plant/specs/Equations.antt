@@ -3,13 +3,13 @@ use mathlib.Core.Path.{_≡_}
 use mathlib.Core.Bool.{Bool}
 use mathlib.Core.List.{List, [], _∷_, _++_, map}
 use mathlib.Core.Option.{Option, none, some}
-use Prim.Native.Nat.{ℕ, _+_}
+use Prim.Native.Nat.{ℕ, zero, suc, _+_}
 use lib.IntN.{ℤ, pos}
-use lib.ListN.{length, drop, set, replicate}
+use lib.ListN.{length, drop, replicate}
 use Rattle.semantics.specs.Bytes.{Read, Reader, broken, read}
 use Rattle.semantics.specs.Refusals.{Judged, refused, accepted, refusalOf}
 use Rattle.semantics.specs.Sections.{Rate, Mode, Selector, Equation, steady, choice, readMode, equationsIn}
-use Rattle.semantics.specs.Plant.{selectorsOf, noMode, ratesOf, judgeNamed, judgeEquations}
+use Rattle.semantics.specs.Plant.{selectorsOf, noMode, ratesOf, rateAmong, judgeNamed, judgeEquations}
 use Rattle.semantics.specs.Writing.{writeMode, writeEquation}
 use Rattle.codec.specs.Reading.{Reads}
 use Rattle.codec.specs.Padding.{pad}
@@ -38,10 +38,14 @@ unfoldable pub modeCount : Selector → ℕ
 modeCount c = length (c .modes)
 
 -- ---- rates
--- the rate of each variable, where these rates are put in: of two of one variable the first stays
-unfoldable pub putRates : List Rate → List ℤ → List ℤ
-putRates [] l = l
-putRates (r ∷ rs) l = set (putRates rs l) (r .driven) (r .rate)
+-- of each of the n variables from v on
+unfoldable pub ratesFrom : List Rate → ℕ → ℕ → List ℤ
+ratesFrom rs v zero = []
+ratesFrom rs v (suc n) = rateAmong rs v ∷ ratesFrom rs (suc v) n
+
+-- those of kind 1, in an array of 32: in force where no CASE has a mode
+abbrev pub steadyRates : List Equation → List ℤ
+steadyRates es = ratesFrom (ratesOf es []) 0 32
 
 -- ---- the answer
 unfoldable pub refusedEquations : ℕ → Equations
@@ -53,8 +57,7 @@ acceptedEquations es = record {
   selectors = length (selectorsOf es);
   modes = pad 16 0 (map modeCount (selectorsOf es));
   «mode_offsets» = pad 128 0 (modePlaces 1 es);
-  -- the rates of kind 1: those in force where no CASE has a mode
-  steady = putRates (ratesOf es []) (replicate 32 (pos 0));
+  steady = steadyRates es;
 }
 
 unfoldable pub answerTo : Judged (List Equation) → Equations
