@@ -13,6 +13,7 @@ pub mod Turns
 pub mod VariableAnswer
 pub mod VariableSection
 pub mod VariableLaws
+pub mod MarkTests
 pub mod Marks
 pub mod DrivenOnce
 pub mod EquationsOnce
