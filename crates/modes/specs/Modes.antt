@@ -8,7 +8,7 @@ use lib.ListN.{length, getD, drop}
 use Rattle.semantics.specs.Bytes.{every, read}
 use Rattle.semantics.specs.Editions.{edition1}
 use Rattle.semantics.specs.Expressions.{truthValue}
-use Rattle.semantics.specs.Sections.{Rate, Switch, Mode, Equation, readSwitch, readMode}
+use Rattle.semantics.specs.Sections.{Rate, Switch, Mode, Equation, modeLimit, readSwitch, readMode}
 use Rattle.semantics.specs.Plant.{rateNamed, drivenOnce, selectorsOf, currentOf, ratesOf}
 use Rattle.semantics.specs.Run.{judgeSwitch}
 use Rattle.effects.specs.Verdicts.{truthVerdict, Left}
@@ -38,16 +38,16 @@ pub record Asked (es : List ℕ) (at : ℕ) (vs : List ℤ) (yes no r : Verdict)
 
 -- mode m of selector j stands at entry 8 * j + m
 abbrev pub placeAt : List ℕ → List ℕ → ℕ → ℕ
-placeAt places ms j = getD places (8 * j + getD ms j 0) 0
+placeAt places ms j = getD places (modeLimit * j + getD ms j 0) 0
 
 -- the current modes, from selector j on
 unfoldable pub modesFrom : List ℕ → List ℕ → ℕ → List ℕ → List Mode
 modesFrom es places j [] = []
-modesFrom es places j (m ∷ ms) = modeAt es (getD places (8 * j + m) 0) ∷ modesFrom es places (suc j) ms
+modesFrom es places j (m ∷ ms) = modeAt es (getD places (modeLimit * j + m) 0) ∷ modesFrom es places (suc j) ms
 
 -- the current modes are there
 pub record Current (es places ms : List ℕ) : Type 0 where
-  pub row : (j : ℕ) → j < length ms → 8 * j + getD ms j 0 < length places
+  pub row : (j : ℕ) → j < length ms → modeLimit * j + getD ms j 0 < length places
   pub stands : (j : ℕ) → j < length ms → Stands es (placeAt places ms j) (modeAt es (placeAt places ms j))
 
 -- and drive none but so many variables

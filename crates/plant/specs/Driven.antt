@@ -7,21 +7,21 @@ use Prim.Native.Nat.{ℕ, _≤_, _<_}
 use lib.ListN.{length, getD, drop}
 use Rattle.semantics.specs.Bytes.{every, Reader, read}
 use Rattle.semantics.specs.Refusals.{accepted}
-use Rattle.semantics.specs.Sections.{Rate, Mode, Equation}
+use Rattle.semantics.specs.Sections.{Rate, Mode, Equation, variableLimit}
 use Rattle.semantics.specs.Plant.{judgeEquations, among, apart, onceAfter, ratesDrive, modeDrives, modeOnce}
 use Rattle.plant.specs.Sound.{There, Sound}
 
 -- a section that 6 and 7 let pass, where there are at most 32 variables
 pub record Named (s : List ℕ) : Type 0 where
   pub variables : ℕ
-  pub few : variables ≤ 32
+  pub few : variables ≤ variableLimit
   pub equations : List Equation
   pub judged : judgeEquations variables s ≡ accepted equations
 
 -- ---- for the parts of the code
 -- variables that the array has an entry for
 pub record Small (l : List ℕ) : Type 0 where
-  pub below : (v : ℕ) → among v l ≡ true → v < 32
+  pub below : (v : ℕ) → among v l ≡ true → v < variableLimit
 
 -- r reads something at place p of s, and f says which variables it names: each has an entry
 pub record Held {A : Type 0} (r : Reader A) (f : A → List ℕ) (s : List ℕ) (p : ℕ) : Type 0 where
@@ -34,12 +34,12 @@ pub record Few {A : Type 0} (o : Option A) (f : A → List ℕ) : Type 0 where
 
 -- the array marks these variables
 pub record Marks (l : List ℕ) (a : List Bool) : Type 0 where
-  pub at : (v : ℕ) → v < 32 → getD a v false ≡ among v l
+  pub at : (v : ℕ) → v < variableLimit → getD a v false ≡ among v l
 
 -- the answer is the test; where it is true, these variables are marked
 pub record Tried (test : Bool) (l : List ℕ) (r : Bool) (b : List Bool) : Type 0 where
   pub is : r ≡ test
-  pub sized : r ≡ true → length b ≡ 32
+  pub sized : r ≡ true → length b ≡ variableLimit
   pub marks : r ≡ true → Marks l b
 
 -- ---- 8 of a mode's rates and of a CASE's modes, where the equations before drive these variables

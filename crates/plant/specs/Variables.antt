@@ -7,14 +7,14 @@ use lib.ListN.{length}
 use lib.IntN.{ℤ, pos}
 use Rattle.semantics.specs.Editions.{edition1}
 use Rattle.semantics.specs.Refusals.{Judged, refused, accepted}
-use Rattle.semantics.specs.Sections.{Variable, variablesIn}
+use Rattle.semantics.specs.Sections.{Variable, variableLimit, variablesIn}
 use Rattle.semantics.specs.Plant.{judgeVariables}
 use Rattle.codec.specs.Padding.{pad}
 use Rattle.plant.specs.declared.variables.Variables.{Variables}
 
 -- one number of each variable, in an array of 32
 unfoldable pub column : (Variable → ℤ) → List Variable → List ℤ
-column f vs = pad 32 (pos 0) (map f vs)
+column f vs = pad variableLimit (pos 0) (map f vs)
 
 -- the variables, with this refusal
 unfoldable pub answer : ℕ → List Variable → Variables

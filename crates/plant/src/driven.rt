@@ -6,7 +6,7 @@ ghost use mathlib.Core.Option.{some};
 ghost use Prim.Native.Nat.{ℕ};
 ghost use lib.ListN.{length};
 ghost use Rattle.semantics.specs.Bytes.{times};
-ghost use Rattle.semantics.specs.Sections.{Equation, readRate, readMode, equationIn, equationsIn};
+ghost use Rattle.semantics.specs.Sections.{Equation, variableLimit, readRate, readMode, equationIn, equationsIn};
 ghost use Rattle.semantics.specs.Plant.{drives, equationOnce, drivenOnce, ratesDrive, modeDrives};
 ghost use Rattle.plant.specs.Driven.{Named, Held, Few, Marks, ratesOnce, modesApart, Tried, TriedAt};
 
@@ -18,7 +18,7 @@ fn rates(
     before: &[bool; paper::VARIABLES],
     seen: &mut [bool; paper::VARIABLES],
 ) -> bool
-    requires { ⌜ Held (times n readRate) ratesDrive (now s) at × (length (now seen) ≡ 32) ⌝ }
+    requires { ⌜ Held (times n readRate) ratesDrive (now s) at × (length (now seen) ≡ variableLimit) ⌝ }
     ensures { λ r. ⌜ TriedAt (times n readRate) ratesOnce ratesDrive (now (s .entry)) at (now (before .entry)) (now (seen .entry)) r (now (seen .exit)) ⌝ }
 {
     let mut mine = [false; paper::VARIABLES];
@@ -48,7 +48,7 @@ fn modes(
     before: &[bool; paper::VARIABLES],
     seen: &mut [bool; paper::VARIABLES],
 ) -> bool
-    requires { ⌜ Held (times n readMode) (flatMap modeDrives) (now s) at × (length (now seen) ≡ 32) ⌝ }
+    requires { ⌜ Held (times n readMode) (flatMap modeDrives) (now s) at × (length (now seen) ≡ variableLimit) ⌝ }
     ensures { λ r. ⌜ TriedAt (times n readMode) modesApart (flatMap modeDrives) (now (s .entry)) at (now (before .entry)) (now (seen .entry)) r (now (seen .exit)) ⌝ }
 {
     let mut p = at;
@@ -67,7 +67,7 @@ fn modes(
 
 // an equation's bytes: the variables marked so far are those of the equations before it
 fn equation(s: &[u8], seen: &mut [bool; paper::VARIABLES]) -> bool
-    requires { ⌜ Few (equationIn (now s)) drives × (length (now seen) ≡ 32) ⌝ }
+    requires { ⌜ Few (equationIn (now s)) drives × (length (now seen) ≡ variableLimit) ⌝ }
     ensures { λ r. ⌜ ((q : Equation) → equationIn (now (s .entry)) ≡ some q → (before : List ℕ) → Marks before (now (seen .entry))
         → Tried (equationOnce before q) (drives q ++ before) r (now (seen .exit))) ⌝ }
 {

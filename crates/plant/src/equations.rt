@@ -2,7 +2,7 @@
 ghost use mathlib.Core.Path.{_≡_};
 ghost use mathlib.Core.Bool.{true, _&&_};
 ghost use mathlib.Core.List.{List, _∷_, flatMap};
-ghost use Prim.Native.Nat.{_+_, _≤_, _<_};
+ghost use Prim.Native.Nat.{_+_, _*_, _≤_, _<_};
 ghost use lib.ListN.{length, set};
 ghost use lib.Seq.{sets};
 ghost use Rattle.semantics.specs.Bytes.{times, every};
@@ -320,7 +320,7 @@ fn mode_end(s: &[u8], at: usize) -> usize
 
 // the places of n modes, noted from entry `from` on
 fn mode_places(s: &[u8], at: usize, n: u8, from: usize, places: &mut [usize; paper::MODE_PLACES])
-    requires { ⌜ (from + n ≤ 128) × Stands (times n sections.readMode) (now s) at ⌝ }
+    requires { ⌜ (from + n ≤ sections.equationLimit * sections.modeLimit) × Stands (times n sections.readMode) (now s) at ⌝ }
     ensures { λ _. ⌜ ((t : Stands (times n sections.readMode) (now (s .entry)) at) → now (places .exit) ≡ sets (now (places .entry)) from (startsFrom writeMode at (t .value))) ⌝ }
 {
     let mut p = at;
