@@ -12,9 +12,10 @@ use lib.ListN.{length, getD, getElem?, length-map}
 use Rattle.semantics.specs.Bytes.{every}
 use Rattle.semantics.specs.Expressions.{thenValue, ok}
 use Rattle.semantics.specs.Sections.{Variable, Rate, Mode, Selector, Equation, steady, choice}
-use Rattle.semantics.specs.Plant.{Plant, rateNamed, switchNamed, modeNamed, equationNamed, selectorsOf, selectors, noMode, currentOf, currentModes, rateOf, declared, declaredAt, allDeclared, added, advance}
+use Rattle.semantics.specs.Plant.{Plant, rateNamed, switchNamed, modeNamed, equationNamed, selectorsOf, selectors, noMode, currentOf, currentModes, ratesOf, rateOf, declared, declaredAt, allDeclared, added, advance}
 use Rattle.semantics.specs.Starts.{modesFit}
 use Rattle.semantics.proofs.Facts.{some-is, none-not-some, and-left, and-right, at-exists, All, all-nil, all-cons, every-all, all-every, all-map}
+use Rattle.plant.proofs.RateArrays.{rate-at}
 use Rattle.effects.specs.Ranges.{rangesOf, rateIn, Ranged, Sized}
 use Rattle.modes.specs.Modes.{modeAt, Stands, placeAt, modesFrom, Current, Driving, InForce}
 use Rattle.execution.specs.Ready.{Lent, ModeLent, PlantLent, Fits}
@@ -137,7 +138,7 @@ module _ (p : Plant) (l : Lent) (q : PlantLent p l) (vs : List ℤ) (ms : List �
 
     pub rate-is : (v : ℕ) → v < length vs → rateOf p ms v ≡ getD rs v (pos 0)
     unfolding rateOf currentModes selectors
-    rate-is v h = let n = many in sym (x .rates (p .equations) (q .once) modes-current (q .steady) .each v (omega arith))
+    rate-is v h = let n = many in let r = ratesOf (p .equations) ms in sym (ap (λ z. getD z v (pos 0)) (x .rates (p .equations) (q .once) modes-current (q .steady) .are) ∙ rate-at r (length rs) v (omega arith))
 
     pub is-sized : Sized (l .lows) (l .highs) rs vs
     is-sized = record { lows = low-count; highs = high-count; rates = many }

@@ -5,8 +5,7 @@ use mathlib.Core.List.{List, [], _∷_, map}
 use mathlib.Core.Option.{some}
 use Prim.Native.Nat.{ℕ, zero, suc, _+_, _*_, _≤_, _<_}
 use native.Mathlib.Omega.{arith}
-use lib.IntN.{pos}
-use lib.ListN.{length, getD, getElem?, take, replicate, length-replicate}
+use lib.ListN.{length, getD, getElem?, take}
 use Rattle.semantics.specs.Bytes.{read}
 use Rattle.semantics.specs.Editions.{edition1}
 use Rattle.semantics.specs.Refusals.{accepted}
@@ -15,12 +14,13 @@ use Rattle.semantics.specs.Plant.{Plant, selectors, noMode, ratesOf, allDeclare
 use Rattle.semantics.specs.Starts.{Start, isOk, modesFit, startFits}
 use Rattle.semantics.proofs.Facts.{none-not-some, some-is, at-below, at-exists, and-right}
 use Rattle.codec.specs.Padding.{pad}
-use Rattle.plant.specs.Equations.{modePlaces}
+use Rattle.plant.specs.Equations.{modePlaces, ratesFrom}
 use Rattle.plant.specs.PlantRead.{plantOf}
 use Rattle.codec.proofs.Padding.{pad-long}
 use Rattle.plant.proofs.VariableLaws.{column-front}
 use Rattle.plant.proofs.EquationLookups.{mode-is}
-use Rattle.plant.proofs.EquationLaws.{ModePlaced, mode-placed, few-selectors, few-modes-each, put-length, rate-among-at}
+use Rattle.plant.proofs.EquationLaws.{ModePlaced, mode-placed, few-selectors, few-modes-each}
+use Rattle.plant.proofs.RateArrays.{rates-length}
 use Rattle.plant.proofs.PlantLaws.{passed-all, variables-of, variables-high, lows-of, highs-of, places-of, steady-of}
 use Rattle.modes.specs.Modes.{Stands}
 use Rattle.execution.specs.Ready.{Lent, ModeLent, PlantLent, Fits}
@@ -54,7 +54,7 @@ module _ (vs es : List ℕ) {p : Plant} (h : judgePlant edition1 vs es ≡ accep
   places-long = omega (arith, ap length (places-of vs es h), pad-long 128 0 (modePlaces 1 (p .equations)))
 
   steady-length : length (plantOf vs es .steady) ≡ 32
-  steady-length = ap length (steady-of vs es h) ∙ put-length (ratesOf (p .equations) []) (replicate 32 (pos 0)) ∙ length-replicate 32 (pos 0)
+  steady-length = ap length (steady-of vs es h) ∙ rates-length (ratesOf (p .equations) []) 0 32
 
   module _ (l : Lent) (equations : l .equations ≡ es) (places : l .places ≡ plantOf vs es .«mode_offsets») where
     mode-lent : (j : ℕ) (c : Selector) → getElem? (selectors p) j ≡ some c → (m : ℕ) → m < length (c .modes) → ModeLent l j c m
@@ -77,7 +77,7 @@ module _ (vs es : List ℕ) {p : Plant} (h : judgePlant edition1 vs es ≡ accep
       highs = b ∙ highs-lent;
       few = variables-high vs es h;
       long = ap length s ∙ steady-length;
-      steady = record { each = λ v i. ap (λ z. getD z v (pos 0)) (s ∙ steady-of vs es h) ∙ rate-among-at (ratesOf (p .equations) []) 32 v (omega (arith, ap length s, steady-length)) };
+      steady = record { are = s ∙ steady-of vs es h ∙ ap (ratesFrom (ratesOf (p .equations) []) 0) (sym (ap length s ∙ steady-length)) };
       modes = mode-lent;
       named = passed-all vs es h .named;
       once = passed-all vs es h .once;

@@ -6,10 +6,9 @@ use mathlib.Core.Option.{some}
 use Prim.Native.Nat.{ℕ, _+_, _*_, _≤_, _<_}
 use lib.IntN.{ℤ}
 use lib.ListN.{length, getD, getElem?}
-use Rattle.semantics.specs.Bytes.{every}
 use Rattle.semantics.specs.Editions.{edition1}
 use Rattle.semantics.specs.Sections.{Variable, Selector, variableLimit, modeLimit}
-use Rattle.semantics.specs.Plant.{Plant, equationNamed, drivenOnce, selectors, noMode, ratesOf}
+use Rattle.semantics.specs.Plant.{Plant, equationsNamed, drivenOnce, selectors, noMode, ratesOf}
 use Rattle.semantics.specs.Starts.{modesFit}
 use Rattle.semantics.specs.Events.{Event}
 use Rattle.semantics.specs.Run.{Action, judge}
@@ -63,7 +62,7 @@ pub record PlantLent (p : Plant) (l : Lent) : Type 0 where
   pub steady : RatesIn (l .steady) (ratesOf (p .equations) [])
   pub modes : (j : ℕ) (c : Selector) → getElem? (selectors p) j ≡ some c → (m : ℕ) → m < length (c .modes) → ModeLent l j c m
   -- conditions 7 and 8
-  pub named : every (equationNamed (length (p .variables))) (p .equations) ≡ true
+  pub named : equationsNamed (length (p .variables)) (p .equations) ≡ true
   pub once : drivenOnce [] (p .equations) ≡ true
 
 -- ---- a node

@@ -5,11 +5,13 @@ use mathlib.Core.List.{List, [], _∷_, _++_, flatMap, List·Memᴰ as Mem, List
 use mathlib.Core.Logic.{_⊎_, inl, inr}
 use Prim.Native.Nat.{ℕ}
 use lib.IntN.{ℤ}
-use lib.ListN.{getD}
+use lib.ListN.{length, getD}
 use Rattle.semantics.specs.Sections.{Rate, Mode, Selector, Equation, steady, choice}
 use Rattle.semantics.specs.Plant.{noMode, drivenOnce, selectorsOf, currentOf, ratesOf, rateAmong}
 use Rattle.semantics.proofs.Currents.{Rated, RateFound, found-rate, no-rate, rate-found}
 use Rattle.semantics.proofs.OneRate.{one-of}
+use Rattle.plant.specs.Equations.{ratesFrom}
+use Rattle.plant.proofs.RateArrays.{rates-same}
 use Rattle.modes.specs.Modes.{modesFrom, before, Laid, InForce}
 
 -- ---- two lists of the same rates
@@ -118,10 +120,10 @@ force-parts (choice c ∷ es) (n ∷ ms) {r} m = go (List·Memᴰ·append-cases 
 
 -- ---- the array
 pub laid-in-force : {es places ms : List ℕ} {old new : List ℤ} → Laid old (flatMap (λ (m : Mode). m .rates) (modesFrom es places 0 ms)) new → InForce es places ms old new
-laid-in-force {es} {places} {ms} x = record {
+laid-in-force {es} {places} {ms} {new = new} x = record {
   long = x .long;
   rates = λ eqs once e s. record {
-    each = λ v h. x .holds (ratesOf eqs []) s .each v h ∙ ap (λ (l : List Mode). rateAmong (before (flatMap (λ (m : Mode). m .rates) l) (ratesOf eqs [])) v) e ∙ same eqs once v;
+    are = x .holds (ratesOf eqs []) s .are ∙ ap (λ (l : List Mode). ratesFrom (before (flatMap (λ (m : Mode). m .rates) l) (ratesOf eqs [])) 0 (length new)) e ∙ rates-same _ _ (same eqs once) 0 (length new);
   };
 }
   where

@@ -39,14 +39,20 @@ rate-at es p {a} {m} i h = either p (length es) (λ l. either (p + 4) (length es
         let q : p + 1 + 4 ≡ p + 5 = omega arith in
         record { inside = omega arith; driven = ap (λ (x : Rate). x .driven) (sym e); rate = ap (λ (x : Rate). x .rate) (sym e); rest = sym (given-rest _ (drop (p + 1 + 4) es) k) ∙ ap (λ n. drop n es) q }
 
--- ---- a switch
-pub record SwitchRead (es : List ℕ) (p : ℕ) (w : Switch) (m : List ℕ) : Type 0 where
-  pub stands : SwitchAt es p w
+-- ---- a switch: its length, its target, its truth
+pub record SwitchBytes (es : List ℕ) (p : ℕ) (w : Switch) : Type 0 where
+  pub long : 1 ≤ getD es p 0
+  pub inside : p + 1 + getD es p 0 ≤ length es
+  pub target : w .target ≡ getD es (p + 1) 0
+  pub truth : w .truth ≡ take (getD es p 0 - 1) (drop (p + 2) es)
+
+record SwitchRead (es : List ℕ) (p : ℕ) (w : Switch) (m : List ℕ) : Type 0 where
+  pub bytes-are : SwitchBytes es p w
   pub rest : m ≡ drop (p + 1 + getD es p 0) es
 
-switch-at : (es : List ℕ) (p : ℕ) {w : Switch} {m : List ℕ} → p ≤ length es → readSwitch (drop p es) ≡ read w m → SwitchRead es p w m
+switch-at : (es : List ℕ) (p : ℕ) {w : Switch} {m : List ℕ} → readSwitch (drop p es) ≡ read w m → SwitchRead es p w m
 unfolding readSwitch
-switch-at es p {w} {m} i h = either p (length es) (λ l. counted l (guarded (leb 1 (getD es p 0)) _ (after-byte _ es p l h))) (λ l. not-past _ es p l h)
+switch-at es p {w} {m} h = either p (length es) (λ l. counted l (guarded (leb 1 (getD es p 0)) _ (after-byte _ es p l h))) (λ l. not-past _ es p l h)
   where
     whole : (n : ℕ) → 1 ≤ getD es p 0 → n ≡ getD es p 0 - 1 → p + 2 + n ≤ length es → give (record { target = getD es (p + 1) 0; truth = take n (drop (p + 1 + 1) es) }) (drop (p + 1 + 1 + n) es) ≡ read w m → SwitchRead es p w m
     whole n c b j k =
@@ -54,7 +60,7 @@ switch-at es p {w} {m} i h = either p (length es) (λ l. counted l (guarded (leb
         let q : p + 1 + 1 ≡ p + 2 = omega arith in
         let o : p + 1 + 1 + n ≡ p + 1 + getD es p 0 = omega arith in
         record {
-          stands = record {
+          bytes-are = record {
             long = c;
             inside = omega arith;
             target = ap (λ (x : Switch). x .target) (sym e);
@@ -71,6 +77,9 @@ switch-at es p {w} {m} i h = either p (length es) (λ l. counted l (guarded (leb
         (λ s. not-short _ es (p + 1 + 1) (getD es p 0 - 1) (omega arith) s (after-byte _ es (p + 1) j (g .1)))
         (λ s. whole (getD es p 0 - 1) c refl (omega arith) (after-bytes _ es (p + 1 + 1) (getD es p 0 - 1) s (after-byte _ es (p + 1) j (g .1)))))
         (λ j. not-past _ es (p + 1) j (g .1))
+
+pub switch-bytes : {es : List ℕ} {p : ℕ} {w : Switch} → SwitchAt es p w → SwitchBytes es p w
+switch-bytes {es} {p} s = switch-at es p (s .reads) .bytes-are
 
 -- ---- one of them, and the others
 less : (k : ℕ) → 0 < k → k ≡ suc (k - 1)
@@ -113,13 +122,13 @@ pub record NextSwitch (es : List ℕ) (k p : ℕ) (l : List Switch) : Type 0 whe
 pub next-switch : {es : List ℕ} {k p : ℕ} {l : List Switch} → Ahead readSwitch es k p l → 0 < k → NextSwitch es k p l
 next-switch {es} {k} {p} a h =
     let c = next a h in
-    let x = switch-at es p (a .inside) (c .first) in
+    let x = switch-at es p (c .first) in
     record {
       head = c .head;
       tail = c .tail;
       is = sym (c .is);
-      here = x .stands;
-      ahead = record { inside = x .stands .inside; rest = a .rest; got = ap (times (k - 1) readSwitch) (sym (x .rest)) ∙ c .rest };
+      here = record { rest = _; reads = c .first };
+      ahead = record { inside = x .bytes-are .inside; rest = a .rest; got = ap (times (k - 1) readSwitch) (sym (x .rest)) ∙ c .rest };
     }
 
 -- ---- where all rates end

@@ -18,7 +18,7 @@ use Rattle.effects.proofs.PaperNumbers.{left-away, left-above, left-below, left
 use Rattle.modes.specs.Modes.{modeAt, Stands, Asked, modesFrom, placeAt}
 use Rattle.effects.specs.declared.Verdict.{Verdict}
 use Rattle.effects.specs.declared.Verdict.the-variants.{Away, Stay}
-use Rattle.modes.proofs.Standing.{parts}
+use Rattle.modes.proofs.Standing.{parts, switch-bytes}
 
 -- ---- which switch it is
 module _ {es : List ℕ} {at : ℕ} {m : Mode} (s : Stands es at m) (c k : ℕ) (e : c ≡ at + 1 + 5 * getD es at 0) where
@@ -88,5 +88,5 @@ pub asked-at : {vs : List ℤ} {es : List ℕ} {q : ℕ} {yes no r : Verdict} �
 asked-at {vs} {es} {q} {yes} {no} h = record {
   answer = λ w s.
       let n : q + 1 + getD es q 0 - (q + 2) ≡ getD es q 0 - 1 = omega arith in
-      h ∙ ap (λ t. truthVerdict yes no (truthValue edition1 vs t)) (ap (λ j. take j (drop (q + 2) es)) n ∙ sym (s .truth));
+      h ∙ ap (λ t. truthVerdict yes no (truthValue edition1 vs t)) (ap (λ j. take j (drop (q + 2) es)) n ∙ sym (switch-bytes s .truth));
 }

@@ -6,20 +6,22 @@ use mathlib.Core.Option.{some}
 use Prim.Native.Nat.{ℕ, suc, _+_, _*_, _-_, _≤_, _<_}
 use native.Mathlib.Numerals.{add-one}
 use native.Mathlib.Omega.{arith}
-use borrow.Author.Tests.{ltb-true, eqb-true, eqb-false}
-use lib.Dec.{ltb, eqb}
-use lib.IntN.{ℤ, pos}
+use borrow.Author.Tests.{ltb-true}
+use lib.Dec.{ltb}
+use lib.IntN.{ℤ}
 use lib.ListN.{length, getD, set, drop, getElem?, length-set, drop-of-length-le}
-use lib.Seq.{drop-cons, getD-set-same, getD-set-other}
+use lib.Seq.{drop-cons}
 use Rattle.semantics.specs.Bytes.{signed, every}
 use Rattle.semantics.specs.Editions.{edition1}
 use Rattle.semantics.specs.Expressions.{truthValue}
 use Rattle.semantics.specs.Sections.{Rate, Switch, Mode, readRate, readSwitch}
-use Rattle.semantics.specs.Plant.{rateNamed, switchTruths, currentTruths, rateAmong}
+use Rattle.semantics.specs.Plant.{rateNamed, switchTruths, currentTruths}
 use Rattle.semantics.specs.Run as Run
 use Rattle.semantics.specs.Run.{_>>_, walk, checkModes}
 use Rattle.semantics.proofs.Facts.{true-not-false, some-is}
 use Rattle.codec.proofs.Reading.{nat4At}
+use Rattle.plant.specs.Equations.{ratesFrom}
+use Rattle.plant.proofs.RateArrays.{rate-put}
 use Rattle.effects.specs.Verdicts.{doneVerdict, stepVerdict, goesOn, truthVerdict}
 use Rattle.modes.specs.Modes.{modeAt, Stands, SwitchAt, SwitchHere, Asked, modesFrom, placeAt, Driving, RatesIn, before, Laid}
 use Rattle.effects.specs.declared.Verdict.{Verdict}
@@ -29,12 +31,9 @@ use Rattle.modes.proofs.Standing.{Ahead, none-ahead, parts, next-rate, 
 
 -- ---- rates written into an array
 rate-set : (zs : List ℤ) (r : Rate) (l : List Rate) {v : ℕ} {z : ℤ} → v ≡ r .driven → z ≡ r .rate → RatesIn zs l → RatesIn (set zs v z) (r ∷ l)
-unfolding rateAmong
-rate-set zs r l e f h = rw (e, f) (record { each = λ v i. go v (omega (arith, length-set zs (r .driven) (r .rate))) (eqb (r .driven) v) refl })
-  where
-    go : (v : ℕ) → v < length zs → (b : Bool) → eqb (r .driven) v ≡ b → getD (set zs (r .driven) (r .rate)) v (pos 0) ≡ elim b [ true ↦ r .rate | false ↦ rateAmong l v ]
-    go v i true q = ap (λ (j : ℕ). getD (set zs j (r .rate)) v (pos 0)) (eqb-true (r .driven) v q) ∙ getD-set-same zs v (r .rate) (pos 0) i
-    go v i false q = getD-set-other zs (r .driven) v (r .rate) (pos 0) (λ n. eqb-false (r .driven) v q (sym n)) ∙ h .each v i
+rate-set zs r l e f h = rw (e, f) (record {
+  are = ap (λ y. set y (r .driven) (r .rate)) (h .are) ∙ rate-put r l (length zs) ∙ ap (ratesFrom (r ∷ l) 0) (sym (length-set zs (r .driven) (r .rate)));
+})
 
 pub laid-none : (zs : List ℤ) → Laid zs [] zs
 unfolding before
@@ -220,13 +219,13 @@ module _ (vs : List ℤ) (es places ms : List ℕ) where
   check-end j h = sym (ap (λ z. stepVerdict (checkModes edition1 z vs)) (modes-end es places ms j h))
 
 -- ---- the rates of the current modes, one mode after the other
-abbrev pub ratesFrom : List ℕ → List ℕ → List ℕ → ℕ → List Rate
-ratesFrom es places ms j = flatMap (λ (m : Mode). m .rates) (modesFrom es places j (drop j ms))
+abbrev pub modeRates : List ℕ → List ℕ → List ℕ → ℕ → List Rate
+modeRates es places ms j = flatMap (λ (m : Mode). m .rates) (modesFrom es places j (drop j ms))
 
 pub record LayingAll (es places ms : List ℕ) (first : List ℤ) (j : ℕ) (zs : List ℤ) : Type 0 where
   pub few : j ≤ length ms
   pub long : length zs ≡ length first
-  pub rest : (ys : List ℤ) → Laid zs (ratesFrom es places ms j) ys → Laid first (ratesFrom es places ms 0) ys
+  pub rest : (ys : List ℤ) → Laid zs (modeRates es places ms j) ys → Laid first (modeRates es places ms 0) ys
 
 module _ {es places ms : List ℕ} {first : List ℤ} where
   pub all-start : LayingAll es places ms first 0 first
@@ -240,6 +239,6 @@ module _ {es places ms : List ℕ} {first : List ℤ} where
     rest = λ us y. a .rest us (rw (modes-more es places ms j h, ← at) (laid-then x y));
   }
 
-  pub all-end : {j : ℕ} {zs : List ℤ} → LayingAll es places ms first j zs → length ms ≤ j → Laid first (ratesFrom es places ms 0) zs
+  pub all-end : {j : ℕ} {zs : List ℤ} → LayingAll es places ms first j zs → length ms ≤ j → Laid first (modeRates es places ms 0) zs
   unfolding flatMap
   all-end {j} {zs} a h = a .rest zs (rw (modes-end es places ms j h) (laid-none zs))

@@ -2,17 +2,18 @@
 use mathlib.Core.Path.{_≡_}
 use mathlib.Core.Bool.{true}
 use mathlib.Core.List.{List, [], _∷_}
-use Prim.Native.Nat.{ℕ, suc, _+_, _*_, _-_, _≤_, _<_}
-use lib.IntN.{ℤ, pos}
-use lib.ListN.{length, getD, take, drop}
+use Prim.Native.Nat.{ℕ, suc, _+_, _*_, _≤_, _<_}
+use lib.IntN.{ℤ}
+use lib.ListN.{length, getD, drop}
 use Rattle.semantics.specs.Bytes.{every, read}
 use Rattle.semantics.specs.Editions.{edition1}
 use Rattle.semantics.specs.Expressions.{truthValue}
-use Rattle.semantics.specs.Sections.{Rate, Switch, Mode, Equation, readMode}
-use Rattle.semantics.specs.Plant.{rateNamed, drivenOnce, selectorsOf, currentOf, ratesOf, rateAmong}
+use Rattle.semantics.specs.Sections.{Rate, Switch, Mode, Equation, modeLimit, readSwitch, readMode}
+use Rattle.semantics.specs.Plant.{rateNamed, drivenOnce, selectorsOf, currentOf, ratesOf}
 use Rattle.semantics.specs.Run.{judgeSwitch}
 use Rattle.effects.specs.Verdicts.{truthVerdict, Left}
 use Rattle.effects.specs.declared.Verdict.{Verdict}
+use Rattle.plant.specs.Equations.{ratesFrom}
 -- the mode that is read at a place
 unfoldable pub use Rattle.plant.specs.Equations.{modeAt}
 
@@ -21,12 +22,10 @@ pub record Stands (es : List ℕ) (at : ℕ) (m : Mode) : Type 0 where
   pub rest : List ℕ
   pub reads : readMode (drop at es) ≡ read m rest
 
--- a switch at a place: its length, its target, its truth
+-- the switch that is read at a place
 pub record SwitchAt (es : List ℕ) (at : ℕ) (w : Switch) : Type 0 where
-  pub long : 1 ≤ getD es at 0
-  pub inside : at + 1 + getD es at 0 ≤ length es
-  pub target : w .target ≡ getD es (at + 1) 0
-  pub truth : w .truth ≡ take (getD es at 0 - 1) (drop (at + 2) es)
+  pub rest : List ℕ
+  pub reads : readSwitch (drop at es) ≡ read w rest
 
 -- some switch stands there
 pub record SwitchHere (es : List ℕ) (at : ℕ) : Type 0 where
@@ -39,16 +38,16 @@ pub record Asked (es : List ℕ) (at : ℕ) (vs : List ℤ) (yes no r : Verdict)
 
 -- mode m of selector j stands at entry 8 * j + m
 abbrev pub placeAt : List ℕ → List ℕ → ℕ → ℕ
-placeAt places ms j = getD places (8 * j + getD ms j 0) 0
+placeAt places ms j = getD places (modeLimit * j + getD ms j 0) 0
 
 -- the current modes, from selector j on
 unfoldable pub modesFrom : List ℕ → List ℕ → ℕ → List ℕ → List Mode
 modesFrom es places j [] = []
-modesFrom es places j (m ∷ ms) = modeAt es (getD places (8 * j + m) 0) ∷ modesFrom es places (suc j) ms
+modesFrom es places j (m ∷ ms) = modeAt es (getD places (modeLimit * j + m) 0) ∷ modesFrom es places (suc j) ms
 
 -- the current modes are there
 pub record Current (es places ms : List ℕ) : Type 0 where
-  pub row : (j : ℕ) → j < length ms → 8 * j + getD ms j 0 < length places
+  pub row : (j : ℕ) → j < length ms → modeLimit * j + getD ms j 0 < length places
   pub stands : (j : ℕ) → j < length ms → Stands es (placeAt places ms j) (modeAt es (placeAt places ms j))
 
 -- and drive none but so many variables
@@ -57,7 +56,7 @@ pub record Driving (es places ms : List ℕ) (n : ℕ) : Type 0 where
 
 -- ---- an array with a rate for each variable
 pub record RatesIn (zs : List ℤ) (rs : List Rate) : Type 0 where
-  pub each : (v : ℕ) → v < length zs → getD zs v (pos 0) ≡ rateAmong rs v
+  pub are : zs ≡ ratesFrom rs 0 (length zs)
 
 -- rates put before others one after the other: the last stands first
 unfoldable pub before : List Rate → List Rate → List Rate

@@ -8,7 +8,7 @@ ghost use Prim.Native.Nat.{_+_, _*_, _<_};
 ghost use lib.ListN.{length, getD, getElem?};
 ghost use Rattle.semantics.specs.Editions.{edition1};
 ghost use Rattle.semantics.specs.Bytes.{every};
-ghost use Rattle.semantics.specs.Sections.{Mode, Switch};
+ghost use Rattle.semantics.specs.Sections.{Mode, Switch, variableLimit, modeLimit};
 ghost use Rattle.semantics.specs.Plant.{rateNamed};
 ghost use Rattle.semantics.specs.Run.{checkModes};
 ghost use Rattle.effects.specs.Verdicts.{stepVerdict};
@@ -53,7 +53,7 @@ fn mode_check(es: &[u8], at: usize, values: &[i32]) -> Verdict
 
 // The place of selector j's current mode.
 fn place(places: &[usize], modes: &[u8], j: usize) -> usize
-    requires { ⌜ (j < length (now modes)) × (8 * j + getD (now modes) j 0 < length (now places)) ⌝ }
+    requires { ⌜ (j < length (now modes)) × (modeLimit * j + getD (now modes) j 0 < length (now places)) ⌝ }
     ensures { λ r. ⌜ r ≡ placeAt (now (places .entry)) (now (modes .entry)) j ⌝ }
 {
     let row = paper::MODES * j + (modes[j] as usize);
@@ -110,7 +110,7 @@ pub fn rates_now(
     steady: [i32; paper::VARIABLES],
     modes: &[u8],
 ) -> [i32; paper::VARIABLES]
-    requires { ⌜ Current (now es) (now places) (now modes) × Driving (now es) (now places) (now modes) 32 ⌝ }
+    requires { ⌜ Current (now es) (now places) (now modes) × Driving (now es) (now places) (now modes) variableLimit ⌝ }
     ensures { λ r. ⌜ InForce (now (es .entry)) (now (places .entry)) (now (modes .entry)) steady r ⌝ }
 {
     let mut rates = steady;

@@ -12,8 +12,9 @@ use Rattle.semantics.proofs.Facts.{true-not-false}
 use Rattle.semantics.proofs.Readers.{read-value}
 use Rattle.codec.proofs.Known.{Cons}
 use Rattle.plant.specs.Sound.{Sound}
-use Rattle.plant.specs.Driven.{Small, Held, unmarked, Marked, Tried, ratesTest, modesTest}
-use Rattle.plant.proofs.Marks.{small-first, small-rest, small-left, small-right, marked-set, Owed, owed-start, owed-set, owed-next, owed-end}
+use Rattle.plant.specs.Driven.{Small, Held, Marks, Tried, ratesOnce, modesApart}
+use Rattle.plant.proofs.MarkTests.{unmarked, Marked, Answered, ratesTest, modesTest}
+use Rattle.plant.proofs.Marks.{small-first, small-rest, small-left, small-right, marked-set, Owed, owed-start, owed-set, owed-next, owed-end, by-lists, by-marks}
 use Rattle.plant.proofs.Walks.{next-of, all-left, none-left, NextRate, next-rate, ModeAt, mode-at}
 
 -- ---- tests
@@ -38,14 +39,14 @@ unfolding onceAfter
 once-next noted v l h = rw (onceAfter, h) refl
 
 -- ---- answers
-pub tried-false : {test : Bool} {a : List Bool} {l : List ℕ} {b : List Bool} → test ≡ false → Tried test a l false b
+pub tried-false : {test : Bool} {a : List Bool} {l : List ℕ} {b : List Bool} → test ≡ false → Answered test a l false b
 tried-false e = record { is = sym e; marks = λ h. true-not-false (sym h) }
 
-pub tried-true : {test : Bool} {a : List Bool} {l : List ℕ} {b : List Bool} → test ≡ true → Marked a l b → Tried test a l true b
+pub tried-true : {test : Bool} {a : List Bool} {l : List ℕ} {b : List Bool} → test ≡ true → Marked a l b → Answered test a l true b
 tried-true e m = record { is = sym e; marks = λ h. m }
 
-pub tried-as : {A : Type 0} (test : A → Bool) (l : A → List ℕ) {x y : A} {a : List Bool} {r : Bool} {b : List Bool} → x ≡ y → Tried (test x) a (l x) r b → Tried (test y) a (l y) r b
-tried-as test l {a = a} {r = r} {b = b} e t = subst (λ z. Tried (test z) a (l z) r b) e t
+pub tried-as : {A : Type 0} (test : A → Bool) (l : A → List ℕ) {x y : A} {a : List Bool} {r : Bool} {b : List Bool} → x ≡ y → Answered (test x) a (l x) r b → Answered (test y) a (l y) r b
+tried-as test l {a = a} {r = r} {b = b} e t = subst (λ z. Answered (test z) a (l z) r b) e t
 
 -- ---- the rates of a mode
 pub record RatesGoing (s : List ℕ) (at n : ℕ) (before a seen mine : List Bool) (p i : ℕ) : Type 0 where
@@ -55,6 +56,7 @@ pub record RatesGoing (s : List ℕ) (at n : ℕ) (before a seen mine : List Boo
   pub rest : List Rate
   pub got : times (n - i) readRate (drop p s) ≡ read rest end
   pub inside : p ≤ length s
+  pub few : Small (ratesDrive all)
   pub small : Small (ratesDrive rest)
   pub noted : List ℕ
   pub stands : Marked [] noted mine
@@ -70,6 +72,7 @@ rates-start s at n before a h t = record {
   rest = t .sound .value;
   got = all-left readRate n (drop at s) (t .sound .got);
   inside = t .sound .inside;
+  few = t .small;
   small = t .small;
   noted = [];
   stands = marked-none;
@@ -80,16 +83,22 @@ rates-start s at n before a h t = record {
 
 module _ {s : List ℕ} {at n : ℕ} {before a seen mine : List Bool} {p i : ℕ} (g : RatesGoing s at n before a seen mine p i) where
   -- the answer, whatever name the rates have
-  pub rates-false : ratesTest before (g .all) ≡ false → (b : List Bool) (rs : List Rate) (e : List ℕ) → times n readRate (drop at s) ≡ read rs e → Tried (ratesTest before rs) a (ratesDrive rs) false b
-  rates-false t b rs e h = tried-false (ap (ratesTest before) (read-value (sym h ∙ g .is)) ∙ t)
+  rates-say : {r : Bool} {b : List Bool} (rs : List Rate) (e : List ℕ) → times n readRate (drop at s) ≡ read rs e → Answered (ratesTest before rs) a (ratesDrive rs) r b → (old new : List ℕ) → Marks old before → Marks new a → Tried (ratesOnce old rs) (ratesDrive rs ++ new) r b
+  rates-say rs e h t = by-lists (onceAfter [] (ratesDrive rs)) (ratesDrive rs) (subst (λ x. Small (ratesDrive x)) (read-value (sym (g .is) ∙ h)) (g .few)) t
 
-  pub rates-end : i ≡ n → (rs : List Rate) (e : List ℕ) → times n readRate (drop at s) ≡ read rs e → Tried (ratesTest before rs) a (ratesDrive rs) true seen
+  pub rates-false : ratesTest before (g .all) ≡ false → (b : List Bool) (rs : List Rate) (e : List ℕ) → times n readRate (drop at s) ≡ read rs e → (old new : List ℕ) → Marks old before → Marks new a → Tried (ratesOnce old rs) (ratesDrive rs ++ new) false b
+  rates-false t b rs e h = rates-say rs e h (tried-false (ap (ratesTest before) (read-value (sym h ∙ g .is)) ∙ t))
+
+  rates-true : i ≡ n → (rs : List Rate) (e : List ℕ) → times n readRate (drop at s) ≡ read rs e → Answered (ratesTest before rs) a (ratesDrive rs) true seen
   unfolding ratesDrive onceAfter unmarked every
-  rates-end k rs e h =
+  rates-true k rs e h =
       let z = none-left readRate n i (drop p s) k (g .got) .0 in
       let t : ratesTest before (g .all) ≡ true = g .same ∙ ap (λ x. onceAfter (g .noted) (ratesDrive x) && unmarked before (ratesDrive x)) z in
       let m : Owed a (ratesDrive (g .all)) seen [] = subst (λ x. Owed a (ratesDrive (g .all)) seen (ratesDrive x)) z (g .owed) in
       tried-as (ratesTest before) ratesDrive (read-value (sym (g .is) ∙ h)) (tried-true t (owed-end seen (g .seen-length) m))
+
+  pub rates-end : i ≡ n → (rs : List Rate) (e : List ℕ) → times n readRate (drop at s) ≡ read rs e → (old new : List ℕ) → Marks old before → Marks new a → Tried (ratesOnce old rs) (ratesDrive rs ++ new) true seen
+  rates-end k rs e h = rates-say rs e h (rates-true k rs e h)
 
 module _ {s : List ℕ} {at n : ℕ} {before a seen mine : List Bool} {p i : ℕ} (g : RatesGoing s at n before a seen mine p i) (h : i < n) where
   rate : NextRate s (n - (i + 1)) p (g .rest) (g .end)
@@ -126,6 +135,7 @@ module _ {s : List ℕ} {at n : ℕ} {before a seen mine : List Bool} {p i : ℕ
         rest = rate .tail;
         got = rate .got;
         inside = rate .inside;
+        few = g .few;
         small = small-rest (getD s p 0) (ratesDrive (rate .tail)) next-small;
         noted = getD s p 0 ∷ g .noted;
         stands = marked-set [] (g .noted) mine (getD s p 0) (omega arith) (g .stands);
@@ -177,6 +187,7 @@ pub record ModesGoing (s : List ℕ) (at n : ℕ) (before a seen : List Bool) (p
   pub rest : List Mode
   pub got : times (n - i) readMode (drop p s) ≡ read rest end
   pub inside : p ≤ length s
+  pub few : Small (flatMap modeDrives all)
   pub small : Small (flatMap modeDrives rest)
   pub same : modesTest before all ≡ modesTest before rest
   pub owed : Owed a (flatMap modeDrives all) seen (flatMap modeDrives rest)
@@ -190,6 +201,7 @@ modes-start s at n before a h t = record {
   rest = t .sound .value;
   got = all-left readMode n (drop at s) (t .sound .got);
   inside = t .sound .inside;
+  few = t .small;
   small = t .small;
   same = refl;
   owed = owed-start a (flatMap modeDrives (t .sound .value));
@@ -197,13 +209,19 @@ modes-start s at n before a h t = record {
 }
 
 module _ {s : List ℕ} {at n : ℕ} {before a seen : List Bool} {p i : ℕ} (g : ModesGoing s at n before a seen p i) where
-  pub modes-end : i ≡ n → (ms : List Mode) (e : List ℕ) → times n readMode (drop at s) ≡ read ms e → Tried (modesTest before ms) a (flatMap modeDrives ms) true seen
+  modes-say : {r : Bool} {b : List Bool} (ms : List Mode) (e : List ℕ) → times n readMode (drop at s) ≡ read ms e → Answered (modesTest before ms) a (flatMap modeDrives ms) r b → (old new : List ℕ) → Marks old before → Marks new a → Tried (modesApart old ms) (flatMap modeDrives ms ++ new) r b
+  modes-say ms e h t = by-lists (every modeOnce ms) (flatMap modeDrives ms) (subst (λ x. Small (flatMap modeDrives x)) (read-value (sym (g .is) ∙ h)) (g .few)) t
+
+  modes-true : i ≡ n → (ms : List Mode) (e : List ℕ) → times n readMode (drop at s) ≡ read ms e → Answered (modesTest before ms) a (flatMap modeDrives ms) true seen
   unfolding flatMap modeOnce unmarked every
-  modes-end k ms e h =
+  modes-true k ms e h =
       let z = none-left readMode n i (drop p s) k (g .got) .0 in
       let t : modesTest before (g .all) ≡ true = g .same ∙ ap (modesTest before) z in
       let m : Owed a (flatMap modeDrives (g .all)) seen [] = subst (λ x. Owed a (flatMap modeDrives (g .all)) seen (flatMap modeDrives x)) z (g .owed) in
       tried-as (modesTest before) (flatMap modeDrives) (read-value (sym (g .is) ∙ h)) (tried-true t (owed-end seen (g .seen-length) m))
+
+  pub modes-end : i ≡ n → (ms : List Mode) (e : List ℕ) → times n readMode (drop at s) ≡ read ms e → (old new : List ℕ) → Marks old before → Marks new a → Tried (modesApart old ms) (flatMap modeDrives ms ++ new) true seen
+  modes-end k ms e h = modes-say ms e h (modes-true k ms e h)
 
   module _ (h : i < n) where
     mode : Cons readMode (n - (i + 1)) (drop p s) (g .rest) (g .end)
@@ -237,14 +255,16 @@ module _ {s : List ℕ} {at n : ℕ} {before a seen : List Bool} {p i : ℕ} (g 
     switches-there = let b = mode-is .between in record { value = mode .head .switches; end = mode .mid; got = mode-is .switches-got; inside = omega arith }
 
     -- the answer for the mode's rates
-    module _ {r : Bool} {b : List Bool} (t : (rs : List Rate) (e : List ℕ) → times (getD s p 0) readRate (drop (p + 1) s) ≡ read rs e → Tried (ratesTest before rs) seen (ratesDrive rs) r b) where
-      tried : Tried (ratesTest before (mode .head .rates)) seen (ratesDrive (mode .head .rates)) r b
-      tried = t (mode .head .rates) (drop (p + 1 + 5 * getD s p 0) s) (mode-is .rates-got)
+    module _ {r : Bool} {b : List Bool} (t : (rs : List Rate) (e : List ℕ) → times (getD s p 0) readRate (drop (p + 1) s) ≡ read rs e → (old new : List ℕ) → Marks old before → Marks new seen → Tried (ratesOnce old rs) (ratesDrive rs ++ new) r b) where
+      tried : Answered (ratesTest before (mode .head .rates)) seen (ratesDrive (mode .head .rates)) r b
+      tried =
+          let rs = mode .head .rates in
+          by-marks (onceAfter [] (ratesDrive rs)) (ratesDrive rs) (small-left (ratesDrive rs) (flatMap modeDrives (mode .tail)) next-few) (t rs (drop (p + 1 + 5 * getD s p 0) s) (mode-is .rates-got))
 
-      pub modes-false : r ≡ false → (c : List Bool) (ms : List Mode) (e : List ℕ) → times n readMode (drop at s) ≡ read ms e → Tried (modesTest before ms) a (flatMap modeDrives ms) false c
+      pub modes-false : r ≡ false → (c : List Bool) (ms : List Mode) (e : List ℕ) → times n readMode (drop at s) ≡ read ms e → (old new : List ℕ) → Marks old before → Marks new a → Tried (modesApart old ms) (flatMap modeDrives ms ++ new) false c
       modes-false f c ms e k =
           let x : modesTest before (g .all) ≡ false = next-test ∙ ap (λ y. y && modesTest before (mode .tail)) (sym (tried .is) ∙ f) in
-          tried-as (modesTest before) (flatMap modeDrives) (read-value (sym (g .is) ∙ k)) (tried-false x)
+          modes-say ms e k (tried-as (modesTest before) (flatMap modeDrives) (read-value (sym (g .is) ∙ k)) (tried-false x))
 
       pub modes-next : r ≡ true → (q : ℕ) → ((ss : List Switch) (e : List ℕ) → times (getD s (p + 1 + 5 * getD s p 0) 0) readSwitch (drop (p + 1 + 5 * getD s p 0 + 1) s) ≡ read ss e → (e ≡ drop q s) × (q ≤ length s)) → ModesGoing s at n before a b q (i + 1)
       modes-next f q u =
@@ -256,6 +276,7 @@ module _ {s : List ℕ} {at n : ℕ} {before a seen : List Bool} {p i : ℕ} (g 
             rest = mode .tail;
             got = ap (times (n - (i + 1)) readMode) (sym (w .0)) ∙ mode .rest;
             inside = w .1;
+            few = g .few;
             small = small-right (ratesDrive (mode .head .rates)) (flatMap modeDrives (mode .tail)) next-few;
             same = next-test ∙ ap (λ y. y && modesTest before (mode .tail)) (sym (tried .is) ∙ f);
             owed = owed-next seen (ratesDrive (mode .head .rates)) (flatMap modeDrives (mode .tail)) b (rw next-all at (g .owed)) (tried .marks f);

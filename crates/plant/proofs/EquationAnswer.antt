@@ -1,17 +1,17 @@
 -- The answer about an equation section, from the number of its refusal and what was noted of it.
 use mathlib.Core.Path.{_≡_, refl, sym, ap, _∙_}
 use mathlib.Core.Bool.{Bool, true, false}
-use mathlib.Core.List.{List, []}
+use mathlib.Core.List.{List}
 use mathlib.Core.Option.{Option, none, some}
 use Prim.Native.Nat.{ℕ, _<_}
 use native.Mathlib.Omega.{arith}
-use lib.IntN.{ℤ, pos}
-use lib.ListN.{length, getD, replicate}
+use lib.IntN.{ℤ}
+use lib.ListN.{length, getD}
 use Rattle.semantics.specs.Bytes.{every, times}
 use Rattle.semantics.specs.Refusals.{Judged, refused, accepted, refusalOf, need, ensure, _>>=_, _>>_}
 use Rattle.semantics.specs.Sections.{Equation, readEquation, equationsIn}
-use Rattle.semantics.specs.Plant.{equationNamed, judgeEquations, ratesOf}
-use Rattle.plant.specs.Equations.{equationsOf, answerTo, refusedEquations, acceptedEquations, putRates, Stands, SectionStands, CasesOf}
+use Rattle.semantics.specs.Plant.{equationNamed, judgeEquations}
+use Rattle.plant.specs.Equations.{equationsOf, answerTo, refusedEquations, acceptedEquations, steadyRates, Stands, SectionStands, CasesOf}
 use Rattle.plant.specs.declared.equations.Cases.{Cases}
 use Rattle.plant.proofs.EquationCases.{section-at, equations-stand}
 
@@ -64,7 +64,7 @@ module _ (s : List ℕ) (variables : ℕ) (t : Taken s variables) where
   unfolding equationsOf answerTo
   answer-is = rw (t .judged) refl
 
-  pub answer-taken : {r : Cases} {rates : List ℤ} → ((t : SectionStands s) → CasesOf (t .equations) r) → ((t : Stands (times (getD s 0 0) readEquation) s 1) → rates ≡ putRates (ratesOf (t .value) []) (replicate 32 (pos 0))) → record { refusal = 0; selectors = r .count; modes = r .modes; «mode_offsets» = r .«mode_offsets»; steady = rates } ≡ equationsOf s variables
+  pub answer-taken : {r : Cases} {rates : List ℤ} → ((t : SectionStands s) → CasesOf (t .equations) r) → ((t : Stands (times (getD s 0 0) readEquation) s 1) → rates ≡ steadyRates (t .value)) → record { refusal = 0; selectors = r .count; modes = r .modes; «mode_offsets» = r .«mode_offsets»; steady = rates } ≡ equationsOf s variables
   unfolding equationsOf answerTo acceptedEquations
   answer-taken f g =
       let a = f (t .section) in

@@ -9,12 +9,13 @@ use native.Mathlib.Numerals.{add-one}
 use Rattle.codec.proofs.Reading.{nat2At, nat4At}
 use lib.IntN.{ℤ, pos}
 use Rattle.semantics.specs.Bytes.{signed, Reader, read, times}
-use Rattle.semantics.specs.Sections.{Equation, steady, choice, readSwitch, readMode, readEquationBody, readEquation}
-use Rattle.semantics.specs.Plant.{ratesOf}
+use Rattle.semantics.specs.Sections.{Rate, Equation, steady, readSwitch, readMode, readEquationBody, readEquation}
+use Rattle.semantics.specs.Plant.{ratesOf, rateAmong}
 use Rattle.semantics.specs.Writing.{writeSwitch, writeMode, writeEquation}
 use Rattle.semantics.proofs.Readers.{given}
-use Rattle.plant.specs.Equations.{startsFrom, putRates, Stands}
+use Rattle.plant.specs.Equations.{startsFrom, ratesFrom, steadyRates, Stands}
 use Rattle.plant.proofs.EquationSizes.{Cuts, mode-length, cuts-switch, cuts-equation}
+use Rattle.plant.proofs.RateArrays.{rate-put}
 use Rattle.plant.proofs.EquationPlaces.{same-value, Headed, headed, switch-at, mode-at, switchesFrom, kind-before, steady-at, choice-at, equation-at}
 
 -- ---- n values from place at on, of which so many are left from place p on
@@ -105,6 +106,10 @@ module _ (s : List ℕ) (p : ℕ) where
   mode-fits t = mode-at s p (t .got) .inside
 
 -- ---- the rate of one equation
+one-more : (es : List Equation) (r : Rate) {rates : List ℤ} {d : ℕ} {z : ℤ} {q : Equation} → rates ≡ steadyRates es → d ≡ r .driven → z ≡ r .rate → q ≡ steady r → set rates d z ≡ steadyRates (q ∷ es)
+unfolding ratesOf
+one-more es r h d z q = rw (h, d, z, q) (rate-put r (ratesOf es []) 32)
+
 module _ (s : List ℕ) (p : ℕ) (t : Stands readEquationBody s p) where
   pub kind-fits : p < length s
   kind-fits = kind-before s p (t .got)
@@ -112,16 +117,15 @@ module _ (s : List ℕ) (p : ℕ) (t : Stands readEquationBody s p) where
   pub steady-fits : getD s p 0 ≡ 1 → p + 6 ≤ length s
   steady-fits k = omega (arith, steady-at s p (t .got) k .stands .fits)
 
-  pub with-none : (rates : List ℤ) → (getD s p 0 ≡ 1 → ⊥) → rates ≡ putRates (ratesOf (t .value ∷ []) []) rates
-  unfolding putRates ratesOf
-  with-none rates k = rw (choice-at s p (t .got) k .is) refl
+  pub with-none : {rates : List ℤ} (es : List Equation) → rates ≡ steadyRates es → (getD s p 0 ≡ 1 → ⊥) → rates ≡ steadyRates (t .value ∷ es)
+  unfolding ratesOf
+  with-none es h k = rw (choice-at s p (t .got) k .is) h
 
-  pub with-one : (rates : List ℤ) {z : ℤ} → getD s p 0 ≡ 1 → z ≡ signed (nat4At s (p + 2)) → set rates (getD s (p + 1) 0) z ≡ putRates (ratesOf (t .value ∷ []) []) rates
-  unfolding putRates ratesOf
-  with-one rates k e =
+  pub with-one : {rates : List ℤ} (es : List Equation) → rates ≡ steadyRates es → {z : ℤ} → getD s p 0 ≡ 1 → z ≡ signed (nat4At s (p + 2)) → set rates (getD s (p + 1) 0) z ≡ steadyRates (t .value ∷ es)
+  with-one es h k e =
       let a = steady-at s p (t .got) k in
       let two : p + 1 + 1 ≡ p + 2 = omega arith in
-      rw (a .is, a .stands .driven, a .stands .rate, two, e) refl
+      one-more es (a .rate) h (sym (a .stands .driven)) (e ∙ ap (λ j. signed (nat4At s j)) (sym two) ∙ sym (a .stands .rate)) (a .is)
 
 -- ---- n equations: the first, and the others
 module _ (s : List ℕ) (p n : ℕ) (t : Stands (times n readEquation) s p) (i : 0 < n) where
@@ -156,20 +160,12 @@ unfolding times
 none-left r {s} {p} n e t = sym (given [] (drop p s) (rw e at (t .got)))
 
 -- ---- the rates of kind 1
-abbrev zeros : List ℤ
-zeros = replicate 32 (pos 0)
-
-put-both : (q : Equation) (l : List Equation) (z : List ℤ) → putRates (ratesOf (q ∷ []) []) (putRates (ratesOf l []) z) ≡ putRates (ratesOf (q ∷ l) []) z
-unfolding putRates ratesOf
-put-both (steady r) l z = refl
-put-both (choice c) l z = refl
-
-pub steady-none : {s : List ℕ} {p : ℕ} (n : ℕ) → n ≡ 0 → (t : Stands (times n readEquation) s p) → zeros ≡ putRates (ratesOf (t .value) []) zeros
-unfolding putRates ratesOf
+pub steady-none : {s : List ℕ} {p : ℕ} (n : ℕ) → n ≡ 0 → (t : Stands (times n readEquation) s p) → replicate 32 (pos 0) ≡ steadyRates (t .value)
+unfolding ratesFrom rateAmong ratesOf
 steady-none n e t = rw (none-left readEquation n e t) refl
 
-pub steady-more : (s : List ℕ) (p n : ℕ) (i : 0 < n) (k : ℕ) (e : k ≡ nat2At s p) {rates out : List ℤ} → ((t : Stands (times (n - 1) readEquation) s (p + 2 + k)) → rates ≡ putRates (ratesOf (t .value) []) zeros) → ((t : Stands readEquationBody s (p + 2)) → out ≡ putRates (ratesOf (t .value ∷ []) []) rates) → (t : Stands (times n readEquation) s p) → out ≡ putRates (ratesOf (t .value) []) zeros
+pub steady-more : (s : List ℕ) (p n : ℕ) (i : 0 < n) (k : ℕ) (e : k ≡ nat2At s p) {rates out : List ℤ} → ((t : Stands (times (n - 1) readEquation) s (p + 2 + k)) → rates ≡ steadyRates (t .value)) → ((t : Stands readEquationBody s (p + 2)) (es : List Equation) → rates ≡ steadyRates es → out ≡ steadyRates (t .value ∷ es)) → (t : Stands (times n readEquation) s p) → out ≡ steadyRates (t .value)
 steady-more s p n i k e {rates} {out} f g t =
     let q = equation-kind s p n t i in
     let l = equations-left s p n t i k e in
-    g q ∙ ap (putRates (ratesOf (q .value ∷ []) [])) (f l) ∙ put-both (q .value) (l .value) zeros ∙ ap (λ es. putRates (ratesOf es []) zeros) (sym (first-and-left s p n t i k e))
+    g q (l .value) (f l) ∙ ap (λ es. steadyRates es) (sym (first-and-left s p n t i k e))

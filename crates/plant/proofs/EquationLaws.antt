@@ -1,25 +1,22 @@
 -- What callers learn of the answer about an equation section: where its modes stand, and what the arrays hold.
-use mathlib.Core.Path.{_≡_, refl, sym, ap, _∙_, subst}
-use mathlib.Core.Bool.{Bool, true, false, cond}
+use mathlib.Core.Path.{_≡_, sym, ap, _∙_, subst}
+use mathlib.Core.Bool.{true}
 use mathlib.Core.List.{List, [], _∷_, _++_, map}
 use mathlib.Core.Option.{some}
 use Prim.Native.Nat.{ℕ, zero, suc, _+_, _-_, _*_, _≤_, _<_}
 use native.Mathlib.Nat.{zero-add}
 use native.Mathlib.Omega.{arith}
-use borrow.Author.Tests.{eqb-true, eqb-false}
-use lib.Dec.{eqb}
-use lib.IntN.{ℤ, pos}
-use lib.ListN.{length, getD, drop, getElem?, set, replicate, length-set, length-replicate, List·getD-append}
-use lib.Seq.{getD-append-add, getD-set-same, getD-set-other}
+use lib.ListN.{length, getD, drop, getElem?, List·getD-append}
+use lib.Seq.{getD-append-add}
 use Rattle.semantics.specs.Bytes.{every, Reader, read, times}
 use Rattle.semantics.specs.Sections.{Rate, Mode, Selector, Equation, steady, choice, readMode, readEquation, equationsIn}
 use Rattle.semantics.specs.Writing.{writeMode, writeEquation}
-use Rattle.semantics.specs.Plant.{equationNamed, selectorsOf, rateAmong, among}
+use Rattle.semantics.specs.Plant.{equationNamed, selectorsOf}
 use Rattle.semantics.proofs.Facts.{some-is, none-not-some, at-below, All, all-cons, every-all}
 use Rattle.codec.specs.Padding.{pad}
 use Rattle.codec.proofs.Known.{times-length}
-use Rattle.codec.proofs.Padding.{repeated, length-pad, pad-at, pad-map-some}
-use Rattle.plant.specs.Equations.{startsFrom, modePlaces, modeCount, putRates, Stands, modeAt}
+use Rattle.codec.proofs.Padding.{length-pad, pad-at, pad-map-some}
+use Rattle.plant.specs.Equations.{startsFrom, modePlaces, modeCount, Stands, modeAt}
 use Rattle.plant.proofs.EquationSizes.{Cuts, cuts-mode, cuts-equation}
 use Rattle.plant.proofs.EquationPlaces.{Headed, headed, mode-before, equation-at, steady-at, ChoiceAt, choice-at}
 use Rattle.plant.proofs.EquationCases.{section-at, starts-length}
@@ -157,31 +154,3 @@ named-in variables (choice x ∷ es) (all-cons h a) (suc j) g = named-in variabl
 
 pub selector-named : (variables : ℕ) (es : List Equation) → every (equationNamed variables) es ≡ true → (j : ℕ) {c : Selector} → getElem? (selectorsOf es) j ≡ some c → equationNamed variables (choice c) ≡ true
 selector-named variables es h j g = named-in variables es (every-all (equationNamed variables) es h) j g
-
--- ---- rates
-pub put-length : (rs : List Rate) (l : List ℤ) → length (putRates rs l) ≡ length l
-unfolding putRates
-put-length [] l = refl
-put-length (r ∷ rs) l = length-set (putRates rs l) (r .driven) (r .rate) ∙ put-length rs l
-
-pub rate-put-at : (rs : List Rate) (l : List ℤ) (v : ℕ) (d : ℤ) → v < length l → getD (putRates rs l) v d ≡ cond (among v (map (λ (r : Rate). r .driven) rs)) (rateAmong rs v) (getD l v d)
-unfolding putRates among rateAmong map
-rate-put-at [] l v d h = refl
-rate-put-at (r ∷ rs) l v d h = go (eqb (r .driven) v) refl (rate-put-at rs l v d h)
-  where
-    go : (b : Bool) → eqb (r .driven) v ≡ b → getD (putRates rs l) v d ≡ cond (among v (map (λ (r : Rate). r .driven) rs)) (rateAmong rs v) (getD l v d) → getD (set (putRates rs l) (r .driven) (r .rate)) v d ≡ cond (elim b [ true ↦ true | false ↦ among v (map (λ (r : Rate). r .driven) rs) ]) (elim b [ true ↦ r .rate | false ↦ rateAmong rs v ]) (getD l v d)
-    go true e i = rw (eqb-true (r .driven) v e) (getD-set-same (putRates rs l) v (r .rate) d (omega (arith, put-length rs l)))
-    go false e i = getD-set-other (putRates rs l) (r .driven) v (r .rate) d (λ x. eqb-false (r .driven) v e (sym x)) ∙ i
-
-none-driven : (rs : List Rate) (v : ℕ) → cond (among v (map (λ (r : Rate). r .driven) rs)) (rateAmong rs v) (pos 0) ≡ rateAmong rs v
-unfolding among rateAmong map
-none-driven [] v = refl
-none-driven (r ∷ rs) v = go (eqb (r .driven) v) (none-driven rs v)
-  where
-    go : (b : Bool) → cond (among v (map (λ (r : Rate). r .driven) rs)) (rateAmong rs v) (pos 0) ≡ rateAmong rs v → cond (elim b [ true ↦ true | false ↦ among v (map (λ (r : Rate). r .driven) rs) ]) (elim b [ true ↦ r .rate | false ↦ rateAmong rs v ]) (pos 0) ≡ elim b [ true ↦ r .rate | false ↦ rateAmong rs v ]
-    go true i = refl
-    go false i = i
-
--- of an array of zeros
-pub rate-among-at : (rs : List Rate) (n v : ℕ) → v < n → getD (putRates rs (replicate n (pos 0))) v (pos 0) ≡ rateAmong rs v
-rate-among-at rs n v h = rate-put-at rs (replicate n (pos 0)) v (pos 0) (omega (arith, length-replicate {A = ℤ} n (pos 0))) ∙ ap (cond (among v (map (λ (r : Rate). r .driven) rs)) (rateAmong rs v)) (repeated (pos 0) n v) ∙ none-driven rs v

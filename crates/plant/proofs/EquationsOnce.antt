@@ -10,14 +10,15 @@ use lib.Dec.{eqb, ltb}
 use lib.ListN.{length, getD, take, drop, replicate}
 use Rattle.semantics.specs.Bytes.{every, read, times}
 use Rattle.semantics.specs.Sections.{Rate, Mode, Equation, steady, choice, readRate, readMode, readEquation, equationIn, equationsIn}
-use Rattle.semantics.specs.Plant.{rateNamed, switchNamed, modeNamed, equationNamed, among, onceAfter, modeDrives, drives, modesOnce, drivenOnce, ratesDrive, modeOnce}
+use Rattle.semantics.specs.Plant.{rateNamed, switchNamed, modeNamed, equationNamed, among, onceAfter, modeDrives, drives, modesOnce, equationOnce, drivenOnce, ratesDrive, modeOnce}
 use Rattle.semantics.proofs.Facts.{true-not-false, some-is, and-left, and-right, by-cases, All, all-nil, all-cons, every-all}
+use Rattle.semantics.proofs.PlantPassed.{equations-passed}
 use Rattle.codec.proofs.Reading.{nat2At}
 use Rattle.codec.proofs.Known.{Cons}
-use Rattle.plant.specs.Driven.{Named, Small, Held, Few, Marked, Tried, equationTest, ratesTest, modesTest}
-use Rattle.plant.proofs.Marks.{among-append, among-there, small-left, small-right, marked-more, unmarked-apart}
+use Rattle.plant.specs.Driven.{Named, Small, Held, Few, Marks, Tried, ratesOnce, modesApart}
+use Rattle.plant.proofs.Marks.{among-append, among-there, small-left, small-right}
 use Rattle.plant.proofs.Walks.{next-of, all-left, none-left, Shape, is-steady, is-choice, shape-of, not-both, equation-inside, EquationAt, equation-at, lent-is, lent-inside, lent-end, section-at}
-use Rattle.plant.proofs.DrivenOnce.{marked-none, tried-as}
+use Rattle.plant.proofs.DrivenOnce.{marked-none}
 
 -- ---- one equation
 module _ (s : List ℕ) (f : Few (equationIn s) drives) where
@@ -38,21 +39,21 @@ module _ (s : List ℕ) (f : Few (equationIn s) drives) where
       go (is-choice c e q i t) = record { sound = record { value = c .modes; end = []; got = t; inside = i }; small = subst (λ x. Small (drives x)) q (f .small) }
 
 module _ (s : List ℕ) (a : List Bool) {r : Bool} {b : List Bool} where
-  pub steady-tried : getD s 0 0 ≡ 1 → ((rs : List Rate) (e : List ℕ) → times 1 readRate (drop 1 s) ≡ read rs e → Tried (ratesTest a rs) a (ratesDrive rs) r b) → (q : Equation) → equationIn s ≡ some q → Tried (equationTest a q) a (drives q) r b
+  pub steady-tried : getD s 0 0 ≡ 1 → ((rs : List Rate) (e : List ℕ) → times 1 readRate (drop 1 s) ≡ read rs e → (old new : List ℕ) → Marks old a → Marks new a → Tried (ratesOnce old rs) (ratesDrive rs ++ new) r b) → (q : Equation) → equationIn s ≡ some q → (old : List ℕ) → Marks old a → Tried (equationOnce old q) (drives q ++ old) r b
   unfolding drives ratesDrive modesOnce onceAfter among modeOnce
-  steady-tried k t q h = go (shape-of s h .1)
+  steady-tried k t q h old m = go (shape-of s h .1)
     where
-      go : Shape s q → Tried (equationTest a q) a (drives q) r b
-      go (is-steady x e j g) = tried-as (equationTest a) drives (sym j) (t (x ∷ []) [] g)
+      go : Shape s q → Tried (equationOnce old q) (drives q ++ old) r b
+      go (is-steady x e j g) = subst (λ y. Tried (equationOnce old y) (drives y ++ old) r b) (sym j) (t (x ∷ []) [] g old old m m)
       go (is-choice c e j i g) = not-both (getD s 0 0) k e
 
-  pub choice-tried : (getD s 0 0 ≡ 1 → ⊥) → ((ms : List Mode) (e : List ℕ) → times (getD s 2 0) readMode (drop (1 + 1 + 1) s) ≡ read ms e → Tried (modesTest a ms) a (flatMap modeDrives ms) r b) → (q : Equation) → equationIn s ≡ some q → Tried (equationTest a q) a (drives q) r b
+  pub choice-tried : (getD s 0 0 ≡ 1 → ⊥) → ((ms : List Mode) (e : List ℕ) → times (getD s 2 0) readMode (drop (1 + 1 + 1) s) ≡ read ms e → (old new : List ℕ) → Marks old a → Marks new a → Tried (modesApart old ms) (flatMap modeDrives ms ++ new) r b) → (q : Equation) → equationIn s ≡ some q → (old : List ℕ) → Marks old a → Tried (equationOnce old q) (drives q ++ old) r b
   unfolding drives flatMap modesOnce modeOnce
-  choice-tried k t q h = go (shape-of s h .1)
+  choice-tried k t q h old m = go (shape-of s h .1)
     where
-      go : Shape s q → Tried (equationTest a q) a (drives q) r b
+      go : Shape s q → Tried (equationOnce old q) (drives q ++ old) r b
       go (is-steady x e j g) = absurd (k e)
-      go (is-choice c e j i g) = tried-as (equationTest a) drives (sym j) (t (c .modes) [] g)
+      go (is-choice c e j i g) = subst (λ y. Tried (equationOnce old y) (drives y ++ old) r b) (sym j) (t (c .modes) [] g old old m m)
 
 -- ---- 7 keeps the variables small
 small-nil : Small []
@@ -92,9 +93,9 @@ module _ (n : ℕ) (few : n ≤ 32) where
   small-equations es h = small-flat drives small-equation (every-all (equationNamed n) es h)
 
 -- ---- all equations
-once-split : (noted : List ℕ) (a : List Bool) (q : Equation) (es : List Equation) → Marked [] noted a → Small (drives q) → drivenOnce noted (q ∷ es) ≡ (equationTest a q && drivenOnce (drives q ++ noted) es)
+once-split : (noted : List ℕ) (q : Equation) (es : List Equation) → drivenOnce noted (q ∷ es) ≡ (equationOnce noted q && drivenOnce (drives q ++ noted) es)
 unfolding drivenOnce
-once-split noted a q es m s = ap (λ t. modesOnce q && t && drivenOnce (drives q ++ noted) es) (sym (unmarked-apart noted a (drives q) m s))
+once-split noted q es = refl
 
 pub record OnceGoing (s : List ℕ) (seen : List Bool) (p i : ℕ) : Type 0 where
   pub all : List Equation
@@ -104,24 +105,27 @@ pub record OnceGoing (s : List ℕ) (seen : List Bool) (p i : ℕ) : Type 0 wher
   pub inside : p ≤ length s
   pub small : Small (flatMap drives rest)
   pub noted : List ℕ
-  pub stands : Marked [] noted seen
+  pub stands : Marks noted seen
+  pub sized : length seen ≡ 32
   pub same : drivenOnce [] all ≡ drivenOnce noted rest
 
 pub section-inside : (s : List ℕ) → Named s → 1 ≤ length s
-section-inside s n = section-at s (n .is) .inside
+section-inside s n = section-at s (equations-passed (n .variables) s (n .judged) .is) .inside
 
 pub once-start : (s : List ℕ) → Named s → OnceGoing s (replicate 32 false) 1 0
 once-start s n =
-    let k = section-at s (n .is) in
+    let j = equations-passed (n .variables) s (n .judged) in
+    let k = section-at s (j .is) in
     record {
       all = n .equations;
-      is = n .is;
+      is = j .is;
       rest = n .equations;
       got = all-left readEquation (getD s 0 0) (drop 1 s) (k .got);
       inside = k .inside;
-      small = small-equations (n .variables) (n .few) (n .equations) (n .named);
+      small = small-equations (n .variables) (n .few) (n .equations) (j .named);
       noted = [];
-      stands = marked-none;
+      stands = record { at = marked-none .at };
+      sized = marked-none .sized;
       same = refl;
     }
 
@@ -157,12 +161,12 @@ module _ {s : List ℕ} {seen : List Bool} {p i : ℕ} (g : OnceGoing s seen p i
       pub next-few : Few (equationIn (take (p + 2 + m - (p + 2)) (drop (p + 2) s))) drives
       next-few = record { there = record { value = next .head; is = lent-is equation x }; small = next-small }
 
-      module _ {r : Bool} {c : List Bool} (t : (q : Equation) → equationIn (take (p + 2 + m - (p + 2)) (drop (p + 2) s)) ≡ some q → Tried (equationTest seen q) seen (drives q) r c) where
-        tried : Tried (equationTest seen (next .head)) seen (drives (next .head)) r c
-        tried = t (next .head) (lent-is equation x)
+      module _ {r : Bool} {c : List Bool} (t : (q : Equation) → equationIn (take (p + 2 + m - (p + 2)) (drop (p + 2) s)) ≡ some q → (old : List ℕ) → Marks old seen → Tried (equationOnce old q) (drives q ++ old) r c) where
+        tried : Tried (equationOnce (g .noted) (next .head)) (drives (next .head) ++ g .noted) r c
+        tried = t (next .head) (lent-is equation x) (g .noted) (g .stands)
 
         next-test : drivenOnce [] (g .all) ≡ (r && drivenOnce (drives (next .head) ++ g .noted) (next .tail))
-        next-test = g .same ∙ ap (drivenOnce (g .noted)) (sym (next .is)) ∙ once-split (g .noted) seen (next .head) (next .tail) (g .stands) next-small ∙ ap (λ y. y && drivenOnce (drives (next .head) ++ g .noted) (next .tail)) (sym (tried .is))
+        next-test = g .same ∙ ap (drivenOnce (g .noted)) (sym (next .is)) ∙ once-split (g .noted) (next .head) (next .tail) ∙ ap (λ y. y && drivenOnce (drives (next .head) ++ g .noted) (next .tail)) (sym (tried .is))
 
         pub once-false : r ≡ false → (es : List Equation) → equationsIn s ≡ some es → false ≡ drivenOnce [] es
         once-false f es k = sym (ap (drivenOnce []) (some-is (sym k ∙ g .is)) ∙ next-test ∙ ap (λ y. y && drivenOnce (drives (next .head) ++ g .noted) (next .tail)) f)
@@ -176,6 +180,7 @@ module _ {s : List ℕ} {seen : List Bool} {p i : ℕ} (g : OnceGoing s seen p i
           inside = slice-inside;
           small = small-right (drives (next .head)) (flatMap drives (next .tail)) next-all;
           noted = drives (next .head) ++ g .noted;
-          stands = marked-more (g .noted) seen (drives (next .head)) c (g .stands) (tried .marks f);
+          stands = tried .marks f;
+          sized = tried .sized f;
           same = next-test ∙ ap (λ y. y && drivenOnce (drives (next .head) ++ g .noted) (next .tail)) f;
         }

@@ -1,6 +1,7 @@
 pub mod EquationParts
 pub mod EquationSizes
 pub mod EquationPlaces
+pub mod RateArrays
 pub mod EquationIndex
 pub mod EquationCases
 pub mod EquationAnswer
@@ -12,6 +13,7 @@ pub mod Turns
 pub mod VariableAnswer
 pub mod VariableSection
 pub mod VariableLaws
+pub mod MarkTests
 pub mod Marks
 pub mod DrivenOnce
 pub mod EquationsOnce

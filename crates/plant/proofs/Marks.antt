@@ -1,16 +1,19 @@
 -- Arrays of marks that stand for lists of variables.
 use mathlib.Core.Path.{_≡_, refl, sym, ap, _∙_}
-use mathlib.Core.Bool.{Bool, true, false, not, _||_, or-true, or-false, or-assoc, or-comm}
+use mathlib.Core.Bool.{Bool, true, false, not, _||_, _&&_, or-true, or-false, or-assoc, or-comm}
 use mathlib.Core.List.{List, [], _∷_, _++_}
-use Prim.Native.Nat.{ℕ, _<_}
-use borrow.Author.Tests.{eqb-true, eqb-false, eq-eqb}
+use Prim.Native.Nat.{ℕ, zero, suc, _+_, _≤_, _<_}
+use native.Mathlib.Omega.{arith}
+use borrow.Author.Tests.{eqb-true, eqb-false, eq-eqb, ne-eqb}
 use lib.Dec.{eqb}
 use lib.ListN.{length, getD, set, length-set}
 use lib.Seq.{getD-set-same, getD-set-other}
 use Rattle.semantics.specs.Bytes.{every}
 use Rattle.semantics.specs.Plant.{among, apart}
 use Rattle.semantics.proofs.Facts.{by-cases}
-use Rattle.plant.specs.Driven.{Small, unmarked, Marked}
+use Rattle.codec.proofs.Reading.{either}
+use Rattle.plant.specs.Driven.{Small, Marks, Tried}
+use Rattle.plant.proofs.MarkTests.{unmarked, Marked, Answered}
 
 -- ---- membership
 pub among-here : (v : ℕ) (l : List ℕ) → among v (v ∷ l) ≡ true
@@ -79,11 +82,8 @@ pub owed-end : {a : List Bool} {all : List ℕ} (b : List Bool) → length b ≡
 unfolding among
 owed-end b k o = record { sized = k; at = λ v h. sym (or-false (getD b v false)) ∙ o .at v h }
 
--- ---- marks that stand for a list: those of no mark at all
-pub marked-more : (l : List ℕ) (b : List Bool) (k : List ℕ) (c : List Bool) → Marked [] l b → Marked b k c → Marked [] (k ++ l) c
-marked-more l b k c m n = record { sized = n .sized; at = λ v h. n .at v h ∙ ap (λ t. t || among v k) (m .at v h) ∙ or-comm (among v l) (among v k) ∙ sym (among-append v k l) }
-
-pub unmarked-apart : (l : List ℕ) (b : List Bool) (k : List ℕ) → Marked [] l b → Small k → unmarked b k ≡ apart l k
+-- ---- an array against the list of the variables that it marks
+pub unmarked-apart : (l : List ℕ) (b : List Bool) (k : List ℕ) → Marks l b → Small k → unmarked b k ≡ apart l k
 unfolding unmarked apart every
 unmarked-apart l b [] m s = refl
 unmarked-apart l b (v ∷ k) m s = go (getD b v false) (among v l) (m .at v (small-first v k s)) (unmarked-apart l b k m (small-rest v k s))
@@ -91,3 +91,53 @@ unmarked-apart l b (v ∷ k) m s = go (getD b v false) (among v l) (m .at v (sma
     go : (x y : Bool) → x ≡ y → every (λ v. not (getD b v false)) k ≡ every (λ v. not (among v l)) k → _≡_ {A = Bool} (elim (not x) [ true ↦ every (λ v. not (getD b v false)) k | false ↦ false ]) (elim (not y) [ true ↦ every (λ v. not (among v l)) k | false ↦ false ])
     go true y e h = rw (← e) refl
     go false y e h = rw (← e) h
+
+-- those marked among the n variables from v on
+unfoldable marksFrom : List Bool → ℕ → ℕ → List ℕ
+marksFrom a v zero = []
+marksFrom a v (suc n) = elim (getD a v false) [ true ↦ v ∷ marksFrom a (suc v) n | false ↦ marksFrom a (suc v) n ]
+
+none-below : (a : List Bool) (n v u : ℕ) → u < v → among u (marksFrom a v n) ≡ false
+unfolding marksFrom among
+none-below a zero v u h = refl
+none-below a (suc n) v u h = go (getD a v false) (none-below a n (suc v) u (omega arith))
+  where
+    go : (b : Bool) → among u (marksFrom a (suc v) n) ≡ false → among u (elim b [ true ↦ v ∷ marksFrom a (suc v) n | false ↦ marksFrom a (suc v) n ]) ≡ false
+    go true i = among-there u v (marksFrom a (suc v) n) (ne-eqb v u (λ e. omega arith)) ∙ i
+    go false i = i
+
+marks-at : (a : List Bool) (n v u : ℕ) → v ≤ u → u < v + n → getD a u false ≡ among u (marksFrom a v n)
+unfolding marksFrom
+marks-at a zero v u h k = absurd (omega arith)
+marks-at a (suc n) v u h k = either v u (λ l. there l (getD a v false) (marks-at a n (suc v) u (omega arith) (omega arith))) (λ l. here (omega arith) (getD a v false) refl)
+  where
+    there : v < u → (b : Bool) → getD a u false ≡ among u (marksFrom a (suc v) n) → getD a u false ≡ among u (elim b [ true ↦ v ∷ marksFrom a (suc v) n | false ↦ marksFrom a (suc v) n ])
+    there l true i = i ∙ sym (among-there u v (marksFrom a (suc v) n) (ne-eqb v u (λ e. omega arith)))
+    there l false i = i
+
+    here : u ≡ v → (b : Bool) → getD a v false ≡ b → getD a u false ≡ among u (elim b [ true ↦ v ∷ marksFrom a (suc v) n | false ↦ marksFrom a (suc v) n ])
+    here q true e = ap (λ j. getD a j false) q ∙ e ∙ sym (ap (λ j. among j (v ∷ marksFrom a (suc v) n)) q ∙ among-here v (marksFrom a (suc v) n))
+    here q false e = ap (λ j. getD a j false) q ∙ e ∙ sym (none-below a n (suc v) u (omega arith))
+
+marks-of : (a : List Bool) → Marks (marksFrom a 0 32) a
+marks-of a = record { at = λ v h. marks-at a 32 0 v (omega arith) (omega arith) }
+
+-- what holds by the marks holds by every list that they stand for, and the other way
+module _ (x : Bool) (l : List ℕ) (few : Small l) {a b : List Bool} {r : Bool} {c : List Bool} where
+  pub by-lists : Answered (x && unmarked a l) b l r c → (before seen : List ℕ) → Marks before a → Marks seen b → Tried (x && apart before l) (l ++ seen) r c
+  by-lists t before seen m n = record {
+    is = t .is ∙ ap (λ y. x && y) (unmarked-apart before a l m few);
+    sized = λ h. t .marks h .sized;
+    marks = λ h. record { at = λ v i. t .marks h .at v i ∙ ap (λ y. y || among v l) (n .at v i) ∙ or-comm (among v seen) (among v l) ∙ sym (among-append v l seen) };
+  }
+
+  pub by-marks : ((before seen : List ℕ) → Marks before a → Marks seen b → Tried (x && apart before l) (l ++ seen) r c) → Answered (x && unmarked a l) b l r c
+  by-marks f =
+      let t = f (marksFrom a 0 32) (marksFrom b 0 32) (marks-of a) (marks-of b) in
+      record {
+        is = t .is ∙ ap (λ y. x && y) (sym (unmarked-apart (marksFrom a 0 32) a l (marks-of a) few));
+        marks = λ h. record {
+          sized = t .sized h;
+          at = λ v i. t .marks h .at v i ∙ among-append v l (marksFrom b 0 32) ∙ or-comm (among v l) (among v (marksFrom b 0 32)) ∙ ap (λ y. y || among v l) (sym (marks-of b .at v i));
+        };
+      }

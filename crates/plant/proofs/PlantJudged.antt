@@ -85,7 +85,7 @@ module _ (vs es : List ℕ) {v : Variables} (h : v ≡ variablesOf vs) where
         few = omega (arith, count-of vs a, count-high vs a)
 
         pub named : Named es
-        named = record { equations = taken .section .equations; is = taken .section .read; variables = length xs; few = few; named = taken .named }
+        named = record { variables = length xs; few = few; equations = taken .section .equations; judged = taken .judged }
 
         after-7 : judgePlant edition1 vs es ≡ (ensure 8 (drivenOnce [] qs) >> accepted (record { variables = xs; equations = qs }))
         unfolding judgePlant qs

@@ -1,15 +1,15 @@
 -- What the answer about both sections says of the plant.
 use mathlib.Core.Path.{_≡_, refl, sym, ap, _∙_}
-use mathlib.Core.List.{List, [], map}
+use mathlib.Core.List.{List, map}
 use mathlib.Core.Option.{some}
 use Prim.Native.Nat.{ℕ, suc, _≤_}
 use native.Mathlib.Omega.{arith}
 use lib.IntN.{pos}
-use lib.ListN.{length, getD, getElem?, replicate}
+use lib.ListN.{length, getD, getElem?}
 use Rattle.semantics.specs.Editions.{edition1}
 use Rattle.semantics.specs.Refusals.{Judged, refused, accepted, refusalOf}
 use Rattle.semantics.specs.Sections.{Variable}
-use Rattle.semantics.specs.Plant.{Plant, selectors, judgePlant, ratesOf}
+use Rattle.semantics.specs.Plant.{Plant, selectors, judgePlant}
 use Rattle.semantics.specs.Conditions.{plantConditions}
 use Rattle.semantics.proofs.Facts.{all-nil, all-cons}
 use Rattle.semantics.proofs.FirstNumber.{plant-first}
@@ -17,7 +17,7 @@ use Rattle.semantics.proofs.CallsHold.{accepted-of}
 use Rattle.semantics.proofs.PlantPassed.{PlantPassed, plant-passed}
 use Rattle.codec.specs.Padding.{pad}
 use Rattle.plant.specs.Variables.{column}
-use Rattle.plant.specs.Equations.{modeCount, modePlaces, putRates, acceptedEquations, SectionStands}
+use Rattle.plant.specs.Equations.{modeCount, modePlaces, steadyRates, acceptedEquations, SectionStands}
 use Rattle.plant.specs.PlantRead.{refusedPlant, acceptedPlant, plantAnswer, plantOf}
 use Rattle.plant.specs.declared.sections.PlantRead.{PlantRead}
 use Rattle.plant.proofs.VariableLaws.{Accepted, column-at, count-of, count-low, count-high}
@@ -87,7 +87,7 @@ module _ (vs es : List ℕ) {p : Plant} (h : judgePlant edition1 vs es ≡ accep
   unfolding acceptedPlant acceptedEquations
   places-of = ap (λ (r : PlantRead). r .«mode_offsets») answered
 
-  pub steady-of : plantOf vs es .steady ≡ putRates (ratesOf (p .equations) []) (replicate 32 (pos 0))
+  pub steady-of : plantOf vs es .steady ≡ steadyRates (p .equations)
   unfolding acceptedPlant acceptedEquations
   steady-of = ap (λ (r : PlantRead). r .steady) answered
 

@@ -5,19 +5,18 @@ use mathlib.Core.Option.{some}
 use Prim.Native.Nat.{ℕ, suc, _≤_}
 use native.Mathlib.Omega.{arith}
 use lib.IntN.{ℤ, pos}
-use lib.ListN.{length, getD, getElem?, take, drop, length-map}
+use lib.ListN.{length, getD, getElem?, take, length-map}
 use Rattle.semantics.specs.Editions.{edition1}
 use Rattle.semantics.specs.Refusals.{Judged, refused, accepted, refusalOf}
-use Rattle.semantics.specs.Sections.{Variable, readVariable, variablesIn}
+use Rattle.semantics.specs.Sections.{Variable}
 use Rattle.semantics.specs.Plant.{judgeVariables}
-use Rattle.semantics.proofs.Facts.{some-is, all-nil, all-cons}
+use Rattle.semantics.proofs.Facts.{all-nil, all-cons}
 use Rattle.semantics.proofs.FirstNumber.{variables-first}
 use Rattle.semantics.proofs.CallsHold as Judging
 use Rattle.semantics.proofs.PlantPassed.{VariablesPassed}
 use Rattle.codec.proofs.Padding.{pad-long, take-pad, pad-map-some}
-use Rattle.codec.proofs.Known.{times-length}
 use Rattle.plant.specs.Variables.{column, answer, refusedBy, variablesAnswer, variablesOf}
-use Rattle.plant.proofs.VariableSection.{sized-of, section-of}
+use Rattle.plant.proofs.VariableSection.{sized-of, length-is}
 use Rattle.plant.proofs.VariableAnswer.{accepted-as}
 
 -- the variables of a section that 4 and 5 let pass
@@ -37,12 +36,6 @@ accepted-of s h = Judging.accepted-of (variables-first edition1 s []) (all-cons 
     number (accepted vs) = refl
 
 -- ---- the numbers
--- the first byte counts the variables
-pub length-is : (s : List ℕ) {vs : List Variable} → variablesIn edition1 s ≡ some vs → length vs ≡ getD s 0 0
-length-is s h =
-    let k = section-of s (getD s 0 0) (sized-of s h) in
-    ap length (some-is (sym h ∙ k .1 .is)) ∙ times-length (readVariable edition1) (getD s 0 0) (drop 1 s) (k .1 .got)
-
 pub column-at : (f : Variable → ℤ) (vs : List Variable) (k : ℕ) {x : Variable} → getElem? vs k ≡ some x → getD (column f vs) k (pos 0) ≡ f x
 unfolding column
 column-at f vs k h = pad-map-some 32 (pos 0) f vs k h

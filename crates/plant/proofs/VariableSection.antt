@@ -17,18 +17,25 @@ use Rattle.semantics.specs.Bytes.{every, within, signed, read, andThen, _>>=_, 
 use Rattle.semantics.specs.Editions.{edition1}
 use Rattle.semantics.specs.Sections.{Variable, readVariable, readVariables, variablesIn}
 use Rattle.semantics.specs.Plant.{ordered}
-use Rattle.semantics.proofs.Facts.{true-not-false, within-low, within-high, within-both}
+use Rattle.semantics.proofs.Facts.{some-is, true-not-false, within-low, within-high, within-both}
 use Rattle.semantics.proofs.Readers.{read-rest, read-value, split, given, guarded, byte-read, whole-read}
 use Rattle.codec.proofs.Padding.{pad-map-snoc}
 use Rattle.codec.proofs.Reading.{nat4At, int4-at, drop-past, drop-some}
-use Rattle.codec.proofs.Known.{cons}
+use Rattle.codec.proofs.Known.{cons, times-length}
 use Rattle.plant.specs.declared.variables.Variables.{Variables}
 use Rattle.plant.proofs.VariableAnswer.{refused-5, accepted-as}
-use Rattle.plant.specs.Variables.{column, answer, refusedBy, variablesOf, Sized, Counted}
+use Rattle.plant.specs.Variables.{column, answer, refusedBy, variablesOf, VariablesStand, Counted}
 use Rattle.plant.proofs.Turns.{every-next, every-not}
 use Rattle.plant.proofs.Costs.{Costs, costs-give, costs-then, costs-int4, costs-times}
 
 -- ---- size
+-- the bytes of n variables
+pub record Sized (s : List ℕ) (n : ℕ) : Type 0 where
+  pub first : getD s 0 0 ≡ n
+  pub low : 1 ≤ n
+  pub high : n ≤ 32
+  pub size : length s ≡ 1 + 12 * n
+
 costs-variable : Costs (readVariable edition1) 12
 unfolding readVariable
 costs-variable = costs-then costs-int4 (λ low. costs-then costs-int4 (λ high. costs-then costs-int4 (λ first. costs-give (record { minimum = low; maximum = high; initial = first }))))
@@ -51,15 +58,6 @@ sized-of s h =
 none-if : {A : Type 0} (o : Option A) → ((a : A) → o ≡ some a → ⊥) → o ≡ none
 none-if none f = refl
 none-if (some a) f = absurd (f a refl)
-
-pub wrong : (s : List ℕ) → (Sized s (getD s 0 0) → ⊥) → Counted s 0
-wrong s f = record { wrong = λ e. none-if (variablesIn edition1 s) (λ vs h. f (sized-of s h)); right = λ h. absurd (omega arith) }
-
-pub right : (s : List ℕ) → getD s 0 0 ≤ 32 → length s ≡ 1 + 12 * getD s 0 0 → Counted s (getD s 0 0)
-right s h k = record {
-  wrong = λ e. none-if (variablesIn edition1 s) (λ vs i. let z = sized-of s i .low in omega arith);
-  right = λ l. record { first = refl; low = l; high = h; size = k };
-}
 
 -- ---- the variable at a place
 abbrev pub variableAt : List ℕ → ℕ → Variable
@@ -94,6 +92,31 @@ section-of s n z =
     let g = m .1 ∙ ap (read (m .0)) (drop-past (1 + 12 * n) s (omega arith)) in
     let e : s ≡ n ∷ drop 1 s = drop-some 0 s (omega arith) ∙ ap (λ b. b ∷ drop 1 s) (z .first) in
     (m .0, record { got = g; is = ap (variablesIn edition1) e ∙ section-is n (drop 1 s) (within-both 1 32 n (z .low) (z .high)) g })
+
+-- the first byte counts the variables
+pub length-is : (s : List ℕ) {vs : List Variable} → variablesIn edition1 s ≡ some vs → length vs ≡ getD s 0 0
+length-is s h =
+    let k = section-of s (getD s 0 0) (sized-of s h) in
+    ap length (some-is (sym h ∙ k .1 .is)) ∙ times-length (readVariable edition1) (getD s 0 0) (drop 1 s) (k .1 .got)
+
+-- the section of n variables has their bytes
+pub sized-by : (s : List ℕ) (n : ℕ) → VariablesStand s n → Sized s n
+sized-by s n v =
+    let z = sized-of s (v .read) in
+    let e : getD s 0 0 ≡ n = sym (length-is s (v .read)) ∙ v .count in
+    record { first = e; low = omega (arith, z .low); high = omega (arith, z .high); size = omega (arith, z .size) }
+
+-- ---- the count
+pub wrong : (s : List ℕ) → (Sized s (getD s 0 0) → ⊥) → Counted s 0
+wrong s f = record { wrong = λ e. none-if (variablesIn edition1 s) (λ vs h. f (sized-of s h)); right = λ h. absurd (omega arith) }
+
+pub right : (s : List ℕ) → getD s 0 0 ≤ 32 → length s ≡ 1 + 12 * getD s 0 0 → Counted s (getD s 0 0)
+right s h k = record {
+  wrong = λ e. none-if (variablesIn edition1 s) (λ vs i. let z = sized-of s i .low in omega arith);
+  right = λ l.
+      let v = section-of s (getD s 0 0) (record { first = refl; low = l; high = h; size = k }) in
+      record { variables = v .0; read = v .1 .is; count = length-is s (v .1 .is) };
+}
 
 -- ---- arrays
 column-more : (f : Variable → ℤ) (vs : List Variable) (v : Variable) (i : ℕ) (z : ℤ) → z ≡ f v → length vs ≡ i → i < 32 → set (column f vs) i z ≡ column f (vs ++ (v ∷ []))

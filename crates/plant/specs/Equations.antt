@@ -3,13 +3,13 @@ use mathlib.Core.Path.{_≡_}
 use mathlib.Core.Bool.{Bool}
 use mathlib.Core.List.{List, [], _∷_, _++_, map}
 use mathlib.Core.Option.{Option, none, some}
-use Prim.Native.Nat.{ℕ, _+_}
+use Prim.Native.Nat.{ℕ, zero, suc, _+_, _*_}
 use lib.IntN.{ℤ, pos}
-use lib.ListN.{length, drop, set, replicate}
+use lib.ListN.{length, drop, replicate}
 use Rattle.semantics.specs.Bytes.{Read, Reader, broken, read}
 use Rattle.semantics.specs.Refusals.{Judged, refused, accepted, refusalOf}
-use Rattle.semantics.specs.Sections.{Rate, Mode, Selector, Equation, steady, choice, readMode, equationsIn}
-use Rattle.semantics.specs.Plant.{selectorsOf, noMode, ratesOf, judgeNamed, judgeEquations}
+use Rattle.semantics.specs.Sections.{Rate, Mode, Selector, Equation, steady, choice, variableLimit, equationLimit, modeLimit, readMode, equationsIn}
+use Rattle.semantics.specs.Plant.{selectorsOf, noMode, ratesOf, rateAmong, judgeNamed, judgeEquations}
 use Rattle.semantics.specs.Writing.{writeMode, writeEquation}
 use Rattle.codec.specs.Reading.{Reads}
 use Rattle.codec.specs.Padding.{pad}
@@ -31,30 +31,39 @@ startsFrom write p (x ∷ l) = p ∷ startsFrom write (p + length (write x)) l
 unfoldable pub modePlaces : ℕ → List Equation → List ℕ
 modePlaces p [] = []
 modePlaces p (steady r ∷ es) = modePlaces (p + length (writeEquation (steady r))) es
-modePlaces p (choice c ∷ es) = pad 8 0 (startsFrom writeMode (p + 5) (c .modes)) ++ modePlaces (p + length (writeEquation (choice c))) es
+modePlaces p (choice c ∷ es) = pad modeLimit 0 (startsFrom writeMode (p + 5) (c .modes)) ++ modePlaces (p + length (writeEquation (choice c))) es
 
 -- how many modes a CASE has
 unfoldable pub modeCount : Selector → ℕ
 modeCount c = length (c .modes)
 
 -- ---- rates
--- the rate of each variable, where these rates are put in: of two of one variable the first stays
-unfoldable pub putRates : List Rate → List ℤ → List ℤ
-putRates [] l = l
-putRates (r ∷ rs) l = set (putRates rs l) (r .driven) (r .rate)
+-- of each of the n variables from v on
+unfoldable pub ratesFrom : List Rate → ℕ → ℕ → List ℤ
+ratesFrom rs v zero = []
+ratesFrom rs v (suc n) = rateAmong rs v ∷ ratesFrom rs (suc v) n
+
+-- those of kind 1, in an array of 32: in force where no CASE has a mode
+abbrev pub steadyRates : List Equation → List ℤ
+steadyRates es = ratesFrom (ratesOf es []) 0 variableLimit
 
 -- ---- the answer
 unfoldable pub refusedEquations : ℕ → Equations
-refusedEquations n = record { refusal = n; selectors = 0; modes = replicate 16 0; «mode_offsets» = replicate 128 0; steady = replicate 32 (pos 0) }
+refusedEquations n = record {
+  refusal = n;
+  selectors = 0;
+  modes = replicate equationLimit 0;
+  «mode_offsets» = replicate (equationLimit * modeLimit) 0;
+  steady = replicate variableLimit (pos 0);
+}
 
 unfoldable pub acceptedEquations : List Equation → Equations
 acceptedEquations es = record {
   refusal = 0;
   selectors = length (selectorsOf es);
-  modes = pad 16 0 (map modeCount (selectorsOf es));
-  «mode_offsets» = pad 128 0 (modePlaces 1 es);
-  -- the rates of kind 1: those in force where no CASE has a mode
-  steady = putRates (ratesOf es []) (replicate 32 (pos 0));
+  modes = pad equationLimit 0 (map modeCount (selectorsOf es));
+  «mode_offsets» = pad (equationLimit * modeLimit) 0 (modePlaces 1 es);
+  steady = steadyRates es;
 }
 
 unfoldable pub answerTo : Judged (List Equation) → Equations
@@ -85,8 +94,8 @@ pub record SectionStands (s : List ℕ) : Type 0 where
 -- what the code notes of the CASEs
 pub record CasesOf (es : List Equation) (r : Cases) : Type 0 where
   pub count : r .count ≡ length (selectorsOf es)
-  pub modes : r .modes ≡ pad 16 0 (map modeCount (selectorsOf es))
-  pub «mode_offsets» : r .«mode_offsets» ≡ pad 128 0 (modePlaces 1 es)
+  pub modes : r .modes ≡ pad equationLimit 0 (map modeCount (selectorsOf es))
+  pub «mode_offsets» : r .«mode_offsets» ≡ pad (equationLimit * modeLimit) 0 (modePlaces 1 es)
 
 -- ---- the answers of the code's own readers
 -- a reader's answer as Reading has it

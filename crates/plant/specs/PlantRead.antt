@@ -1,11 +1,11 @@
 -- Conditions 4 to 8: the two sections as the code answers them.
 use mathlib.Core.List.{List}
-use Prim.Native.Nat.{ℕ}
+use Prim.Native.Nat.{ℕ, _*_}
 use lib.IntN.{pos}
 use lib.ListN.{length, replicate}
 use Rattle.semantics.specs.Editions.{edition1}
 use Rattle.semantics.specs.Refusals.{Judged, refused, accepted}
-use Rattle.semantics.specs.Sections.{Variable}
+use Rattle.semantics.specs.Sections.{Variable, variableLimit, equationLimit, modeLimit}
 use Rattle.semantics.specs.Plant.{Plant, selectors, judgePlant}
 use Rattle.plant.specs.Variables.{column}
 use Rattle.plant.specs.Equations.{acceptedEquations}
@@ -15,12 +15,12 @@ unfoldable pub refusedPlant : ℕ → PlantRead
 refusedPlant n = record {
   refusal = n;
   variables = 0;
-  lows = replicate 32 (pos 0);
-  highs = replicate 32 (pos 0);
+  lows = replicate variableLimit (pos 0);
+  highs = replicate variableLimit (pos 0);
   selectors = 0;
-  modes = replicate 16 0;
-  «mode_offsets» = replicate 128 0;
-  steady = replicate 32 (pos 0);
+  modes = replicate equationLimit 0;
+  «mode_offsets» = replicate (equationLimit * modeLimit) 0;
+  steady = replicate variableLimit (pos 0);
 }
 
 -- the variables' ranges, and of the equations what Equations has

@@ -1,20 +1,20 @@
 -- Conditions 4 and 5: the variable section as the code answers it.
 use mathlib.Core.Path.{_≡_}
 use mathlib.Core.List.{List, [], map}
-use mathlib.Core.Option.{none}
-use Prim.Native.Nat.{ℕ, _+_, _*_, _≤_}
-use lib.ListN.{length, getD}
+use mathlib.Core.Option.{none, some}
+use Prim.Native.Nat.{ℕ, _≤_}
+use lib.ListN.{length}
 use lib.IntN.{ℤ, pos}
 use Rattle.semantics.specs.Editions.{edition1}
 use Rattle.semantics.specs.Refusals.{Judged, refused, accepted}
-use Rattle.semantics.specs.Sections.{Variable, variablesIn}
+use Rattle.semantics.specs.Sections.{Variable, variableLimit, variablesIn}
 use Rattle.semantics.specs.Plant.{judgeVariables}
 use Rattle.codec.specs.Padding.{pad}
 use Rattle.plant.specs.declared.variables.Variables.{Variables}
 
 -- one number of each variable, in an array of 32
 unfoldable pub column : (Variable → ℤ) → List Variable → List ℤ
-column f vs = pad 32 (pos 0) (map f vs)
+column f vs = pad variableLimit (pos 0) (map f vs)
 
 -- the variables, with this refusal
 unfoldable pub answer : ℕ → List Variable → Variables
@@ -39,13 +39,12 @@ unfoldable pub variablesOf : List ℕ → Variables
 variablesOf s = variablesAnswer (judgeVariables edition1 s)
 
 -- ---- for the parts of the code
--- the section has the bytes of n variables
-pub record Sized (s : List ℕ) (n : ℕ) : Type 0 where
-  pub first : getD s 0 0 ≡ n
-  pub low : 1 ≤ n
-  pub high : n ≤ 32
-  pub size : length s ≡ 1 + 12 * n
+-- the section holds n variables
+pub record VariablesStand (s : List ℕ) (n : ℕ) : Type 0 where
+  pub variables : List Variable
+  pub read : variablesIn edition1 s ≡ some variables
+  pub count : length variables ≡ n
 
 pub record Counted (s : List ℕ) (n : ℕ) : Type 0 where
   pub wrong : n ≡ 0 → variablesIn edition1 s ≡ none
-  pub right : 1 ≤ n → Sized s n
+  pub right : 1 ≤ n → VariablesStand s n

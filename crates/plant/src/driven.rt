@@ -1,13 +1,14 @@
 // The equation section once more, after 6 and 7: no variable in two equations or twice in one mode (8).
 use crate::places::past;
 ghost use mathlib.Core.Path.{_≡_};
-ghost use mathlib.Core.List.{List, [], flatMap};
+ghost use mathlib.Core.List.{List, [], _++_, flatMap};
 ghost use mathlib.Core.Option.{some};
+ghost use Prim.Native.Nat.{ℕ};
 ghost use lib.ListN.{length};
 ghost use Rattle.semantics.specs.Bytes.{times};
-ghost use Rattle.semantics.specs.Sections.{Equation, readRate, readMode, equationIn, equationsIn};
-ghost use Rattle.semantics.specs.Plant.{drives, drivenOnce, ratesDrive, modeDrives};
-ghost use Rattle.plant.specs.Driven.{Named, Held, Few, ratesTest, modesTest, equationTest, Tried, TriedAt};
+ghost use Rattle.semantics.specs.Sections.{Equation, variableLimit, readRate, readMode, equationIn, equationsIn};
+ghost use Rattle.semantics.specs.Plant.{drives, equationOnce, drivenOnce, ratesDrive, modeDrives};
+ghost use Rattle.plant.specs.Driven.{Named, Held, Few, Marks, ratesOnce, modesApart, Tried, TriedAt};
 
 // n rates from a place on: none of a variable marked before, no variable twice; their variables are marked
 fn rates(
@@ -17,8 +18,8 @@ fn rates(
     before: &[bool; paper::VARIABLES],
     seen: &mut [bool; paper::VARIABLES],
 ) -> bool
-    requires { ⌜ Held (times n readRate) ratesDrive (now s) at × (length (now seen) ≡ 32) ⌝ }
-    ensures { λ r. ⌜ TriedAt (times n readRate) (ratesTest (now (before .entry))) ratesDrive (now (s .entry)) at (now (seen .entry)) r (now (seen .exit)) ⌝ }
+    requires { ⌜ Held (times n readRate) ratesDrive (now s) at × (length (now seen) ≡ variableLimit) ⌝ }
+    ensures { λ r. ⌜ TriedAt (times n readRate) ratesOnce ratesDrive (now (s .entry)) at (now (before .entry)) (now (seen .entry)) r (now (seen .exit)) ⌝ }
 {
     let mut mine = [false; paper::VARIABLES];
     let mut p = at;
@@ -47,8 +48,8 @@ fn modes(
     before: &[bool; paper::VARIABLES],
     seen: &mut [bool; paper::VARIABLES],
 ) -> bool
-    requires { ⌜ Held (times n readMode) (flatMap modeDrives) (now s) at × (length (now seen) ≡ 32) ⌝ }
-    ensures { λ r. ⌜ TriedAt (times n readMode) (modesTest (now (before .entry))) (flatMap modeDrives) (now (s .entry)) at (now (seen .entry)) r (now (seen .exit)) ⌝ }
+    requires { ⌜ Held (times n readMode) (flatMap modeDrives) (now s) at × (length (now seen) ≡ variableLimit) ⌝ }
+    ensures { λ r. ⌜ TriedAt (times n readMode) modesApart (flatMap modeDrives) (now (s .entry)) at (now (before .entry)) (now (seen .entry)) r (now (seen .exit)) ⌝ }
 {
     let mut p = at;
     let mut i = 0;
@@ -66,8 +67,9 @@ fn modes(
 
 // an equation's bytes: the variables marked so far are those of the equations before it
 fn equation(s: &[u8], seen: &mut [bool; paper::VARIABLES]) -> bool
-    requires { ⌜ Few (equationIn (now s)) drives × (length (now seen) ≡ 32) ⌝ }
-    ensures { λ r. ⌜ ((q : Equation) → equationIn (now (s .entry)) ≡ some q → Tried (equationTest (now (seen .entry)) q) (now (seen .entry)) (drives q) r (now (seen .exit))) ⌝ }
+    requires { ⌜ Few (equationIn (now s)) drives × (length (now seen) ≡ variableLimit) ⌝ }
+    ensures { λ r. ⌜ ((q : Equation) → equationIn (now (s .entry)) ≡ some q → (before : List ℕ) → Marks before (now (seen .entry))
+        → Tried (equationOnce before q) (drives q ++ before) r (now (seen .exit))) ⌝ }
 {
     let before = *seen;
     if s[0] == 1 {

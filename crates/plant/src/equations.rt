@@ -1,17 +1,16 @@
 // The equation section: its layout (6), its names (7), and where its modes stand.
 ghost use mathlib.Core.Path.{_≡_};
 ghost use mathlib.Core.Bool.{true, _&&_};
-ghost use mathlib.Core.List.{_∷_, [], flatMap};
-ghost use Prim.Native.Nat.{_+_, _≤_, _<_};
-ghost use lib.ListN.{length, set, replicate};
+ghost use mathlib.Core.List.{List, _∷_, flatMap};
+ghost use Prim.Native.Nat.{_+_, _*_, _≤_, _<_};
+ghost use lib.ListN.{length, set};
 ghost use lib.Seq.{sets};
-ghost use lib.IntN.{pos};
 ghost use Rattle.semantics.specs.Bytes.{times, every};
 ghost use Rattle.semantics.specs.Refusals.{refusalOf};
 ghost use Rattle.semantics.specs.Sections as sections;
 ghost use Rattle.semantics.specs.Writing.{writeSwitch, writeMode};
 ghost use Rattle.semantics.specs.Plant as names;
-ghost use Rattle.plant.specs.Equations.{StepSays, SeenSays, Stands, SectionStands, startsFrom, putRates, CasesOf, equationsOf, refusedEquations};
+ghost use Rattle.plant.specs.Equations.{StepSays, SeenSays, Stands, SectionStands, startsFrom, steadyRates, CasesOf, equationsOf, refusedEquations};
 
 // The most modes of a CASE and the most equations, as their counts' bytes.
 const MODES: u8 = paper::MODES as u8;
@@ -321,7 +320,7 @@ fn mode_end(s: &[u8], at: usize) -> usize
 
 // the places of n modes, noted from entry `from` on
 fn mode_places(s: &[u8], at: usize, n: u8, from: usize, places: &mut [usize; paper::MODE_PLACES])
-    requires { ⌜ (from + n ≤ 128) × Stands (times n sections.readMode) (now s) at ⌝ }
+    requires { ⌜ (from + n ≤ sections.equationLimit * sections.modeLimit) × Stands (times n sections.readMode) (now s) at ⌝ }
     ensures { λ _. ⌜ ((t : Stands (times n sections.readMode) (now (s .entry)) at) → now (places .exit) ≡ sets (now (places .entry)) from (startsFrom writeMode at (t .value))) ⌝ }
 {
     let mut p = at;
@@ -372,10 +371,10 @@ fn put_rate(rates: &mut [i32], v: usize, z: i32)
     }
 }
 
-// the rates with that of an equation of kind 1 put in
+// the rates of some equations, and with them that of an equation of kind 1 in front
 fn with_steady(s: &[u8], at: usize, rates: [i32; paper::VARIABLES]) -> [i32; paper::VARIABLES]
     requires { ⌜ Stands sections.readEquationBody (now s) at ⌝ }
-    ensures { λ r. ⌜ ((t : Stands sections.readEquationBody (now (s .entry)) at) → r ≡ putRates (names.ratesOf (t .value ∷ []) []) rates) ⌝ }
+    ensures { λ r. ⌜ ((t : Stands sections.readEquationBody (now (s .entry)) at) (es : List sections.Equation) → rates ≡ steadyRates es → r ≡ steadyRates (t .value ∷ es)) ⌝ }
 {
     if s[at] != 1 {
         return rates;
@@ -388,7 +387,7 @@ fn with_steady(s: &[u8], at: usize, rates: [i32; paper::VARIABLES]) -> [i32; pap
 // the rates of the equations of kind 1 among n; of two for one variable the first stays
 fn steady_rates(s: &[u8], at: usize, n: u8) -> [i32; paper::VARIABLES]
     requires { ⌜ Stands (times n sections.readEquation) (now s) at ⌝ }
-    ensures { λ r. ⌜ ((t : Stands (times n sections.readEquation) (now (s .entry)) at) → r ≡ putRates (names.ratesOf (t .value) []) (replicate 32 (pos 0))) ⌝ }
+    ensures { λ r. ⌜ ((t : Stands (times n sections.readEquation) (now (s .entry)) at) → r ≡ steadyRates (t .value)) ⌝ }
 {
     if n == 0 {
         return [0i32; paper::VARIABLES];

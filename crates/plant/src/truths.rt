@@ -7,13 +7,13 @@ ghost use Prim.Native.Nat.{ℕ, _≤_};
 ghost use lib.ListN.{drop};
 ghost use Rattle.semantics.specs.Bytes.{every, read, times};
 ghost use Rattle.semantics.specs.Editions.{edition1};
-ghost use Rattle.semantics.specs.Sections.{Switch, Mode, Equation, readSwitch, readMode, equationIn, equationsIn};
+ghost use Rattle.semantics.specs.Sections.{Switch, Mode, Equation, variableLimit, readSwitch, readMode, equationIn, equationsIn};
 ghost use Rattle.semantics.specs.Plant.{switchReads, modeReads, equationReads, equationsRead};
 ghost use Rattle.plant.specs.Sound.{Sound, There};
 
 // k switches from a place on
 fn switches(s: &[u8], at: usize, k: usize, variables: usize) -> bool
-    requires { ⌜ Sound (times k readSwitch) (now s) at × (variables ≤ 32) ⌝ }
+    requires { ⌜ Sound (times k readSwitch) (now s) at × (variables ≤ variableLimit) ⌝ }
     ensures { λ r. ⌜ ((ss : List Switch) (e : List ℕ) → times k readSwitch (drop at (now (s .entry))) ≡ read ss e → r ≡ every (switchReads edition1 variables) ss) ⌝ }
 {
     let mut p = at;
@@ -32,7 +32,7 @@ fn switches(s: &[u8], at: usize, k: usize, variables: usize) -> bool
 
 // n modes of a CASE
 fn modes(s: &[u8], at: usize, n: usize, variables: usize) -> bool
-    requires { ⌜ Sound (times n readMode) (now s) at × (variables ≤ 32) ⌝ }
+    requires { ⌜ Sound (times n readMode) (now s) at × (variables ≤ variableLimit) ⌝ }
     ensures { λ r. ⌜ ((ms : List Mode) (e : List ℕ) → times n readMode (drop at (now (s .entry))) ≡ read ms e → r ≡ every (modeReads edition1 variables) ms) ⌝ }
 {
     let mut p = at;
@@ -51,7 +51,7 @@ fn modes(s: &[u8], at: usize, n: usize, variables: usize) -> bool
 
 // an equation's bytes
 fn equation(s: &[u8], variables: usize) -> bool
-    requires { ⌜ There (equationIn (now s)) × (variables ≤ 32) ⌝ }
+    requires { ⌜ There (equationIn (now s)) × (variables ≤ variableLimit) ⌝ }
     ensures { λ r. ⌜ ((q : Equation) → equationIn (now (s .entry)) ≡ some q → r ≡ equationReads edition1 variables q) ⌝ }
 {
     if s[0] == 1 {
@@ -62,7 +62,7 @@ fn equation(s: &[u8], variables: usize) -> bool
 
 // 12, of the switches of a section that 6 lets pass
 pub fn read(s: &[u8], variables: usize) -> bool
-    requires { ⌜ There (equationsIn (now s)) × (variables ≤ 32) ⌝ }
+    requires { ⌜ There (equationsIn (now s)) × (variables ≤ variableLimit) ⌝ }
     ensures { λ r. ⌜ ((es : List Equation) → equationsIn (now (s .entry)) ≡ some es → r ≡ equationsRead edition1 variables es) ⌝ }
 {
     let n = s[0] as usize;

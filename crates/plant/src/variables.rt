@@ -1,6 +1,6 @@
 // The variable section: its layout (4) and the order of each variable's values (5).
 ghost use mathlib.Core.Path.{_≡_};
-ghost use Rattle.plant.specs.Variables.{refusedBy, variablesOf, Sized, Counted};
+ghost use Rattle.plant.specs.Variables.{refusedBy, variablesOf, VariablesStand, Counted};
 
 pub struct Variables {
     pub refusal: u8,
@@ -41,7 +41,7 @@ fn counted(s: &[u8]) -> usize
 
 // n variables, from place 1 on
 fn values(s: &[u8], n: usize) -> Variables
-    requires { ⌜ Sized (now s) n ⌝ }
+    requires { ⌜ VariablesStand (now s) n ⌝ }
     ensures { λ r. ⌜ r ≡ variablesOf (now (s .entry)) ⌝ }
 {
     let mut lows = [0i32; paper::VARIABLES];

@@ -36,6 +36,9 @@ unfoldable pub equationNamed : ℕ → Equation → Bool
 equationNamed variables (steady r) = rateNamed variables r
 equationNamed variables (choice c) = ltb (c .initial) (length (c .modes)) && every (modeNamed variables (length (c .modes))) (c .modes)
 
+abbrev pub equationsNamed : ℕ → List Equation → Bool
+equationsNamed variables es = every (equationNamed variables) es
+
 -- 8: "A variable is in two equations or twice in one mode." Several modes of one CASE may name it.
 unfoldable pub among : ℕ → List ℕ → Bool
 among n [] = false
@@ -67,9 +70,13 @@ unfoldable pub modesOnce : Equation → Bool
 modesOnce (steady r) = true
 modesOnce (choice c) = every modeOnce (c .modes)
 
+-- of an equation, where those before it drive these variables
+abbrev pub equationOnce : List ℕ → Equation → Bool
+equationOnce seen e = modesOnce e && apart seen (drives e)
+
 unfoldable pub drivenOnce : List ℕ → List Equation → Bool
 drivenOnce seen [] = true
-drivenOnce seen (e ∷ es) = modesOnce e && apart seen (drives e) && drivenOnce (drives e ++ seen) es
+drivenOnce seen (e ∷ es) = equationOnce seen e && drivenOnce (drives e ++ seen) es
 
 -- 12, of the switches
 unfoldable pub switchReads : Edition → ℕ → Switch → Bool
@@ -104,7 +111,7 @@ judgeNamed named part = do
 
 -- 6 and 7 of the section, in a plant with so many variables
 unfoldable pub judgeEquations : ℕ → List ℕ → Judged (List Equation)
-judgeEquations variables section = judgeNamed (every (equationNamed variables)) (equationsIn section)
+judgeEquations variables section = judgeNamed (equationsNamed variables) (equationsIn section)
 
 -- 4 to 8 of the two sections
 unfoldable pub judgePlant : Edition → List ℕ → List ℕ → Judged Plant

@@ -3,7 +3,7 @@ use mathlib.Core.Path.{sym, ap, _∙_}
 use native.Mathlib.Omega.{arith}
 use borrow.Author.Tests.{not-true, not-false}
 use Rattle.effects.specs.Verdicts.{stepVerdict}
-use Rattle.modes.proofs.Standing.{parts}
+use Rattle.modes.proofs.Standing.{parts, switch-bytes}
 use Rattle.modes.specs.Modes.{modeAt}
 use Rattle.modes.proofs.Walks.{Walking, walk-start, walk-here, walk-stops, walk-next, walk-end, check-one}
 use borrow.Author.Needs.{needs}
@@ -41,16 +41,16 @@ returns : tie.Need-returns Inv-loop μ-loop
 returns c = let l = c .before .before .before in walk-stops (l .before .loop .inv) (l .loop-test .taken) (c .before .before .truth .ensures) (sym (c .before .goes-on .ensures) ∙ not-true _ (c .if1 .taken)) ∙ ap stepVerdict (check-one _ _)
 
 add-p-2 : tie.Need-add-p-2 Inv-loop μ-loop
-add-p-2 c = let x = walk-here (c .before .before .before .before .loop .inv) (c .before .before .before .loop-test .taken) .stands in omega (arith, x .long, x .inside)
+add-p-2 c = let x = switch-bytes (walk-here (c .before .before .before .before .loop .inv) (c .before .before .before .loop-test .taken) .stands) in omega (arith, x .long, x .inside)
 
 shared-slice-read-p : tie.Need-shared-slice-read-p Inv-loop μ-loop
-shared-slice-read-p c = let x = walk-here (c .before .before .before .before .before .loop .inv) (c .before .before .before .before .loop-test .taken) .stands in omega (arith, x .long, x .inside)
+shared-slice-read-p c = let x = switch-bytes (walk-here (c .before .before .before .before .before .loop .inv) (c .before .before .before .before .loop-test .taken) .stands) in omega (arith, x .long, x .inside)
 
 cast-p : tie.Need-cast-p Inv-loop μ-loop
 cast-p c = omega (arith, c .shared-slice-known3 .given (c .before .before .before .before .before .loop .p))
 
 add-p-3 : tie.Need-add-p-3 Inv-loop μ-loop
-add-p-3 c = let x = walk-here (c .before .before .before .before .before .loop .inv) (c .before .before .before .before .loop-test .taken) .stands in omega (arith, x .long, x .inside)
+add-p-3 c = let x = switch-bytes (walk-here (c .before .before .before .before .before .loop .inv) (c .before .before .before .before .loop-test .taken) .stands) in omega (arith, x .long, x .inside)
 
 sub-left : tie.Need-sub-left Inv-loop μ-loop
 sub-left c = omega arith

@@ -1,7 +1,7 @@
 -- The switches before it are passed over one by one (`Seeking`).
 use native.Mathlib.Omega.{arith}
 use Rattle.modes.specs.Modes.{modeAt}
-use Rattle.modes.proofs.Standing.{parts}
+use Rattle.modes.proofs.Standing.{parts, switch-bytes}
 use Rattle.modes.proofs.Walks.{Seeking, seek-start, seek-here, seek-next, seek-end}
 use Rattle.modes.proofs.switch_at.Statement.{statement}
 use Rattle.modes.proofs.switch_at.Tie as tie
@@ -19,16 +19,16 @@ loop-holds : tie.Need-loop-holds Inv-loop μ-loop
 loop-holds c = seek-start (c .pre .0) _ _ (c .pre .1) (c .pre .2)
 
 add-p-2 : tie.Need-add-p-2 Inv-loop μ-loop
-add-p-2 c = let x = seek-here (c .before .loop .inv) .stands in omega (arith, x .long, x .inside)
+add-p-2 c = let x = switch-bytes (seek-here (c .before .loop .inv) .stands) in omega (arith, x .long, x .inside)
 
 shared-slice-read-p : tie.Need-shared-slice-read-p Inv-loop μ-loop
-shared-slice-read-p c = let x = seek-here (c .before .before .loop .inv) .stands in omega (arith, x .long, x .inside)
+shared-slice-read-p c = let x = switch-bytes (seek-here (c .before .before .loop .inv) .stands) in omega (arith, x .long, x .inside)
 
 cast-p : tie.Need-cast-p Inv-loop μ-loop
 cast-p c = omega (arith, c .shared-slice-known .given (c .before .before .loop .p))
 
 add-p-3 : tie.Need-add-p-3 Inv-loop μ-loop
-add-p-3 c = let x = seek-here (c .before .before .loop .inv) .stands in omega (arith, x .long, x .inside)
+add-p-3 c = let x = switch-bytes (seek-here (c .before .before .loop .inv) .stands) in omega (arith, x .long, x .inside)
 
 sub-left : tie.Need-sub-left Inv-loop μ-loop
 sub-left c = omega arith

@@ -6,7 +6,7 @@ use native.Mathlib.Omega.{arith}
 use lib.ListN.{getElem?}
 use Rattle.semantics.specs.Sections.{Switch}
 use Rattle.modes.specs.Modes.{modeAt, Stands, SwitchAt, modesFrom}
-use Rattle.modes.proofs.Standing.{parts}
+use Rattle.modes.proofs.Standing.{parts, switch-bytes}
 use Rattle.modes.proofs.Walks.{stands-at}
 use Rattle.modes.proofs.Taking.{switch-there, no-switch, mode-now, no-mode, no-selector-left, no-switch-left, not-taken-left, taken-left}
 use borrow.Author.Needs.{needs}
@@ -61,10 +61,10 @@ goes-on-requires : tie.Need-goes-on-requires
 goes-on-requires c κs = search needs
 
 add-modes : tie.Need-add-modes
-add-modes c = let x = here (c .before .before .before) in omega (arith, x .long, x .inside)
+add-modes c = let x = switch-bytes (here (c .before .before .before)) in omega (arith, x .long, x .inside)
 
 shared-slice-read-modes : tie.Need-shared-slice-read-modes
-shared-slice-read-modes c = let x = here (c .before .before .before .before) in omega (arith, x .long, x .inside)
+shared-slice-read-modes c = let x = switch-bytes (here (c .before .before .before .before)) in omega (arith, x .long, x .inside)
 
 slice-write-modes : tie.Need-slice-write-modes
 slice-write-modes c = search needs
@@ -75,7 +75,7 @@ same-length-2 c = search needs
 returns-3 : tie.Need-returns-3
 returns-3 c = let q = c .before .before .before .before in
     let w = there q in
-    record { leaves = taken-left _ _ _ _ _ _ (current (q .before .before .before .before)) (w .0) (w .1) _ (c .before .before .before .truth .ensures .answer (w .0) (here q)) (sym (c .before .before .goes-on .ensures) ∙ c .before .if3 .taken) (sym (here q .target)) }
+    record { leaves = taken-left _ _ _ _ _ _ (current (q .before .before .before .before)) (w .0) (w .1) _ (c .before .before .before .truth .ensures .answer (w .0) (here q)) (sym (c .before .before .goes-on .ensures) ∙ c .before .if3 .taken) (sym (switch-bytes (here q) .target)) }
 
 same-length-3 : tie.Need-same-length-3
 same-length-3 c = search needs

@@ -41,7 +41,7 @@ part-equation-end : tie.Need-part-equation-end Inv-loop μ-loop
 part-equation-end c = slice-inside (c .before .before .loop .inv .1) (omega arith) (c .nat2 .ensures)
 
 equation-requires : tie.Need-equation-requires Inv-loop μ-loop
-equation-requires c κs = let g = c .before .before .before .before .loop .inv .1 in (next-few g (omega arith) (c .before .before .nat2 .ensures), g .stands .sized)
+equation-requires c κs = let g = c .before .before .before .before .loop .inv .1 in (next-few g (omega arith) (c .before .before .nat2 .ensures), g .sized)
 
 returns : tie.Need-returns Inv-loop μ-loop
 returns c = once-false (c .before .before .before .before .before .before .loop .inv .1) (omega arith) (c .before .before .before .before .nat2 .ensures) (c .before .equation .ensures) (not-true _ (c .if1 .taken))

@@ -13,7 +13,7 @@ shared-slice-read-if1 : tie.Need-shared-slice-read-if1
 shared-slice-read-if1 c = kind-fits (c .before .before .args .s .now) (c .before .before .args .at) (c .before .before .pre)
 
 returns : tie.Need-returns
-returns c = λ t. with-none _ _ t _ (c .if1 .taken)
+returns c = λ t es h. with-none _ _ t es h (c .if1 .taken)
 
 slice-aggregate-put-rate : tie.Need-slice-aggregate-put-rate
 slice-aggregate-put-rate c = search needs
@@ -37,7 +37,7 @@ put-rate-requires : tie.Need-put-rate-requires
 put-rate-requires c κs = search needs
 
 returns-2 : tie.Need-returns-2
-returns-2 c = λ t. c .before .put-rate .ensures ∙ with-one _ _ t _ (c .before .before .before .before .before .if1 .left) (toZ-ofZ w32 (c .before .before .int4 .result) (record { sfits = c .before .before .int4 .ok }) ∙ c .before .before .int4 .ensures)
+returns-2 c = λ t es h. c .before .put-rate .ensures ∙ with-one _ _ t es h (c .before .before .before .before .before .if1 .left) (toZ-ofZ w32 (c .before .before .int4 .result) (record { sfits = c .before .before .int4 .ok }) ∙ c .before .before .int4 .ensures)
 
 pub with-steady-spec : {M : Type 1} → statement M
 with-steady-spec =
