@@ -114,8 +114,8 @@ pub fn record_length(variables: usize, selectors: usize) -> usize
 
 // The eight bytes of a set of nodes below 64, at a place; the next place.
 fn put_set(d: &mut [u8], i: usize, acting: NodeSet) -> usize
-    requires { ⌜ (i + 8 ≤ length (now d)) × ((n : ℕ) → mem (acting .words) n ≡ true → n < 64) ⌝ }
-    ensures { λ r. ⌜ (r ≡ i + 8) × Wrote (now (d .entry)) i (bigEndian 8 (setNumber (members (acting .words)))) (now (d .exit)) ⌝ }
+    requires { ⌜ (i + edition1 .set-bytes ≤ length (now d)) × ((n : ℕ) → mem (acting .words) n ≡ true → n < 64) ⌝ }
+    ensures { λ r. ⌜ (r ≡ i + edition1 .set-bytes) × Wrote (now (d .entry)) i (bigEndian (edition1 .set-bytes) (setNumber (members (acting .words)))) (now (d .exit)) ⌝ }
 {
     let ws = acting.words;
     let w = ws[0] as usize;
