@@ -7,6 +7,7 @@ ghost use Prim.Native.Nat.{ℕ, _+_, _*_, _^_, _≤_, _<_};
 ghost use lib.ListN.{length};
 ghost use Rattle.semantics.specs.Bytes.{within, bigEndian};
 ghost use Rattle.semantics.specs.Editions.{edition1};
+ghost use Rattle.semantics.specs.Sections.{variableLimit, equationLimit};
 ghost use Rattle.semantics.specs.Refusals.{refused};
 ghost use Rattle.semantics.specs.Run.{setNumber, valueBytes, recordBytes, howMany, countsOf, noCounts};
 ghost use Rattle.semantics.specs.Calls.{recordLength, report};
@@ -106,7 +107,7 @@ const FRONT_BYTES: usize = 1 + paper::SET_BYTES;
 
 // The bytes of a record, of so many variables and selectors.
 pub fn record_length(variables: usize, selectors: usize) -> usize
-    requires { ⌜ (variables ≤ 32) × (selectors ≤ 16) ⌝ }
+    requires { ⌜ (variables ≤ variableLimit) × (selectors ≤ equationLimit) ⌝ }
     ensures { λ r. ⌜ r ≡ recordLength edition1 variables selectors ⌝ }
 {
     FRONT_BYTES + 4 * variables + selectors
