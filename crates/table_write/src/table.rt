@@ -3,12 +3,14 @@ use super::actions;
 use numbering::locations;
 use numbering::spot;
 use numbering::spot::Spot;
+ghost use mathlib.Core.List.{_++_, []};
 ghost use Prim.Native.Nat.{_+_, _≤_, _<_};
 ghost use lib.ListN.{length};
-ghost use Rattle.semantics.specs.TableFile.{inSection2};
-ghost use Rattle.table_write.specs.ActionTable.{actionSection, Operands, Measured};
+ghost use Rattle.semantics.specs.Editions.{edition1};
+ghost use Rattle.semantics.specs.TableFile.{inSection2, copiedThen, actionSection, writeActions, tableHead};
+ghost use Rattle.table_write.specs.ActionTable.{actionsTo, Operands, Measured};
 ghost use Rattle.table_write.specs.LocationTable.{Counted, LocationsPut};
-ghost use Rattle.table_write.specs.Pieces.{Put, front};
+ghost use Rattle.table_write.specs.Pieces.{Put};
 
 // a section with its length, at a place; the next place
 fn put_section(d: &mut [u8], i: usize, s: &[u8]) -> usize
@@ -23,7 +25,7 @@ fn put_section(d: &mut [u8], i: usize, s: &[u8]) -> usize
 pub fn put_front<'a>(vs: &'a [u8], es: &'a [u8], table: &mut [u8], whole: usize) -> usize
     requires short { ⌜ (length (now vs) < 65536) × (length (now es) < 65536) × (whole < 4294967296) ⌝ }
     requires room { ⌜ length (now vs) + length (now es) + 9 ≤ length (now table) ⌝ }
-    ensures { λ r. ⌜ Put (now (table .entry)) 0 (front whole (now (vs .entry)) (now (es .entry))) (now (table .exit)) r ⌝ }
+    ensures { λ r. ⌜ Put (now (table .entry)) 0 (tableHead edition1 whole ++ copiedThen (now (vs .entry)) (now (es .entry)) []) (now (table .exit)) r ⌝ }
 {
     let i = codec::put1(table, 0, paper::VERSION);
     let j = codec::put4(table, i, whole);
@@ -44,7 +46,8 @@ pub fn put_actions<'a>(
 ) -> usize
     requires in_index { ⌜ Operands (now s) (now acts) (now starts) (now ends) count × Measured (now acts) (now starts) (now ends) count (list .count) (list .at) ⌝ }
     requires room { ⌜ i + list .at + 3 ≤ length (now table) ⌝ }
-    ensures { λ r. ⌜ Put (now (table .entry)) i (actionSection (now (s .entry)) (now (acts .entry)) (now (starts .entry)) (now (ends .entry)) count) (now (table .exit)) r ⌝ }
+    ensures { λ r. ⌜ Put (now (table .entry)) i
+        (actionSection (writeActions edition1 (actionsTo (now (s .entry)) (now (acts .entry)) (now (starts .entry)) (now (ends .entry)) count))) (now (table .exit)) r ⌝ }
 {
     let j = codec::put2(table, i, list.at + 1);
     let l = codec::put1(table, j, spot::byte(list.count));

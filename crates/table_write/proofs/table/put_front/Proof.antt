@@ -1,8 +1,10 @@
 -- Version, length and the two sections that are copied: four pieces.
 use native.Mathlib.Omega.{arith}
 use Rattle.semantics.specs.Bytes.{out4}
+use Rattle.semantics.specs.Editions.{edition1}
+use Rattle.semantics.specs.TableFile.{inSection2, tableHead}
 use Rattle.semantics.proofs.WrittenTables.{section2-length}
-use Rattle.table_write.proofs.TableBytes.{put-then}
+use Rattle.table_write.proofs.TableBytes.{front-joined, put-then, put-as}
 use borrow.Author.Needs.{needs}
 use Rattle.table_write.proofs.table.put_front.Statement.{statement}
 use Rattle.table_write.proofs.table.put_front.Tie as tie
@@ -22,7 +24,9 @@ returns c =
     let p = c14 .put1 .ensures in
     let q = c10 .put4 .ensures in
     let h = put-then (record { ends = p .0; writes = p .1 }) (record { ends = q .0; writes = q .1 }) (omega arith) in
-    put-then (put-then h (c .before .before .before .before .before .before .put-section .ensures) (omega arith)) (c .before .before .put-section2 .ensures) (omega arith)
+    let a = c14 .before .before .before .before .before .args in
+    put-as (front-joined (tableHead edition1 (a .whole)) (inSection2 (a .vs .now)) (inSection2 (a .es .now)))
+    (put-then (put-then h (c .before .before .before .before .before .before .put-section .ensures) (omega arith)) (c .before .before .put-section2 .ensures) (omega arith))
 
 pub put-front-spec : {M : Type 1} → statement M
 put-front-spec =
