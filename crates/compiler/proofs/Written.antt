@@ -1,21 +1,20 @@
 -- The table that was planned, written section by section.
 use mathlib.Core.Path.{_≡_, refl, sym, ap, _∙_}
-use mathlib.Core.List.{List, [], _++_, append-assoc, append-nil}
-use Prim.Native.Nat.{ℕ, _+_, _-_, _<_}
+use mathlib.Core.List.{List, [], _++_, append-assoc}
+use Prim.Native.Nat.{ℕ, _+_, _-_, _≤_, _<_}
 use native.Mathlib.Omega.{arith}
 use lib.ListN.{length, take, drop, length-append}
-use Rattle.semantics.specs.Bytes.{out4}
 use Rattle.semantics.specs.Editions.{edition1}
 use Rattle.semantics.specs.Refusals.{accepted}
 use Rattle.semantics.specs.TableFile.{NodeAction, inSection2, copiedThen, actionSection, writeActions, tableHead, tableBytes, tableBody}
 use Rattle.semantics.proofs.Judging.{accepted-is}
-use Rattle.semantics.proofs.WrittenTables.{section2-length, table-length}
+use Rattle.semantics.proofs.WrittenTables.{table-length}
 use Rattle.schedules.specs.Compiling.{scheduleLocations, tableOf, judgeTableOf}
 use Rattle.schedule_read.specs.Promised.{Slice}
 use Rattle.table_write.specs.ActionTable.{actionsTo, Operands}
 use Rattle.table_write.specs.LocationTable.{sectionOf, Counted, LocationsPut}
 use Rattle.table_write.specs.Pieces.{Put}
-use Rattle.table_write.proofs.TableBytes.{put-then, put-as, actions-long, locations-long}
+use Rattle.table_write.proofs.TableBytes.{front-long, put-then, put-as, actions-long, locations-long}
 use Rattle.compiler.specs.Plans.{Planned}
 use Rattle.compiler.specs.declared.call.Plan.{Plan}
 use Rattle.compiler.proofs.Planning.{slice-length}
@@ -56,14 +55,9 @@ module _ {f : List ℕ} {p : Plan} (g : Planned f p) where
   pub operands : Operands sch (p .acts) (p .index .nodes .starts) (p .index .nodes .ends) (p .index .nodes .count)
   operands = rw (g .promise .schedule .is) (g .operands)
 
-  pub counted : Counted (p .index .nodes .kinds) (p .index .subtrees .ends) (p .acts) (p .rows .count) (p .rows .at)
-  counted = record { tree = g .schedule .root; has = g .rows }
-
   -- where they stand
-  pub front-long : length front ≡ length vs + length es + 9
-  unfolding out4
-  front-long =
-      omega (arith, length-append (tableHead edition1 (p .length)) (copiedThen vs es []), length-append (inSection2 vs) (inSection2 es ++ []), ap length (append-nil (inSection2 es)), section2-length vs, section2-length es)
+  pub front-planned : length front ≡ length vs + length es + 9
+  front-planned = front-long (p .length) vs es
 
   pub list-long : length (actionSection (writeActions edition1 acts)) ≡ p .list .at + 3
   list-long = actions-long operands (g .list)
@@ -79,6 +73,9 @@ module _ {f : List ℕ} {p : Plan} (g : Planned f p) where
       let e : tableHead edition1 (p .length) ++ copiedThen vs es (l ++ k) ≡ tableOf edition1 (g .schedule) = rw (g .promise .variables .is, g .promise .equations .is, g .promise .schedule .is, g .actions, g .tests, g .whole ∙ table-length edition1 _ _ _ _) refl in
       regroup (tableHead edition1 (p .length)) (inSection2 vs) (inSection2 es) l k ∙ e
 
+  pub rows-long : length (sectionOf (p .acts) (g .schedule .root)) ≡ p .rows .at + 6
+  rows-long = locations-long (g .rows)
+
   pub planned-long : p .length ≡ length vs + length es + p .list .at + p .rows .at + 18
   planned-long =
       let l = actionSection (writeActions edition1 acts) in
@@ -88,10 +85,14 @@ module _ {f : List ℕ} {p : Plan} (g : Planned f p) where
         ap length table-is,
         length-append (front ++ l) (sectionOf (p .acts) (g .schedule .root)),
         length-append front l,
-        front-long,
+        front-planned,
         list-long,
-        locations-long (g .rows),
+        rows-long,
       )
+
+  -- where the locations stand
+  pub counted : {d : List ℕ} {i : ℕ} → i + (p .rows .at + 6) ≤ length d → Counted (p .index .nodes .kinds) (p .index .subtrees .ends) (p .acts) (p .rows .count) (p .rows .at) d i
+  counted h = record { tree = g .schedule .root; has = g .rows; room = omega (arith, rows-long) }
 
   pub table-written : {d d₁ d₂ d′ : List ℕ} {i j r : ℕ} → Put d 0 front d₁ i →
       Put d₁ i (actionSection (writeActions edition1 acts)) d₂ j →

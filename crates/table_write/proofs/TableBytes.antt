@@ -7,7 +7,8 @@ use native.Mathlib.Omega.{arith}
 use lib.ListN.{length, length-append, length-map}
 use Rattle.semantics.specs.Bytes.{out, out2, out4}
 use Rattle.semantics.specs.Editions.{edition1}
-use Rattle.semantics.specs.TableFile.{inSection2, inSection4, actionSection, writeActions, writeLocations}
+use Rattle.semantics.specs.TableFile.{inSection2, inSection4, copiedThen, actionSection, writeActions, writeLocations, tableHead}
+use Rattle.semantics.proofs.WrittenTables.{section2-length}
 use Rattle.codec.specs.Writing.{Wrote}
 use Rattle.codec.proofs.Writing.{wrote-none, put-more, wrote-as}
 use Rattle.schedules.specs.Trees.{Tree}
@@ -16,7 +17,7 @@ use Rattle.schedules.specs.Compiling.{entriesOf}
 use Rattle.numbering.specs.Meeting.{testsIn}
 use Rattle.numbering.specs.Located.{allRows, Fitting, Numbered}
 use Rattle.table_write.specs.ActionTable.{actionsTo, rowsTo, Operands, Measured}
-use Rattle.table_write.specs.LocationTable.{sectionOf, Counts, Counted, LocationsPut}
+use Rattle.table_write.specs.LocationTable.{sectionOf, Counts, LocationsPut}
 use Rattle.table_write.specs.Pieces.{Put}
 
 -- ---- pieces
@@ -32,6 +33,11 @@ put-as q p = rw q at p
 -- ---- the front
 pub front-joined : (h a b : List ℕ) → (h ++ a) ++ b ≡ h ++ (a ++ (b ++ []))
 front-joined h a b = simp (append-assoc, append-nil)
+
+pub front-long : (whole : ℕ) (vs es : List ℕ) → length (tableHead edition1 whole ++ copiedThen vs es []) ≡ length vs + length es + 9
+unfolding out4
+front-long whole vs es =
+    omega (arith, length-append (tableHead edition1 whole) (copiedThen vs es []), length-append (inSection2 vs) (inSection2 es ++ []), ap length (append-nil (inSection2 es)), section2-length vs, section2-length es)
 
 -- ---- the action section
 module _ {s acts starts ends : List ℕ} {count n size : ℕ} (o : Operands s acts starts ends count) (m : Measured acts starts ends count n size) where
@@ -62,8 +68,8 @@ module _ {ks es acts : List ℕ} {n size : ℕ} where
   unfolding out4 out2
   locations-long x = ap length (sym (locations-joined x)) ∙ omega (arith, x .sizes)
 
-  pub fitting : {d : List ℕ} {at : ℕ} → Counted ks es acts n size → at + size ≤ length d → Fitting ks es acts d at
-  fitting x l = let h = x .has in record { tree = x .tree; lies = h .lies; small = h .small; few = omega (arith, h .few, h .counts); fits = omega (arith, h .sizes) }
+  pub fitting : {t : Tree} {d : List ℕ} {at : ℕ} → Counts ks es acts n size t → at + size ≤ length d → Fitting ks es acts d at
+  fitting {t} h l = record { tree = t; lies = h .lies; small = h .small; few = omega (arith, h .few, h .counts); fits = omega (arith, h .sizes) }
 
   pub locations-put : {d d₁ d₂ d′ : List ℕ} {i j l r : ℕ} → i ≤ length d → (j ≡ i + 4) × Wrote d i (out4 (size + 2)) d₁ → (l ≡ j + 2) × Wrote d₁ j (out2 n) d₂ → Numbered ks es acts d₂ l d′ r →
       LocationsPut ks es acts n size d i d′ r

@@ -32,7 +32,7 @@ pub record Coded (k : ℕ) (b : List ℕ) : Type 0 where
   pub action : Action
   pub read : actionOfKind (actionKind k) b ≡ some action
   pub bytes : actionBytes action ≡ k ∷ b
-  pub short : length b ≤ 199
+  pub short : length (actionBytes action) ≤ 200
 
 -- node n stands in the index, and its operand in the section
 pub record OperandOf (s acts starts ends : List ℕ) (n : ℕ) : Type 0 where

@@ -1,7 +1,7 @@
 -- The location section of a table, from the arrays of the tree.
 use mathlib.Core.Path.{_≡_}
 use mathlib.Core.List.{List}
-use Prim.Native.Nat.{ℕ, _*_, _≤_}
+use Prim.Native.Nat.{ℕ, _+_, _*_, _≤_}
 use lib.ListN.{length}
 use Rattle.semantics.specs.Editions.{edition1}
 use Rattle.semantics.specs.TableFile.{locationLimit, locationSection, writeLocations}
@@ -26,10 +26,11 @@ pub record Counts (ks es acts : List ℕ) (n size : ℕ) (t : Tree) : Type 0 whe
   pub few : n ≤ locationLimit
   pub short : size ≤ locationLimit * 321
 
--- some tree does
-pub record Counted (ks es acts : List ℕ) (n size : ℕ) : Type 0 where
+-- some tree does, and there is room for its section at a place
+pub record Counted (ks es acts : List ℕ) (n size : ℕ) (d : List ℕ) (i : ℕ) : Type 0 where
   pub tree : Tree
   pub has : Counts ks es acts n size tree
+  pub room : i + length (sectionOf acts tree) ≤ length d
 
 -- its section is written at a place
 pub record LocationsPut (ks es acts : List ℕ) (n size : ℕ) (d : List ℕ) (i : ℕ) (d′ : List ℕ) (r : ℕ) : Type 0 where
