@@ -4,6 +4,7 @@ ghost use mathlib.Core.List.{_∷_, []};
 ghost use Prim.Native.Nat.{_+_, _%_, _≤_, _<_};
 ghost use lib.ListN.{length, getD};
 ghost use Rattle.semantics.specs.Bytes as bytes;
+ghost use Rattle.semantics.specs.Run.{valueBytes};
 ghost use Rattle.codec.specs.Ends.{endOf};
 ghost use Rattle.codec.specs.Writing.{Wrote};
 
@@ -141,7 +142,7 @@ fn unsigned(z: i32) -> u32
 // the four bytes of a signed number at a place; the next place
 pub fn put_signed(d: &mut [u8], i: usize, z: i32) -> usize
     requires { ⌜ i + 4 ≤ length (now d) ⌝ }
-    ensures { λ r. ⌜ (r ≡ i + 4) × Wrote (now (d .entry)) i (bytes.out4 (bytes.unsigned z)) (now (d .exit)) ⌝ }
+    ensures { λ r. ⌜ (r ≡ i + 4) × Wrote (now (d .entry)) i (valueBytes z) (now (d .exit)) ⌝ }
 {
     put4(d, i, unsigned(z) as usize)
 }

@@ -53,7 +53,7 @@ formed no-kind b e = none-not-some e
 
 formed-coded : {c : ℕ} {b : List ℕ} {o : Option Action} → Formed c b o → actionOfKind (actionKind c) b ≡ o → ((y : Action) → o ≡ some y → length (actionBytes y) ≤ 200) → (c ≡ 0 → ⊥) → Coded c b
 formed-coded (no-action e) r h z = absurd (z e)
-formed-coded (an-action {y = y} f g) r h z = record { action = y; read = r; bytes = f; short = omega (arith, h y refl, ap length f) }
+formed-coded (an-action {y = y} f g) r h z = record { action = y; read = r; bytes = f; short = h y refl }
 
 -- nodes without an action are no tests
 formed-test : {c : ℕ} {b : List ℕ} {o : Option Action} → Formed c b o → eqb c TEST ≡ isTest (elim o [ none ↦ stop | some a ↦ a ])

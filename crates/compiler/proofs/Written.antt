@@ -1,22 +1,20 @@
 -- The table that was planned, written section by section.
-use mathlib.Core.Path.{_≡_, sym, ap, _∙_}
-use mathlib.Core.List.{List, _++_, append-assoc}
-use Prim.Native.Nat.{ℕ, _+_, _-_, _<_}
+use mathlib.Core.Path.{_≡_, refl, sym, ap, _∙_}
+use mathlib.Core.List.{List, [], _++_, append-assoc}
+use Prim.Native.Nat.{ℕ, _+_, _-_, _≤_, _<_}
 use native.Mathlib.Omega.{arith}
 use lib.ListN.{length, take, drop, length-append}
-use Rattle.semantics.specs.Bytes.{out4}
 use Rattle.semantics.specs.Editions.{edition1}
 use Rattle.semantics.specs.Refusals.{accepted}
-use Rattle.semantics.specs.TableFile.{inSection2, tableHead, tableBytes, tableBody}
+use Rattle.semantics.specs.TableFile.{NodeAction, inSection2, copiedThen, actionSection, writeActions, tableHead, tableBytes, tableBody}
 use Rattle.semantics.proofs.Judging.{accepted-is}
-use Rattle.semantics.proofs.WrittenTables.{section2-length, table-length}
+use Rattle.semantics.proofs.WrittenTables.{table-length}
 use Rattle.schedules.specs.Compiling.{scheduleLocations, tableOf, judgeTableOf}
 use Rattle.schedule_read.specs.Promised.{Slice}
-use Rattle.numbering.specs.Meeting.{testsIn}
-use Rattle.table_write.specs.ActionTable.{actionSection, Operands}
-use Rattle.table_write.specs.LocationTable.{locationSection, Counted, LocationsPut}
-use Rattle.table_write.specs.Pieces.{Put, front}
-use Rattle.table_write.proofs.TableBytes.{put-then, put-as, actions-long, locations-long}
+use Rattle.table_write.specs.ActionTable.{actionsTo, Operands}
+use Rattle.table_write.specs.LocationTable.{sectionOf, Counted, LocationsPut}
+use Rattle.table_write.specs.Pieces.{Put}
+use Rattle.table_write.proofs.TableBytes.{front-long, put-then, put-as, actions-long, locations-long}
 use Rattle.compiler.specs.Plans.{Planned}
 use Rattle.compiler.specs.declared.call.Plan.{Plan}
 use Rattle.compiler.proofs.Planning.{slice-length}
@@ -28,7 +26,7 @@ between f i j = take (j - i) (drop i f)
 between-length : {f x : List ℕ} {i j : ℕ} → Slice f i j x → length (between f i j) ≡ j - i
 between-length g = ap length (g .is) ∙ slice-length g
 
-regroup : (h a b c d : List ℕ) → (((h ++ a) ++ b) ++ c) ++ d ≡ h ++ (a ++ (b ++ (c ++ d)))
+regroup : (h a b c d : List ℕ) → ((h ++ (a ++ (b ++ []))) ++ c) ++ d ≡ h ++ (a ++ (b ++ (c ++ d)))
 regroup h a b c d = simp append-assoc
 
 module _ {f : List ℕ} {p : Plan} (g : Planned f p) where
@@ -41,6 +39,12 @@ module _ {f : List ℕ} {p : Plan} (g : Planned f p) where
   abbrev sch : List ℕ
   sch = between f (p .index .parts .«schedule_from») (p .index .parts .«schedule_to»)
 
+  abbrev front : List ℕ
+  front = tableHead edition1 (p .length) ++ copiedThen vs es []
+
+  abbrev acts : List NodeAction
+  acts = actionsTo sch (p .acts) (p .index .nodes .starts) (p .index .nodes .ends) (p .index .nodes .count)
+
   -- what its parts are asked for
   pub front-fits : (length vs < 65536) × (length es < 65536) × (p .length < 4294967296)
   front-fits =
@@ -51,40 +55,47 @@ module _ {f : List ℕ} {p : Plan} (g : Planned f p) where
   pub operands : Operands sch (p .acts) (p .index .nodes .starts) (p .index .nodes .ends) (p .index .nodes .count)
   operands = rw (g .promise .schedule .is) (g .operands)
 
-  pub counted : Counted (p .index .nodes .kinds) (p .index .subtrees .ends) (p .acts) (p .rows .count) (p .rows .at)
-  counted = record { tree = g .schedule .root; has = g .rows }
-
   -- where they stand
-  pub front-long : length (front (p .length) vs es) ≡ length vs + length es + 9
-  unfolding out4
-  front-long = omega (arith, length-append (tableHead edition1 (p .length) ++ inSection2 vs) (inSection2 es), length-append (tableHead edition1 (p .length)) (inSection2 vs), section2-length vs, section2-length es)
+  pub front-planned : length front ≡ length vs + length es + 9
+  front-planned = front-long (p .length) vs es
 
-  pub list-long : length (actionSection sch (p .acts) (p .index .nodes .starts) (p .index .nodes .ends) (p .index .nodes .count)) ≡ p .list .at + 3
+  pub list-long : length (actionSection (writeActions edition1 acts)) ≡ p .list .at + 3
   list-long = actions-long operands (g .list)
 
   -- all of them
-  table-is : (front (p .length) vs es ++ actionSection sch (p .acts) (p .index .nodes .starts) (p .index .nodes .ends) (p .index .nodes .count))
-      ++ locationSection (testsIn (p .acts)) (g .schedule .root) ≡
+  table-is : (front ++ actionSection (writeActions edition1 acts))
+      ++ sectionOf (p .acts) (g .schedule .root) ≡
       tableOf edition1 (g .schedule)
   unfolding tableOf tableBytes tableBody scheduleLocations
-  table-is = rw (g .promise .variables .is, g .promise .equations .is, g .promise .schedule .is, g .actions, g .tests, g .whole ∙ table-length edition1 _ _ _ _) (regroup (tableHead edition1 _) _ _ _ _)
+  table-is =
+      let l = actionSection (writeActions edition1 acts) in
+      let k = sectionOf (p .acts) (g .schedule .root) in
+      let e : tableHead edition1 (p .length) ++ copiedThen vs es (l ++ k) ≡ tableOf edition1 (g .schedule) = rw (g .promise .variables .is, g .promise .equations .is, g .promise .schedule .is, g .actions, g .tests, g .whole ∙ table-length edition1 _ _ _ _) refl in
+      regroup (tableHead edition1 (p .length)) (inSection2 vs) (inSection2 es) l k ∙ e
+
+  pub rows-long : length (sectionOf (p .acts) (g .schedule .root)) ≡ p .rows .at + 6
+  rows-long = locations-long (g .rows)
 
   pub planned-long : p .length ≡ length vs + length es + p .list .at + p .rows .at + 18
   planned-long =
-      let l = actionSection sch (p .acts) (p .index .nodes .starts) (p .index .nodes .ends) (p .index .nodes .count) in
+      let l = actionSection (writeActions edition1 acts) in
       omega (
         arith,
         g .whole,
         ap length table-is,
-        length-append (front (p .length) vs es ++ l) (locationSection (testsIn (p .acts)) (g .schedule .root)),
-        length-append (front (p .length) vs es) l,
-        front-long,
+        length-append (front ++ l) (sectionOf (p .acts) (g .schedule .root)),
+        length-append front l,
+        front-planned,
         list-long,
-        locations-long (g .rows),
+        rows-long,
       )
 
-  pub table-written : {d d₁ d₂ d′ : List ℕ} {i j r : ℕ} → Put d 0 (front (p .length) vs es) d₁ i →
-      Put d₁ i (actionSection sch (p .acts) (p .index .nodes .starts) (p .index .nodes .ends) (p .index .nodes .count)) d₂ j →
+  -- where the locations stand
+  pub counted : {d : List ℕ} {i : ℕ} → i + (p .rows .at + 6) ≤ length d → Counted (p .index .nodes .kinds) (p .index .subtrees .ends) (p .acts) (p .rows .count) (p .rows .at) d i
+  counted h = record { tree = g .schedule .root; has = g .rows; room = omega (arith, rows-long) }
+
+  pub table-written : {d d₁ d₂ d′ : List ℕ} {i j r : ℕ} → Put d 0 front d₁ i →
+      Put d₁ i (actionSection (writeActions edition1 acts)) d₂ j →
       LocationsPut (p .index .nodes .kinds) (p .index .subtrees .ends) (p .acts) (p .rows .count) (p .rows .at) d₂ j d′ r →
       (t : List ℕ) → judgeTableOf edition1 f ≡ accepted t → Put d 0 t d′ r
   table-written a b x t h = put-as (table-is ∙ accepted-is (sym (g .judged) ∙ h)) (put-then (put-then a b (omega arith)) (x .of (g .schedule .root) (g .rows)) (omega arith))

@@ -23,12 +23,12 @@ use Rattle.codec.specs.Writing.{Wrote}
 use Rattle.codec.proofs.Reading.{drop-some}
 use Rattle.codec.proofs.Writing.{put-front, wrote-none, put-more, wrote-as, wrote-length, wrote-front}
 use Rattle.nodeset.specs.Sets.{members}
-use Rattle.records.specs.Booking.{bookedOf, Room}
+use Rattle.records.specs.Booking.{Room}
 use Rattle.records.specs.Reported.{told, ranWith}
 use Rattle.execution.specs.Ready.{Fits}
 use Rattle.execution.specs.Runs.{leaves, Reports, RunSoFar}
 use Rattle.records.specs.declared.Counts.{Counts}
-use Rattle.records.proofs.Books.{counts-none, counts-more, counts-room}
+use Rattle.records.proofs.Books.{counts-none, Booked, counts-room}
 use Rattle.records.proofs.Records.{room-for}
 use Rattle.execution.proofs.Outcomes.{record-is}
 
@@ -149,7 +149,7 @@ module _ {S : Type 0} (g : Program S) (st₀ : Start) (events d₀ : List ℕ) w
         → Fits (g .plant) vs ms
         → Wrote d i (recordBytes edition1 answer (setNumber (members ws)) vs ms) d'
         → i' ≡ i + recordLength edition1 (length vs) (length ms)
-        → cs' ≡ bookedOf cs answer
+        → Booked cs answer cs'
         → RunSoFar g st₀ events d₀ (k + 1) i' (record { place = place; values = vs; modes = ms }) cs' d'
     unfolding eventCount outcomeOf
     run-next h answer place vs ms ws is e s f w q b =
@@ -164,7 +164,7 @@ module _ {S : Type 0} (g : Program S) (st₀ : Start) (events d₀ : List ℕ) w
           few = omega arith;
           reports =
               reports-by
-              (ap told b ∙ counts-more (answersIn (x .said)) (counted (x .reports)) answer ∙ ap countsOf (sym (map-snoc (λ (o : Answered S). o .answer) (x .said) o)))
+              (b (answersIn (x .said)) (counted (x .reports)) ∙ ap countsOf (sym (map-snoc (λ (o : Answered S). o .answer) (x .said) o)))
               (wrote-as (sym more) (put-more (wrote (x .reports)) (wrote-as (record-is (g .control) o ws s) w) (omega arith) (x .place ∙ sym (x .size) ∙ sym (zero-add _))));
           size = ap length more ∙ length-append (flatMap (recordOf edition1 (g .control)) (x .said)) (recordOf edition1 (g .control) o) ∙ ap₂ (λ (a b : ℕ). a + b) (x .size) one ∙ sym (one-more k r);
           place = q ∙ ap₂ (λ (a b : ℕ). a + b) (x .place) (size-fits (g .plant) f) ∙ sym (one-more k r);

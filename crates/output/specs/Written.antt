@@ -1,11 +1,24 @@
 -- How many bytes of a record buffer a run has written.
-use mathlib.Core.Bool.{cond}
-use Prim.Native.Nat.{ℕ, _*_, _/_}
+use mathlib.Core.Path.{_≡_}
+use mathlib.Core.Bool.{Bool, true, false, _&&_}
+use mathlib.Core.List.{List}
+use Prim.Native.Nat.{ℕ, _*_}
 use lib.Dec.{leb}
+use lib.ListN.{length}
 use Rattle.semantics.specs.Editions.{edition1}
-use Rattle.semantics.specs.Calls.{recordLength}
+use Rattle.semantics.specs.Sections.{variableLimit, equationLimit}
+use Rattle.semantics.specs.Plant.{Plant, selectors}
+use Rattle.semantics.specs.Calls.{recordsSize}
 
--- a record for each event of so many bytes; 0 where a program has no room for so many events or a plant cannot be so large
-unfoldable pub recordsLength : ℕ → ℕ → ℕ → ℕ
-recordsLength events variables selectors =
-    cond (leb events 30000) (cond (leb variables 32) (cond (leb selectors 16) (events / edition1 .event-bytes * recordLength edition1 variables selectors) 0) 0) 0
+-- the programs have room for so many event bytes
+abbrev pub eventRoom : ℕ
+eventRoom = 10000 * edition1 .event-bytes
+
+-- a program has room for so many event bytes, and a plant can be so large
+unfoldable pub inRoom : (events variables selectors : ℕ) → Bool
+inRoom e v s = leb e eventRoom && (leb v variableLimit && leb s equationLimit)
+
+-- the records of so many event bytes, of every plant with so many variables and selectors, take r bytes; 0 where there is no such room
+pub record RecordsTake (e v s r : ℕ) : Type 0 where
+  pub all : inRoom e v s ≡ true → (p : Plant) (events : List ℕ) → length events ≡ e → length (p .variables) ≡ v → length (selectors p) ≡ s → r ≡ recordsSize edition1 p events
+  pub none : inRoom e v s ≡ false → r ≡ 0

@@ -4,7 +4,7 @@ ghost use mathlib.Core.Bool.{cond};
 ghost use lib.Dec.{leb};
 ghost use lib.ListN.{length};
 ghost use Rattle.io.specs.Counts.{Counts};
-ghost use Rattle.output.specs.Written.{recordsLength};
+ghost use Rattle.output.specs.Written.{RecordsTake};
 
 // the programs have room for 10,000 events
 pub const EVENT_ROOM: usize = 10000 * paper::EVENT_BYTES;
@@ -33,7 +33,7 @@ pub fn front(n: usize, bytes: &[u8]) -> usize
 
 // the bytes of the records of so many event bytes
 pub fn records_length(events: usize, variables: usize, selectors: usize) -> usize
-    ensures { λ r. ⌜ r ≡ recordsLength events variables selectors ⌝ }
+    ensures { λ r. ⌜ RecordsTake events variables selectors r ⌝ }
 {
     if events > EVENT_ROOM {
         return 0;

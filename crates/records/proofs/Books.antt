@@ -1,6 +1,6 @@
 -- Answers booked one by one are counted.
-use mathlib.Core.Path.{_≡_, refl, ap, _∙_}
-use mathlib.Core.Bool.{Bool, true, false, _&&_}
+use mathlib.Core.Path.{_≡_, refl, sym, ap, ap₂, _∙_}
+use mathlib.Core.Bool.{Bool, true, false, cond, _&&_}
 use mathlib.Core.List.{List, [], _∷_, _++_}
 use Prim.Native.Nat.{ℕ, suc, _+_, _^_, _≤_, _<_}
 use native.Mathlib.Omega.{arith}
@@ -10,7 +10,7 @@ use lib.ListN.{length}
 use Rattle.semantics.specs.Bytes.{within}
 use Rattle.semantics.specs.Run as Run
 use Rattle.semantics.specs.Run.{isTaken, isTurnedAway, isFaulted, howMany, noCounts, countsOf}
-use Rattle.records.specs.Booking.{bumped, bookedOf, Room}
+use Rattle.records.specs.Booking.{Room}
 use Rattle.records.specs.Reported.{told}
 use Rattle.records.specs.declared.Counts.{Counts}
 
@@ -37,26 +37,25 @@ within-one k n = go (eqb n k) (eqb-true n k) (eqb-false n k)
         apart true false g h = refl
         apart false y g h = refl
 
--- the record that the code makes
-pub booked-within : (c : Counts) (a : ℕ) {t u v : ℕ} → t ≡ bumped (c .taken) (within 200 202 a) → u ≡ bumped (c .«turned_away») (within 23 31 a) → v ≡ bumped (c .faulted) (within 203 203 a) → record { taken = t; «turned_away» = u; faulted = v } ≡ bookedOf c a
-unfolding bookedOf isTaken isTurnedAway isFaulted
-booked-within c a e f g = let o = within-one 203 a in cc
-
 -- ---- one more at the end of the list
 module _ (f : ℕ → Bool) where
-  more : (l : List ℕ) (a : ℕ) → howMany f (l ++ (a ∷ [])) ≡ bumped (howMany f l) (f a)
-  unfolding howMany bumped
-  more [] a = go (f a)
+  -- the code's count
+  pub counted-one : (n a : ℕ) {b : Bool} → b ≡ f a → cond b (n + 1) n ≡ n + howMany f (a ∷ [])
+  unfolding howMany
+  counted-one n a {b} e = rw e (go (f a))
     where
-      go : (b : Bool) → _≡_ {A = ℕ} (elim b [ true ↦ 1 | false ↦ 0 ]) (bumped 0 b)
-      go true = refl
-      go false = refl
-  more (x ∷ l) a = go (f x) (f a) (more l a)
+      go : (b : Bool) → cond b (n + 1) n ≡ n + elim b [ true ↦ suc 0 | false ↦ 0 ]
+      go true = omega arith
+      go false = omega arith
+
+  more : (l : List ℕ) (a : ℕ) → howMany f (l ++ (a ∷ [])) ≡ howMany f l + howMany f (a ∷ [])
+  unfolding howMany
+  more [] a = omega arith
+  more (x ∷ l) a = go (f x) _ _ _ (more l a)
     where
-      go : (b c : Bool) → howMany f (l ++ (a ∷ [])) ≡ bumped (howMany f l) c → _≡_ {A = ℕ} (elim b [ true ↦ suc (howMany f (l ++ (a ∷ []))) | false ↦ howMany f (l ++ (a ∷ [])) ]) (bumped (elim b [ true ↦ suc (howMany f l) | false ↦ howMany f l ]) c)
-      go true true h = let e : suc (howMany f l + 1) ≡ suc (howMany f l) + 1 = omega arith in ap suc h ∙ e
-      go true false h = ap suc h
-      go false c h = h
+      go : (b : Bool) (m n k : ℕ) → m ≡ n + k → _≡_ {A = ℕ} (elim b [ true ↦ suc m | false ↦ m ]) (elim b [ true ↦ suc n | false ↦ n ] + k)
+      go true m n k h = omega arith
+      go false m n k h = h
 
   at-most : (l : List ℕ) → howMany f l ≤ length l
   unfolding howMany
@@ -72,18 +71,26 @@ pub counts-none : noCounts ≡ countsOf []
 unfolding countsOf howMany
 counts-none = refl
 
-module _ {c : Counts} (l : List ℕ) (e : told c ≡ countsOf l) where
-  pub counts-more : (a : ℕ) → told (bookedOf c a) ≡ countsOf (l ++ (a ∷ []))
-  unfolding countsOf bookedOf
-  counts-more a =
-      let t = more isTaken l a in
-      let u = more isTurnedAway l a in
-      let v = more isFaulted l a in
-      let x : c .taken ≡ howMany isTaken l = ap (λ (n : Run.Counts). n .taken) e in
-      let y : c .«turned_away» ≡ howMany isTurnedAway l = ap (λ (n : Run.Counts). n .turned-away) e in
-      let z : c .faulted ≡ howMany isFaulted l = ap (λ (n : Run.Counts). n .faulted) e in
-      cc
+-- the counts r are those of c with one answer more, whatever the answers were
+abbrev pub Booked : Counts → ℕ → Counts → Type 0
+Booked c a r = (l : List ℕ) → told c ≡ countsOf l → told r ≡ countsOf (l ++ (a ∷ []))
 
+-- the record that the code makes
+pub booked-within : (c : Counts) (a : ℕ) {t u v : ℕ} →
+    t ≡ c .taken + howMany (within 200 202) (a ∷ []) → u ≡ c .«turned_away» + howMany (within 23 31) (a ∷ []) → v ≡ c .faulted + howMany (within 203 203) (a ∷ []) →
+    Booked c a (record { taken = t; «turned_away» = u; faulted = v })
+unfolding countsOf howMany isTaken isTurnedAway isFaulted
+booked-within c a {t} {u} {v} p q r l e =
+    let x : c .taken ≡ howMany isTaken l = ap (λ (n : Run.Counts). n .taken) e in
+    let y : c .«turned_away» ≡ howMany isTurnedAway l = ap (λ (n : Run.Counts). n .turned-away) e in
+    let z : c .faulted ≡ howMany isFaulted l = ap (λ (n : Run.Counts). n .faulted) e in
+    let f : howMany (within 203 203) (a ∷ []) ≡ howMany isFaulted (a ∷ []) = rw (within-one 203 a, howMany) refl in
+    let i : t ≡ howMany isTaken (l ++ (a ∷ [])) = p ∙ ap (λ (n : ℕ). n + howMany isTaken (a ∷ [])) x ∙ sym (more isTaken l a) in
+    let j : u ≡ howMany isTurnedAway (l ++ (a ∷ [])) = q ∙ ap (λ (n : ℕ). n + howMany isTurnedAway (a ∷ [])) y ∙ sym (more isTurnedAway l a) in
+    let k : v ≡ howMany isFaulted (l ++ (a ∷ [])) = r ∙ ap₂ (λ (m n : ℕ). m + n) z f ∙ sym (more isFaulted l a) in
+    cc
+
+module _ {c : Counts} (l : List ℕ) (e : told c ≡ countsOf l) where
   -- a run of so many events has room for its counts
   pub counts-room : length l + 1 < 2 ^ 64 → Room c
   unfolding countsOf

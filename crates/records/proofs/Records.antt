@@ -11,7 +11,7 @@ use lib.Pow.{shr-shr}
 use lib.ListN.{length, getD, take}
 use lib.Seq.{take-suc}
 use native.Mathlib.Numerals.{add-one}
-use Rattle.semantics.specs.Bytes.{bigEndian, out4, unsigned}
+use Rattle.semantics.specs.Bytes.{bigEndian, out4}
 use Rattle.semantics.specs.Editions.{edition1}
 use Rattle.semantics.specs.Plant.{Plant}
 use Rattle.semantics.specs.Run.{setNumber, valueBytes}
@@ -102,13 +102,13 @@ module _ (ws : List ℕ) (few : (n : ℕ) → mem ws n ≡ true → n < 64) (fit
   set-bytes = eight w fits ∙ ap (bigEndian 8) (sym set-number)
 
 -- ---- the values
-pub values-more : (vs : List ℤ) (j : ℕ) → j < length vs → flatMap valueBytes (take j vs) ++ out4 (unsigned (getD vs j (pos 0))) ≡ flatMap valueBytes (take (j + 1) vs)
-unfolding flatMap valueBytes
+pub values-more : (vs : List ℤ) (j : ℕ) → j < length vs → flatMap valueBytes (take j vs) ++ valueBytes (getD vs j (pos 0)) ≡ flatMap valueBytes (take (j + 1) vs)
+unfolding flatMap
 values-more vs j h = sym (ap (λ (k : ℕ). flatMap valueBytes (take k vs)) (add-one j) ∙ ap (flatMap valueBytes) (take-suc vs j (pos 0) h) ∙ flat-snoc (take j vs) (getD vs j (pos 0)))
   where
-    flat-snoc : (l : List ℤ) (z : ℤ) → flatMap valueBytes (l ++ (z ∷ [])) ≡ flatMap valueBytes l ++ out4 (unsigned z)
-    flat-snoc [] z = append-nil (out4 (unsigned z))
-    flat-snoc (x ∷ l) z = ap (λ (k : List ℕ). out4 (unsigned x) ++ k) (flat-snoc l z) ∙ sym (append-assoc (out4 (unsigned x)) (flatMap valueBytes l) (out4 (unsigned z)))
+    flat-snoc : (l : List ℤ) (z : ℤ) → flatMap valueBytes (l ++ (z ∷ [])) ≡ flatMap valueBytes l ++ valueBytes z
+    flat-snoc [] z = append-nil (valueBytes z)
+    flat-snoc (x ∷ l) z = ap (λ (k : List ℕ). valueBytes x ++ k) (flat-snoc l z) ∙ sym (append-assoc (valueBytes x) (flatMap valueBytes l) (valueBytes z))
 
 pub values-length : (l : List ℤ) → length (flatMap valueBytes l) ≡ 4 * length l
 unfolding flatMap valueBytes out4

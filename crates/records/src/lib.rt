@@ -1,18 +1,19 @@
 // The record of an event, and the counts of a run.
 use nodeset::NodeSet;
 ghost use mathlib.Core.Path.{_≡_};
-ghost use mathlib.Core.Bool.{true};
-ghost use mathlib.Core.List.{List, flatMap};
+ghost use mathlib.Core.Bool.{true, cond};
+ghost use mathlib.Core.List.{List, [], _∷_, _++_, flatMap};
 ghost use Prim.Native.Nat.{ℕ, _+_, _*_, _^_, _≤_, _<_};
 ghost use lib.ListN.{length};
 ghost use Rattle.semantics.specs.Bytes.{within, bigEndian};
 ghost use Rattle.semantics.specs.Editions.{edition1};
+ghost use Rattle.semantics.specs.Sections.{variableLimit, equationLimit};
 ghost use Rattle.semantics.specs.Refusals.{refused};
-ghost use Rattle.semantics.specs.Run.{setNumber, valueBytes, recordBytes, noCounts};
+ghost use Rattle.semantics.specs.Run.{setNumber, valueBytes, recordBytes, howMany, countsOf, noCounts};
 ghost use Rattle.semantics.specs.Calls.{recordLength, report};
 ghost use Rattle.codec.specs.Writing.{Wrote};
 ghost use Rattle.nodeset.specs.Sets.{mem, members};
-ghost use Rattle.records.specs.Booking.{bumped, bookedOf, Room};
+ghost use Rattle.records.specs.Booking.{Room};
 ghost use Rattle.records.specs.Reported.{told, ranWith};
 
 // Of the answers of a run: taken 200..202, turned away 23..31, faulted 203.
@@ -58,7 +59,7 @@ fn between(low: u8, high: u8, n: u8) -> bool
 
 fn bump(n: usize, on: bool) -> usize
     requires { ⌜ n + 1 < 2 ^ 64 ⌝ }
-    ensures { λ r. ⌜ r ≡ bumped n on ⌝ }
+    ensures { λ r. ⌜ r ≡ cond on (n + 1) n ⌝ }
 {
     if on { n + 1 } else { n }
 }
@@ -66,7 +67,7 @@ fn bump(n: usize, on: bool) -> usize
 // A count, with one more where the answer lies between two numbers.
 fn counted(n: usize, low: u8, high: u8, answer: u8) -> usize
     requires { ⌜ n + 1 < 2 ^ 64 ⌝ }
-    ensures { λ r. ⌜ r ≡ bumped n (within low high answer) ⌝ }
+    ensures { λ r. ⌜ r ≡ n + howMany (within low high) (answer ∷ []) ⌝ }
 {
     bump(n, between(low, high, answer))
 }
@@ -74,7 +75,7 @@ fn counted(n: usize, low: u8, high: u8, answer: u8) -> usize
 // Books one event's answer in the counts that it is lent.
 fn book(c: &mut Counts, answer: u8)
     requires { ⌜ Room (now c) ⌝ }
-    ensures { λ _. ⌜ now (c .exit) ≡ bookedOf (now (c .entry)) answer ⌝ }
+    ensures { λ _. ⌜ ((l : List ℕ) → told (now (c .entry)) ≡ countsOf l → told (now (c .exit)) ≡ countsOf (l ++ (answer ∷ []))) ⌝ }
 {
     c.taken = counted(
         c.taken,
@@ -94,7 +95,7 @@ fn book(c: &mut Counts, answer: u8)
 // The counts with one answer more.
 pub fn booked(c: Counts, answer: u8) -> Counts
     requires { ⌜ Room c ⌝ }
-    ensures { λ r. ⌜ r ≡ bookedOf c answer ⌝ }
+    ensures { λ r. ⌜ ((l : List ℕ) → told c ≡ countsOf l → told r ≡ countsOf (l ++ (answer ∷ []))) ⌝ }
 {
     let mut counts = c;
     book(&mut counts, answer);
@@ -106,7 +107,7 @@ const FRONT_BYTES: usize = 1 + paper::SET_BYTES;
 
 // The bytes of a record, of so many variables and selectors.
 pub fn record_length(variables: usize, selectors: usize) -> usize
-    requires { ⌜ (variables ≤ 32) × (selectors ≤ 16) ⌝ }
+    requires { ⌜ (variables ≤ variableLimit) × (selectors ≤ equationLimit) ⌝ }
     ensures { λ r. ⌜ r ≡ recordLength edition1 variables selectors ⌝ }
 {
     FRONT_BYTES + 4 * variables + selectors
@@ -114,8 +115,8 @@ pub fn record_length(variables: usize, selectors: usize) -> usize
 
 // The eight bytes of a set of nodes below 64, at a place; the next place.
 fn put_set(d: &mut [u8], i: usize, acting: NodeSet) -> usize
-    requires { ⌜ (i + 8 ≤ length (now d)) × ((n : ℕ) → mem (acting .words) n ≡ true → n < 64) ⌝ }
-    ensures { λ r. ⌜ (r ≡ i + 8) × Wrote (now (d .entry)) i (bigEndian 8 (setNumber (members (acting .words)))) (now (d .exit)) ⌝ }
+    requires { ⌜ (i + edition1 .set-bytes ≤ length (now d)) × ((n : ℕ) → mem (acting .words) n ≡ true → n < 64) ⌝ }
+    ensures { λ r. ⌜ (r ≡ i + edition1 .set-bytes) × Wrote (now (d .entry)) i (bigEndian (edition1 .set-bytes) (setNumber (members (acting .words)))) (now (d .exit)) ⌝ }
 {
     let ws = acting.words;
     let w = ws[0] as usize;

@@ -162,8 +162,19 @@ inSection2 s = out2 (length s) ++ s
 unfoldable pub inSection4 : List ℕ → List ℕ
 inSection4 s = out4 (length s) ++ s
 
+-- "the variable and equation sections copied, then .."
+abbrev pub copiedThen : (variables equations rest : List ℕ) → List ℕ
+copiedThen variables equations rest = inSection2 variables ++ (inSection2 equations ++ rest)
+
+-- "actions (2-byte length) ..; locations (4-byte length) .."
+abbrev pub actionSection : List ℕ → List ℕ
+actionSection s = inSection2 s
+
+abbrev pub locationSection : List ℕ → List ℕ
+locationSection s = inSection4 s
+
 abbrev pub writeTableSections : TableSections → List ℕ
-writeTableSections x = inSection2 (x .variables) ++ (inSection2 (x .equations) ++ (inSection2 (x .actions) ++ inSection4 (x .locations)))
+writeTableSections x = copiedThen (x .variables) (x .equations) (actionSection (x .actions) ++ locationSection (x .locations))
 
 module _ (ed : Edition) where
   -- "a length byte, node, kind (..), operand bytes": of a node, and the bytes of its kind and operand
@@ -173,17 +184,29 @@ module _ (ed : Edition) where
   unfoldable pub writeAction : NodeAction → List ℕ
   writeAction a = writeActionRow (a .node) (actionBytes (a .action))
 
+  -- the rows of actions, without their number
+  abbrev pub writeActionRows : List NodeAction → List ℕ
+  writeActionRows l = flatMap writeAction l
+
   unfoldable pub writeActions : List NodeAction → List ℕ
-  writeActions l = out (ed .width) (length l) ++ flatMap writeAction l
+  writeActions l = out (ed .width) (length l) ++ writeActionRows l
 
   unfoldable pub writeEntry : Entry → List ℕ
   writeEntry e = out (ed .width) (e .node) ++ (out2 (e .target) ++ out2 (e .other))
 
+  -- the entries of a location, without their number
+  abbrev pub writeEntries : List Entry → List ℕ
+  writeEntries es = flatMap writeEntry es
+
   unfoldable pub writeLocation : List Entry → List ℕ
-  writeLocation es = length es ∷ flatMap writeEntry es
+  writeLocation es = length es ∷ writeEntries es
+
+  -- the rows of locations, without their number
+  abbrev pub writeLocationRows : List (List Entry) → List ℕ
+  writeLocationRows l = flatMap writeLocation l
 
   unfoldable pub writeLocations : List (List Entry) → List ℕ
-  writeLocations l = out2 (length l) ++ flatMap writeLocation l
+  writeLocations l = out2 (length l) ++ writeLocationRows l
 
   -- the four sections
   unfoldable pub tableBody : List ℕ → List ℕ → List NodeAction → List (List Entry) → List ℕ

@@ -16,10 +16,11 @@ use Rattle.nodeset.specs.Sets.{mem, members}
 use Rattle.nodeset.specs.declared.NodeSet.{NodeSet}
 use Rattle.nodeset.proofs.Members.{among-set}
 use Rattle.codec.specs.Writing.{Wrote}
-use Rattle.records.specs.Booking.{bookedOf, Room}
+use Rattle.records.specs.Booking.{Room}
 use Rattle.execution.specs.Ready.{Lent, Fits}
 use Rattle.records.specs.Reported.{told}
 use Rattle.records.specs.declared.Counts.{Counts}
+use Rattle.records.proofs.Books.{Booked}
 use Rattle.execution.proofs.Runs.{eventAt, run-start, run-counts, run-length, run-room, run-next, run-end}
 use Rattle.execution.proofs.Stepping.{set-at, set-over}
 use Rattle.table_step.specs.Entries.{Counted, Gathered}
@@ -84,7 +85,7 @@ module _ {vs₀ : List ℤ} {ms₀ events d₀ : List ℕ} {k i : ℕ} {x : Situ
   going-counts h m = run-counts (programOfTable t) (record { values = vs₀; modes = ms₀ }) events d₀ (g .so-far) h m
 
   pub going-next : k < length events / 3 → {e : List ℕ} {a : Answered} {vs' : List ℤ} {ms' : List ℕ} → e ≡ eventAt events (3 * k) → Steps t (g .place) vs ms e a vs' ms' → Fits (t .plant) vs' ms' → {i' : ℕ} {cs' : Counts} {d' : List ℕ} →
-      Wrote d i (recordBytes edition1 (a .answer) (setNumber (members (a .situation .acting .words))) vs' ms') d' → i' ≡ i + recordLength edition1 (length vs') (length ms') → cs' ≡ bookedOf cs (a .answer) →
+      Wrote d i (recordBytes edition1 (a .answer) (setNumber (members (a .situation .acting .words))) vs' ms') d' → i' ≡ i + recordLength edition1 (length vs') (length ms') → Booked cs (a .answer) cs' →
       Going t vs₀ ms₀ events d₀ (k + 1) i' (a .situation) cs' vs' ms' d'
   going-next h {a = a} {vs' = vs'} {ms' = ms'} q s f w j b = record {
     place = s .place;

@@ -21,6 +21,13 @@ operand-long {s} {acts} {starts} {ends} {n} h =
     length-take-le (getD ends n 0 - getD starts n 0) (drop (getD starts n 0) s) (omega (arith, length-drop (getD starts n 0) s, h .ordered, h .inside))
 
 -- ---- one node
+pub coded-short : {k : ℕ} {b : List ℕ} → Coded k b → length (k ∷ b) ≤ 200
+coded-short c = omega (arith, c .short, ap length (c .bytes))
+
+pub row-length : (n : ℕ) (b : List ℕ) → length (writeActionRow edition1 n b) ≡ length b + 2
+unfolding out
+row-length n b = omega arith
+
 pub row-bytes : (n k : ℕ) (b : List ℕ) → (length b + 2) ∷ n ∷ k ∷ b ≡ writeActionRow edition1 n (k ∷ b)
 unfolding out widthOf
 row-bytes n k b = let e : length b + 2 ≡ 1 + suc (length b) = omega arith in ap (λ (m : ℕ). m ∷ n ∷ k ∷ b) e
@@ -100,4 +107,4 @@ module _ {acts starts ends : List ℕ} where
 
 -- a node's operand, in the section that the list names
 pub listed-short : {acts starts ends : List ℕ} {n count : ℕ} (x : Listed acts starts ends count) → n < count → (getD acts n 0 ≡ 0 → ⊥) → getD ends n 0 - getD starts n 0 ≤ 199
-listed-short {n = n} x h z = let o = x .operands .each n h in omega (arith, operand-long o, o .coded z .short)
+listed-short {n = n} x h z = let o = x .operands .each n h in omega (arith, operand-long o, coded-short (o .coded z))

@@ -1,13 +1,13 @@
 -- The actions of nodes by their index: acts has the kinds of the nodes' actions, starts and ends where the operands stand in the schedule section s.
--- Rows and section are those of the table file; only where their parts stand is said here.
+-- The rows are those of the table file; only where their parts stand is said here.
 use mathlib.Core.Path.{_≡_}
-use mathlib.Core.List.{List, [], _∷_, _++_, flatMap}
+use mathlib.Core.List.{List, [], _∷_, _++_}
 use mathlib.Core.Option.{some}
 use Prim.Native.Nat.{ℕ, zero, suc, _+_, _*_, _≤_, _<_}
 use lib.ListN.{length, getD}
 use Rattle.semantics.specs.Editions.{edition1}
 use Rattle.semantics.specs.Run.{Action}
-use Rattle.semantics.specs.TableFile.{NodeAction, actionKind, actionOfKind, actionBytes, inSection2, writeAction, writeActions}
+use Rattle.semantics.specs.TableFile.{NodeAction, actionKind, actionOfKind, actionBytes, writeActionRows}
 use Rattle.schedules.specs.Nodes.{listed}
 use Rattle.codec.specs.Parts.{partAt}
 
@@ -22,21 +22,17 @@ module _ (s acts starts ends : List ℕ) where
   actionsTo (suc n) = actionsTo n ++ actionHere n (getD acts n 0) (partAt s starts ends n)
 
   abbrev pub rowHere : ℕ → List ℕ
-  rowHere n = flatMap (writeAction edition1) (actionHere n (getD acts n 0) (partAt s starts ends n))
+  rowHere n = writeActionRows edition1 (actionHere n (getD acts n 0) (partAt s starts ends n))
 
   abbrev pub rowsTo : ℕ → List ℕ
-  rowsTo n = flatMap (writeAction edition1) (actionsTo n)
-
-  -- the section, with its length
-  abbrev pub actionSection : ℕ → List ℕ
-  actionSection n = inSection2 (writeActions edition1 (actionsTo n))
+  rowsTo n = writeActionRows edition1 (actionsTo n)
 
 -- kind and operand are the bytes of an action, and no more than a row may hold
 pub record Coded (k : ℕ) (b : List ℕ) : Type 0 where
   pub action : Action
   pub read : actionOfKind (actionKind k) b ≡ some action
   pub bytes : actionBytes action ≡ k ∷ b
-  pub short : length b ≤ 199
+  pub short : length (actionBytes action) ≤ 200
 
 -- node n stands in the index, and its operand in the section
 pub record OperandOf (s acts starts ends : List ℕ) (n : ℕ) : Type 0 where

@@ -1,11 +1,10 @@
 -- The location section of a table, from the arrays of the tree.
 use mathlib.Core.Path.{_≡_}
-use mathlib.Core.Bool.{Bool}
 use mathlib.Core.List.{List}
-use Prim.Native.Nat.{ℕ, _*_, _≤_}
+use Prim.Native.Nat.{ℕ, _+_, _*_, _≤_}
 use lib.ListN.{length}
 use Rattle.semantics.specs.Editions.{edition1}
-use Rattle.semantics.specs.TableFile.{inSection4, locationLimit, writeLocations}
+use Rattle.semantics.specs.TableFile.{locationLimit, locationSection, writeLocations}
 use Rattle.schedules.specs.Trees.{Tree}
 use Rattle.schedules.specs.Numbering.{locations}
 use Rattle.schedules.specs.Compiling.{rowsOf}
@@ -14,9 +13,9 @@ use Rattle.numbering.specs.Meeting.{testsIn}
 use Rattle.numbering.specs.Located.{allRows}
 use Rattle.table_write.specs.Pieces.{Put}
 
--- the section of the tree's locations, with its length
-abbrev pub locationSection : (ℕ → Bool) → Tree → List ℕ
-locationSection tests t = inSection4 (writeLocations edition1 (rowsOf tests (locations tests t)))
+-- the section of the tree's locations
+abbrev pub sectionOf : List ℕ → Tree → List ℕ
+sectionOf acts t = locationSection (writeLocations edition1 (rowsOf (testsIn acts) (locations (testsIn acts) t)))
 
 -- the tree of at most 64 nodes that lies in the arrays has n locations, no more than a table may hold, whose rows take so many bytes; a row has at most 321
 pub record Counts (ks es acts : List ℕ) (n size : ℕ) (t : Tree) : Type 0 where
@@ -27,11 +26,12 @@ pub record Counts (ks es acts : List ℕ) (n size : ℕ) (t : Tree) : Type 0 whe
   pub few : n ≤ locationLimit
   pub short : size ≤ locationLimit * 321
 
--- some tree does
-pub record Counted (ks es acts : List ℕ) (n size : ℕ) : Type 0 where
+-- some tree does, and there is room for its section at a place
+pub record Counted (ks es acts : List ℕ) (n size : ℕ) (d : List ℕ) (i : ℕ) : Type 0 where
   pub tree : Tree
   pub has : Counts ks es acts n size tree
+  pub room : i + length (sectionOf acts tree) ≤ length d
 
 -- its section is written at a place
 pub record LocationsPut (ks es acts : List ℕ) (n size : ℕ) (d : List ℕ) (i : ℕ) (d′ : List ℕ) (r : ℕ) : Type 0 where
-  pub of : (t : Tree) → Counts ks es acts n size t → Put d i (locationSection (testsIn acts) t) d′ r
+  pub of : (t : Tree) → Counts ks es acts n size t → Put d i (sectionOf acts t) d′ r

@@ -30,7 +30,7 @@ pub fn measured<'a>(acts: &'a [u8], starts: &'a [usize], ends: &'a [usize], coun
 
 // A row at a place; the next place.
 fn put_row(body: &mut [u8], at: usize, n: usize, k: u8, operand: &[u8]) -> usize
-    requires { ⌜ (n < 256) × (length (now operand) ≤ 199) × (at + length (now operand) + 3 ≤ length (now body)) ⌝ }
+    requires { ⌜ (n < 256) × (length (k ∷ now operand) ≤ 200) × (at + length (writeActionRow edition1 n (k ∷ now operand)) ≤ length (now body)) ⌝ }
     ensures { λ r. ⌜ Put (now (body .entry)) at (writeActionRow edition1 n (k ∷ now (operand .entry))) (now (body .exit)) r ⌝ }
 {
     let i = codec::put1(body, at, spot::byte(operand.len() + 2));

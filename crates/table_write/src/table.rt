@@ -3,16 +3,18 @@ use super::actions;
 use numbering::locations;
 use numbering::spot;
 use numbering::spot::Spot;
+ghost use mathlib.Core.List.{_++_, []};
 ghost use Prim.Native.Nat.{_+_, _≤_, _<_};
 ghost use lib.ListN.{length};
-ghost use Rattle.semantics.specs.TableFile.{inSection2};
-ghost use Rattle.table_write.specs.ActionTable.{actionSection, Operands, Measured};
+ghost use Rattle.semantics.specs.Editions.{edition1};
+ghost use Rattle.semantics.specs.TableFile.{inSection2, copiedThen, actionSection, writeActions, tableHead};
+ghost use Rattle.table_write.specs.ActionTable.{actionsTo, Operands, Measured};
 ghost use Rattle.table_write.specs.LocationTable.{Counted, LocationsPut};
-ghost use Rattle.table_write.specs.Pieces.{Put, front};
+ghost use Rattle.table_write.specs.Pieces.{Put};
 
 // a section with its length, at a place; the next place
 fn put_section(d: &mut [u8], i: usize, s: &[u8]) -> usize
-    requires { ⌜ (i + length (now s) + 2 ≤ length (now d)) × (length (now s) < 65536) ⌝ }
+    requires { ⌜ (i + length (inSection2 (now s)) ≤ length (now d)) × (length (now s) < 65536) ⌝ }
     ensures { λ r. ⌜ Put (now (d .entry)) i (inSection2 (now (s .entry))) (now (d .exit)) r ⌝ }
 {
     let j = codec::put2(d, i, s.len());
@@ -22,8 +24,8 @@ fn put_section(d: &mut [u8], i: usize, s: &[u8]) -> usize
 // the front of a table of this length: up to the sections that are copied; the next place
 pub fn put_front<'a>(vs: &'a [u8], es: &'a [u8], table: &mut [u8], whole: usize) -> usize
     requires short { ⌜ (length (now vs) < 65536) × (length (now es) < 65536) × (whole < 4294967296) ⌝ }
-    requires room { ⌜ length (now vs) + length (now es) + 9 ≤ length (now table) ⌝ }
-    ensures { λ r. ⌜ Put (now (table .entry)) 0 (front whole (now (vs .entry)) (now (es .entry))) (now (table .exit)) r ⌝ }
+    requires room { ⌜ length (tableHead edition1 whole ++ copiedThen (now vs) (now es) []) ≤ length (now table) ⌝ }
+    ensures { λ r. ⌜ Put (now (table .entry)) 0 (tableHead edition1 whole ++ copiedThen (now (vs .entry)) (now (es .entry)) []) (now (table .exit)) r ⌝ }
 {
     let i = codec::put1(table, 0, paper::VERSION);
     let j = codec::put4(table, i, whole);
@@ -43,8 +45,9 @@ pub fn put_actions<'a>(
     i: usize,
 ) -> usize
     requires in_index { ⌜ Operands (now s) (now acts) (now starts) (now ends) count × Measured (now acts) (now starts) (now ends) count (list .count) (list .at) ⌝ }
-    requires room { ⌜ i + list .at + 3 ≤ length (now table) ⌝ }
-    ensures { λ r. ⌜ Put (now (table .entry)) i (actionSection (now (s .entry)) (now (acts .entry)) (now (starts .entry)) (now (ends .entry)) count) (now (table .exit)) r ⌝ }
+    requires room { ⌜ i + length (actionSection (writeActions edition1 (actionsTo (now s) (now acts) (now starts) (now ends) count))) ≤ length (now table) ⌝ }
+    ensures { λ r. ⌜ Put (now (table .entry)) i
+        (actionSection (writeActions edition1 (actionsTo (now (s .entry)) (now (acts .entry)) (now (starts .entry)) (now (ends .entry)) count))) (now (table .exit)) r ⌝ }
 {
     let j = codec::put2(table, i, list.at + 1);
     let l = codec::put1(table, j, spot::byte(list.count));
@@ -60,7 +63,7 @@ pub fn put_locations<'a>(
     table: &mut [u8],
     i: usize,
 ) -> usize
-    requires { ⌜ Counted (now kinds) (now subs) (now acts) (rows .count) (rows .at) × (64 ≤ length (now acts)) × (i + rows .at + 6 ≤ length (now table)) ⌝ }
+    requires { ⌜ Counted (now kinds) (now subs) (now acts) (rows .count) (rows .at) (now table) i × (64 ≤ length (now acts)) ⌝ }
     ensures { λ r. ⌜ LocationsPut (now (kinds .entry)) (now (subs .entry)) (now (acts .entry)) (rows .count) (rows .at) (now (table .entry)) i (now (table .exit)) r ⌝ }
 {
     let j = codec::put4(table, i, rows.at + 2);

@@ -3,6 +3,7 @@ use mathlib.Core.Path.{ap, _∙_}
 use mir.Syntax.{w32}
 use mir.ValLaws.{toZ-ofZ}
 use Rattle.semantics.specs.Bytes.{out4, unsigned}
+use Rattle.semantics.specs.Run.{valueBytes}
 use Rattle.codec.proofs.Writing.{wrote-as}
 use borrow.Author.Needs.{needs}
 use Rattle.codec.proofs.put_signed.Statement.{statement}
@@ -21,6 +22,7 @@ same-length : tie.Need-same-length
 same-length c = search needs
 
 returns : tie.Need-returns
+unfolding valueBytes
 returns c =
     let p = c .before .before .put4 in
     let s = c .before .before .before .before .before .before in

@@ -39,9 +39,10 @@ use denote.Triple.Table.{entered, cited}
 use denote.Triple.Walked.{says, needs, Stays, stay-ref, stay-none, walkOf, goes-none, goes-ref, ends-at, walked, walk-meets}
 use denote.Exit.{yes}
 use Rattle.semantics.specs.Bytes.{within}
-use Rattle.records.specs.Booking.{bumped, bookedOf, Room}
+use Rattle.semantics.specs.Run.{howMany}
+use Rattle.records.specs.Booking.{Room}
 use Rattle.records.specs.declared.Counts.{Counts}
-use Rattle.records.proofs.Books.{booked-within}
+use Rattle.records.proofs.Books.{Booked, booked-within}
 use Rattle.records.proofs.LentCounts.{vals, number, counts, local, written}
 use Rattle.records.proofs.Counts as T
 use Rattle.records.proofs.Counts.Laws as T′
@@ -86,13 +87,13 @@ module _ {M : Type 1} (𝓤 : URA M) (H : Heap 𝓤) (A : Atoms 𝓤) (W : Given
     -- the call, wherever it stands: it returns some r that is n with the answer counted, and the walk goes on with r's machine value
     booking : {Γ : List (Item 𝓤)} {E : Env 𝓤 H} {xs : List Operand} {d : Place} {rest : Block} {q : Post 𝓤 H} (n low high : ℕ) → n + 1 < 2 ^ 64 → low < 2 ^ 8 → high < 2 ^ 8
         → Opds (Go {0}) W (raw (Counted .pre (to-counted n low high)) ∷ Γ) E xs (vint w64 n ∷ vint w8 low ∷ vint w8 high ∷ vint w8 a ∷ [])
-        → ((r : ℕ) → r ≡ bumped n (within low high a) → r < 2 ^ 64 → Seq (Go {0}) W Γ (lands C Λ E d (vint w64 r) rest q)) → Seq (Go {0}) W Γ (runs C Λ E (seq (call #records·counted xs d) rest) q)
+        → ((r : ℕ) → r ≡ n + howMany (within low high) (a ∷ []) → r < 2 ^ 64 → Seq (Go {0}) W Γ (lands C Λ E d (vint w64 r) rest q)) → Seq (Go {0}) W Γ (runs C Λ E (seq (call #records·counted xs d) rest) q)
     booking {Γ} {E} {xs} {d} {rest} {q} n low high room l h operands go =
         use0 W (raw (Counted .pre (to-counted n low high))) (asked n low high room l h) $
         calls-at ! fm Counted known (to-counted n low high) operands (λ v.
         use1 W (later (some (λ (r : ℕ). (‵ ftrue ⊛ ‵ (usize .own r (v ∷ []))) ⊛ raw (ensured 𝓤 H A counted.ended (counted.clauses 𝓤 H A at-mem run) tt (numbers n low high) tt r)))) (id⊢ 𝓤 _) $ await ! tt $ pick ! (λ r.
-        split ! $ move ! (1 ∷ []) $ use1 W (raw (fact 𝓤 (r ≡ bumped n (within low high a)))) (exE 𝓤 _ (λ ws. snd∗ 𝓤 (sem 𝓤 H A (lasts counted.ended tt (numbers n low high) ws)) (fact 𝓤 (r ≡ bumped n (within low high a))))) $
-        heard ! (r ≡ bumped n (within low high a)) (λ e. split ! $ drop ! $ facts ! usize (Is usize) (shows 𝓤 H A usize) r (v ∷ []) (λ is.
+        split ! $ move ! (1 ∷ []) $ use1 W (raw (fact 𝓤 (r ≡ n + howMany (within low high) (a ∷ [])))) (exE 𝓤 _ (λ ws. snd∗ 𝓤 (sem 𝓤 H A (lasts counted.ended tt (numbers n low high) ws)) (fact 𝓤 (r ≡ n + howMany (within low high) (a ∷ []))))) $
+        heard ! (r ≡ n + howMany (within low high) (a ∷ [])) (λ e. split ! $ drop ! $ facts ! usize (Is usize) (shows 𝓤 H A usize) r (v ∷ []) (λ is.
         subst (λ (u : Val). Seq (Go {0}) W Γ (lands C Λ E d u rest q)) (sym (ap only (is .0))) (go r e (is .1))))))
 
     -- κ, q: the borrow's lifetime and the share of its token; (b, o), γ: the struct's address and the borrow's name; h: the counts at entry
@@ -109,7 +110,7 @@ module _ {M : Type 1} (𝓤 : URA M) (H : Heap 𝓤) (A : Atoms 𝓤) (W : Given
       Left = walkOf 𝓤 H A book.ended stayed clauses .post (((κ, tt), (q, tt), tt, x, at), tt)
 
       -- the exit, with the struct at r
-      exits : (r : Counts) → r ≡ bookedOf h a → ent 𝓤 (sep 𝓤 (A .obs γ (T.the-row .coded .code r)) (sep 𝓤 (A .bor κ (Body (mem T.the-row) b o γ)) (A .lft κ q))) (Left vunit)
+      exits : (r : Counts) → Booked h a r → ent 𝓤 (sep 𝓤 (A .obs γ (T.the-row .coded .code r)) (sep 𝓤 (A .bor κ (Body (mem T.the-row) b o γ)) (A .lft κ q))) (Left vunit)
       exits r e =
           qed W (‵ (fobs γ (T.the-row .coded .code r)) ∷ ‵ (fbor κ (Body (mem T.the-row) b o γ)) ∷ ‵ (flft κ q) ∷ []) ∵
           suffices ! _ (ends-at 𝓤 H A book.ended stayed clauses W (((κ, tt), (q, tt), tt, x, at), tt) vunit tt (r, (tt, tt)) (tt, (tt, tt))) $ says ! e $ nothing ! $ move ! (3 ∷ 0 ∷ []) $ join ! $

@@ -1,5 +1,4 @@
 use mathlib.Core.Path.{refl}
-use Rattle.records.specs.Booking.{bumped}
 use borrow.Author.Needs.{needs}
 use Rattle.records.proofs.bump.Statement.{statement}
 use Rattle.records.proofs.bump.Tie as tie
@@ -8,11 +7,9 @@ add-result : tie.Need-add-result
 add-result c = search needs
 
 returns : tie.Need-returns
-unfolding bumped
 returns c = rw (c .if1 .taken) refl
 
 returns-2 : tie.Need-returns-2
-unfolding bumped
 returns-2 c = rw (c .if1 .left) refl
 
 pub bump-spec : {M : Type 1} → statement M

@@ -1,6 +1,6 @@
-use mathlib.Core.Path.{ap, _∙_}
+use mathlib.Core.Path.{_∙_}
 use borrow.Author.Needs.{needs}
-use Rattle.records.specs.Booking.{bumped}
+use Rattle.records.proofs.Books.{counted-one}
 use Rattle.records.proofs.counted.Statement.{statement}
 use Rattle.records.proofs.counted.Tie as tie
 
@@ -11,7 +11,7 @@ bump-requires : tie.Need-bump-requires
 bump-requires c κs = search needs
 
 returns : tie.Need-returns
-returns c = c .bump .ensures ∙ ap (bumped _) (c .before .between .ensures)
+returns c = c .bump .ensures ∙ counted-one _ _ _ (c .before .between .ensures)
 
 pub counted-spec : {M : Type 1} → statement M
 counted-spec = tie.close (tie.spec between-requires bump-requires returns)

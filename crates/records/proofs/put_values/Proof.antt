@@ -3,12 +3,11 @@ use mathlib.Core.Path.{_≡_, refl, ap, _∙_}
 use mathlib.Core.List.{flatMap}
 use Prim.Native.Nat.{_+_, _*_, _-_, _≤_, _<_}
 use native.Mathlib.Omega.{arith}
-use lib.IntN.{ℤ, pos}
+use lib.IntN.{pos}
 use lib.ListN.{length, take, getD}
 use lib.Seq.{length-take-le, take-all}
 use mir.Syntax.{w32}
 use mir.ValLaws.{toZ-ofZ}
-use Rattle.semantics.specs.Bytes.{out4, unsigned}
 use Rattle.semantics.specs.Run.{valueBytes}
 use Rattle.codec.specs.Writing.{Wrote}
 use Rattle.codec.proofs.Writing.{wrote-none, put-more, wrote-as}
@@ -55,7 +54,7 @@ loop-again c =
       omega arith,
       omega (arith, p .ensures .0),
       p .kept .0 ∙ l .inv .2,
-      wrote-as (values-more vs (l .j) h) (put-more (l .inv .3) (wrote-as (ap (λ (x : ℤ). out4 (unsigned x)) (toZ-ofZ w32 z (record { sfits = c .before .before .before .put-signed-arg2 .given }))) (p .ensures .1)) (omega arith) (omega arith)),
+      wrote-as (values-more vs (l .j) h) (put-more (l .inv .3) (wrote-as (ap valueBytes (toZ-ofZ w32 z (record { sfits = c .before .before .before .put-signed-arg2 .given }))) (p .ensures .1)) (omega arith) (omega arith)),
     )
 
 same-length : tie.Need-same-length Inv-loop μ-loop

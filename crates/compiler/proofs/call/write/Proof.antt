@@ -1,7 +1,7 @@
 -- Three pieces, whose lengths are those that were planned.
 use mathlib.Core.Path.{sym}
 use native.Mathlib.Omega.{arith}
-use Rattle.compiler.proofs.Written.{front-fits, operands, counted, planned-long, front-long, list-long, table-written}
+use Rattle.compiler.proofs.Written.{front-fits, operands, counted, planned-long, front-planned, list-long, table-written}
 use borrow.Author.Needs.{needs}
 use Rattle.compiler.proofs.call.write.Statement.{statement}
 use Rattle.compiler.proofs.call.write.Tie as tie
@@ -11,7 +11,7 @@ put-front-requires c κs =
     let h = c .before .before .before .before .before .before .before .before in
     let s = h .before .before .before .before .before .before .before .before in
     let g = s .pre .0 in
-    (front-fits g, omega (arith, planned-long g, s .pre .1))
+    (front-fits g, omega (arith, planned-long g, front-planned g, s .pre .1))
 
 put-actions-requires : tie.Need-put-actions-requires
 put-actions-requires c κs =
@@ -19,7 +19,7 @@ put-actions-requires c κs =
     let s = h .before .before .before .before .before .before .before .before .before .before .before .before in
     let g = s .pre .0 in
     let p = c .before .before .before .before .before .before .before .put-front in
-    ((operands g, g .list), omega (arith, planned-long g, front-long g, s .pre .1, p .ensures .ends, p .kept .1 .1 .0))
+    ((operands g, g .list), omega (arith, planned-long g, front-planned g, list-long g, s .pre .1, p .ensures .ends, p .kept .1 .1 .0))
 
 slice-aggregate-put-locations : tie.Need-slice-aggregate-put-locations
 slice-aggregate-put-locations c =
@@ -34,7 +34,7 @@ put-locations-requires c κs =
     let g = s .pre .0 in
     let p = c14 .put-front in
     let q = c .before .before .before .before .before .before .put-actions in
-    (counted g, omega (arith, g .full), omega (arith, planned-long g, front-long g, list-long g, s .pre .1, p .ensures .ends, p .kept .1 .1 .0, q .ensures .ends, q .kept .1 .1 .1 .1 .1 .1 .0))
+    (counted g (omega (arith, planned-long g, front-planned g, list-long g, s .pre .1, p .ensures .ends, p .kept .1 .1 .0, q .ensures .ends, q .kept .1 .1 .1 .1 .1 .1 .0)), omega (arith, g .full))
 
 returns : tie.Need-returns
 returns c =

@@ -4,11 +4,36 @@ use mathlib.Core.List.{_∷_}
 use Prim.Native.Nat.{ℕ, _≤_}
 use lib.ListN.{length}
 use native.Mathlib.Omega.{arith}
-use Rattle.table_write.proofs.ActionLoop.{row-bytes}
+use Rattle.table_write.proofs.ActionLoop.{row-bytes, row-length}
 use Rattle.table_write.proofs.TableBytes.{put-then, put-as}
 use borrow.Author.Needs.{needs}
 use Rattle.table_write.proofs.actions.put_row.Statement.{statement}
 use Rattle.table_write.proofs.actions.put_row.Tie as tie
+
+put1-requires : tie.Need-put1-requires
+put1-requires c κs = let s = c .before .before .before .before in omega (arith, s .pre .2, row-length (s .args .n) (s .args .k ∷ s .args .operand .now))
+
+put1-requires-2 : tie.Need-put1-requires-2
+put1-requires-2 c κs =
+    let p = c .before .before .before .before .put1 in
+    let s = c .before .before .before .before .before .before .before .before .before in
+    omega (arith, s .pre .2, row-length (s .args .n) (s .args .k ∷ s .args .operand .now), p .ensures .0, p .kept .0)
+
+put1-requires-3 : tie.Need-put1-requires-3
+put1-requires-3 c κs =
+    let q = c .before .before .before .put12 in
+    let p = c .before .before .before .before .before .before .before .before .put1 in
+    let s = c .before .before .before .before .before .before .before .before .before .before .before .before .before in
+    omega (arith, s .pre .2, row-length (s .args .n) (s .args .k ∷ s .args .operand .now), p .ensures .0, p .kept .0, q .ensures .0, q .kept .0)
+
+put-slice-requires : tie.Need-put-slice-requires
+put-slice-requires c κs =
+    let r = c .before .before .before .put13 in
+    let c7 = c .before .before .before .before .before .before .before in
+    let q = c7 .put12 in
+    let p = c7 .before .before .before .before .before .put1 in
+    let s = c7 .before .before .before .before .before .before .before .before .before .before in
+    omega (arith, s .pre .2, row-length (s .args .n) (s .args .k ∷ s .args .operand .now), p .ensures .0, p .kept .0, q .ensures .0, q .kept .0, r .ensures .0, r .kept .0)
 
 returns : tie.Need-returns
 returns c =
@@ -32,10 +57,10 @@ put-row-spec =
     (tie.spec
     (λ c. search needs)
     (λ c κs. search needs)
+    put1-requires
     (λ c κs. search needs)
-    (λ c κs. search needs)
-    (λ c κs. search needs)
-    (λ c κs. search needs)
-    (λ c κs. search needs)
+    put1-requires-2
+    put1-requires-3
+    put-slice-requires
     (λ c. search needs)
     returns)

@@ -2,9 +2,10 @@
 use mathlib.Core.Path.{sym, ap}
 use mathlib.Core.List.{flatMap}
 use native.Mathlib.Omega.{arith}
+use lib.ListN.{length}
 use Rattle.semantics.specs.Editions.{edition1}
 use Rattle.semantics.specs.TableFile.{writeAction}
-use Rattle.table_write.proofs.ActionLoop.{operand-long, here-none, row-some, row-long}
+use Rattle.table_write.proofs.ActionLoop.{coded-short, here-none, row-some}
 use Rattle.table_write.proofs.TableBytes.{put-none, put-as}
 use borrow.Author.Needs.{needs}
 use Rattle.table_write.proofs.actions.row.Statement.{statement}
@@ -19,7 +20,7 @@ put-row-requires c κs =
     let s = c .before .before .before .before .before .before .before .before .before .before .before in
     let h = s .pre .0 .0 in
     let d = h .coded (c .before .before .before .before .if1 .left) in
-    (s .pre .0 .1, omega (arith, d .short, operand-long h), omega (arith, row-long (s .args .n) d, operand-long h, s .pre .1))
+    (s .pre .0 .1, coded-short d, omega (arith, ap length (row-some (s .args .n) d), s .pre .1))
 
 returns-2 : tie.Need-returns-2
 returns-2 c =
