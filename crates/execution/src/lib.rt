@@ -19,7 +19,8 @@ ghost use Rattle.execution.specs.Sense.{Sense, eventOf};
 
 // Are all acting nodes waits?
 fn all_wait(kinds: &[u8], acting: NodeSet) -> bool
-    requires { ⌜ ((n : ℕ) → mem (acting .words) n ≡ true → (n < 64) × (n < length (now kinds))) ⌝ }
+    requires stand { ⌜ ((n : ℕ) → mem (acting .words) n ≡ true → (n < 64) × (n < length (now kinds))) ⌝ }
+    requires known { ⌜ ((f : ℕ → Action) × KindsOf f (now kinds) (acting .words)) ⌝ }
     ensures { λ b. ⌜ ((f : ℕ → Action) → KindsOf f (now (kinds .entry)) (acting .words) → b ≡ every (λ n. isWait (f n)) (members (acting .words))) ⌝ }
 {
     let mut n = nodeset::next(acting, 0);

@@ -7,8 +7,8 @@ use native.Mathlib.Omega.{arith}
 use lib.ListN.{length, getD}
 use Rattle.semantics.proofs.Facts.{none-not-some, some-is}
 use Rattle.schedules.specs.Nodes.{Node, sequence, parallel, while-do, if-else, continue-until, reset, reinitial, switch-to, stop-all}
-use Rattle.schedules.specs.Trees.{Tree, Forest, leaf, halt, loop, branch, seq, par, nil, cons, ofNone, ofOne, ofTwo, ofSome, treeFrom}
-use Rattle.schedules.specs.Laid.{NodeRow, Plain, Laid, LaidF, laid-leaf, laid-halt, laid-loop, laid-branch, laid-seq, laid-par, laid-nil, laid-cons}
+use Rattle.schedules.specs.Trees.{Tree, Forest, loop, branch, seq, par, nil, cons, ofNone, ofOne, ofTwo, ofSome, treeFrom}
+use Rattle.schedules.specs.Laid.{NodeRow, Laid, LaidF, laid-leaf, laid-halt, laid-loop, laid-branch, laid-seq, laid-par, laid-nil, laid-cons}
 use Rattle.tree_read.proofs.NodeKinds.{kindNumber}
 
 -- ---- where a tree ends

@@ -24,7 +24,7 @@ loop-holds : tie.Need-loop-holds Inv-loop μ-loop
 loop-holds c = (at-next _ 0 (omega arith) (c .next .ensures), all-start (c .before .before .args .kinds .now) _ (c .next .ensures))
 
 shared-slice-read-if1 : tie.Need-shared-slice-read-if1 Inv-loop μ-loop
-shared-slice-read-if1 c = c .before .before .before .before .before .pre (c .before .before .loop .n) (c .before .before .loop .inv .0 .member (omega (arith, c .before .loop-test .taken))) .1
+shared-slice-read-if1 c = c .before .before .before .before .before .pre .0 (c .before .before .loop .n) (c .before .before .loop .inv .0 .member (omega (arith, c .before .loop-test .taken))) .1
 
 returns : tie.Need-returns Inv-loop μ-loop
 returns c = let i = c .before .before .before .loop .inv in λ f k. sym (i .1 ∙ all-out (c .before .before .before .before .before .before .args .kinds .now) (c .before .before .before .before .before .before .args .acting .words) (c .before .before .before .loop .n) (c .before .before .loop-test .taken) (i .0) (ne-eqb _ 2 (c .if1 .taken))) ∙ kinds-wait f _ _ k
@@ -44,7 +44,7 @@ loop-again c =
     (at-next _ (c .before .before .before .before .loop .n + 1) (omega (arith, c .before .before .before .loop-test .taken)) (c .next2 .ensures), i .1 ∙ all-on (c .before .before .before .before .before .before .before .args .kinds .now) (c .before .before .before .before .before .before .before .args .acting .words) (c .before .before .before .before .loop .n) (c .before .before .before .loop-test .taken) (i .0) (c .next2 .ensures) (eq-eqb _ 2 (c .before .if1 .left)))
 
 returns-2 : tie.Need-returns-2 Inv-loop μ-loop
-returns-2 c = λ f k. sym (c .before .loop .inv .1 ∙ all-end (c .before .before .before .before .args .kinds .now) (c .before .before .before .before .args .acting .words) (c .before .loop .n) (c .loop-test .left) (λ m e. c .before .before .before .before .pre m e .0)) ∙ kinds-wait f _ _ k
+returns-2 c = λ f k. sym (c .before .loop .inv .1 ∙ all-end (c .before .before .before .before .args .kinds .now) (c .before .before .before .before .args .acting .words) (c .before .loop .n) (c .loop-test .left) (λ m e. c .before .before .before .before .pre .0 m e .0)) ∙ kinds-wait f _ _ k
 
 pub all-wait-spec : {M : Type 1} → statement M
 all-wait-spec =

@@ -21,7 +21,9 @@ all : (c : tie.Else1) (f : ℕ → Action) → KindsOf f (start c .args .kinds .
 all c f k = sym (c .before .all-wait .ensures f k) ∙ not-false _ (c .if1 .left)
 
 all-wait-requires : tie.Need-all-wait-requires
-all-wait-requires c κs = λ n e. let x = c .before .before .before .before .before .before .before .pre .ready .nodes n e in (x .below, x .kind)
+all-wait-requires c κs =
+    let p = c .before .before .before .before .before .before .before .pre in
+    (λ n e. (let x = p .ready .nodes n e in (x .below, x .kind)), (p .action, kinds-of _ _ _ _ _ _ (p .ready)))
 
 returns : tie.Need-returns
 returns c = λ p f q. tick-27 _ _ _ _ _ _ q (sym (c .before .all-wait .ensures f (kinds-of _ _ _ _ _ _ q)) ∙ not-true _ (c .if1 .taken))
