@@ -2,7 +2,7 @@
 use mathlib.Core.Path.{_≡_, refl, sym, ap, ap₂, _∙_}
 use mathlib.Core.Bool.{Bool, true, false, cond, _&&_}
 use mathlib.Core.List.{List, [], _∷_, _++_}
-use Prim.Native.Nat.{ℕ, suc, _+_, _^_, _≤_, _<_}
+use Prim.Native.Nat.{ℕ, zero, suc, _+_, _^_, _≤_, _<_}
 use native.Mathlib.Omega.{arith}
 use borrow.Author.Tests.{lt-leb, le-leb, leb-true, eqb-true, eqb-false}
 use lib.Dec.{eqb, leb}
@@ -99,3 +99,14 @@ module _ {c : Counts} (l : List ℕ) (e : told c ≡ countsOf l) where
     turned-away = omega (arith, ap (λ (n : Run.Counts). n .turned-away) e, at-most isTurnedAway l);
     faulted = omega (arith, ap (λ (n : Run.Counts). n .faulted) e, at-most isFaulted l);
   }
+
+-- ---- any counts are those of some answers, so `Booked` leaves one r
+some-answers : (t u v : ℕ) → (l : List ℕ) × (_≡_ {A = Run.Counts} (record { taken = t; turned-away = u; faulted = v }) (countsOf l))
+unfolding countsOf howMany isTaken isTurnedAway isFaulted within
+some-answers zero zero zero = ([], refl)
+some-answers (suc t) u v = let p = some-answers t u v in (200 ∷ p .0, ap (λ (c : Run.Counts). record { taken = suc (c .taken); turned-away = c .turned-away; faulted = c .faulted }) (p .1))
+some-answers zero (suc u) v = let p = some-answers zero u v in (23 ∷ p .0, ap (λ (c : Run.Counts). record { taken = c .taken; turned-away = suc (c .turned-away); faulted = c .faulted }) (p .1))
+some-answers zero zero (suc v) = let p = some-answers zero zero v in (203 ∷ p .0, ap (λ (c : Run.Counts). record { taken = c .taken; turned-away = c .turned-away; faulted = suc (c .faulted) }) (p .1))
+
+pub booked-alone : (c : Counts) (a : ℕ) {r s : Counts} → Booked c a r → Booked c a s → told r ≡ told s
+booked-alone c a p q = let l = some-answers (c .taken) (c .«turned_away») (c .faulted) in p (l .0) (l .1) ∙ sym (q (l .0) (l .1))
