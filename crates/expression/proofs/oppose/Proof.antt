@@ -1,3 +1,4 @@
+-- By what the operand gave; where it is no truth, `off-truth` says that the whole is broken.
 use mathlib.Core.Path.{sym, ap, _∙_}
 use borrow.Author.Needs.{needs}
 use Rattle.semantics.specs.Expressions.{thenValue}

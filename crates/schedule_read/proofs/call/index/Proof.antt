@@ -1,3 +1,4 @@
+-- The parts refuse (`by-parts`), or they stand in the file and the sections are indexed (`by-sections`).
 use borrow.Author.Needs.{needs}
 use Rattle.schedule_read.proofs.Stages.{by-parts, parts-stand, by-sections}
 use Rattle.schedule_read.proofs.call.index.Statement.{statement}

@@ -1,3 +1,4 @@
+-- By the kind, a law of LikeKinds for each return; `told` makes it one of every action of that kind.
 use mathlib.Core.Path.{refl, ap₂, _∙_}
 use mathlib.Core.Bool.{_&&_}
 use Rattle.table_read.proofs.LikeKinds.{test-fits, wait-fits, assignment-fits, switch-fits, stop-fits, unknown-fits, told}
