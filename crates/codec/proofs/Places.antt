@@ -14,7 +14,6 @@ use Rattle.semantics.specs.Bytes.{be2, be4, signed, Width, one-byte, two-bytes,
 use Rattle.semantics.proofs.Readers.{broken-not-read, read-rest, split, given-rest, guarded, from-some}
 use Rattle.codec.specs.Reading.{Took}
 use Rattle.codec.specs.Places.{placesFrom}
-use Rattle.codec.proofs.Reading.{drop-past, either}
 use Rattle.codec.proofs.Known.{Cons, cons, Nth, nth}
 
 -- ---- readers that take bytes from the front and leave the others
@@ -173,10 +172,6 @@ module _ {A : Type 0} {r : Reader A} (t : Takes r) (s : List ℕ) where
   -- n values read from a place of the slice on
   pub placed : (n i from : ℕ) {a : List A} {e : List ℕ} → from ≤ length s → times n r (drop from s) ≡ read a e → i < n → Placed r s a i (getD (placesFrom (length s) r n (drop from s)) i 0)
   placed n i from b h j = placed-from n i from (drop from s) b refl h j
-
--- where r reads nothing from no bytes, a place is before the end
-pub placed-before : {A : Type 0} {r : Reader A} {s : List ℕ} {a : List A} {i p : ℕ} → r [] ≡ broken → Placed r s a i p → p < length s
-placed-before {r = r} {s = s} {p = p} e x = either p (length s) (λ h. h) (λ h. broken-not-read (sym e ∙ ap r (sym (drop-past p s h)) ∙ x .nth .got))
 
 -- ---- a loop that notes the place of each value
 pub places-start : {A : Type 0} (total : ℕ) (r : Reader A) (l : List ℕ) → placesFrom total r 0 l ≡ []

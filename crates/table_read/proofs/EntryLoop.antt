@@ -9,7 +9,7 @@ use native.Mathlib.Omega.{arith}
 use borrow.Author.Tests.{le-leb, lt-leb}
 use lib.Dec.{leb}
 use lib.ListN.{length, getD, drop, List·getD-eq-default}
-use Rattle.semantics.specs.Bytes.{broken, read, give, times}
+use Rattle.semantics.specs.Bytes.{be2, broken, read, give, times}
 use Rattle.semantics.specs.Editions.{edition1}
 use Rattle.semantics.specs.TableFile.{NodeAction, Entry, readEntry, readLocation}
 use Rattle.semantics.specs.Tables.{risingFrom, entryFits, entryNodes, locationFits}
@@ -20,12 +20,15 @@ use Rattle.codec.proofs.Reading.{taken, lost, gives, then-byte, then-guard, the
 use Rattle.codec.proofs.Known.{after-byte, not-past, snoc}
 use Rattle.table_read.specs.Ends.{anything, follows, EndsWith, good-at, good-none}
 use Rattle.table_read.specs.ActionIndex.{KindsSay}
-use Rattle.table_read.specs.LocationIndex.{entryNode, entryAt, FitsKind}
+use Rattle.table_read.specs.LocationIndex.{entryNode, FitsKind}
 use Rattle.table_read.proofs.Early.{early}
 use Rattle.table_read.proofs.Rising.{rising-one, laid, Laid, laid-none, laid-more, laid-true, not-laid, laid-fronts}
 use Rattle.table_read.proofs.LikeKinds.{actionsLike, none-fits, entry-told, location-same}
 
 -- ---- the entry at place p
+abbrev pub entryAt : List ℕ → ℕ → Entry
+entryAt s p = record { node = getD s p 0; target = be2 (getD s (p + 1) 0) (getD s (p + 1 + 1) 0); other = be2 (getD s (p + 1 + 2) 0) (getD s (p + 1 + 2 + 1) 0) }
+
 pub entry-took : (s : List ℕ) (p : ℕ) → p + 5 ≤ length s → Took (readEntry edition1) (λ e (x : Unit {0}). e ≡ entryAt s p) s p (p + 1 + 2 + 2) tt
 unfolding readEntry
 entry-took s p h = taken (then-number _ (omega arith) (then-nat2 _ (omega arith) (then-nat2 _ (omega arith) (gives (entryAt s p) (omega arith) refl)))) refl

@@ -5,9 +5,8 @@ use mathlib.Core.List.{List, [], _∷_}
 use mathlib.Core.Option.{some}
 use Prim.Native.Nat.{ℕ, zero, suc, _+_, _-_, _*_, _≤_, _<_}
 use native.Mathlib.Omega.{arith}
-use borrow.Author.Tests.{leb-true}
 use lib.ListN.{length, getD, drop, replicate, getElem?, length-append, length-replicate, List·getD-append}
-use Rattle.semantics.specs.Bytes.{read, broken, byte, andThen, _>>=_, give, times}
+use Rattle.semantics.specs.Bytes.{read, give, times}
 use Rattle.semantics.specs.Editions.{edition1}
 use Rattle.semantics.specs.Refusals.{Judged, refused}
 use Rattle.semantics.specs.TableFile.{NodeAction, Entry, readEntry, readLocation, readLocationCount, readLocations, locationsIn}
@@ -18,11 +17,10 @@ use Rattle.codec.specs.Places.{placesFrom}
 use Rattle.codec.specs.Padding.{pad}
 use Rattle.codec.proofs.Reading.{either}
 use Rattle.codec.proofs.Known.{cons, times-length, after-byte, not-past}
-use Rattle.codec.proofs.Places.{Takes, takes-then, takes-guard, takes-byte, takes-number, takes-nat2, takes-give, takes-times, places-length, placed, placed-before}
-use Rattle.table_read.specs.LocationIndex.{entryAt, locationIndex, locationsRead, locationsOf}
-use Rattle.table_read.specs.Promised.{EntriesAt}
+use Rattle.codec.proofs.Places.{Takes, takes-then, takes-guard, takes-byte, takes-number, takes-nat2, takes-give, takes-times, places-length, placed}
+use Rattle.table_read.specs.LocationIndex.{locationIndex, locationsRead, locationsOf}
 use Rattle.table_read.proofs.Fitted.{Fitted, fit, unfit, fitted}
-use Rattle.table_read.proofs.EntryLoop.{entry-is, entry-took}
+use Rattle.table_read.proofs.EntryLoop.{entryAt, entry-is, entry-took}
 use Rattle.table_read.proofs.LocationLoop.{accept, count-was, in-times}
 
 -- ---- where nothing is refused
@@ -71,13 +69,8 @@ takes-location : Takes (readLocation edition1)
 unfolding readLocation
 takes-location = takes-then takes-byte (λ n. takes-guard _ (takes-times n takes-entry))
 
-nothing-there : readLocation edition1 [] ≡ broken
-unfolding readLocation _>>=_ andThen byte
-nothing-there = refl
-
 -- ---- location k
 pub record LocationAt (s : List ℕ) (ls : List (List Entry)) (k p : ℕ) : Type 0 where
-  pub before-end : p < length s
   pub rest : List ℕ
   pub reads : readLocation edition1 (drop p s) ≡ read (getD ls k []) rest
 
@@ -120,12 +113,16 @@ module _ (acts : List NodeAction) (s : List ℕ) {ls : List (List Entry)} (e : l
       let x = placed takes-location s (length ls) k 2 (t .0) (t .3) j in
       let at : getD (locationsOf acts s .places) k 0 ≡ getD ps k 0 = ap (λ z. getD (z .places) k 0) (index-is acts s e h) ∙ List·getD-append ps (replicate (1024 - length ps) 0) 0 k (omega arith) in
       subst (LocationAt s ls k) (sym at) (record {
-        before-end = placed-before nothing-there x;
         rest = x .nth .end;
         reads = x .nth .got ∙ ap (λ z. read z (x .nth .end)) (getD-of ls k [] (x .nth .is));
       })
 
 -- ---- the entries of a location
+-- they stand one after the other, 5 bytes each
+pub record EntriesAt (s : List ℕ) (p : ℕ) (es : List Entry) : Type 0 where
+  pub inside : p + 5 * length es ≤ length s
+  pub entry : (j : ℕ) → j < length es → getElem? es j ≡ some (entryAt s (p + 5 * j))
+
 entries-from : (s : List ℕ) (n p : ℕ) (m : List ℕ) {es : List Entry} {e : List ℕ} → p ≤ length s → m ≡ drop p s → times n (readEntry edition1) m ≡ read es e → EntriesAt s p es
 unfolding times give
 entries-from s zero p m b q h = subst (EntriesAt s p) (read-value h) (record { inside = omega arith; entry = λ j i. absurd (omega arith) })
@@ -144,10 +141,15 @@ entries-from s (suc n) p m b q h =
         at zero i = let z : p + 5 * 0 ≡ p = omega arith in ap some (k ∙ ap (entryAt s) (sym z))
         at (suc j) i = let z : p + 1 + 2 + 2 + 5 * j ≡ p + 5 * suc j = omega arith in x .entry j (omega arith) ∙ ap (λ q. some (entryAt s q)) z
 
-pub location-entries : (s : List ℕ) (p : ℕ) {es : List Entry} {e : List ℕ} → readLocation edition1 (drop p s) ≡ read es e → (1 ≤ length es) × (length es ≡ getD s p 0) × EntriesAt s (p + 1) es
+-- their count, then the entries
+pub record LocationStands (s : List ℕ) (p : ℕ) (es : List Entry) : Type 0 where
+  pub before-end : p < length s
+  pub counted : length es ≡ getD s p 0
+  pub entries : EntriesAt s (p + 1) es
+
+pub location-stands : (s : List ℕ) (p : ℕ) {es : List Entry} {e : List ℕ} → readLocation edition1 (drop p s) ≡ read es e → LocationStands s p es
 unfolding readLocation
-location-entries s p h = either p (length s) (λ i.
+location-stands s p h = either p (length s) (λ i.
     let g = guarded _ _ (after-byte _ s p i h) in
     let n = times-length (readEntry edition1) (getD s p 0) (drop (p + 1) s) (g .1) in
-    let l = leb-true 1 (getD s p 0) (g .0) in
-    (omega arith, n, entries-from s (getD s p 0) (p + 1) (drop (p + 1) s) (omega arith) refl (g .1))) (λ i. not-past _ s p i h)
+    record { before-end = i; counted = n; entries = entries-from s (getD s p 0) (p + 1) (drop (p + 1) s) (omega arith) refl (g .1) }) (λ i. not-past _ s p i h)

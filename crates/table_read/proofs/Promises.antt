@@ -41,7 +41,7 @@ use Rattle.table_read.proofs.ActionLoop.{accept as actions-accept}
 use Rattle.table_read.proofs.LocationLoop.{accept as locations-accept}
 use Rattle.table_read.proofs.ActionsFound.{Here, no-action, one-action, action-here, index-is, laid-actions, nowhere-above}
 use Rattle.table_read.proofs.ActionsFit.{by-node-every}
-use Rattle.table_read.proofs.LocationsFound.{location-at, location-entries, count-is, count-bounds, places-full}
+use Rattle.table_read.proofs.LocationsFound.{location-at, count-is, count-bounds, places-full}
 use Rattle.table_read.proofs.OperandTurns.{operandOf}
 
 -- ---- accepted or refused
@@ -187,12 +187,9 @@ unfolding locationsFit
 location-promised t {tb} o {x} q k h = subst (λ x. LocationPromised s (getD (x .places) k 0) (length (tb .locations)) (tb .actions) (getD (tb .locations) k [])) (sym q)
     (let n = count-is (tb .actions) s (o .locations) (o .locations-passed) in
     let a = location-at (tb .actions) s (o .locations) (o .locations-passed) k (omega arith) in
-    let b = location-entries s _ (a .reads) in
     record {
-      before-end = a .before-end;
-      counted = b .1;
-      some-entries = b .0;
-      entries = b .2;
+      rest = a .rest;
+      reads = a .reads;
       fits = getD-all (tb .locations) k [] h (every-all (locationFits (length (tb .locations)) (tb .actions)) (tb .locations) (o .locations-fit));
     })
   where

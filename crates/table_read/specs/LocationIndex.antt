@@ -2,9 +2,8 @@
 use mathlib.Core.Path.{_≡_}
 use mathlib.Core.Bool.{Bool, false}
 use mathlib.Core.List.{List}
-use Prim.Native.Nat.{ℕ, _+_}
-use lib.ListN.{length, getD, drop, replicate}
-use Rattle.semantics.specs.Bytes.{be2}
+use Prim.Native.Nat.{ℕ}
+use lib.ListN.{length, drop, replicate}
 use Rattle.semantics.specs.Editions.{edition1}
 use Rattle.semantics.specs.Refusals.{Judged, refused, accepted}
 use Rattle.semantics.specs.Run.{Action}
@@ -16,10 +15,6 @@ use Rattle.table_read.specs.declared.locations.Locations.{Locations}
 
 abbrev pub entryNode : Entry → ℕ
 entryNode e = e .node
-
--- the entry whose bytes stand at a place
-abbrev pub entryAt : List ℕ → ℕ → Entry
-entryAt s p = record { node = getD s p 0; target = be2 (getD s (p + 1) 0) (getD s (p + 1 + 1) 0); other = be2 (getD s (p + 1 + 2) 0) (getD s (p + 1 + 2 + 1) 0) }
 
 -- r is whether targets fit an action of kind k; false where k is no kind
 pub record FitsKind (n k t u : ℕ) (r : Bool) : Type 0 where

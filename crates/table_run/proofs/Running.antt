@@ -23,12 +23,12 @@ use Rattle.records.specs.declared.Counts.{Counts}
 use Rattle.records.proofs.Books.{Booked}
 use Rattle.execution.proofs.Runs.{eventAt, run-start, run-counts, run-length, run-room, run-next, run-end}
 use Rattle.execution.proofs.Stepping.{set-at, set-over}
-use Rattle.table_step.specs.Entries.{Counted, Gathered}
+use Rattle.table_step.specs.Entries.{Located, Gathered}
 use Rattle.table_step.specs.Situations.{StandsFor, at-location, at-end, TableLent, Promised, Steps}
 use Rattle.table_run.specs.Runs.{Asked, Asking, Going, Whole}
 use Rattle.table_step.specs.declared.steps.Situation.{Situation}
 use Rattle.table_step.specs.declared.steps.Answered.{Answered}
-use Rattle.table_step.proofs.EntryTurns.{listed-of, counted-of, acting-action}
+use Rattle.table_step.proofs.EntryTurns.{listed-of, located-of, acting-action}
 
 -- ---- the set of the acting nodes
 -- 18 has let only nodes below 64 pass
@@ -48,8 +48,8 @@ module _ {l : Lent} {locs places : List ℕ} {vs₀ : List ℤ} {ms₀ events d�
   pub first-row : Asking l locs places vs₀ ms₀ events d₀ → 0 < length places
   first-row q = q .asked .lent .locations .at 0 (q .asked .lent .some-location) .row
 
-  pub first-counted : Asking l locs places vs₀ ms₀ events d₀ → Counted locs (getD places 0 0)
-  first-counted q = counted-of (q .asked .lent .locations .at 0 (q .asked .lent .some-location) .promised)
+  pub first-located : Asking l locs places vs₀ ms₀ events d₀ → Located locs (getD places 0 0)
+  first-located q = located-of (q .asked .lent .locations .at 0 (q .asked .lent .some-location) .promised)
 
   pub going-start : {set : NodeSet} {cs : Counts} (t : Table) → told cs ≡ noCounts → Asked t l locs places vs₀ ms₀ events d₀ → Gathered locs (getD places 0 0) (set .words) →
       Going t vs₀ ms₀ events d₀ 0 0 (record { over = false; place = 0; acting = set }) cs vs₀ ms₀ d₀

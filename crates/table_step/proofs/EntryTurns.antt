@@ -18,10 +18,11 @@ use Rattle.codec.proofs.Reading.{nat2At}
 use Rattle.nodeset.specs.Sets.{mem, emptySet, inserted, Words}
 use Rattle.nodeset.proofs.Members.{members-are}
 use Rattle.nodeset.proofs.Membership.{mem-empty, mem-inserted, words-empty}
-use Rattle.table_read.specs.LocationIndex.{entryAt}
 use Rattle.table_read.specs.Promised.{LocationPromised, Leads}
+use Rattle.table_read.proofs.EntryLoop.{entryAt}
+use Rattle.table_read.proofs.LocationsFound.{LocationStands, location-stands}
 use Rattle.table_read.proofs.Promises.{EntryPromised, entries-promised, nodes-rise, leads}
-use Rattle.table_step.specs.Entries.{Counted, Listed, Gathered, Found}
+use Rattle.table_step.specs.Entries.{Listed, Located, Gathered, Found}
 
 -- ---- lists
 data Split {A : Type 0} (l : List A) (j : ℕ) (x : A) : Type 0 where
@@ -61,6 +62,17 @@ among-last k (x ∷ l) e = go (eqb (x .node) k) (eqb (e .node) k) (among k (entr
     go true false c h = refl
     go false b c h = h
 
+-- ---- where the entries stand
+stands : {s : List ℕ} {p : ℕ} {es : List Entry} → Listed s p es → LocationStands s p es
+stands {s} {p} l = location-stands s p (l .reads)
+
+module _ {s : List ℕ} {p : ℕ} (l : Located s p) where
+  pub count-before-end : p < length s
+  count-before-end = stands (l .listed) .before-end
+
+  pub entries-inside : p + 1 + 5 * getD s p 0 ≤ length s
+  entries-inside = let x = stands (l .listed) in omega (arith, x .entries .inside, x .counted)
+
 -- ---- the acting nodes: those of the first j entries
 pub record Gathering (s : List ℕ) (p : ℕ) (j q : ℕ) (ws : List ℕ) : Type 0 where
   pub place : q ≡ p + 1 + 5 * j
@@ -68,7 +80,7 @@ pub record Gathering (s : List ℕ) (p : ℕ) (j q : ℕ) (ws : List ℕ) : Type
   pub are : (es : List Entry) → Listed s p es → (k : ℕ) → mem ws k ≡ among k (entryNodes (take j es))
 
 entry-here : {s : List ℕ} {p j q : ℕ} {es : List Entry} → Listed s p es → q ≡ p + 1 + 5 * j → j < getD s p 0 → getElem? es j ≡ some (entryAt s q)
-entry-here {s} {p} {j} l e h = l .entries .entry j (omega (arith, l .counted)) ∙ ap (λ q. some (entryAt s q)) (sym e)
+entry-here {s} {p} {j} l e h = let x = stands l in x .entries .entry j (omega (arith, x .counted)) ∙ ap (λ q. some (entryAt s q)) (sym e)
 
 pub gather-start : (s : List ℕ) (p : ℕ) {ws : List ℕ} → ws ≡ emptySet → Gathering s p 0 (p + 1) ws
 unfolding among entryNodes
@@ -92,7 +104,7 @@ gather-next s p {j} {q} {n} {ws} {ws'} g h e b w i = record { place = omega (ari
 pub gather-end : (s : List ℕ) (p : ℕ) {j q : ℕ} {ws : List ℕ} → Gathering s p j q ws → getD s p 0 ≤ j → Gathered s p ws
 gather-end s p {j} {q} {ws} g h = record {
   words = g .words;
-  are = λ es l. members-are (g .words) (l .rising) (λ k. g .are es l k ∙ ap (λ z. among k (entryNodes z)) (take-whole es j (omega (arith, l .counted))));
+  are = λ es l. members-are (g .words) (l .rising) (λ k. g .are es l k ∙ ap (λ z. among k (entryNodes z)) (take-whole es j (omega (arith, stands l .counted))));
 }
 
 -- ---- a node's entry: none among the first j
@@ -130,14 +142,14 @@ module _ (s : List ℕ) (p n : ℕ) (b : Bool) {j q m : ℕ} (g : Looking s p n 
 
 pub look-end : (s : List ℕ) (p n : ℕ) (b : Bool) {j q : ℕ} → Looking s p n b j q → getD s p 0 ≤ j → Found s p n b 65535
 unfolding entryTarget NONE
-look-end s p n b {j} g h = record { is = λ es l. sym (g .later es l ∙ ap (λ z. entryTarget z n b) (drop-whole es j (omega (arith, l .counted)))) }
+look-end s p n b {j} g h = record { is = λ es l. sym (g .later es l ∙ ap (λ z. entryTarget z n b) (drop-whole es j (omega (arith, stands l .counted)))) }
 
 -- ---- what an accepted table promises of its entries
 pub listed-of : {s : List ℕ} {p n : ℕ} {acts : List NodeAction} {es : List Entry} → LocationPromised s p n acts es → Listed s p es
-listed-of {n = n} {acts = acts} {es = es} l = record { counted = l .counted; entries = l .entries; rising = nodes-rise n acts es (l .fits) }
+listed-of {n = n} {acts = acts} {es = es} l = record { rest = l .rest; reads = l .reads; rising = nodes-rise n acts es (l .fits) }
 
-pub counted-of : {s : List ℕ} {p n : ℕ} {acts : List NodeAction} {es : List Entry} → LocationPromised s p n acts es → Counted s p
-counted-of l = record { before-end = l .before-end; inside = let i = l .entries .inside in omega (arith, l .counted) }
+pub located-of : {s : List ℕ} {p n : ℕ} {acts : List NodeAction} {es : List Entry} → LocationPromised s p n acts es → Located s p
+located-of {es = es} l = record { entries = es; listed = listed-of l }
 
 or-stop : (acts : List NodeAction) (n : ℕ) {a : Action} → actionAt acts n ≡ some a → actionOrStop acts n ≡ a
 unfolding actionOrStop

@@ -29,11 +29,11 @@ use Rattle.effects.specs.declared.Verdict.{Verdict}
 use Rattle.effects.specs.declared.Verdict.the-variants.{Away, Above, Below, Stay, Move}
 use Rattle.execution.proofs.Outcomes.{heard-move}
 use Rattle.execution.proofs.Stepping.{stepped-over, stepped-away, stepped-above, stepped-below, stepped-stay, stepped-move, fits-left}
-use Rattle.table_step.specs.Entries.{Counted, Gathered, Found}
+use Rattle.table_step.specs.Entries.{Located, Gathered, Found}
 use Rattle.table_step.specs.Situations.{goingOn, ended, StandsFor, at-location, at-end, Here, Movable, Moving, Arrives, TableLent, Promised, Steps}
 use Rattle.table_step.specs.declared.steps.Situation.{Situation}
 use Rattle.table_step.specs.declared.steps.Answered.{Answered}
-use Rattle.table_step.proofs.EntryTurns.{listed-of, counted-of, acting-action, acting-leads}
+use Rattle.table_step.proofs.EntryTurns.{listed-of, located-of, acting-action, acting-leads}
 
 -- ---- answers
 pub over-empty : (n : ℕ) {s : NodeSet} → s .words ≡ emptySet → _≡_ {A = Answered} (record { answer = n; situation = record { over = true; place = 0; acting = s } }) (ended n)
@@ -75,8 +75,8 @@ module _ {locs places : List ℕ} {x : ℕ} where
   pub row-here : {v : Verdict} → Moving locs places x v → x < length places
   row-here m = m .movable .lent .at x (m .movable .below) .row
 
-  pub counted-here : {v : Verdict} → Moving locs places x v → Counted locs (getD places x 0)
-  counted-here m = counted-of (m .movable .lent .at x (m .movable .below) .promised)
+  pub located-here : {v : Verdict} → Moving locs places x v → Located locs (getD places x 0)
+  located-here m = located-of (m .movable .lent .at x (m .movable .below) .promised)
 
   -- ---- a move to y
   module _ {n : ℕ} {b : Bool} {y : ℕ} (f : Found locs (getD places x 0) n b y) where
@@ -98,8 +98,8 @@ module _ {locs places : List ℕ} {x : ℕ} where
     pub row-next : Moving locs places x (Move n b) → (y ≡ 65534 → ⊥) → (y ≡ 65533 → ⊥) → y < length places
     row-next m d h = m .movable .lent .at y (goes-on (m .table) (m .movable) d h) .row
 
-    pub counted-next : Moving locs places x (Move n b) → (y ≡ 65534 → ⊥) → (y ≡ 65533 → ⊥) → Counted locs (getD places y 0)
-    counted-next m d h = counted-of (m .movable .lent .at y (goes-on (m .table) (m .movable) d h) .promised)
+    pub located-next : Moving locs places x (Move n b) → (y ≡ 65534 → ⊥) → (y ≡ 65533 → ⊥) → Located locs (getD places y 0)
+    located-next m d h = located-of (m .movable .lent .at y (goes-on (m .table) (m .movable) d h) .promised)
 
     module _ (t : Table) (m : Movable t locs places x (Move n b)) {a : Answered} where
       pub moved-to-end : y ≡ 65534 → a ≡ ended 201 → Arrives t (tableControl t .next x n b) a

@@ -2,23 +2,24 @@
 use mathlib.Core.Path.{_≡_}
 use mathlib.Core.Bool.{Bool, true}
 use mathlib.Core.List.{List}
-use Prim.Native.Nat.{ℕ, _+_, _*_, _≤_, _<_}
-use lib.ListN.{length, getD}
-use Rattle.semantics.specs.TableFile.{Entry}
+use Prim.Native.Nat.{ℕ}
+use lib.ListN.{drop}
+use Rattle.semantics.specs.Bytes.{read}
+use Rattle.semantics.specs.Editions.{edition1}
+use Rattle.semantics.specs.TableFile.{Entry, readLocation}
 use Rattle.semantics.specs.Tables.{risingFrom, entryNodes, entryTarget}
 use Rattle.nodeset.specs.Sets.{members, Words}
-use Rattle.table_read.specs.Promised.{EntriesAt}
 
--- at a place there is a count, and then so many entries of 5 bytes
-pub record Counted (s : List ℕ) (p : ℕ) : Type 0 where
-  pub before-end : p < length s
-  pub inside : p + 1 + 5 * getD s p 0 ≤ length s
-
--- at a place there are these entries, their nodes rising
+-- these entries are read as a location at a place, their nodes rising
 pub record Listed (s : List ℕ) (p : ℕ) (es : List Entry) : Type 0 where
-  pub counted : length es ≡ getD s p 0
-  pub entries : EntriesAt s (p + 1) es
+  pub rest : List ℕ
+  pub reads : readLocation edition1 (drop p s) ≡ read es rest
   pub rising : risingFrom 0 (entryNodes es) ≡ true
+
+-- some entries are
+pub record Located (s : List ℕ) (p : ℕ) : Type 0 where
+  pub entries : List Entry
+  pub listed : Listed s p entries
 
 -- "The acting nodes are the location's entries": ws is the set of them
 pub record Gathered (s : List ℕ) (p : ℕ) (ws : List ℕ) : Type 0 where

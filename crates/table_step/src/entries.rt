@@ -1,11 +1,11 @@
 // The entries of a location: its acting nodes, and where their moves lead.
 use nodeset::NodeSet;
 ghost use Prim.Native.Nat.{_+_, _<_};
-ghost use Rattle.table_step.specs.Entries.{Counted, Gathered, Found};
+ghost use Rattle.table_step.specs.Entries.{Located, Gathered, Found};
 
 // the nodes of the location at a place
 pub fn acting(locs: &[u8], at: usize) -> NodeSet
-    requires { ⌜ Counted (now locs) at ⌝ }
+    requires { ⌜ Located (now locs) at ⌝ }
     ensures { λ r. ⌜ Gathered (now (locs .entry)) at (r .words) ⌝ }
 {
     let count = codec::wide(locs[at]);
@@ -22,7 +22,7 @@ pub fn acting(locs: &[u8], at: usize) -> NodeSet
 
 // where node n of the location at a place goes, on done or true, or on false; FFFF where it has no entry
 pub fn target(locs: &[u8], at: usize, n: usize, truth: bool) -> usize
-    requires { ⌜ Counted (now locs) at ⌝ }
+    requires { ⌜ Located (now locs) at ⌝ }
     ensures { λ r. ⌜ Found (now (locs .entry)) at n truth r ⌝ }
 {
     let count = codec::wide(locs[at]);

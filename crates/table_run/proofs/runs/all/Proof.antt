@@ -5,7 +5,7 @@ use lib.ListN.{length}
 use Rattle.semantics.specs.Tables.{Table}
 use Rattle.execution.specs.Ready.{lent}
 use Rattle.table_run.specs.Runs.{Asked, Going}
-use Rattle.table_run.proofs.Running.{first-row, first-counted, going-start, going-promised, going-room, going-values, going-modes, going-records, acting-few, going-counts, going-next, going-end}
+use Rattle.table_run.proofs.Running.{first-row, first-located, going-start, going-promised, going-room, going-values, going-modes, going-records, acting-few, going-counts, going-next, going-end}
 use native.Mathlib.Omega.{arith}
 use borrow.Author.Needs.{needs}
 use Rattle.table_run.proofs.runs.all.Statement.{statement}
@@ -28,7 +28,7 @@ acting-requires : tie.Need-acting-requires Inv-loop μ-loop
 acting-requires c κs =
     let c7 = c .before .before .before .before .before .before .before in
     let start = c7 .before .before .before .before .before in
-    first-counted (start .pre)
+    first-located (start .pre)
 
 none-requires : tie.Need-none-requires Inv-loop μ-loop
 none-requires c κs = search needs

@@ -3,7 +3,7 @@ use mathlib.Core.Path.{_≡_}
 use Prim.Native.Nat.{_-_, _≤_}
 use lib.ListN.{getD}
 use Rattle.nodeset.proofs.Owned.{owned}
-use Rattle.table_step.proofs.EntryTurns.{Gathering, gather-start, gather-next, gather-end}
+use Rattle.table_step.proofs.EntryTurns.{count-before-end, entries-inside, Gathering, gather-start, gather-next, gather-end}
 use borrow.Author.Needs.{needs}
 use native.Mathlib.Omega.{arith}
 use Rattle.table_step.proofs.entries.acting.Statement.{statement}
@@ -16,7 +16,7 @@ abbrev μ-loop : tie.MeasureT-loop
 μ-loop locs at count set₀ p₀ j₀ set p j = count - j
 
 shared-slice-read-wide : tie.Need-shared-slice-read-wide Inv-loop μ-loop
-shared-slice-read-wide c = c .before .before .pre .before-end
+shared-slice-read-wide c = count-before-end (c .before .before .pre)
 
 wide-requires : tie.Need-wide-requires Inv-loop μ-loop
 wide-requires c κs = search needs
@@ -25,13 +25,13 @@ empty-requires : tie.Need-empty-requires Inv-loop μ-loop
 empty-requires c κs = search needs
 
 add-p : tie.Need-add-p Inv-loop μ-loop
-add-p c = omega (arith, (c .before .before .before .before .pre .before-end))
+add-p c = omega (arith, (count-before-end (c .before .before .before .before .pre)))
 
 loop-holds : tie.Need-loop-holds Inv-loop μ-loop
 loop-holds c = (omega arith, (c .before .wide .ensures), gather-start _ _ (c .empty .ensures))
 
 shared-slice-read-wide-2 : tie.Need-shared-slice-read-wide-2 Inv-loop μ-loop
-shared-slice-read-wide-2 c = omega (arith, (c .before .before .loop .inv .2 .place), (c .before .before .loop .inv .1), (c .before .before .before .before .before .before .before .pre .inside))
+shared-slice-read-wide-2 c = omega (arith, (c .before .before .loop .inv .2 .place), (c .before .before .loop .inv .1), (entries-inside (c .before .before .before .before .before .before .before .pre)))
 
 wide-requires-2 : tie.Need-wide-requires-2 Inv-loop μ-loop
 wide-requires-2 c κs = search needs
@@ -42,7 +42,7 @@ with-requires c κs = omega (arith, (c .wide2 .ensures), (c .before .shared-slic
 add-p-2 : tie.Need-add-p-2 Inv-loop μ-loop
 add-p-2 c =
     let c7 = c .before .before .before .before .before .before .before in
-    omega (arith, (c .before .before .before .before .loop .inv .2 .place), (c .before .before .before .before .loop .inv .1), (c7 .before .before .pre .inside))
+    omega (arith, (c .before .before .before .before .loop .inv .2 .place), (c .before .before .before .before .loop .inv .1), (entries-inside (c7 .before .before .pre)))
 
 add-j : tie.Need-add-j Inv-loop μ-loop
 add-j c = omega arith

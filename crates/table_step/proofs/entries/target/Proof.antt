@@ -2,7 +2,7 @@
 use mathlib.Core.Path.{_≡_}
 use Prim.Native.Nat.{_-_, _≤_}
 use lib.ListN.{getD}
-use Rattle.table_step.proofs.EntryTurns.{Looking, look-start, look-next, look-true, look-false, look-end}
+use Rattle.table_step.proofs.EntryTurns.{count-before-end, entries-inside, Looking, look-start, look-next, look-true, look-false, look-end}
 use borrow.Author.Needs.{needs}
 use native.Mathlib.Omega.{arith}
 use Rattle.table_step.proofs.entries.target.Statement.{statement}
@@ -15,19 +15,19 @@ abbrev μ-loop : tie.MeasureT-loop
 μ-loop locs at n truth count p₀ j₀ p j = count - j
 
 shared-slice-read-wide : tie.Need-shared-slice-read-wide Inv-loop μ-loop
-shared-slice-read-wide c = c .before .before .pre .before-end
+shared-slice-read-wide c = count-before-end (c .before .before .pre)
 
 wide-requires : tie.Need-wide-requires Inv-loop μ-loop
 wide-requires c κs = search needs
 
 add-p : tie.Need-add-p Inv-loop μ-loop
-add-p c = omega (arith, (c .before .before .before .pre .before-end))
+add-p c = omega (arith, (count-before-end (c .before .before .before .pre)))
 
 loop-holds : tie.Need-loop-holds Inv-loop μ-loop
 loop-holds c = (omega arith, (c .wide .ensures), look-start _ _ _ _)
 
 shared-slice-read-wide-2 : tie.Need-shared-slice-read-wide-2 Inv-loop μ-loop
-shared-slice-read-wide-2 c = omega (arith, (c .before .before .loop .inv .2 .place), (c .before .before .loop .inv .1), (c .before .before .before .before .before .before .pre .inside))
+shared-slice-read-wide-2 c = omega (arith, (c .before .before .loop .inv .2 .place), (c .before .before .loop .inv .1), (entries-inside (c .before .before .before .before .before .before .pre)))
 
 wide-requires-2 : tie.Need-wide-requires-2 Inv-loop μ-loop
 wide-requires-2 c κs = search needs
@@ -35,12 +35,12 @@ wide-requires-2 c κs = search needs
 add-nat2 : tie.Need-add-nat2 Inv-loop μ-loop
 add-nat2 c =
     let c7 = c .before .before .before .before .before .before .before in
-    omega (arith, (c .before .before .before .before .before .loop .inv .2 .place), (c .before .before .before .before .before .loop .inv .1), (c7 .before .before .pre .inside))
+    omega (arith, (c .before .before .before .before .before .loop .inv .2 .place), (c .before .before .before .before .before .loop .inv .1), (entries-inside (c7 .before .before .pre)))
 
 nat2-requires : tie.Need-nat2-requires Inv-loop μ-loop
 nat2-requires c κs =
     let c7 = c .before .before .before .before .before .before .before in
-    omega (arith, (c .before .before .before .before .before .loop .inv .2 .place), (c .before .before .before .before .before .loop .inv .1), (c7 .before .before .pre .inside))
+    omega (arith, (c .before .before .before .before .before .loop .inv .2 .place), (c .before .before .before .before .before .loop .inv .1), (entries-inside (c7 .before .before .pre)))
 
 returns : tie.Need-returns Inv-loop μ-loop
 returns c =
@@ -50,17 +50,17 @@ returns c =
 add-nat2-2 : tie.Need-add-nat2-2 Inv-loop μ-loop
 add-nat2-2 c =
     let c7 = c .before .before .before .before .before .before .before in
-    omega (arith, (c .before .before .before .before .before .loop .inv .2 .place), (c .before .before .before .before .before .loop .inv .1), (c7 .before .before .pre .inside))
+    omega (arith, (c .before .before .before .before .before .loop .inv .2 .place), (c .before .before .before .before .before .loop .inv .1), (entries-inside (c7 .before .before .pre)))
 
 add-nat2-3 : tie.Need-add-nat2-3 Inv-loop μ-loop
 add-nat2-3 c =
     let c7 = c .before .before .before .before .before .before .before in
-    omega (arith, (c .before .before .before .before .before .loop .inv .2 .place), (c .before .before .before .before .before .loop .inv .1), (c7 .before .before .pre .inside))
+    omega (arith, (c .before .before .before .before .before .loop .inv .2 .place), (c .before .before .before .before .before .loop .inv .1), (entries-inside (c7 .before .before .pre)))
 
 nat2-requires-2 : tie.Need-nat2-requires-2 Inv-loop μ-loop
 nat2-requires-2 c κs =
     let c7 = c .before .before .before .before .before .before .before in
-    omega (arith, (c .before .before .before .before .before .loop .inv .2 .place), (c .before .before .before .before .before .loop .inv .1), (c7 .before .before .pre .inside))
+    omega (arith, (c .before .before .before .before .before .loop .inv .2 .place), (c .before .before .before .before .before .loop .inv .1), (entries-inside (c7 .before .before .pre)))
 
 returns-2 : tie.Need-returns-2 Inv-loop μ-loop
 returns-2 c =
@@ -70,7 +70,7 @@ returns-2 c =
 add-p-2 : tie.Need-add-p-2 Inv-loop μ-loop
 add-p-2 c =
     let c7 = c .before .before .before .before .before .before .before in
-    omega (arith, (c .before .before .before .before .loop .inv .2 .place), (c .before .before .before .before .loop .inv .1), (c7 .before .pre .inside))
+    omega (arith, (c .before .before .before .before .loop .inv .2 .place), (c .before .before .before .before .loop .inv .1), (entries-inside (c7 .before .pre)))
 
 add-j : tie.Need-add-j Inv-loop μ-loop
 add-j c = omega arith

@@ -1,5 +1,5 @@
 -- The target of the entry decides: the end, a halt, or the row of another location.
-use Rattle.table_step.proofs.Settling.{row-here, counted-here, row-next, counted-next, moved-to-end, moved-to-halt, moved-on}
+use Rattle.table_step.proofs.Settling.{row-here, located-here, row-next, located-next, moved-to-end, moved-to-halt, moved-on}
 use borrow.Author.Needs.{needs}
 use Rattle.table_step.proofs.steps.moved.Statement.{statement}
 use Rattle.table_step.proofs.steps.moved.Tie as tie
@@ -11,7 +11,7 @@ shared-slice-read-from : tie.Need-shared-slice-read-from
 shared-slice-read-from c = row-here (c .before .before .before .pre)
 
 target-requires : tie.Need-target-requires
-target-requires c κs = counted-here (c .before .before .before .pre)
+target-requires c κs = located-here (c .before .before .before .pre)
 
 end-requires : tie.Need-end-requires
 end-requires c κs = search needs
@@ -32,7 +32,7 @@ shared-slice-read-at : tie.Need-shared-slice-read-at
 shared-slice-read-at c = row-next (c .before .before .before .target .ensures) (c .before .before .before .before .before .before .before .pre) (c .before .before .if1 .left) (c .before .if2 .left)
 
 acting-requires : tie.Need-acting-requires
-acting-requires c κs = counted-next (c .before .before .before .target .ensures) (c .before .before .before .before .before .before .before .pre) (c .before .before .if1 .left) (c .before .if2 .left)
+acting-requires c κs = located-next (c .before .before .before .target .ensures) (c .before .before .before .before .before .before .before .pre) (c .before .before .if1 .left) (c .before .if2 .left)
 
 go-on-requires : tie.Need-go-on-requires
 go-on-requires c κs = search needs
