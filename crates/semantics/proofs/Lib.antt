@@ -45,3 +45,7 @@ pub mod Evaluated
 pub mod TablesProper
 pub mod TableEntries
 pub mod TableSentences
+-- practice events
+pub mod PracticeRules
+pub mod PracticeCall
+pub mod PracticePapers

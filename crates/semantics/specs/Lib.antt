@@ -22,3 +22,6 @@ pub mod Conditions
 pub mod Sentences
 pub mod Statements
 pub mod K1
+-- document 02
+pub mod Practice
+pub mod Drawing
