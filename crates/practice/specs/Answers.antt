@@ -1,0 +1,8 @@
+-- What the call returns in code, as the definition has it.
+use mathlib.Core.List.{List}
+use Prim.Native.Nat.{ℕ}
+use Rattle.semantics.specs.Practice.{Practised}
+
+-- all that it returns and leaves
+abbrev pub returned : ℕ → ℕ → List ℕ → Practised
+returned refusal written events = record { refusal = refusal; written = written; events = events }
