@@ -1,4 +1,4 @@
-//! What the calls are lent: schedule files and tables, starts, events, and the old contents of buffers.
+//! What the calls are lent: schedule files and tables, starts, events, seeds and counts, rooms, and the old contents of buffers.
 use crate::drafts::{self, Draft};
 use crate::plain;
 use crate::random::Random;
