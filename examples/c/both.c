@@ -3,9 +3,11 @@
  * table over a list of events, from its own initial values and modes, and
  * compares the two runs.
  * both SCHEDULE EVENTS
+ * both SCHEDULE SEED COUNT: the events are COUNT practice events from SEED
  */
 #include "zimtleiter.h"
 
+#include <errno.h>
 #include <stdio.h>
 #include <stdlib.h>
 #include <string.h>
@@ -143,14 +145,48 @@ static int same(struct run a, struct run b)
            memcmp(a.records.at, b.records.at, a.records.length) == 0;
 }
 
+static void usage(void)
+{
+    fputs("both SCHEDULE EVENTS, or both SCHEDULE SEED COUNT (a seed of 32 bits)\n", stderr);
+    exit(2);
+}
+
+/* A decimal number up to a limit, and nothing else. */
+static uint64_t number(const char *word, uint64_t most)
+{
+    char *end;
+    if (*word < '0' || *word > '9')
+        usage();
+    errno = 0;
+    unsigned long long n = strtoull(word, &end, 10);
+    if (errno != 0 || *end != 0 || n > most)
+        usage();
+    return n;
+}
+
+/* Room for any list of practice events: 10,000 of 3 bytes. */
+enum { PRACTICE_ROOM = 30000 };
+
+/* The events of two words, a seed and a count. */
+static struct bytes practice_events(const char *seed, const char *count)
+{
+    uint32_t from = (uint32_t)number(seed, UINT32_MAX);
+    uint64_t many = number(count, UINT64_MAX);
+    struct bytes e = {room_for(PRACTICE_ROOM), 0};
+    uint64_t length;
+    uint8_t n = zimtleiter_practice(from, many, e.at, PRACTICE_ROOM, &length);
+    if (n != 0)
+        refused("practice events", n);
+    e.length = length;
+    return e;
+}
+
 int main(int argc, char **argv)
 {
-    if (argc != 3) {
-        fputs("both SCHEDULE EVENTS\n", stderr);
-        return 2;
-    }
+    if (argc != 3 && argc != 4)
+        usage();
     struct bytes file = read_file(argv[1]);
-    struct bytes events = read_file(argv[2]);
+    struct bytes events = argc == 3 ? read_file(argv[2]) : practice_events(argv[2], argv[3]);
     uint8_t n = zimtleiter_read_schedule(file.at, file.length);
     if (n != 0)
         refused("reading the schedule", n);

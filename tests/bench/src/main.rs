@@ -27,6 +27,7 @@ enum Work {
     Size(Vec<u8>),
     Rules(Runs),
     Table(Vec<u8>, Runs),
+    Practice { seed: u32, count: u64 },
 }
 
 const ROOM: usize = 400_000;
@@ -36,7 +37,7 @@ fn by_table(r: Runs) -> Work {
     Work::Table(table, r)
 }
 
-const NAMES: [&str; 15] = [
+const NAMES: [&str; 16] = [
     "compile-k8",
     "compile-mixed",
     "compile-widest",
@@ -52,6 +53,7 @@ const NAMES: [&str; 15] = [
     "table-vessels",
     "table-batch",
     "table-wide",
+    "practice",
 ];
 
 fn work(name: &str) -> Work {
@@ -71,11 +73,12 @@ fn work(name: &str) -> Work {
         "table-vessels" => by_table(cases::vessels()),
         "table-batch" => by_table(cases::batch()),
         "table-wide" => by_table(cases::broad()),
+        "practice" => Work::Practice { seed: 1, count: cases::EVENTS as u64 },
         _ => panic!("no case {name}; there are {NAMES:?}"),
     }
 }
 
-/// A call's number, or what it gave: the table's length, its size or the counts.
+/// A call's number, or what it gave: the length of what it wrote, a table's size or the counts.
 fn compiled(who: Who, file: &[u8], out: &mut [u8]) -> Result<usize, u8> {
     match who {
         Who::Product => product::compile(file, out),
@@ -83,6 +86,17 @@ fn compiled(who: Who, file: &[u8], out: &mut [u8]) -> Result<usize, u8> {
         Who::Plain => plain::compile(&plain::whole_table(file), out.len()).map(|t| {
             out[..t.len()].copy_from_slice(t);
             t.len()
+        }),
+    }
+}
+
+fn drawn(who: Who, seed: u32, count: u64, out: &mut [u8]) -> Result<usize, u8> {
+    match who {
+        Who::Product => product::practice(seed, count, out),
+        Who::Fast => fast::practice(seed, count, out),
+        Who::Plain => plain::practice(seed, count, out.len()).map(|l| {
+            out[..l.len()].copy_from_slice(&l);
+            l.len()
         }),
     }
 }
@@ -118,17 +132,19 @@ fn perform(who: Who, w: &Work, out: &mut [u8]) -> [u64; 4] {
         Ok(x) => [0, x.taken, x.turned_away, x.faulted],
         Err(n) => [n as u64, 0, 0, 0],
     };
+    let wrote = |r: Result<usize, u8>| match r {
+        Ok(n) => [0, n as u64, 0, 0],
+        Err(n) => [n as u64, 0, 0, 0],
+    };
     match w {
-        Work::Compile(f) => match compiled(who, f, out) {
-            Ok(n) => [0, n as u64, 0, 0],
-            Err(n) => [n as u64, 0, 0, 0],
-        },
+        Work::Compile(f) => wrote(compiled(who, f, out)),
         Work::Size(f) => match sized(who, f) {
             Ok([locations, entries]) => [0, locations, entries, 0],
             Err(n) => [n as u64, 0, 0, 0],
         },
         Work::Rules(r) => told(ran(who, false, &r.file, r, out)),
         Work::Table(t, r) => told(ran(who, true, t, r, out)),
+        Work::Practice { seed, count } => wrote(drawn(who, *seed, *count, out)),
     }
 }
 
@@ -137,6 +153,7 @@ fn room(w: &Work) -> usize {
         Work::Compile(_) => ROOM,
         Work::Size(_) => 0,
         Work::Rules(r) | Work::Table(_, r) => r.events.len() / 3 * (9 + r.start.len()),
+        Work::Practice { count, .. } => 3 * *count as usize,
     }
 }
 
@@ -193,6 +210,18 @@ fn damaged(file: &[u8], table: &[u8], name: &str, seed: u64) {
     }
 }
 
+/// Practice events: random seeds, and counts and rooms about their limits.
+fn agree_practice() {
+    let mut r = Random(3);
+    for count in [0, 1, 2, 300, 9_999, 10_000, 10_001, 1 << 32, (1 << 32) + 1, u64::MAX / 3 + 1, u64::MAX] {
+        for more in [0, 1, 2, 3, 4, 40] {
+            let room = (3 * count.min(10_002) as usize + more).saturating_sub(3);
+            let seed = r.word() as u32;
+            agree(&format!("practice {seed} {count} {room}"), &Work::Practice { seed, count }, room);
+        }
+    }
+}
+
 #[repr(C)]
 struct Timespec {
     seconds: i64,
@@ -236,6 +265,7 @@ fn timed(w: &Work, rounds: usize) -> [(u64, u64); 3] {
 
 fn all(rounds: usize, only: Option<&str>) {
     agree_beside();
+    agree_practice();
     println!("Least times of {rounds} rounds in microseconds and their ratios, then the ratios of the middle times, then what the call gave.");
     println!("{:16} {:>10} {:>10} {:>10} {:>8} {:>8}", "case", "product", "plain", "fast", "/ plain", "/ fast");
     for name in NAMES.iter().filter(|n| only.is_none_or(|o| o == **n)) {

@@ -44,6 +44,7 @@ extern "C" {
         turned_away: *mut u64,
         faulted: *mut u64,
     ) -> u8;
+    fn zimtleiter_practice(seed: u32, count: u64, events: *mut u8, room: usize, length: *mut u64) -> u8;
 }
 
 pub fn compile(file: &[u8], table: &mut [u8]) -> Result<usize, u8> {
@@ -87,4 +88,11 @@ pub fn rule_run(file: &[u8], start: &[u8], events: &[u8], records: &mut [u8]) ->
 
 pub fn table_run(table: &[u8], start: &[u8], events: &[u8], records: &mut [u8]) -> Result<Ran, u8> {
     run(zimtleiter_table_run, table, start, events, records)
+}
+
+pub fn practice(seed: u32, count: u64, events: &mut [u8]) -> Result<usize, u8> {
+    let mut length = 0;
+    // SAFETY: as above
+    let refusal = unsafe { zimtleiter_practice(seed, count, events.as_mut_ptr(), events.len(), &mut length) };
+    if refusal == 0 { Ok(length as usize) } else { Err(refusal) }
 }

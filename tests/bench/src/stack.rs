@@ -27,6 +27,7 @@ fn call(w: &Work, out: &mut [u8]) {
         Work::Size(f) => product::size(f).is_ok(),
         Work::Rules(r) => product::rule_run(&r.file, &r.start, &r.events, out).is_ok(),
         Work::Table(t, r) => product::table_run(t, &r.start, &r.events, out).is_ok(),
+        Work::Practice { seed, count } => product::practice(*seed, *count, out).is_ok(),
     };
 }
 
@@ -70,19 +71,20 @@ pub fn measure() {
         works.push(Work::Rules(runs()));
     }
     let own = taken(None, &mut []);
-    let mut most = [0; 4];
+    let mut most = [0; 5];
     for w in &works {
         let kind = match w {
             Work::Compile(_) => 0,
             Work::Rules(_) => 1,
             Work::Table(..) => 2,
             Work::Size(_) => 3,
+            Work::Practice { .. } => 4,
         };
         let mut out = vec![0; room(w)];
         assert!(matches!(perform(Who::Product, w, &mut out)[0], 0 | 13), "a case that is refused");
         most[kind] = most[kind].max(taken(Some(w), &mut out) - own);
     }
-    for (name, n) in ["compiling", "a run by the rules", "a run of a table", "the size of a schedule"].iter().zip(most) {
+    for (name, n) in ["compiling", "a run by the rules", "a run of a table", "the size of a schedule", "practice events"].iter().zip(most) {
         println!("{name}: {n} bytes of stack");
     }
 }

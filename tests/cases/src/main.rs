@@ -14,6 +14,7 @@ mod forms;
 #[allow(dead_code)]
 #[path = "../../differential/src/inputs.rs"]
 mod inputs;
+#[allow(dead_code)]
 #[path = "../../differential/src/plain.rs"]
 mod plain;
 #[path = "../../differential/src/random.rs"]

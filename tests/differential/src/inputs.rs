@@ -1,4 +1,4 @@
-//! What the calls are lent: schedule files and tables, starts, events, and the old contents of buffers.
+//! What the calls are lent: schedule files and tables, starts, events, seeds and counts, rooms, and the old contents of buffers.
 use crate::drafts::{self, Draft};
 use crate::plain;
 use crate::random::Random;
@@ -245,6 +245,35 @@ pub fn room(r: &mut Random, needed: usize) -> usize {
         7 => 65_536.max(needed),
         _ => needed + r.below(100),
     }
+}
+
+/// The seed of practice events, often at a border.
+pub fn seed(r: &mut Random) -> u32 {
+    if r.one_in(3) { r.of(&[0, 1, 1 << 31, u32::MAX]) } else { r.word() as u32 }
+}
+
+/// How many practice events: few, about 10,000, or many more, some of which are few, or three times few, in 16, 32 or 64 bits.
+pub fn practice_count(r: &mut Random) -> u64 {
+    let few = r.below(40) as u64;
+    match r.below(20) {
+        0 | 1 => 0,
+        2 => 9_990 + r.below(21) as u64,
+        3 => r.of(&[10_000, 10_001]),
+        4 | 5 => few + r.of(&[1 << 16, 1 << 32, 1 << 63]),
+        6 | 7 => few + r.of(&[(1 << 32) / 3 + 1, u64::MAX / 3 + 1, u64::MAX / 3 * 2 + 1]),
+        8 => u64::MAX - few,
+        9 => r.word() >> r.below(64),
+        10 => r.below(2_000) as u64,
+        _ => few,
+    }
+}
+
+/// About how many bytes are lent for so many practice events: three times the count, cut to fewer bits where that is too much.
+pub fn practice_room(count: u64) -> usize {
+    const MUCH: u64 = 40_000;
+    let triple = count.wrapping_mul(3);
+    let cut = [triple, triple as u32 as u64, triple as u16 as u64];
+    cut.into_iter().find(|n| *n <= MUCH).unwrap_or(MUCH) as usize
 }
 
 /// What a buffer of this length holds before a call.

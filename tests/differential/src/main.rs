@@ -1,4 +1,4 @@
-//! The six calls of the product against the plain implementation, on inputs from a seed.
+//! The calls of the product against the plain implementation, on inputs from a seed.
 //! differential [SEED [SECONDS]]
 mod drafts;
 mod forms;
@@ -10,18 +10,32 @@ mod tables;
 
 use product::Given;
 use random::Random;
+use std::collections::BTreeMap;
 use std::time::{Duration, Instant};
 
-const CALLS: [&str; 6] = ["read_schedule", "read_table", "compile", "rule_run", "table_run", "size"];
+const CALLS: [&str; 7] = ["read_schedule", "read_table", "compile", "rule_run", "table_run", "size", "practice"];
+
+/// The most bytes of practice events that are run, so that the other inputs have the most of the time.
+const LONGEST_DRILL: usize = 900;
+
+/// The numbers that these calls are refused with.
+fn refusals() -> impl Iterator<Item = u8> {
+    (1..=22).chain(32..=33)
+}
+
+/// The answers in records.
+fn answers() -> impl Iterator<Item = u8> {
+    (23..=31).chain(200..=203)
+}
 
 /// What was seen so far.
 #[derive(Default)]
 struct Tally {
     inputs: u64,
-    calls: [u64; 6],
-    accepted: [u64; 6],
-    refusals: [u64; 23],
-    answers: std::collections::BTreeMap<u8, u64>,
+    calls: [u64; 7],
+    accepted: [u64; 7],
+    refusals: BTreeMap<u8, u64>,
+    answers: BTreeMap<u8, u64>,
     longest: [usize; 4],
     edges: [u64; 4],
     over: u64,
@@ -47,7 +61,7 @@ impl Tally {
         if refusal == 0 {
             self.accepted[call] += 1;
         } else {
-            self.refusals[refusal as usize] += 1;
+            *self.refusals.entry(refusal).or_default() += 1;
         }
     }
 
@@ -57,11 +71,11 @@ impl Tally {
 
     fn print(&self, since: Instant) {
         println!("{} s, {} inputs, 0 differences", since.elapsed().as_secs(), self.inputs);
-        let calls: Vec<String> = (0..6).map(|k| format!("{} {} of {}", CALLS[k], self.accepted[k], self.calls[k])).collect();
+        let calls: Vec<String> = (0..CALLS.len()).map(|k| format!("{} {} of {}", CALLS[k], self.accepted[k], self.calls[k])).collect();
         println!("  accepted: {}", calls.join(", "));
-        let refusals: Vec<String> = (1..23).map(|n| format!("{n}:{}", self.refusals[n])).collect();
+        let refusals: Vec<String> = refusals().map(|n| format!("{n}:{}", self.refusals.get(&n).unwrap_or(&0))).collect();
         println!("  refused: {}", refusals.join(" "));
-        let answers: Vec<String> = (23..=31).chain(200..=203).map(|n| format!("{n}:{}", self.answers.get(&n).unwrap_or(&0))).collect();
+        let answers: Vec<String> = answers().map(|n| format!("{n}:{}", self.answers.get(&n).unwrap_or(&0))).collect();
         println!("  answered: {}", answers.join(" "));
         let [file, table, events, records] = self.longest;
         println!("  longest: file {file}, table {table}, events {events}, records {records} bytes");
@@ -83,8 +97,8 @@ impl Tally {
 
     /// Numbers and answers that no input has reached.
     fn unseen(&self) -> Vec<u8> {
-        let refusals = (1..23u8).filter(|n| self.refusals[*n as usize] == 0);
-        refusals.chain((23..=31).chain(200..=203).filter(|n| !self.answers.contains_key(n))).collect()
+        let unrefused = refusals().filter(|n| !self.refusals.contains_key(n));
+        unrefused.chain(answers().filter(|n| !self.answers.contains_key(n))).collect()
     }
 }
 
@@ -101,6 +115,14 @@ fn over(written: &[u8], old: &[u8]) -> Vec<u8> {
     let mut l = written.to_vec();
     l.extend(old.get(written.len()..).unwrap_or(&[]));
     l
+}
+
+/// What a call gives that writes one list and tells its length.
+fn written(list: Result<&[u8], u8>, old: &[u8]) -> Given {
+    match list {
+        Ok(l) => Given { numbers: vec![l.len() as u64], buffer: over(l, old), ..Given::default() },
+        Err(n) => Given { refusal: n, numbers: vec![0], buffer: old.to_vec(), ..Given::default() },
+    }
 }
 
 fn read(r: &mut Random, t: &mut Tally, call: usize, bytes: &[u8]) -> Result<(), Box<Difference>> {
@@ -128,13 +150,23 @@ fn compile(r: &mut Random, t: &mut Tally, file: &[u8]) -> Result<Option<Vec<u8>>
     let room = inputs::room(r, whole.as_ref().map_or(100, Vec::len));
     let old = inputs::old(r, room);
     let given = product::compile(r, file, &old);
-    let wanted = match plain::compile(&whole, room) {
-        Ok(table) => Given { numbers: vec![table.len() as u64], buffer: over(table, &old), ..Given::default() },
-        Err(n) => Given { refusal: n, numbers: vec![0], buffer: old.clone(), ..Given::default() },
-    };
+    let wanted = written(plain::compile(&whole, room), &old);
     t.saw(2, wanted.refusal);
     compare(2, &[("file", file), ("old", &old)], given, wanted)?;
     Ok(whole.ok())
+}
+
+/// Practice events, where the call is accepted.
+fn practice(r: &mut Random, t: &mut Tally) -> Result<Option<Vec<u8>>, Box<Difference>> {
+    let (seed, count) = (inputs::seed(r), inputs::practice_count(r));
+    let room = inputs::room(r, inputs::practice_room(count));
+    let old = inputs::old(r, room);
+    let given = product::practice(r, seed, count, &old);
+    let events = plain::practice(seed, count, room);
+    let wanted = written(events.as_deref().map_err(|n| *n), &old);
+    t.saw(6, wanted.refusal);
+    compare(6, &[("seed", &seed.to_be_bytes()), ("count", &count.to_be_bytes()), ("old", &old)], given, wanted)?;
+    Ok(events.ok())
 }
 
 /// By the rules, or a table.
@@ -161,7 +193,7 @@ fn run(r: &mut Random, t: &mut Tally, by_table: bool, program: &[u8], start: &[u
     compare(call, &[("program", program), ("start", start), ("events", events), ("old", &old)], given, wanted)
 }
 
-/// All six calls on one schedule, one table, starts and events.
+/// All calls on one schedule, one table, starts, events and a seed. Some short lists of practice events are run by the rules.
 fn input(r: &mut Random, t: &mut Tally) -> Result<(), Box<Difference>> {
     t.inputs += 1;
     let file = inputs::file(r);
@@ -188,7 +220,10 @@ fn input(r: &mut Random, t: &mut Tally) -> Result<(), Box<Difference>> {
     if plain::read_table(&table).is_ok() {
         t.saw_length(1, table.len());
     }
-    Ok(())
+    match practice(r, t)? {
+        Some(list) if list.len() <= LONGEST_DRILL && r.one_in(4) => run(r, t, false, &file, &start, &list),
+        _ => Ok(()),
+    }
 }
 
 fn tell(seed: u64, t: &Tally, d: &Difference) {

@@ -1,4 +1,4 @@
-//! The six calls of libcapi.a, each lent its bytes and numbers between others that are watched.
+//! The calls of libcapi.a, each lent its bytes and numbers between others that are watched.
 use crate::random::Random;
 
 extern "C" {
@@ -32,6 +32,7 @@ extern "C" {
         turned_away: *mut u64,
         faulted: *mut u64,
     ) -> u8;
+    fn zimtleiter_practice(seed: u32, count: u64, events: *mut u8, room: usize, length: *mut u64) -> u8;
 }
 
 /// What a call gave: its number, the numbers behind its pointers, the lent buffer afterwards, and what it touched that is not its own.
@@ -171,4 +172,11 @@ pub fn run(r: &mut Random, by_table: bool, program: &[u8], start: &[u8], events:
         buffer: records.bytes().to_vec(),
         touched: touched(&[&program, &start, &events], Some(&records), &set),
     }
+}
+
+pub fn practice(r: &mut Random, seed: u32, count: u64, buffer: &[u8]) -> Given {
+    let mut events = Lent::new(r, buffer);
+    let mut set = [Set::new(r)];
+    let refusal = unsafe { zimtleiter_practice(seed, count, events.place(), events.length(), set[0].place()) };
+    Given { refusal, numbers: vec![set[0].all[1]], buffer: events.bytes().to_vec(), touched: touched(&[], Some(&events), &set) }
 }

@@ -4,11 +4,13 @@ mod compile;
 mod file;
 mod moves;
 mod plant;
+mod practice;
 mod run;
 mod size;
 mod table;
 
 pub use compile::compile;
+pub use practice::practice;
 pub use run::Ran;
 
 use code::Program;
