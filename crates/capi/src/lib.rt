@@ -1,11 +1,13 @@
-// The six calls for C, each under its plain name: include/zimtleiter.h declares them.
+// The seven calls for C, each under its plain name: include/zimtleiter.h declares them.
 // A lent slice is a pointer and a length there, a `&mut u64` a pointer. No call asks anything of its bytes.
 use records::Ran;
 ghost use mathlib.Core.Path.{_≡_};
 ghost use Rattle.semantics.specs.Editions.{edition1};
 ghost use Rattle.semantics.specs.Calls.{readTable, tableRun};
+ghost use Rattle.semantics.specs.Practice.{practice};
 ghost use Rattle.schedules.specs.Calls.{readSchedule, size, compile, ruleRun};
 ghost use Rattle.compiler.specs.Answers.{returned, sized};
+ghost use Rattle.practice.specs.Answers.{practised};
 ghost use Rattle.capi.specs.Returned.{ran, Behind};
 
 // 0, or the first of 1 to 12 that applies
@@ -93,4 +95,19 @@ pub extern "C" fn zimtleiter_table_run(
 {
     let by_table = table_run::call::run(table, start, events, records);
     counted(by_table, taken, turned_away, faulted)
+}
+
+// 0, the events and their length in bytes; or the first of 32 and 33 that applies, and length 0
+#[no_mangle]
+pub extern "C" fn zimtleiter_practice(
+    seed: u32,
+    count: u64,
+    events: &mut [u8],
+    length: &mut u64,
+) -> u8
+    ensures { λ r. ⌜ practised r (now (length .exit)) (now (events .exit)) ≡ practice seed count (now (events .entry)) ⌝ }
+{
+    let x = practice::call::write(seed, count, events);
+    *length = x.length as u64;
+    x.refusal
 }

@@ -4,5 +4,5 @@ use Prim.Native.Nat.{ℕ}
 use Rattle.semantics.specs.Practice.{Practised}
 
 -- all that it returns and leaves
-abbrev pub returned : ℕ → ℕ → List ℕ → Practised
-returned refusal written events = record { refusal = refusal; written = written; events = events }
+abbrev pub practised : ℕ → ℕ → List ℕ → Practised
+practised refusal written events = record { refusal = refusal; written = written; events = events }

@@ -5,7 +5,7 @@ ghost use mathlib.Core.List.{List};
 ghost use Prim.Native.Nat.{ℕ};
 ghost use Rattle.semantics.specs.Refusals.{refused};
 ghost use Rattle.semantics.specs.Practice.{practice, practisedInto};
-ghost use Rattle.practice.specs.Answers.{returned};
+ghost use Rattle.practice.specs.Answers.{practised};
 
 // "a count up to 10,000"
 pub const MOST_EVENTS: u64 = 10000;
@@ -17,7 +17,7 @@ pub struct Practised {
 }
 
 fn refused(n: u8) -> Practised
-    ensures { λ r. ⌜ ((d : List ℕ) → returned (r .refusal) (r .length) d ≡ practisedInto d (refused n)) ⌝ }
+    ensures { λ r. ⌜ ((d : List ℕ) → practised (r .refusal) (r .length) d ≡ practisedInto d (refused n)) ⌝ }
 {
     Practised {
         refusal: n,
@@ -27,7 +27,7 @@ fn refused(n: u8) -> Practised
 
 // so many events from a seed at the front of the lent buffer
 pub fn write(seed: u32, count: u64, events: &mut [u8]) -> Practised
-    ensures { λ r. ⌜ returned (r .refusal) (r .length) (now (events .exit)) ≡ practice seed count (now (events .entry)) ⌝ }
+    ensures { λ r. ⌜ practised (r .refusal) (r .length) (now (events .exit)) ≡ practice seed count (now (events .entry)) ⌝ }
 {
     if count > MOST_EVENTS {
         return refused(32);
