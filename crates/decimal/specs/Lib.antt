@@ -1,0 +1,3 @@
+-- What the contract of `read` cites.
+pub mod Decimal
+pub mod Saying
