@@ -1,14 +1,16 @@
 /*
  * Zimtleiter: batch schedules compiled to state tables, and run by the rules
- * or by the table. The library is target/staticlib/libcapi.a, which
- * `rt staticlib capi` writes, for x86-64 Linux. Of the C library it calls only
- * memcpy and memset. It takes no memory but the stack and keeps nothing between
- * calls, so calls may run at the same time in several threads.
+ * or by the table; practice events for such runs. The library is
+ * target/staticlib/libcapi.a, which `rt staticlib capi` writes, for x86-64
+ * Linux. Of the C library it calls only memcpy and memset. It takes no memory
+ * but the stack and keeps nothing between calls, so calls may run at the same
+ * time in several threads.
  *
  * Every call returns, whatever the bytes in the buffers lent to it. It returns
  * 0, or the number of the first condition below that applies. Where it returns
  * another number than 0, no lent buffer is written, and the length, the counts
- * or the numbers of a size are set to 0. What is only read is left as it was in any case.
+ * or the numbers of a size are set to 0. What is only read is left as it was in
+ * any case.
  *
  * The caller sees to these things, on which the proofs rest:
  *  - A pointer with a length points to that many bytes, which can be read, and
@@ -17,8 +19,9 @@
  *    with length 0 is an empty buffer. Nothing promises it.)
  *  - A pointer to a uint64_t is that of a whole one, aligned and writable. What
  *    it holds before the call does not matter.
- *  - What a call writes to (table or records, length, counts, numbers) overlaps
- *    nothing else that is lent to that call. Buffers that are only read may overlap.
+ *  - What a call writes to (table, records or events, length, counts, numbers)
+ *    overlaps nothing else that is lent to that call. Buffers that are only
+ *    read may overlap.
  *  - Until the call returns, nothing else writes to what is lent, and nothing
  *    else reads what the call writes to.
  *
@@ -29,7 +32,8 @@
  * any of them.
  *
  * Schedule files, tables, starting values, events and records are those of
- * document 01; numbers of several bytes are big-endian.
+ * document 01, practice events those of item 1 of document 02; numbers of
+ * several bytes are big-endian.
  */
 #ifndef ZIMTLEITER_H
 #define ZIMTLEITER_H
@@ -39,6 +43,9 @@
 
 /* Bytes that are room for any table: document 01's limits give 394,311. */
 #define ZIMTLEITER_TABLE_ROOM 400000
+
+/* Bytes that are room for any list of practice events: 10,000 of 3 bytes. */
+#define ZIMTLEITER_PRACTICE_ROOM 30000
 
 #ifdef __cplusplus
 extern "C" {
@@ -124,6 +131,20 @@ uint8_t zimtleiter_table_run(const uint8_t *table, size_t table_len,
                              const uint8_t *events, size_t events_len,
                              uint8_t *records, size_t room, uint64_t *taken,
                              uint64_t *turned_away, uint64_t *faulted);
+
+/*
+ * Writes practice events from a seed: so many, 3 bytes each, for either run.
+ * Returns 0, or
+ *  32  the count is above 10,000
+ *  33  the lent buffer is shorter than 3 times the count
+ * On 0 the first *length bytes of events are the list, and those behind are as
+ * they were. ZIMTLEITER_PRACTICE_ROOM bytes are enough for any. A seed and a
+ * count give the same list on every machine, and a shorter list is the front of
+ * a longer one from the same seed. Each event is a tick, a pick of a node below
+ * 64, or a switch below 8 of a selector below 8; no run answers one with 24.
+ */
+uint8_t zimtleiter_practice(uint32_t seed, uint64_t count,
+                            uint8_t *events, size_t room, uint64_t *length);
 
 #ifdef __cplusplus
 }

@@ -164,17 +164,14 @@ static uint64_t number(const char *word, uint64_t most)
     return n;
 }
 
-/* Room for any list of practice events: 10,000 of 3 bytes. */
-enum { PRACTICE_ROOM = 30000 };
-
 /* The events of two words, a seed and a count. */
 static struct bytes practice_events(const char *seed, const char *count)
 {
     uint32_t from = (uint32_t)number(seed, UINT32_MAX);
     uint64_t many = number(count, UINT64_MAX);
-    struct bytes e = {room_for(PRACTICE_ROOM), 0};
+    struct bytes e = {room_for(ZIMTLEITER_PRACTICE_ROOM), 0};
     uint64_t length;
-    uint8_t n = zimtleiter_practice(from, many, e.at, PRACTICE_ROOM, &length);
+    uint8_t n = zimtleiter_practice(from, many, e.at, ZIMTLEITER_PRACTICE_ROOM, &length);
     if (n != 0)
         refused("practice events", n);
     e.length = length;

@@ -107,7 +107,7 @@ pub extern "C" fn zimtleiter_practice(
 ) -> u8
     ensures { λ r. ⌜ practised r (now (length .exit)) (now (events .exit)) ≡ practice seed count (now (events .entry)) ⌝ }
 {
-    let x = practice::call::write(seed, count, events);
-    *length = x.length as u64;
-    x.refusal
+    let list = practice::call::write(seed, count, events);
+    *length = list.length as u64;
+    list.refusal
 }
