@@ -15,7 +15,7 @@ use Rattle.semantics.specs.Records.{AtFront}
 use Rattle.semantics.specs.Calls.{eventsOf}
 use Rattle.semantics.specs.Sentences.{FirstHolds, AnyHolds}
 use Rattle.semantics.specs.Practice.{drawn, practiceList, practice}
-use Rattle.semantics.specs.Drawing.{Drawn, Drills, practiceClauses}
+use Rattle.semantics.specs.Drawing.{Drawn, PracticeLimits, practiceClauses}
 use Rattle.semantics.proofs.PracticeRules as Rules
 use Rattle.semantics.proofs.PracticeCall as Call
 use Rattle.semantics.proofs.PracticePapers as Papers
@@ -39,10 +39,10 @@ pub practice-front-written : (seed m n : ℕ) (a b : List ℕ) → m ≤ n → (
     take ((practice seed m a) .written) ((practice seed m a) .events) ≡ take ((practice seed m a) .written) ((practice seed n b) .events)
 practice-front-written = Call.practice-front
 
--- each event of the list is whole, is read as it was drawn, and names a node below 64 or a selector and a switch below 8.
+-- the events that a run cuts from the list are those that were drawn, in their order, and each names a node below 64 or a selector and a switch below 8.
 -- Ruled out: the two bits as the event's first byte, so that a pick of 2 reads as a switch; a tick that keeps its six bits.
-pub practice-read : (seed count : ℕ) → (map (eventIn edition1) (eventsOf edition1 (practiceList seed count)) ≡ drawn seed count) × All Drills (drawn seed count)
-practice-read seed count = (Call.list-read seed count, Call.all-drill seed count)
+pub practice-read : (seed count : ℕ) → (map (eventIn edition1) (eventsOf edition1 (practiceList seed count)) ≡ drawn seed count) × All PracticeLimits (drawn seed count)
+practice-read seed count = (Call.list-read seed count, Call.all-limits seed count)
 
 -- no event of it is answered 24, in a run of any accepted schedule or table (`sound-rules`, `sound-table`), from its start or any situation that it comes to.
 -- Ruled out: an event whose kind is 3; a pick with a third byte that is not 0.
@@ -56,7 +56,7 @@ pub first-number-practice : (seed count : ℕ) (buffer : List ℕ) →
     FirstHolds ((practice seed count buffer) .refusal) (practiceClauses count buffer) ⊎ (((practice seed count buffer) .refusal ≡ 0) × (AnyHolds (practiceClauses count buffer) → ⊥))
 first-number-practice = Call.first-number
 
--- "A refused call returns .. length and counts zero and every lent buffer unwritten."
+-- demand 1: "A refused call returns .. length and counts zero and every lent buffer unwritten."
 -- Ruled out: a list cut at the buffer's end; a length returned with 33, to tell how much room there must be.
 pub refused-practice : (seed count : ℕ) (buffer : List ℕ) → ((practice seed count buffer) .refusal ≡ 0 → ⊥) →
     practice seed count buffer ≡ record { refusal = (practice seed count buffer) .refusal; written = 0; events = buffer }
@@ -68,8 +68,13 @@ pub practice-written : (seed count : ℕ) (buffer : List ℕ) → (practice seed
     ((practice seed count buffer) .written ≡ 3 * count) × AtFront (practiceList seed count) buffer ((practice seed count buffer) .events)
 practice-written = Call.practice-written
 
+-- what it writes is what the sentences of `Drawn` draw.
+-- Ruled out: a list from another seed than was asked for; one that begins with the first draw left out.
+pub practice-drawn : (seed count : ℕ) (buffer : List ℕ) → (practice seed count buffer) .refusal ≡ 0 → Drawn seed count (take (3 * count) ((practice seed count buffer) .events))
+practice-drawn = Call.practice-drawn
+
 -- every element of the list is a byte, and so is all that the call leaves in a buffer of bytes.
--- Ruled out: a node of more than six bits; a first byte with the whole top of the seed.
+-- Ruled out: a node that is all of the seed but its top two bits; an unused byte that holds the seed's other 24.
 pub bytes-only-list : (seed count : ℕ) → All (λ b. b < 256) (practiceList seed count)
 bytes-only-list = Call.list-bytes
 
@@ -93,8 +98,8 @@ pub seed-4294967295 : drawn 4294967295 12 ≡
     tick ∷ tick ∷ tick ∷ pick 33 ∷ pick 55 ∷ take-switch 3 7 ∷ take-switch 5 1 ∷ pick 57 ∷ take-switch 7 7 ∷ pick 6 ∷ pick 23 ∷ tick ∷ []
 seed-4294967295 = Papers.seed-4294967295
 
--- a count of 0 needs no buffer, 10,000 is taken, and 10,001 is refused with 32 whatever is lent.
-pub practice-0 : (seed : ℕ) → practice seed 0 [] ≡ record { refusal = 0; written = 0; events = [] }
+-- a count of 0 needs no buffer and writes nothing, 10,000 is taken, and 10,001 is refused with 32 whatever is lent.
+pub practice-0 : (seed : ℕ) (buffer : List ℕ) → practice seed 0 buffer ≡ record { refusal = 0; written = 0; events = buffer }
 practice-0 = Papers.practice-0
 
 pub practice-10000 : (seed : ℕ) (buffer : List ℕ) → 30000 ≤ length buffer →

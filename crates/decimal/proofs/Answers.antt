@@ -1,4 +1,4 @@
--- What is said of a number that is asked for up to `most`.
+-- What `read` answers of a number that is asked for up to `most`.
 use mathlib.Core.Path.{_≡_, refl, sym, _∙_}
 use mathlib.Core.Bool.{true, false}
 use mathlib.Core.Option.{Option, none, some}
@@ -8,33 +8,33 @@ use native.Mathlib.Omega.{arith}
 use lib.Dec.{leb}
 use Rattle.semantics.specs.Bytes.{isSome}
 use Rattle.semantics.proofs.Facts.{true-not-false, by-cases}
-use Rattle.decimal.specs.Saying.{saidOf}
-use Rattle.decimal.specs.declared.Said.the-variants.{Number, Senseless, TooLarge}
+use Rattle.decimal.specs.Parsing.{parsedOf}
+use Rattle.decimal.specs.declared.Parsed.the-variants.{Number, NotDecimal, TooLarge}
 
-pub says-number : (most n : ℕ) → n ≤ most → Number n ≡ saidOf most (some n)
-unfolding saidOf
-says-number most n h = rw (le-leb n most h) refl
+pub parsed-number : (most n : ℕ) → n ≤ most → Number n ≡ parsedOf most (some n)
+unfolding parsedOf
+parsed-number most n h = rw (le-leb n most h) refl
 
-pub says-too-large : (most n : ℕ) → most < n → TooLarge ≡ saidOf most (some n)
-unfolding saidOf
-says-too-large most n h = rw (lt-leb n most h) refl
+pub parsed-too-large : (most n : ℕ) → most < n → TooLarge ≡ parsedOf most (some n)
+unfolding parsedOf
+parsed-too-large most n h = rw (lt-leb n most h) refl
 
-pub says-senseless : (most : ℕ) (o : Option ℕ) → isSome o ≡ false → Senseless ≡ saidOf most o
-unfolding saidOf isSome
-says-senseless most none h = refl
-says-senseless most (some n) h = true-not-false h
+pub parsed-none : (most : ℕ) (o : Option ℕ) → isSome o ≡ false → NotDecimal ≡ parsedOf most o
+unfolding parsedOf isSome
+parsed-none most none h = refl
+parsed-none most (some n) h = true-not-false h
 
--- a number that is said is that of the bytes, and no larger than was asked for
-pub number-said : (most : ℕ) (o : Option ℕ) {n : ℕ} → Number n ≡ saidOf most o → (o ≡ some n) × (n ≤ most)
-unfolding saidOf
-number-said most none e = never e
+-- a number that is answered is that of the bytes, and no larger than was asked for
+pub number-parsed : (most : ℕ) (o : Option ℕ) {n : ℕ} → Number n ≡ parsedOf most o → (o ≡ some n) × (n ≤ most)
+unfolding parsedOf
+number-parsed most none e = never e
   where
-    never : {C : Type 0} {n : ℕ} → Number n ≡ Senseless → C
+    never : {C : Type 0} {n : ℕ} → Number n ≡ NotDecimal → C
     never e = let z : _≡_ {A = ℕ} 0 1 = cc in absurd (omega arith)
-number-said most (some m) {n} e =
+number-parsed most (some m) {n} e =
     by-cases (leb m most)
-    (λ t. same (e ∙ sym (says-number most m (leb-true m most t))) (leb-true m most t))
-    (λ f. never (e ∙ sym (says-too-large most m (leb-false m most f))))
+    (λ t. same (e ∙ sym (parsed-number most m (leb-true m most t))) (leb-true m most t))
+    (λ f. never (e ∙ sym (parsed-too-large most m (leb-false m most f))))
   where
     same : Number n ≡ Number m → m ≤ most → (some m ≡ some n) × (n ≤ most)
     same e h = let k : n ≡ m = cc in (cc, omega arith)

@@ -1,3 +1,3 @@
 -- What the contract of `read` cites.
 pub mod Decimal
-pub mod Saying
+pub mod Parsing

@@ -4,7 +4,7 @@ ghost use mathlib.Core.Bool.{true};
 ghost use mathlib.Core.Option.{some};
 ghost use Rattle.semantics.specs.Bytes.{every, isSome};
 ghost use Rattle.decimal.specs.Decimal.{isDigit, valueFrom, decimalIn};
-ghost use Rattle.decimal.specs.Saying.{saidOf};
+ghost use Rattle.decimal.specs.Parsing.{parsedOf};
 
 const ZERO: u8 = b'0';
 
@@ -12,10 +12,10 @@ const NINE: u8 = b'9';
 
 const BASE: u64 = 10;
 
-// What the bytes of an argument say: a number, nothing that is one, or a number above the largest that is asked for.
-pub enum Said {
+// The bytes of an argument as a decimal number: the number, none, or one above the largest that is asked for.
+pub enum Parsed {
     Number(u64),
-    Senseless,
+    NotDecimal,
     TooLarge,
 }
 
@@ -37,32 +37,32 @@ fn is_decimal(s: &[u8]) -> bool
 }
 
 // The number that the digits stand for. It stays within `most` from digit to digit, so that nothing wraps.
-fn value(s: &[u8], most: u64) -> Said
+fn value(s: &[u8], most: u64) -> Parsed
     requires { ⌜ every isDigit (now s) ≡ true ⌝ }
-    ensures { λ r. ⌜ r ≡ saidOf most (some (valueFrom 0 (now (s .entry)))) ⌝ }
+    ensures { λ r. ⌜ r ≡ parsedOf most (some (valueFrom 0 (now (s .entry)))) ⌝ }
 {
     let mut n: u64 = 0;
     let mut at = 0;
     while at < s.len() {
         let digit = (s[at] - ZERO) as u64;
         if most < digit {
-            return Said::TooLarge;
+            return Parsed::TooLarge;
         }
         if (most - digit) / BASE < n {
-            return Said::TooLarge;
+            return Parsed::TooLarge;
         }
         n = n * BASE + digit;
         at += 1;
     }
-    Said::Number(n)
+    Parsed::Number(n)
 }
 
 // The bytes as a number up to `most`.
-pub fn read(s: &[u8], most: u64) -> Said
-    ensures { λ r. ⌜ r ≡ saidOf most (decimalIn (now (s .entry))) ⌝ }
+pub fn read(s: &[u8], most: u64) -> Parsed
+    ensures { λ r. ⌜ r ≡ parsedOf most (decimalIn (now (s .entry))) ⌝ }
 {
     if is_decimal(s) {
         return value(s, most);
     }
-    Said::Senseless
+    Parsed::NotDecimal
 }

@@ -10,7 +10,7 @@ ghost use Rattle.practice.specs.Answers.{practised};
 // "a count up to 10,000"
 pub const MOST_EVENTS: u64 = 10000;
 
-// What the call gives: 0 and the bytes of the list; or the first number that applies, and length 0.
+// What the call returns: 0 and the list's length in bytes; or the first number that applies, and length 0.
 pub struct Practised {
     pub refusal: u8,
     pub length: usize,

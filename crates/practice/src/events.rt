@@ -4,7 +4,7 @@ ghost use mathlib.Core.Path.{_≡_};
 ghost use mathlib.Core.List.{_∷_, []};
 ghost use Prim.Native.Nat.{_+_, _*_, _≤_};
 ghost use lib.ListN.{length};
-ghost use Rattle.semantics.specs.Practice.{eventOf, eventBytes, practiceList};
+ghost use Rattle.semantics.specs.Practice.{eventOfSeed, eventBytes, practiceList};
 ghost use Rattle.codec.specs.Writing.{Wrote};
 
 // an event's first byte
@@ -14,10 +14,20 @@ const PICK: u8 = 1;
 
 const SWITCH: u8 = 2;
 
-// where "the top two bits" and "the next six bits" of a seed begin
+// what the lowest of "the top two bits" and of "the next six bits" of a seed is worth
 const TOP_TWO: u32 = 1073741824;
 
 const NEXT_SIX: u32 = 16777216;
+
+// as many numbers as six bits have, and three
+const BY_SIX_BITS: u32 = 64;
+
+const BY_THREE_BITS: u8 = 8;
+
+// "the new seed's top two bits 0 give a tick, 1 or 2 a pick, 3 a switch"
+const GIVE_TICK: u8 = 0;
+
+const GIVE_SWITCH: u8 = 3;
 
 // three bytes at a place; the next place
 fn put3(d: &mut [u8], i: usize, a: u8, b: u8, c: u8) -> usize
@@ -32,17 +42,17 @@ fn put3(d: &mut [u8], i: usize, a: u8, b: u8, c: u8) -> usize
 // the event of a new seed at a place; the next place
 fn put_event(d: &mut [u8], i: usize, seed: u32) -> usize
     requires { ⌜ i + 3 ≤ length (now d) ⌝ }
-    ensures { λ r. ⌜ (r ≡ i + 3) × Wrote (now (d .entry)) i (eventBytes (eventOf seed)) (now (d .exit)) ⌝ }
+    ensures { λ r. ⌜ (r ≡ i + 3) × Wrote (now (d .entry)) i (eventBytes (eventOfSeed seed)) (now (d .exit)) ⌝ }
 {
     let two = (seed / TOP_TWO) as u8;
-    let six = (seed / NEXT_SIX % 64) as u8;
-    if two == 0 {
+    let six = (seed / NEXT_SIX % BY_SIX_BITS) as u8;
+    if two == GIVE_TICK {
         return put3(d, i, TICK, 0, 0);
     }
-    if two < 3 {
+    if two < GIVE_SWITCH {
         return put3(d, i, PICK, six, 0);
     }
-    put3(d, i, SWITCH, six / 8, six % 8)
+    put3(d, i, SWITCH, six / BY_THREE_BITS, six % BY_THREE_BITS)
 }
 
 // the list at the front of the buffer; its length

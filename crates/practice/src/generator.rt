@@ -3,16 +3,18 @@ ghost use mathlib.Core.Path.{_≡_};
 ghost use Prim.Native.Nat.{_*_, _%_, _^_};
 ghost use Rattle.semantics.specs.Practice.{nextSeed};
 
-const TIMES: u32 = 1664525;
+const MULTIPLIER: u32 = 1664525;
 
-const PLUS: u32 = 1013904223;
+const INCREMENT: u32 = 1013904223;
+
+const MODULUS: u64 = 4294967296;
 
 // a * b, modulo 2^32
 fn wrapping_mul_u32(a: u32, b: u32) -> u32
     ensures wraps { λ r. ⌜ r ≡ (a * b) % 2 ^ 32 ⌝ }
 {
     let product = (a as u64) * (b as u64);
-    (product % 4294967296) as u32
+    (product % MODULUS) as u32
 }
 
 pub struct Generator {
@@ -24,8 +26,8 @@ impl Generator {
     pub fn draw(self) -> Generator
         ensures { λ r. ⌜ r .seed ≡ nextSeed (self .seed) ⌝ }
     {
-        let product = wrapping_mul_u32(TIMES, self.seed);
-        let seed = std::num::wrapping_add_u32(product, PLUS);
+        let product = wrapping_mul_u32(MULTIPLIER, self.seed);
+        let seed = std::num::wrapping_add_u32(product, INCREMENT);
         Generator { seed }
     }
 }

@@ -7,8 +7,15 @@ ghost use mathlib.Core.Path.{_≡_};
 ghost use Prim.Native.Nat.{_+_, _≤_};
 ghost use lib.ListN.{length};
 
-// of a case: seed (4), count (8), room (4)
+// a case: seed (4 bytes), count (8), room (4)
+const COUNT_AT: usize = 4;
+
+const ROOM_AT: usize = 12;
+
 const CASE_BYTES: usize = 16;
+
+// as many seeds as 32 bits have
+const SEEDS: usize = 4294967296;
 
 // what every lent byte is before a call
 const UNTOUCHED: u8 = 0xAA;
@@ -17,8 +24,8 @@ const UNTOUCHED: u8 = 0xAA;
 fn count(cases: &[u8], at: usize) -> u64
     requires { ⌜ at + 16 ≤ length (now cases) ⌝ }
 {
-    let high = codec::nat4(cases, at + 4) as u64;
-    let low = codec::nat4(cases, at + 8) as u64;
+    let high = codec::nat4(cases, at + COUNT_AT) as u64;
+    let low = codec::nat4(cases, at + COUNT_AT + 4) as u64;
     (high << 32) | low
 }
 
@@ -47,18 +54,19 @@ fn shown(seed: u32, count: u64, room: usize)
 fn case(cases: &[u8], at: usize) -> bool
     requires { ⌜ at + 16 ≤ length (now cases) ⌝ }
 {
-    let room = codec::nat4(cases, at + 12);
+    let room = codec::nat4(cases, at + ROOM_AT);
     if room > line::MOST_BYTES {
         return false;
     }
-    shown(codec::nat4(cases, at) as u32, count(cases, at), room);
+    let seed = (codec::nat4(cases, at) % SEEDS) as u32;
+    shown(seed, count(cases, at), room);
     true
 }
 
 // the cases one after the other
 fn all(cases: &[u8]) {
     let mut at = 0;
-    let mut shown = 0;
+    let mut made = 0;
     while at < cases.len() {
         if cases.len() - at < CASE_BYTES {
             line::text(b"no list of cases\n");
@@ -69,9 +77,9 @@ fn all(cases: &[u8]) {
             return;
         }
         at += CASE_BYTES;
-        shown += 1;
+        made += 1;
     }
-    line::number(b"", shown);
+    line::number(b"", made);
     line::text(b" cases\n");
 }
 

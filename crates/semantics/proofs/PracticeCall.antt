@@ -20,8 +20,8 @@ use Rattle.semantics.specs.Rules.{SaysTick, SaysPick, SaysSwitch, Senten
 use Rattle.semantics.specs.Records.{AtFront}
 use Rattle.semantics.specs.Calls.{eventsOf}
 use Rattle.semantics.specs.Sentences.{FirstHolds, AnyHolds}
-use Rattle.semantics.specs.Practice.{nextSeed, bits, eventOf, eventBytes, seedAfter, drawn, practiceList, Practised, practiceLimit, judgePractice, practisedInto, practice}
-use Rattle.semantics.specs.Drawing.{Drills, drills-tick, drills-pick, drills-switch, practiceClauses}
+use Rattle.semantics.specs.Practice.{nextSeed, bits, eventOfSeed, eventBytes, drawn, practiceList, Practised, practiceLimit, judgePractice, practisedInto, practice}
+use Rattle.semantics.specs.Drawing.{Drawn, PracticeLimits, tick-limits, pick-limits, switch-limits, practiceClauses}
 use Rattle.semantics.proofs.Facts.{All, all-nil, all-cons, all-append, all-flat, all-map, by-cases}
 use Rattle.semantics.proofs.WrittenSources.{all-drop}
 use Rattle.semantics.proofs.RecordForms.{overwritten}
@@ -31,14 +31,14 @@ use Rattle.semantics.proofs.EventsCut.{events-cut}
 use Rattle.semantics.proofs.FirstAnswer.{first-answer}
 use Rattle.semantics.proofs.StepRules.{rule-of, rule-standing}
 use Rattle.semantics.proofs.Judging.{passed-ensure, accepted-is}
-use Rattle.semantics.proofs.PracticeRules.{event-three, tick-says, pick-says, switch-says}
+use Rattle.semantics.proofs.PracticeRules.{event-three, tick-says, pick-says, switch-says, list-drawn}
 
 -- ---- length
 pub list-length : (seed n : ℕ) → length (practiceList seed n) ≡ 3 * n
 unfolding practiceList drawn flatMap
 list-length seed zero = refl
 list-length seed (suc n) =
-    let e = eventOf (nextSeed seed) in
+    let e = eventOfSeed (nextSeed seed) in
     let a = length-append (eventBytes e) (practiceList (nextSeed seed) n) in
     let b = event-three e in
     let c = list-length (nextSeed seed) n in omega arith
@@ -56,13 +56,18 @@ unfolding practiceList drawn flatMap
 list-front seed zero n h = refl
 list-front seed (suc m) zero h = absurd (omega arith)
 list-front seed (suc m) (suc n) h =
-    let e = eventOf (nextSeed seed) in
+    let e = eventOfSeed (nextSeed seed) in
     let k : 3 * suc m ≡ suc (suc (suc (3 * m))) = omega arith in
     ap (λ (l : List ℕ). eventBytes e ++ l) (list-front (nextSeed seed) m n (omega arith))
     ∙ sym (take-event e (3 * m) (practiceList (nextSeed seed) n))
     ∙ ap (λ (i : ℕ). take i (eventBytes e ++ practiceList (nextSeed seed) n)) (sym k)
 
 -- ---- one draw more
+-- the seed after so many draws
+unfoldable pub seedAfter : ℕ → ℕ → ℕ
+seedAfter seed zero = seed
+seedAfter seed (suc n) = seedAfter (nextSeed seed) n
+
 pub seed-more : (seed n : ℕ) → seedAfter seed (suc n) ≡ nextSeed (seedAfter seed n)
 unfolding seedAfter
 seed-more seed zero = refl
@@ -72,34 +77,35 @@ append-nil : (l : List ℕ) → l ++ [] ≡ l
 append-nil [] = refl
 append-nil (x ∷ l) = ap (λ (s : List ℕ). x ∷ s) (append-nil l)
 
-pub list-more : (seed n : ℕ) → practiceList seed (suc n) ≡ practiceList seed n ++ eventBytes (eventOf (nextSeed (seedAfter seed n)))
+pub list-more : (seed n : ℕ) → practiceList seed (suc n) ≡ practiceList seed n ++ eventBytes (eventOfSeed (nextSeed (seedAfter seed n)))
 unfolding practiceList drawn flatMap seedAfter
-list-more seed zero = append-nil (eventBytes (eventOf (nextSeed seed)))
+list-more seed zero = append-nil (eventBytes (eventOfSeed (nextSeed seed)))
 list-more seed (suc n) =
-    let e = eventBytes (eventOf (nextSeed seed)) in
+    let e = eventBytes (eventOfSeed (nextSeed seed)) in
     ap (λ (l : List ℕ). e ++ l) (list-more (nextSeed seed) n)
-    ∙ sym (append-assoc e (practiceList (nextSeed seed) n) (eventBytes (eventOf (nextSeed (seedAfter (nextSeed seed) n)))))
+    ∙ sym (append-assoc e (practiceList (nextSeed seed) n) (eventBytes (eventOfSeed (nextSeed (seedAfter (nextSeed seed) n)))))
 
 -- ---- each event is one that a drill may ask
-drills-of : (seed : ℕ) → Drills (eventOf seed)
-unfolding eventOf
-drills-of seed = by-cases (eqb (bits 30 2 seed) 0) (λ e. rw e drills-tick)
-    (λ e. by-cases (within 1 2 (bits 30 2 seed)) (λ f. rw (e, f) (drills-pick {n = bits 24 6 seed} (omega arith))) (λ f. rw (e, f) (drills-switch {s = bits 27 3 seed} {k = bits 24 3 seed} (omega arith) (omega arith))))
+limits-of : (seed : ℕ) → PracticeLimits (eventOfSeed seed)
+unfolding eventOfSeed
+limits-of seed = by-cases (eqb (bits 30 2 seed) 0) (λ e. rw e tick-limits)
+    (λ e. by-cases (within 1 2 (bits 30 2 seed)) (λ f. rw (e, f) (pick-limits {n = bits 24 6 seed} (omega arith)))
+    (λ f. rw (e, f) (switch-limits {s = bits 27 3 seed} {k = bits 24 3 seed} (omega arith) (omega arith))))
 
-pub all-drill : (seed n : ℕ) → All Drills (drawn seed n)
+pub all-limits : (seed n : ℕ) → All PracticeLimits (drawn seed n)
 unfolding drawn
-all-drill seed zero = all-nil
-all-drill seed (suc n) = all-cons (drills-of (nextSeed seed)) (all-drill (nextSeed seed) n)
+all-limits seed zero = all-nil
+all-limits seed (suc n) = all-cons (limits-of (nextSeed seed)) (all-limits (nextSeed seed) n)
 
-drill-bytes : (e : Event) → Drills e → All (λ (b : ℕ). b < 256) (eventBytes e)
+limit-bytes : (e : Event) → PracticeLimits e → All (λ (b : ℕ). b < 256) (eventBytes e)
 unfolding eventBytes
-drill-bytes e drills-tick = all-cons (lit< tt) (all-cons (lit< tt) (all-cons (lit< tt) all-nil))
-drill-bytes e (drills-pick {n = n} h) = all-cons (lit< tt) (all-cons {x = n} (omega arith) (all-cons (lit< tt) all-nil))
-drill-bytes e (drills-switch {s = s} {k = k} h i) = all-cons (lit< tt) (all-cons {x = s} (omega arith) (all-cons {x = k} (omega arith) all-nil))
+limit-bytes e tick-limits = all-cons (lit< tt) (all-cons (lit< tt) (all-cons (lit< tt) all-nil))
+limit-bytes e (pick-limits {n = n} h) = all-cons (lit< tt) (all-cons {x = n} (omega arith) (all-cons (lit< tt) all-nil))
+limit-bytes e (switch-limits {s = s} {k = k} h i) = all-cons (lit< tt) (all-cons {x = s} (omega arith) (all-cons {x = k} (omega arith) all-nil))
 
 pub list-bytes : (seed n : ℕ) → All (λ (b : ℕ). b < 256) (practiceList seed n)
 unfolding practiceList
-list-bytes seed n = all-flat eventBytes (all-map drill-bytes (all-drill seed n))
+list-bytes seed n = all-flat eventBytes (all-map limit-bytes (all-limits seed n))
 
 -- ---- and is read as it was drawn
 flat-map : (l : List Event) → flatMap eventBytes l ≡ flatten (map eventBytes l)
@@ -115,24 +121,24 @@ pub list-events : (seed n : ℕ) → eventsOf edition1 (practiceList seed n) ≡
 unfolding practiceList
 list-events seed n = ap (eventsOf edition1) (flat-map (drawn seed n)) ∙ events-cut edition1 (map eventBytes (drawn seed n)) (three-each (drawn seed n))
 
-read-back : (e : Event) → Drills e → eventIn edition1 (eventBytes e) ≡ e
-read-back e drills-tick = decoded-tick edition1 tick-says
-read-back e (drills-pick {n = n} h) = decoded-pick edition1 (pick-says n)
-read-back e (drills-switch {s = s} {k = k} h i) = decoded-switch edition1 (switch-says s k)
+read-back : (e : Event) → PracticeLimits e → eventIn edition1 (eventBytes e) ≡ e
+read-back e tick-limits = decoded-tick edition1 tick-says
+read-back e (pick-limits {n = n} h) = decoded-pick edition1 (pick-says n)
+read-back e (switch-limits {s = s} {k = k} h i) = decoded-switch edition1 (switch-says s k)
 
-all-read : {l : List Event} → All Drills l → map (eventIn edition1) (map eventBytes l) ≡ l
+all-read : {l : List Event} → All PracticeLimits l → map (eventIn edition1) (map eventBytes l) ≡ l
 all-read all-nil = refl
 all-read (all-cons {x = e} h p) = ap₂ (λ (x : Event) (y : List Event). x ∷ y) (read-back e h) (all-read p)
 
 pub list-read : (seed n : ℕ) → map (eventIn edition1) (eventsOf edition1 (practiceList seed n)) ≡ drawn seed n
-list-read seed n = ap (map (eventIn edition1)) (list-events seed n) ∙ all-read (all-drill seed n)
+list-read seed n = ap (map (eventIn edition1)) (list-events seed n) ∙ all-read (all-limits seed n)
 
 -- ---- no event of it is answered 24
 module _ {S : Type 0} (p : Plant) (c : Control S) where
-  says-event : {n : ℕ} {s : Situation S} {e : List ℕ} (m : Event) → Drills m → e ≡ eventBytes m → n ≡ 24 → Sentence edition1 p c n s e → ⊥
-  says-event m drills-tick q k (is-senseless f g h) = f (subst (SaysTick edition1) (sym q) tick-says)
-  says-event m (drills-pick {n = n} i) q k (is-senseless f g h) = g n (subst (λ (e : List ℕ). SaysPick edition1 e n) (sym q) (pick-says n))
-  says-event m (drills-switch {s = s} {k = j} i l) q k (is-senseless f g h) = h s j (subst (λ (e : List ℕ). SaysSwitch edition1 e s j) (sym q) (switch-says s j))
+  says-event : {n : ℕ} {s : Situation S} {e : List ℕ} (m : Event) → PracticeLimits m → e ≡ eventBytes m → n ≡ 24 → Sentence edition1 p c n s e → ⊥
+  says-event m tick-limits q k (is-senseless f g h) = f (subst (SaysTick edition1) (sym q) tick-says)
+  says-event m (pick-limits {n = n} i) q k (is-senseless f g h) = g n (subst (λ (e : List ℕ). SaysPick edition1 e n) (sym q) (pick-says n))
+  says-event m (switch-limits {s = s} {k = j} i l) q k (is-senseless f g h) = h s j (subst (λ (e : List ℕ). SaysSwitch edition1 e s j) (sym q) (switch-says s j))
   says-event m d q k is-over = absurd (omega arith)
   says-event m d q k (is-idle v f) = absurd (omega arith)
   says-event m d q k (is-missing v f) = absurd (omega arith)
@@ -143,7 +149,7 @@ module _ {S : Type 0} (p : Plant) (c : Control S) where
   says-event m d q k (is-false v g h) = absurd (omega arith)
   says-event m d q k (is-due v w h) = absurd (omega arith)
 
-  none-24 : Sound p c → (s : Situation S) → Standing c s → {l : List Event} → All Drills l →
+  none-24 : Sound p c → (s : Situation S) → Standing c s → {l : List Event} → All PracticeLimits l →
       All (λ (o : Answered S). o .answer ≡ 24 → ⊥) (answers edition1 p c s (map eventBytes l))
   unfolding answers within
   none-24 sound s stand all-nil = all-nil
@@ -153,7 +159,7 @@ module _ {S : Type 0} (p : Plant) (c : Control S) where
 
   pub never-24 : Sound p c → (s : Situation S) → Standing c s → (seed n : ℕ) →
       All (λ (o : Answered S). o .answer ≡ 24 → ⊥) (answers edition1 p c s (eventsOf edition1 (practiceList seed n)))
-  never-24 sound s stand seed n = rw (list-events seed n) (none-24 sound s stand (all-drill seed n))
+  never-24 sound s stand seed n = rw (list-events seed n) (none-24 sound s stand (all-limits seed n))
 
 -- ---- the call
 judged-refusal : (buffer : List ℕ) (j : Judged (List ℕ)) → (practisedInto buffer j) .refusal ≡ refusalOf j
@@ -194,7 +200,8 @@ practice-taken seed count buffer h k = rw (le-leb count 10000 h, le-leb (3 * cou
 into-accepted : (buffer : List ℕ) (seed count : ℕ) → (practice seed count buffer) .refusal ≡ 0 → (count ≤ 10000) × (3 * count ≤ length buffer)
 unfolding practice judgePractice practisedInto ensure _>>_
 into-accepted buffer seed count h = by-cases (leb count practiceLimit)
-    (λ e. by-cases (leb (3 * count) (length buffer)) (λ f. (leb-true count 10000 e, leb-true (3 * count) (length buffer) f)) (λ f. absurd (let k : 33 ≡ 0 = sym (rw (e, f) refl) ∙ h in omega arith)))
+    (λ e. by-cases (leb (3 * count) (length buffer)) (λ f. (leb-true count 10000 e, leb-true (3 * count) (length buffer) f))
+    (λ f. absurd (let k : 33 ≡ 0 = sym (rw (e, f) refl) ∙ h in omega arith)))
     (λ e. absurd (let k : 32 ≡ 0 = sym (rw e refl) ∙ h in omega arith))
 
 pub practice-written : (seed count : ℕ) (buffer : List ℕ) → (practice seed count buffer) .refusal ≡ 0 →
@@ -204,6 +211,12 @@ practice-written seed count buffer h =
     let t = practice-taken seed count buffer (k .0) (k .1) in
     let n = list-length seed count in
     (ap (λ (r : Practised). r .written) t ∙ n, rw t (overwritten (practiceList seed count) buffer (omega arith)))
+
+-- what is written is what the sentences draw
+pub practice-drawn : (seed count : ℕ) (buffer : List ℕ) → (practice seed count buffer) .refusal ≡ 0 → Drawn seed count (take (3 * count) ((practice seed count buffer) .events))
+practice-drawn seed count buffer h =
+    let w = (practice-written seed count buffer h) .1 .front in
+    subst (Drawn seed count) (sym w ∙ ap (λ (i : ℕ). take i ((practice seed count buffer) .events)) (list-length seed count)) (list-drawn seed count)
 
 -- the written front of a shorter list is that of a longer one
 pub practice-front : (seed m n : ℕ) (a b : List ℕ) → m ≤ n → (practice seed m a) .refusal ≡ 0 → (practice seed n b) .refusal ≡ 0 →

@@ -11,8 +11,8 @@ use Rattle.semantics.specs.Bytes.{within, one-byte}
 use Rattle.semantics.specs.Editions.{edition1}
 use Rattle.semantics.specs.Events.{Event, tick, pick, take-switch, senseless}
 use Rattle.semantics.specs.Rules.{Zeros, no-zeros, one-zero, Names, by-one, SaysTick, SaysPick, SaysSwitch}
-use Rattle.semantics.specs.Practice.{nextSeed, bits, eventOf, eventBytes, drawn, practiceList}
-use Rattle.semantics.specs.Drawing.{Replaces, Bits, Makes, makes-tick, makes-pick, makes-pick-too, makes-switch, Drawn, none-drawn, one-drawn}
+use Rattle.semantics.specs.Practice.{nextSeed, bits, eventOfSeed, eventBytes, drawn, practiceList}
+use Rattle.semantics.specs.Drawing.{Replaces, Bits, Makes, makes-tick, makes-pick-1, makes-pick-2, makes-switch, Drawn, none-drawn, one-drawn}
 
 -- ---- a draw
 pub seed-small : (seed : ℕ) → nextSeed seed < 4294967296
@@ -38,36 +38,32 @@ bits-of seed h =
     let a : bits 30 2 seed ≡ q / 64 % 4 = omega arith in
     let b : bits 27 3 seed ≡ q / 8 % 8 = omega arith in
     let k = top-eight q (omega arith) in
-    record { others = seed % 16777216; is = omega (arith, a, b, k); two-bits = omega arith; three-bits = omega arith; three-further = omega arith; others-small = omega arith }
+    record { others = seed % 16777216; is = omega (arith, a, b, k); top-two = omega arith; upper-three = omega arith; lower-three = omega arith; others-small = omega arith }
 
-top-two : {seed t a b : ℕ} → Bits seed t a b → bits 30 2 seed ≡ t
-top-two {seed} {t} {a} {b} r = let e = r .is in let h = r .two-bits in let i = r .three-bits in let j = r .three-further in let k = r .others-small in omega arith
-
-six : {seed t a b : ℕ} → Bits seed t a b → bits 24 6 seed ≡ 8 * a + b
-six {seed} {t} {a} {b} r = let e = r .is in let h = r .two-bits in let i = r .three-bits in let j = r .three-further in let k = r .others-small in omega arith
-
-three : {seed t a b : ℕ} → Bits seed t a b → bits 27 3 seed ≡ a
-three {seed} {t} {a} {b} r = let e = r .is in let h = r .two-bits in let i = r .three-bits in let j = r .three-further in let k = r .others-small in omega arith
-
-further : {seed t a b : ℕ} → Bits seed t a b → bits 24 3 seed ≡ b
-further {seed} {t} {a} {b} r = let e = r .is in let h = r .two-bits in let i = r .three-bits in let j = r .three-further in let k = r .others-small in omega arith
+bits-are : {seed t a b : ℕ} → Bits seed t a b → (bits 30 2 seed ≡ t) × (bits 24 6 seed ≡ 8 * a + b) × (bits 27 3 seed ≡ a) × (bits 24 3 seed ≡ b)
+bits-are {seed} {t} {a} {b} r =
+    let e = r .is in
+    let h = r .top-two in
+    let i = r .upper-three in
+    let j = r .lower-three in
+    let k = r .others-small in (omega arith, omega arith, omega arith, omega arith)
 
 -- ---- the event of a draw, by the bits
-event-tick : {seed a b : ℕ} → Bits seed 0 a b → eventOf seed ≡ tick
-unfolding eventOf
-event-tick r = rw (top-two r) refl
+event-tick : {seed a b : ℕ} → Bits seed 0 a b → eventOfSeed seed ≡ tick
+unfolding eventOfSeed
+event-tick r = rw (bits-are r .0) refl
 
-event-pick : {seed a b : ℕ} → Bits seed 1 a b → eventOf seed ≡ pick (8 * a + b)
-unfolding eventOf within
-event-pick {seed} r = rw (top-two r) (ap pick (six r))
+event-pick-1 : {seed a b : ℕ} → Bits seed 1 a b → eventOfSeed seed ≡ pick (8 * a + b)
+unfolding eventOfSeed within
+event-pick-1 r = rw (bits-are r .0) (ap pick (bits-are r .1))
 
-event-pick-too : {seed a b : ℕ} → Bits seed 2 a b → eventOf seed ≡ pick (8 * a + b)
-unfolding eventOf within
-event-pick-too r = rw (top-two r) (ap pick (six r))
+event-pick-2 : {seed a b : ℕ} → Bits seed 2 a b → eventOfSeed seed ≡ pick (8 * a + b)
+unfolding eventOfSeed within
+event-pick-2 r = rw (bits-are r .0) (ap pick (bits-are r .1))
 
-event-switch : {seed a b : ℕ} → Bits seed 3 a b → eventOf seed ≡ take-switch a b
-unfolding eventOf within
-event-switch r = rw (top-two r) (ap₂ take-switch (three r) (further r))
+event-switch : {seed a b : ℕ} → Bits seed 3 a b → eventOfSeed seed ≡ take-switch a b
+unfolding eventOfSeed within
+event-switch r = rw (bits-are r .0) (ap₂ take-switch (bits-are r .2) (bits-are r .3))
 
 -- ---- an event's three bytes
 pub event-three : (e : Event) → length (eventBytes e) ≡ 3
@@ -119,33 +115,33 @@ unfolding eventBytes
 switch-bytes {e} {s} {k} v q = let l = sym (ap length (v .bytes)) ∙ q in v .bytes ∙ ap (λ (u : List ℕ). 2 ∷ s ∷ k ∷ u) (no-more (v .zeros) (omega arith))
 
 -- ---- a seed makes just its event
-made-by : {seed a b : ℕ} (t : ℕ) → Bits seed t a b → Makes seed (eventBytes (eventOf seed))
+made-by : {seed a b : ℕ} (t : ℕ) → Bits seed t a b → Makes seed (eventBytes (eventOfSeed seed))
 made-by zero r = rw (event-tick r) (makes-tick r tick-says)
-made-by (suc zero) r = rw (event-pick r) (makes-pick r (pick-says _))
-made-by (suc (suc zero)) r = rw (event-pick-too r) (makes-pick-too r (pick-says _))
+made-by (suc zero) r = rw (event-pick-1 r) (makes-pick-1 r (pick-says _))
+made-by (suc (suc zero)) r = rw (event-pick-2 r) (makes-pick-2 r (pick-says _))
 made-by (suc (suc (suc zero))) r = rw (event-switch r) (makes-switch r (switch-says _ _))
-made-by (suc (suc (suc (suc t)))) r = let h = r .two-bits in absurd (omega arith)
+made-by (suc (suc (suc (suc t)))) r = let h = r .top-two in absurd (omega arith)
 
-pub made : (seed : ℕ) → seed < 4294967296 → Makes seed (eventBytes (eventOf seed))
+pub made : (seed : ℕ) → seed < 4294967296 → Makes seed (eventBytes (eventOfSeed seed))
 made seed h = made-by (bits 30 2 seed) (bits-of seed h)
 
-makes-one : {seed : ℕ} {e : List ℕ} → Makes seed e → length e ≡ 3 → e ≡ eventBytes (eventOf seed)
+makes-one : {seed : ℕ} {e : List ℕ} → Makes seed e → length e ≡ 3 → e ≡ eventBytes (eventOfSeed seed)
 makes-one (makes-tick r v) k = tick-bytes v k ∙ ap eventBytes (sym (event-tick r))
-makes-one (makes-pick r v) k = pick-bytes v k ∙ ap eventBytes (sym (event-pick r))
-makes-one (makes-pick-too r v) k = pick-bytes v k ∙ ap eventBytes (sym (event-pick-too r))
+makes-one (makes-pick-1 r v) k = pick-bytes v k ∙ ap eventBytes (sym (event-pick-1 r))
+makes-one (makes-pick-2 r v) k = pick-bytes v k ∙ ap eventBytes (sym (event-pick-2 r))
 makes-one (makes-switch r v) k = switch-bytes v k ∙ ap eventBytes (sym (event-switch r))
 
 -- ---- the list
-list-drawn : (seed n : ℕ) → Drawn seed n (practiceList seed n)
+pub list-drawn : (seed n : ℕ) → Drawn seed n (practiceList seed n)
 unfolding practiceList drawn flatMap
 list-drawn seed zero = none-drawn
-list-drawn seed (suc n) = one-drawn (next-replaces seed) (made (nextSeed seed) (seed-small seed)) (event-three (eventOf (nextSeed seed))) (list-drawn (nextSeed seed) n)
+list-drawn seed (suc n) = one-drawn (next-replaces seed) (made (nextSeed seed) (seed-small seed)) (event-three (eventOfSeed (nextSeed seed))) (list-drawn (nextSeed seed) n)
 
 drawn-list : {seed n : ℕ} {l : List ℕ} → Drawn seed n l → practiceList seed n ≡ l
 unfolding practiceList drawn flatMap
 drawn-list none-drawn = refl
 drawn-list (one-drawn {seed = seed} {next = next} {n = n} {e = e} {l = l} r m k d) =
-    ap (λ (s : ℕ). eventBytes (eventOf s) ++ practiceList s n) (sym (replaces-next r)) ∙ ap₂ (λ (x y : List ℕ). x ++ y) (sym (makes-one m k)) (drawn-list d)
+    ap (λ (s : ℕ). eventBytes (eventOfSeed s) ++ practiceList s n) (sym (replaces-next r)) ∙ ap₂ (λ (x y : List ℕ). x ++ y) (sym (makes-one m k)) (drawn-list d)
 
 pub practice-rule : (seed count : ℕ) (l : List ℕ) → (practiceList seed count ≡ l) ↔ Drawn seed count l
 practice-rule seed count l = ((λ e. subst (Drawn seed count) e (list-drawn seed count)), (λ d. drawn-list d))

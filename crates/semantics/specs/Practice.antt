@@ -20,8 +20,8 @@ bits lowest many n = n / 2 ^ lowest % 2 ^ many
 
 -- "One draw makes one event: the new seed's top two bits 0 give a tick, 1 or 2 a pick, 3 a switch.
 -- The next six bits are the node, or three bits selector and three bits switch."
-unfoldable pub eventOf : ℕ → Event
-eventOf seed =
+unfoldable pub eventOfSeed : ℕ → Event
+eventOfSeed seed =
     cond (eqb (bits 30 2 seed) 0) tick
     (cond (within 1 2 (bits 30 2 seed)) (pick (bits 24 6 seed))
     (take-switch (bits 27 3 seed) (bits 24 3 seed)))
@@ -34,15 +34,12 @@ eventBytes (take-switch s k) = 2 ∷ s ∷ k ∷ []
 -- no draw gives it: bytes of no known kind
 eventBytes senseless = 3 ∷ 0 ∷ 0 ∷ []
 
--- the seed after so many draws, and their events
-unfoldable pub seedAfter : ℕ → ℕ → ℕ
-seedAfter seed zero = seed
-seedAfter seed (suc n) = seedAfter (nextSeed seed) n
-
+-- the events of so many draws
 unfoldable pub drawn : ℕ → ℕ → List Event
 drawn seed zero = []
-drawn seed (suc n) = eventOf (nextSeed seed) ∷ drawn (nextSeed seed) n
+drawn seed (suc n) = eventOfSeed (nextSeed seed) ∷ drawn (nextSeed seed) n
 
+-- "writes that many events": their bytes, one event after the other
 unfoldable pub practiceList : ℕ → ℕ → List ℕ
 practiceList seed count = flatMap eventBytes (drawn seed count)
 

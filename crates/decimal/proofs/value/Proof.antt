@@ -5,9 +5,9 @@ use Prim.Native.Nat.{_≤_, _-_}
 use native.Mathlib.Omega.{arith}
 use lib.ListN.{length, drop}
 use Rattle.decimal.specs.Decimal.{valueFrom}
-use Rattle.decimal.specs.Saying.{saidOf}
+use Rattle.decimal.specs.Parsing.{parsedOf}
 use Rattle.decimal.proofs.Digits.{digit-low, value-next, value-over, value-end}
-use Rattle.decimal.proofs.Answers.{says-number, says-too-large}
+use Rattle.decimal.proofs.Answers.{parsed-number, parsed-too-large}
 use Rattle.decimal.proofs.value.Statement.{statement}
 use Rattle.decimal.proofs.value.Tie as tie
 
@@ -32,12 +32,12 @@ cast-digit c = omega (arith, c .shared-slice-known .given (c .before .before .lo
 returns : tie.Need-returns Inv-loop μ-loop
 returns c = let l = c .before .before .before in
     let a = l .before .args in
-    says-too-large (a .most) _ (value-over (a .s .now) (l .loop .at) (omega arith) (l .loop .n) (l .loop .inv .1) (omega arith))
+    parsed-too-large (a .most) _ (value-over (a .s .now) (l .loop .at) (omega arith) (l .loop .n) (l .loop .inv .1) (omega arith))
 
 returns-2 : tie.Need-returns-2 Inv-loop μ-loop
 returns-2 c = let l = c .before .before .before .before in
     let a = l .before .args in
-    says-too-large (a .most) _ (value-over (a .s .now) (l .loop .at) (omega arith) (l .loop .n) (l .loop .inv .1) (omega arith))
+    parsed-too-large (a .most) _ (value-over (a .s .now) (l .loop .at) (omega arith) (l .loop .n) (l .loop .inv .1) (omega arith))
 
 mul-n : tie.Need-mul-n Inv-loop μ-loop
 mul-n c = omega arith
@@ -58,7 +58,7 @@ loop-again c = let l = c .before .before .before .before in
 returns-3 : tie.Need-returns-3 Inv-loop μ-loop
 returns-3 c = let l = c .before in
     let a = l .before .args in
-    says-number (a .most) (l .loop .n) (l .loop .inv .0) ∙ ap (λ n. saidOf (a .most) (some n)) (sym (l .loop .inv .1 ∙ value-end (l .loop .n) (a .s .now) (l .loop .at) (omega arith)))
+    parsed-number (a .most) (l .loop .n) (l .loop .inv .0) ∙ ap (λ n. parsedOf (a .most) (some n)) (sym (l .loop .inv .1 ∙ value-end (l .loop .n) (a .s .now) (l .loop .at) (omega arith)))
 
 pub value-spec : {M : Type 1} → statement M
 value-spec =

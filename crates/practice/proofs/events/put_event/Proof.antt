@@ -1,4 +1,4 @@
--- One return for each kind of event; the bits are those of `eventOf`.
+-- One return for each kind of event; the bits are those of `eventOfSeed`.
 use mathlib.Core.Path.{refl}
 use native.Mathlib.Omega.{arith}
 use Rattle.codec.proofs.Writing.{wrote-as}

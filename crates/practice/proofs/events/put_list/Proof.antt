@@ -4,8 +4,8 @@ use mathlib.Core.List.{flatMap}
 use Prim.Native.Nat.{_+_, _*_, _-_, _≤_, _<_}
 use native.Mathlib.Omega.{arith}
 use lib.ListN.{length}
-use Rattle.semantics.specs.Practice.{seedAfter, drawn, practiceList}
-use Rattle.semantics.proofs.PracticeCall.{list-length}
+use Rattle.semantics.specs.Practice.{drawn, practiceList}
+use Rattle.semantics.proofs.PracticeCall.{seedAfter, list-length}
 use Rattle.codec.specs.Writing.{Wrote}
 use Rattle.codec.proofs.Writing.{wrote-none, put-more, wrote-as}
 use Rattle.practice.proofs.Draws.{seed-next, list-next}
