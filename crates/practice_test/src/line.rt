@@ -1,6 +1,6 @@
 // Words, numbers and bytes of a line.
 ghost use mathlib.Core.Path.{_≡_};
-ghost use Prim.Native.Nat.{_≤_};
+ghost use Prim.Native.Nat.{_*_, _≤_};
 ghost use lib.ListN.{length};
 
 // the most bytes that a line shows: those of 10,000 events and some behind them
@@ -24,13 +24,14 @@ fn digit(n: u8) -> u8 {
 }
 
 // the digits of the bytes at the front of the text
-fn spell(s: &[u8], t: &mut [u8; TEXT_BYTES])
-    requires { ⌜ length (now s) ≤ 30100 ⌝ }
+fn spell(s: &[u8], t: &mut [u8])
+    requires { ⌜ 2 * length (now s) ≤ length (now t) ⌝ }
 {
+    let mut at = 0;
     let mut i = 0;
     while i < s.len() {
-        t[2 * i] = digit(s[i] / 16);
-        t[2 * i + 1] = digit(s[i]);
+        let next = codec::put1(t, at, digit(s[i] / 16));
+        at = codec::put1(t, next, digit(s[i]));
         i += 1;
     }
 }
@@ -41,12 +42,13 @@ fn text_buffer() -> [u8; TEXT_BYTES]
     [b'\n'; TEXT_BYTES]
 }
 
-// the bytes in hexadecimal digits, and the line's end
-pub fn bytes(s: &[u8])
-    requires { ⌜ length (now s) ≤ 30100 ⌝ }
-{
+// the bytes in hexadecimal digits, and the line's end; nothing where there are too many
+pub fn bytes(s: &[u8]) {
+    if s.len() > MOST_BYTES {
+        return;
+    }
     let mut t = text_buffer();
     spell(s, &mut t);
-    let n = 2 * s.len() + 1;
+    let n = output::front(2 * s.len() + 1, &t);
     text(&t[..n]);
 }

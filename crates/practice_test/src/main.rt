@@ -3,6 +3,7 @@
 // Its functions promise nothing but to end and to be safe.
 mod line; // line.rt: words, numbers and bytes of a line
 
+use practice::call::Practised;
 ghost use mathlib.Core.Path.{_≡_};
 ghost use Prim.Native.Nat.{_+_, _≤_};
 ghost use lib.ListN.{length};
@@ -35,19 +36,24 @@ fn lent() -> [u8; line::MOST_BYTES]
     [UNTOUCHED; line::MOST_BYTES]
 }
 
+// the call, with so much of the buffer lent to it
+fn written(seed: u32, count: u64, room: usize, events: &mut [u8]) -> Practised {
+    let k = output::front(room, events);
+    practice::call::write(seed, count, &mut events[..k])
+}
+
 // the two lines of a case
-fn shown(seed: u32, count: u64, room: usize)
-    requires { ⌜ room ≤ 30100 ⌝ }
-{
+fn shown(seed: u32, count: u64, room: usize) {
     let mut events = lent();
-    let r = practice::call::write(seed, count, &mut events[..room]);
+    let r = written(seed, count, room, &mut events);
     line::number(b"seed ", seed as u64);
     line::number(b", count ", count);
     line::number(b", room ", room as u64);
     line::number(b": ", r.refusal as u64);
     line::number(b", ", r.length as u64);
     line::text(b"\n");
-    line::bytes(&events[..room]);
+    let n = output::front(room, &events);
+    line::bytes(&events[..n]);
 }
 
 // the case at a place; whether its room is one that can be lent
@@ -66,7 +72,6 @@ fn case(cases: &[u8], at: usize) -> bool
 // the cases one after the other
 fn all(cases: &[u8]) {
     let mut at = 0;
-    let mut made = 0;
     while at < cases.len() {
         if cases.len() - at < CASE_BYTES {
             line::text(b"no list of cases\n");
@@ -77,9 +82,8 @@ fn all(cases: &[u8]) {
             return;
         }
         at += CASE_BYTES;
-        made += 1;
     }
-    line::number(b"", made);
+    line::number(b"", (cases.len() / CASE_BYTES) as u64);
     line::text(b" cases\n");
 }
 
