@@ -24,20 +24,21 @@ unfolding parsedOf isSome
 parsed-none most none h = refl
 parsed-none most (some n) h = true-not-false h
 
+-- a number is neither of the other two
+pub number-or-none : {C : Type 0} {n : ℕ} → Number n ≡ NotDecimal → C
+number-or-none e = let z : _≡_ {A = ℕ} 0 1 = cc in absurd (omega arith)
+
+pub number-or-large : {C : Type 0} {n : ℕ} → Number n ≡ TooLarge → C
+number-or-large e = let z : _≡_ {A = ℕ} 0 1 = cc in absurd (omega arith)
+
 -- a number that is answered is that of the bytes, and no larger than was asked for
 pub number-parsed : (most : ℕ) (o : Option ℕ) {n : ℕ} → Number n ≡ parsedOf most o → (o ≡ some n) × (n ≤ most)
 unfolding parsedOf
-number-parsed most none e = never e
-  where
-    never : {C : Type 0} {n : ℕ} → Number n ≡ NotDecimal → C
-    never e = let z : _≡_ {A = ℕ} 0 1 = cc in absurd (omega arith)
+number-parsed most none e = number-or-none e
 number-parsed most (some m) {n} e =
     by-cases (leb m most)
     (λ t. same (e ∙ sym (parsed-number most m (leb-true m most t))) (leb-true m most t))
-    (λ f. never (e ∙ sym (parsed-too-large most m (leb-false m most f))))
+    (λ f. number-or-large (e ∙ sym (parsed-too-large most m (leb-false m most f))))
   where
     same : Number n ≡ Number m → m ≤ most → (some m ≡ some n) × (n ≤ most)
     same e h = let k : n ≡ m = cc in (cc, omega arith)
-
-    never : {C : Type 0} → Number n ≡ TooLarge → C
-    never e = let z : _≡_ {A = ℕ} 0 1 = cc in absurd (omega arith)
