@@ -23,7 +23,8 @@ pub event-tick : (seed : ℕ) → seed < 4294967296 → seed / 1073741824 ≡ 0 
 unfolding eventOfSeed eventBytes
 event-tick seed h e = let z : bits 30 2 seed ≡ 0 = omega arith in rw (eq-eqb (bits 30 2 seed) 0 z) refl
 
-pub event-pick : (seed six : ℕ) → seed < 4294967296 → 0 < seed / 1073741824 → seed / 1073741824 < 3 → six ≡ seed / 16777216 % 64 → 1 ∷ six ∷ 0 ∷ [] ≡ eventBytes (eventOfSeed seed)
+pub event-pick : (seed six : ℕ) → seed < 4294967296 → 0 < seed / 1073741824 → seed / 1073741824 < 3 → six ≡ seed / 16777216 % 64 →
+    1 ∷ six ∷ 0 ∷ [] ≡ eventBytes (eventOfSeed seed)
 unfolding eventOfSeed eventBytes
 event-pick seed six h j k e =
     let t : bits 30 2 seed ≡ seed / 1073741824 = omega arith in

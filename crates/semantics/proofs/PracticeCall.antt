@@ -16,7 +16,8 @@ use Rattle.semantics.specs.Events.{Event, tick, pick, take-switch, sense
 use Rattle.semantics.specs.Refusals.{Judged, refused, accepted, _>>_, ensure, refusalOf}
 use Rattle.semantics.specs.Plant.{Plant}
 use Rattle.semantics.specs.Run.{Control, Situation, Answered, answers, step}
-use Rattle.semantics.specs.Rules.{SaysTick, SaysPick, SaysSwitch, Sentence, is-over, is-senseless, is-idle, is-missing, is-busy, is-checked-pick, is-checked-tick, is-early, is-false, is-due, Standing, Sound}
+use Rattle.semantics.specs.Rules.{SaysTick, SaysPick, SaysSwitch, Standing, Sound}
+use Rattle.semantics.specs.Rules.{Sentence, is-over, is-senseless, is-idle, is-missing, is-busy, is-checked-pick, is-checked-tick, is-early, is-false, is-due}
 use Rattle.semantics.specs.Records.{AtFront}
 use Rattle.semantics.specs.Calls.{eventsOf}
 use Rattle.semantics.specs.Sentences.{FirstHolds, AnyHolds}

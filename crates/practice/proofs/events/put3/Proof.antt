@@ -9,10 +9,13 @@ use Rattle.practice.proofs.events.put3.Tie as tie
 
 returns : tie.Need-returns
 returns c =
-    let s = c .before .before .before .before .before .before .before .before .before .before .before .before .before in
-    let p = c .before .before .before .before .before .before .before .before .before .before .put1 .ensures in
-    let q = c .before .before .before .before .before .before .put12 .ensures in
-    let r = c .before .before .put13 .ensures in
+    let third = c .before .before in
+    let second = third .before .before .before .before in
+    let first = second .before .before .before .before in
+    let s = first .before .before .before in
+    let p = first .put1 .ensures in
+    let q = second .put12 .ensures in
+    let r = third .put13 .ensures in
     let h : s .args .i ≤ length (s .args .d .now) = omega (arith, s .pre) in
     (omega (arith, p .0, q .0, r .0), put-more (put-more (p .1) (q .1) h (p .0)) (r .1) h (omega (arith, p .0, q .0)))
 

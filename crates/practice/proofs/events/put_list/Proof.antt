@@ -35,10 +35,12 @@ loop-less c = omega arith
 
 loop-again : tie.Need-loop-again Inv-loop μ-loop
 loop-again c =
-    let l = c .before .before .before .before .before .before .loop in
-    let seed = c .before .before .before .before .before .before .before .before .args .seed in
+    let drawn-then = c .before .before .before .before in
+    let turn = drawn-then .before .before in
+    let l = turn .loop in
+    let seed = turn .before .before .args .seed in
     let p = c .before .before .put-event in
-    let e = seed-next seed (l .i) (c .before .before .before .before .draw .ensures) (l .inv .3) in
+    let e = seed-next seed (l .i) (drawn-then .draw .ensures) (l .inv .3) in
     let n = list-length seed (l .i) in (
       omega arith,
       omega (arith, p .ensures .0),

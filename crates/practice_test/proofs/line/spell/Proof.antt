@@ -17,14 +17,17 @@ loop-holds c = (refl, omega arith)
 
 put1-requires-2 : tie.Need-put1-requires-2 Inv-loop μ-loop
 put1-requires-2 c κs =
-    let p = c .before .before .before .before .before .put1 in
-    let l = c .before .before .before .before .before .before .before .before .before .before .loop in omega (arith, p .ensures .0, p .kept .0, l .inv)
+    let first = c .before .before .before .before .before in
+    let p = first .put1 in
+    let l = first .before .before .before .before .before .loop in omega (arith, p .ensures .0, p .kept .0, l .inv)
 
 loop-again : tie.Need-loop-again Inv-loop μ-loop
 loop-again c =
-    let p = c .before .before .before .before .before .before .before .before .put1 in
-    let q = c .before .before .put12 in
-    let l = c .before .before .before .before .before .before .before .before .before .before .before .before .before .loop in
+    let second = c .before .before in
+    let first = second .before .before .before .before .before .before in
+    let p = first .put1 in
+    let q = second .put12 in
+    let l = first .before .before .before .before .before .loop in
     (q .kept .0 ∙ p .kept .0 ∙ l .inv .0, omega (arith, p .ensures .0, q .ensures .0))
 
 pub spell-spec : {M : Type 1} → statement M
