@@ -1,13 +1,12 @@
 -- Of the list and the call of document 02's item 1: how long the list is, that a shorter one is its front, that it is bytes and whole events,
 -- and the first number that applies.
 use mathlib.Core.Path.{_≡_, refl, sym, ap, ap₂, subst, _∙_}
-use mathlib.Core.Bool.{true, false}
 use mathlib.Core.List.{List, [], _∷_, _++_, append-assoc, map, flatMap, flatten}
 use mathlib.Core.Logic.{_⊎_}
 use Prim.Native.Nat.{ℕ, zero, suc, _+_, _*_, _≤_, _<_}
 use native.Mathlib.Omega.{arith}
 use borrow.Author.Tests.{leb-true, leb-false, le-leb}
-use lib.ListN.{length, take, drop, length-append}
+use lib.ListN.{length, take, length-append}
 use lib.Seq.{take-take}
 use lib.Dec.{lit<, leb, eqb}
 use Rattle.semantics.specs.Bytes.{within, overwrite}

@@ -1,12 +1,10 @@
 -- The list of a seed and a count is just what the sentences of document 02's item 1 draw.
 use mathlib.Core.Path.{_≡_, refl, sym, ap, ap₂, subst, _∙_}
-use mathlib.Core.Bool.{Bool, true, false, cond}
 use mathlib.Core.List.{List, [], _∷_, _++_, flatMap}
 use mathlib.Core.Logic.{_↔_}
 use Prim.Native.Nat.{ℕ, zero, suc, _+_, _*_, _/_, _%_, _<_}
 use native.Mathlib.Omega.{arith}
 use lib.ListN.{length}
-use lib.Dec.{eqb}
 use Rattle.semantics.specs.Bytes.{within, one-byte}
 use Rattle.semantics.specs.Editions.{edition1}
 use Rattle.semantics.specs.Events.{Event, tick, pick, take-switch, senseless}
