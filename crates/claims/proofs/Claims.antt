@@ -36,6 +36,7 @@ use Rattle.semantics.specs.Sentences.{Clause, FirstHolds, AnyHolds, tableClause
 use Rattle.semantics.proofs.StepRules as StepRules
 use Rattle.semantics.proofs.FirstAnswer as FirstAnswer
 use Rattle.semantics.proofs.Evaluated as Evaluated
+use Rattle.semantics.proofs.EvaluatedBytes as EvaluatedBytes
 use Rattle.semantics.proofs.EventsCut as EventsCut
 use Rattle.semantics.proofs.RecordForms as RecordForms
 use Rattle.semantics.proofs.RunCounts as RunCounts
@@ -375,7 +376,7 @@ pub table-at-front : (ed : Edition) (file room : List ℕ) → (compile ed file 
     (s : Schedule) × (fileSchedule ed file ≡ some s) × ((compile ed file room) .written ≡ length (tableOf ed s)) × AtFront (tableOf ed s) room ((compile ed file room) .table)
 table-at-front = FileCalls.table-at-front
 
--- "taken (200..202), turned away (23..31) and faulted (203)": the counts by these numbers alone. `RunHolds` says of a run's answers that they are counted so; in `RunsAgree` this reads `countsOf`.
+-- "taken (200..202), turned away (23..31) and faulted (203)", with document 02, item 2, faulted 203 and 204: the counts by these numbers alone. `RunHolds` says of a run's answers that they are counted so; in `RunsAgree` this reads `countsOf`.
 -- Ruled out: a run that counts 202 as turned away; one that counts an answer twice, or 24 to 31 and not 23.
 pub counts-told : {l : List ℕ} {taken away faulted : ℕ} → Counted l taken away faulted → countsOf l ≡ record { taken = taken; turned-away = away; faulted = faulted }
 counts-told k = RunCounts.counts-told k
@@ -411,11 +412,11 @@ evaluates-truth = Evaluated.evaluates-truth
 -- Ruled out: an evaluation of the bytes from their end; one that takes variable 1 for variable 0.
 pub evaluates-number-bytes : (ed : Edition) (vs : List ℤ) (s : List ℕ) → All (λ b. b < 256) s → (e : Number) → numberBytes ed e ≡ s → numberDepth e ≤ 16 → NamesKnown (length vs) e →
     (r : Value ℤ) → (numberValue ed vs s ≡ r) ↔ Evaluates vs e r
-evaluates-number-bytes = Evaluated.evaluates-number-bytes
+evaluates-number-bytes = EvaluatedBytes.evaluates-number-bytes
 
 pub evaluates-truth-bytes : (ed : Edition) (vs : List ℤ) (s : List ℕ) → All (λ b. b < 256) s → (e : Truth) → truthBytes ed e ≡ s → truthDepth e ≤ 16 → TruthNamesKnown (length vs) e →
     (r : Value Bool) → (truthValue ed vs s ≡ r) ↔ Holds vs e r
-evaluates-truth-bytes = Evaluated.evaluates-truth-bytes
+evaluates-truth-bytes = EvaluatedBytes.evaluates-truth-bytes
 
 -- ---- demand 1: "A refused call returns .. length and counts zero and every lent buffer unwritten."
 -- Ruled out: a refused run that clears its record buffer; a refused compilation that returns a length.

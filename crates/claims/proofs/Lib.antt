@@ -1,3 +1,4 @@
 pub mod Claims
 pub mod Papers
 pub mod Practice
+pub mod Sides

@@ -50,7 +50,7 @@ judgedAs (Move n b) vs ms = pass (record { moved = mover n b; values = vs; modes
 abbrev pub NeverIdle : Control ℕ → Type 0
 NeverIdle c = (x n : ℕ) (b : Bool) → c .next x n b ≡ idle → ⊥
 
--- values vs and modes ms, the event judged j: the answer r, document 01's number of it (24 to 31, 203, 200; of a node's move none),
+-- values vs and modes ms, the event judged j: the answer r, the papers' number of it (24 to 31, 203, 204, 200; of a node's move none),
 -- and the values and modes that `settle` leaves
 pub record Left (j : Run.Verdict Done) (vs : List ℤ) (ms : List ℕ) (r : Verdict) (vs' : List ℤ) (ms' : List ℕ) : Type 0 where
   pub judged : j ≡ judgedAs r vs' ms'

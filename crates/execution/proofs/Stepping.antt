@@ -47,7 +47,7 @@ module _ {S : Type 0} (p : Plant) (c : Control S) (x : S) (ws : List ℕ) (acts 
   unfolding settle faultAnswer
   stepped-above h = let u = heard-above _ vs ms vs' ms' l h in settled (u .judged) ∙ rw (u .values, u .modes) refl
 
-  pub stepped-below : r ≡ Below → step edition1 p c (at x vs ms) e ≡ record { answer = 203; left = over vs' ms' }
+  pub stepped-below : r ≡ Below → step edition1 p c (at x vs ms) e ≡ record { answer = 204; left = over vs' ms' }
   unfolding settle faultAnswer
   stepped-below h = let u = heard-below _ vs ms vs' ms' l h in settled (u .judged) ∙ rw (u .values, u .modes) refl
 

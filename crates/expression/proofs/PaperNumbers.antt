@@ -12,7 +12,7 @@ use Rattle.semantics.specs.Expressions.{Value, ok, fault, above, below, valueOf
 use Rattle.semantics.specs.Run.{faultAnswer}
 use Rattle.expression.specs.Answers.{numberOf, truthOf, numberAnswer, truthAnswer, NumberSays, TruthSays}
 use Rattle.expression.specs.Evaluation.{sideOf, numberAt, truthAt, foundIn, FoundSays}
-use Rattle.expression.specs.PaperNumbers.{valueNumber, evaluationNumber, valueGiven, evaluationValue, expressionNumber, paperNumber, paperValue, paperTruthNumber, paperTruth, paperFound}
+use Rattle.expression.specs.PaperNumbers.{valueNumber, evaluationNumber, valueGiven, evaluationValue, expressionNumber, paperNumber, paperValue, paperTruthNumber, paperTruth, paperFault, paperFound}
 use Rattle.expression.specs.declared.Number.{Number}
 use Rattle.expression.specs.declared.Truth.{Truth}
 use Rattle.expression.specs.declared.Found.{Found}
@@ -64,7 +64,7 @@ truth-says {vs} {o} {r} e = record { is = e; number = ap paperTruthNumber e ∙ 
     valued (some x) = given (holds vs x)
 
 pub found-says : {vs : List ℤ} {n : ℕ} {o : Read Expression} {r : Found} → r ≡ foundIn vs n o → FoundSays vs n o r
-unfolding foundIn paperFound sideOf faultAnswer valueNumber expressionNumber
+unfolding foundIn paperFound paperFault sideOf faultAnswer valueNumber expressionNumber
 found-says {vs} {n} {o} {r} e = record { is = e; number = ap paperFound e ∙ numbered o }
   where
     number : (m : ℕ) (v : Value ℤ) → paperFound (numberAt m v) ≡ valueNumber v

@@ -33,7 +33,7 @@ unfoldable pub truthAnswer : List ℤ → Option Forms.Truth → Truth
 truthAnswer vs none = Truths.Malformed
 truthAnswer vs (some e) = truthOf (holds vs e)
 
--- ---- the contracts: the case, document 01's number of it (12 malformed, 203 a fault, 0 a value), and the value
+-- ---- the contracts: the case, the papers' number of it (12 malformed, 203 a fault above, 204 one below, 0 a value), and the value
 pub record NumberSays (vs : List ℤ) (o : Option Forms.Number) (r : Number) : Type 0 where
   pub is : r ≡ numberAnswer vs o
   pub number : paperNumber r ≡ evaluationNumber (valueOf vs) o

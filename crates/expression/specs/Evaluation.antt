@@ -41,7 +41,7 @@ foundIn vs n (read (a-truth e) t) = truthAt (n - length t) (holds vs e)
 abbrev pub found : List ℤ → List ℕ → ℕ → ℕ → Found
 found vs s at depth = foundIn vs (length s) (readExpression edition1 (length vs) depth (drop at s))
 
--- what is found of n bytes, with document 01's number of it: 12 broken, 203 a fault, 0 a value
+-- what is found of n bytes, with the papers' number of it: 12 broken, 203 a fault above, 204 one below, 0 a value
 pub record FoundSays (vs : List ℤ) (n : ℕ) (o : Read Expression) (r : Found) : Type 0 where
   pub is : r ≡ foundIn vs n o
   pub number : paperFound r ≡ expressionNumber vs o

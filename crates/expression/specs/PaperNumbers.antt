@@ -1,5 +1,5 @@
--- Document 01's number and value for each case of the enums that this crate answers with.
--- 203 for a fault, "Every result must lie in −2147483648..2147483647, or evaluation faults", whatever its side; 12 for bytes that 12 turns away; 0 for a value.
+-- The papers' number and value for each case of the enums that this crate answers with.
+-- "Every result must lie in −2147483648..2147483647, or evaluation faults": 203 for a fault above, 204 for one below; 12 for bytes that 12 turns away; 0 for a value.
 use mathlib.Core.Bool.{Bool, true, false}
 use mathlib.Core.List.{List}
 use mathlib.Core.Option.{Option, none, some}
@@ -42,7 +42,7 @@ expressionNumber vs (read (a-truth e) t) = valueNumber (holds vs e)
 unfoldable pub paperNumber : Number → ℕ
 paperNumber (Numbers.Is z) = 0
 paperNumber Numbers.Above = 203
-paperNumber Numbers.Below = 203
+paperNumber Numbers.Below = 204
 paperNumber Numbers.Malformed = 12
 
 unfoldable pub paperValue : Number → Option ℤ
@@ -56,7 +56,7 @@ unfoldable pub paperTruthNumber : Truth → ℕ
 paperTruthNumber Truths.Yes = 0
 paperTruthNumber Truths.No = 0
 paperTruthNumber Truths.Above = 203
-paperTruthNumber Truths.Below = 203
+paperTruthNumber Truths.Below = 204
 paperTruthNumber Truths.Malformed = 12
 
 unfoldable pub paperTruth : Truth → Option Bool
@@ -66,10 +66,15 @@ paperTruth Truths.Above = none
 paperTruth Truths.Below = none
 paperTruth Truths.Malformed = none
 
+-- a fault, above its range or below it
+unfoldable pub paperFault : Bool → ℕ
+paperFault true = 203
+paperFault false = 204
+
 -- what stands at a position
 unfoldable pub paperFound : Found → ℕ
 paperFound (ANumber z n) = 0
-paperFound (NumberFault above n) = 203
+paperFound (NumberFault above n) = paperFault above
 paperFound (ATruth b n) = 0
-paperFound (TruthFault above n) = 203
+paperFound (TruthFault above n) = paperFault above
 paperFound Broken = 12

@@ -1,11 +1,11 @@
 -- Answers booked one by one are counted.
-use mathlib.Core.Path.{_≡_, refl, sym, ap, ap₂, _∙_}
-use mathlib.Core.Bool.{Bool, true, false, cond, _&&_}
+use mathlib.Core.Path.{_≡_, refl, sym, ap, _∙_}
+use mathlib.Core.Bool.{Bool, true, false, cond}
 use mathlib.Core.List.{List, [], _∷_, _++_}
 use Prim.Native.Nat.{ℕ, zero, suc, _+_, _^_, _≤_, _<_}
 use native.Mathlib.Omega.{arith}
-use borrow.Author.Tests.{lt-leb, le-leb, leb-true, eqb-true, eqb-false}
-use lib.Dec.{eqb, leb}
+use borrow.Author.Tests.{lt-leb, le-leb}
+use lib.Dec.{leb}
 use lib.ListN.{length}
 use Rattle.semantics.specs.Bytes.{within}
 use Rattle.semantics.specs.Run as Run
@@ -22,20 +22,6 @@ below-low a b n h = rw (lt-leb a n h) refl
 pub from-low : (a b n : ℕ) → a ≤ n → leb n b ≡ within a b n
 unfolding within
 from-low a b n h = rw (le-leb a n h) refl
-
--- between a number and itself lies that number only
-within-one : (k n : ℕ) → within k k n ≡ eqb n k
-unfolding within
-within-one k n = go (eqb n k) (eqb-true n k) (eqb-false n k)
-  where
-    go : (b : Bool) → (b ≡ true → n ≡ k) → (b ≡ false → n ≡ k → ⊥) → leb k n && leb n k ≡ b
-    go true e f = let h : n ≡ k = e refl in rw (le-leb k n (omega (arith, h)), le-leb n k (omega (arith, h))) refl
-    go false e f = apart (leb k n) (leb n k) (leb-true k n) (leb-true n k)
-      where
-        apart : (x y : Bool) → (x ≡ true → k ≤ n) → (y ≡ true → n ≤ k) → x && y ≡ false
-        apart true true g h = absurd (f refl (omega (arith, g refl, h refl)))
-        apart true false g h = refl
-        apart false y g h = refl
 
 -- ---- one more at the end of the list
 module _ (f : ℕ → Bool) where
@@ -77,17 +63,16 @@ Booked c a r = (l : List ℕ) → told c ≡ countsOf l → told r ≡ countsOf 
 
 -- the record that the code makes
 pub booked-within : (c : Counts) (a : ℕ) {t u v : ℕ} →
-    t ≡ c .taken + howMany (within 200 202) (a ∷ []) → u ≡ c .«turned_away» + howMany (within 23 31) (a ∷ []) → v ≡ c .faulted + howMany (within 203 203) (a ∷ []) →
+    t ≡ c .taken + howMany (within 200 202) (a ∷ []) → u ≡ c .«turned_away» + howMany (within 23 31) (a ∷ []) → v ≡ c .faulted + howMany (within 203 204) (a ∷ []) →
     Booked c a (record { taken = t; «turned_away» = u; faulted = v })
 unfolding countsOf howMany isTaken isTurnedAway isFaulted
 booked-within c a {t} {u} {v} p q r l e =
     let x : c .taken ≡ howMany isTaken l = ap (λ (n : Run.Counts). n .taken) e in
     let y : c .«turned_away» ≡ howMany isTurnedAway l = ap (λ (n : Run.Counts). n .turned-away) e in
     let z : c .faulted ≡ howMany isFaulted l = ap (λ (n : Run.Counts). n .faulted) e in
-    let f : howMany (within 203 203) (a ∷ []) ≡ howMany isFaulted (a ∷ []) = rw (within-one 203 a, howMany) refl in
     let i : t ≡ howMany isTaken (l ++ (a ∷ [])) = p ∙ ap (λ (n : ℕ). n + howMany isTaken (a ∷ [])) x ∙ sym (more isTaken l a) in
     let j : u ≡ howMany isTurnedAway (l ++ (a ∷ [])) = q ∙ ap (λ (n : ℕ). n + howMany isTurnedAway (a ∷ [])) y ∙ sym (more isTurnedAway l a) in
-    let k : v ≡ howMany isFaulted (l ++ (a ∷ [])) = r ∙ ap₂ (λ (m n : ℕ). m + n) z f ∙ sym (more isFaulted l a) in
+    let k : v ≡ howMany isFaulted (l ++ (a ∷ [])) = r ∙ ap (λ (n : ℕ). n + howMany isFaulted (a ∷ [])) z ∙ sym (more isFaulted l a) in
     cc
 
 module _ {c : Counts} (l : List ℕ) (e : told c ≡ countsOf l) where

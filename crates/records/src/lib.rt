@@ -16,7 +16,7 @@ ghost use Rattle.nodeset.specs.Sets.{mem, members};
 ghost use Rattle.records.specs.Booking.{Room};
 ghost use Rattle.records.specs.Reported.{told, ranWith};
 
-// Of the answers of a run: taken 200..202, turned away 23..31, faulted 203.
+// Of the answers of a run: taken 200..202, turned away 23..31, faulted 203 and 204.
 pub struct Counts {
     pub taken: usize,
     pub turned_away: usize,
@@ -86,8 +86,8 @@ fn book(c: &mut Counts, answer: u8)
     c.turned_away = counted(c.turned_away, 23, 31, answer);
     c.faulted = counted(
         c.faulted,
-        paper::answers::FAULT,
-        paper::answers::FAULT,
+        paper::answers::ABOVE,
+        paper::answers::BELOW,
         answer,
     );
 }

@@ -82,8 +82,8 @@ module _ {ls fs : List ℕ} {set : NodeSet} (s : Schedule) (r : Residual) (h : H
   pub settled-above : {a : Answered} → v ≡ Above → a ≡ ended 203 → Steps s (some r) vs ms e a vs' ms'
   settled-above q k = steps-as k (record { place = none; is = stepped-above (s .plant) (ruleControl s) r (set .words) acts vs ms e vs' ms' l q; stands = stands-over (s .root) 203 })
 
-  pub settled-below : {a : Answered} → v ≡ Below → a ≡ ended 203 → Steps s (some r) vs ms e a vs' ms'
-  settled-below q k = steps-as k (record { place = none; is = stepped-below (s .plant) (ruleControl s) r (set .words) acts vs ms e vs' ms' l q; stands = stands-over (s .root) 203 })
+  pub settled-below : {a : Answered} → v ≡ Below → a ≡ ended 204 → Steps s (some r) vs ms e a vs' ms'
+  settled-below q k = steps-as k (record { place = none; is = stepped-below (s .plant) (ruleControl s) r (set .words) acts vs ms e vs' ms' l q; stands = stands-over (s .root) 204 })
 
   pub settled-stay : {a : Answered} → v ≡ Stay → a ≡ goingOn 200 set → Steps s (some r) vs ms e a vs' ms'
   settled-stay q k = steps-as k (record { place = some r; is = stepped-stay (s .plant) (ruleControl s) r (set .words) acts vs ms e vs' ms' l q; stands = stands-at 200 set h })

@@ -71,8 +71,8 @@ fn settled<'a>(leads: &'a [u16], fresh: &'a [u64], acting: NodeSet, v: Verdict) 
 {
     match v {
         Verdict::Away(n) => go_on(n, acting),
-        Verdict::Above => end(paper::answers::FAULT),
-        Verdict::Below => end(paper::answers::FAULT),
+        Verdict::Above => end(paper::answers::ABOVE),
+        Verdict::Below => end(paper::answers::BELOW),
         Verdict::Stay => go_on(paper::answers::TAKEN, acting),
         Verdict::Move(n, truth) => moved(leads, fresh, acting, n, truth),
     }

@@ -3,6 +3,7 @@ pub mod Computes
 pub mod Papers
 pub mod ActingOrder
 pub mod Traps
+pub mod SidePapers
 pub mod CasePaper
 -- trees and residuals
 pub mod TreeShapes

@@ -23,3 +23,4 @@ pub mod Sentences
 pub mod Exam
 pub mod Reordered
 pub mod Examples
+pub mod SideExamples

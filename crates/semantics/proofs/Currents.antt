@@ -12,11 +12,13 @@ use lib.Dec.{eqb}
 use lib.IntN.{ℤ, pos, _+ℤ_}
 use lib.ListN.{getD, getElem?}
 use Rattle.semantics.specs.Editions.{Edition}
-use Rattle.semantics.specs.Expressions.{ok, truthValue}
+use Rattle.semantics.specs.Expressions.{Value, ok}
+use Rattle.semantics.specs.Evaluating.{TruthComesTo}
 use Rattle.semantics.specs.Sections.{Rate, Switch, Mode, Selector, Equation, steady, choice}
 use Rattle.semantics.specs.Plant.{Plant, selectorsOf, selectors, noMode, currentOf, currentModes, switchTruths, currentTruths, ratesOf, rateAmong, rateOf, added}
 use Rattle.semantics.specs.Rules.{CaseAt, this-case, past-case, past-rate, CurrentSwitch, CurrentRate, own-rate, mode-rate, Before, lower-selector, listed-before, Found, found-fault, Walks, walk-ends, walk-on, stops-at-truth, stops-at-fault, Stops, by-truth, by-fault, Checks, check-ends, check-stops, Added}
-use Rattle.semantics.proofs.Facts.{none-not-some, some-is}
+use Rattle.semantics.proofs.Facts.{none-not-some, some-is, got}
+use Rattle.semantics.proofs.ComesTo.{truth-value}
 use Rattle.semantics.proofs.StepParts.{found-walk, added-length, added-each, added-only}
 
 -- ---- switches by their numbers
@@ -78,7 +80,7 @@ ordered (suc s) k (suc t) l = go (ordered s k t l)
 
 module _ (ed : Edition) (vs : List ℤ) where
   abbrev False : Switch → Type 0
-  False w = truthValue ed vs (w .truth) ≡ ok false
+  False w = TruthComesTo ed vs (w .truth) (ok false)
 
   -- a row that is empty, or whose first switch is false, is passed
   skip-row : {l : List (List Switch)} {f : Found} → Checks ed vs (In l) f → Checks ed vs (In ([] ∷ l)) f
@@ -132,15 +134,18 @@ module _ (ed : Edition) (vs : List ℤ) where
   rows-check (ws ∷ l) h = row-checks ws (λ k. rows-check l k) h
 
   -- a check stops at one thing
-  stops-not-false : {C : Type 0} {t : List ℕ} {f : Found} → Stops ed vs t f → truthValue ed vs t ≡ ok false → C
-  stops-not-false (by-truth e) h = let z : _≡_ {A = ℕ} 0 1 = cc in absurd (omega arith)
-  stops-not-false (by-fault e) h = let z : _≡_ {A = ℕ} 0 1 = cc in absurd (omega arith)
+  comes-once : {t : List ℕ} {a b : Value Bool} → TruthComesTo ed vs t a → TruthComesTo ed vs t b → a ≡ b
+  comes-once h k = sym (truth-value ed vs h) ∙ truth-value ed vs k
+
+  stops-not-false : {C : Type 0} {t : List ℕ} {f : Found} → Stops ed vs t f → TruthComesTo ed vs t (ok false) → C
+  stops-not-false (by-truth e) h = let i = comes-once e h in let z : _≡_ {A = ℕ} 0 1 = cc in absurd (omega arith)
+  stops-not-false (by-fault e) h = let i = comes-once e h in let z : _≡_ {A = ℕ} 0 1 = cc in absurd (omega arith)
 
   stops-once : {t : List ℕ} {f g : Found} → Stops ed vs t f → Stops ed vs t g → f ≡ g
   stops-once (by-truth e) (by-truth h) = refl
-  stops-once (by-truth e) (by-fault h) = let z : _≡_ {A = ℕ} 0 1 = cc in absurd (omega arith)
-  stops-once (by-fault e) (by-truth h) = let z : _≡_ {A = ℕ} 0 1 = cc in absurd (omega arith)
-  stops-once (by-fault {side = a} e) (by-fault {side = b} h) = let z : a ≡ b = cc in ap found-fault z
+  stops-once (by-truth e) (by-fault h) = let i = comes-once e h in let z : _≡_ {A = ℕ} 0 1 = cc in absurd (omega arith)
+  stops-once (by-fault e) (by-truth h) = let i = comes-once e h in let z : _≡_ {A = ℕ} 0 1 = cc in absurd (omega arith)
+  stops-once (by-fault {side = a} e) (by-fault {side = b} h) = let i = comes-once e h in let z : a ≡ b = cc in ap found-fault z
 
   in-once : {l : List (List Switch)} {s t k j : ℕ} {w u : Switch} → In l s k w → In l t j u → s ≡ t → k ≡ j → w ≡ u
   in-once (in-first e) (in-first h) a b = some-is (sym e ∙ (rw b h))
@@ -170,11 +175,6 @@ module _ (ed : Edition) (vs : List ℤ) where
   same-check to from (check-stops {s = s} {k = k} {w = w} c b e) = check-stops (to s k w c) (λ t l u i d. b t l u i (from t l u d)) e
 
 -- ---- the current modes
-pub got : {A : Type 0} (l : List A) (n : ℕ) (d : A) {x : A} → getElem? l n ≡ some x → getD l n d ≡ x
-got [] n d h = none-not-some h
-got (y ∷ l) zero d h = some-is h
-got (y ∷ l) (suc n) d h = got l n d h
-
 missing : {A : Type 0} (l : List A) (n : ℕ) (d : A) → getElem? l n ≡ none → getD l n d ≡ d
 missing [] n d h = refl
 missing (y ∷ l) zero d h = none-not-some (sym h)

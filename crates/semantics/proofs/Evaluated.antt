@@ -3,21 +3,16 @@ use mathlib.Core.Path.{_≡_, refl, sym, ap, subst, _∙_}
 use mathlib.Core.Bool.{Bool, true, false, not, cond}
 use mathlib.Core.List.{List}
 use mathlib.Core.Logic.{_↔_}
-use Prim.Native.Nat.{ℕ, _≤_}
+use Prim.Native.Nat.{ℕ}
 use borrow.Author.Tests.{eqb-true, eq-eqb}
 use lib.ListN.{length}
 use lib.IntN.{ℤ, pos, negsuc, negℤ}
 use lib.Signed.{leZ, ltZ}
-use Rattle.semantics.specs.Editions.{Edition}
-use Rattle.semantics.specs.Expressions.{Operation, sum, difference, product, Comparison, at-most, less, equal, unequal, Connective, both, either, Number, operate, negation, Truth, compare, connect, opposite, Side, above, below, Value, ok, fault, ranged, result, thenValue, operands, applied, eqZ, compared, connected, valueOf, holds, numberBytes, truthBytes, numberDepth, truthDepth, numberValue, truthValue}
+use Rattle.semantics.specs.Expressions.{Operation, sum, difference, product, Comparison, at-most, less, equal, unequal, Connective, both, either, Number, operate, negation, Truth, compare, connect, opposite, Side, above, below, Value, ok, fault, ranged, result, thenValue, operands, applied, eqZ, compared, connected, valueOf, holds}
 use Rattle.semantics.specs.Proper.{NamesKnown, known-constant, known-variable, known-operands, known-negation, TruthNamesKnown, known-numbers, known-truths, known-opposite, known-always}
-use Rattle.semantics.specs.Writing.{AllBytes}
 use Rattle.semantics.specs.Evaluating.{Results, inside, too-high, too-low, Evaluates, constant-is, variable-is, sum-is, difference-is, product-is, negation-is, left-faults, right-faults, operand-faults}
 use Rattle.semantics.specs.Evaluating.{Holds, at-most-is, less-is, equal-is, equal-not, unequal-is, unequal-not, and-is, or-is, not-is, true-is, left-number-faults, right-number-faults, left-truth-faults, right-truth-faults, truth-faults}
-use Rattle.semantics.proofs.Facts.{by-cases, true-not-false, at-exists}
-use Rattle.semantics.proofs.Currents.{got}
-use Rattle.semantics.proofs.ProperForms.{number-written, truth-written}
-use Rattle.semantics.proofs.StepParts.{ltZ-leZ}
+use Rattle.semantics.proofs.Facts.{by-cases, true-not-false, at-exists, got, ltZ-leZ}
 
 -- ---- results
 abbrev low : ℤ
@@ -34,7 +29,7 @@ other-way a b h = go (leZ b a) (sym (ltZ-leZ a b) ∙ h)
     go true e = refl
     go false e = true-not-false e
 
-results : (z : ℤ) → Results z (result z)
+pub results : (z : ℤ) → Results z (result z)
 unfolding result ranged
 results z = go (ltZ z low) (ltZ high z) refl refl
   where
@@ -81,7 +76,7 @@ different h e = true-not-false (sym (equal-true e) ∙ h)
 
 -- ---- what the definitions give is derived
 module _ (vs : List ℤ) where
-  operated : (o : Operation) {a b : Number} (x y : Value ℤ) → Evaluates vs a x → Evaluates vs b y → Evaluates vs (operate o a b) (thenValue (operands (applied o) x y) result)
+  pub operated : (o : Operation) {a b : Number} (x y : Value ℤ) → Evaluates vs a x → Evaluates vs b y → Evaluates vs (operate o a b) (thenValue (operands (applied o) x y) result)
   unfolding thenValue operands applied
   operated sum (ok x) (ok y) p q = sum-is p q (results _)
   operated difference (ok x) (ok y) p q = difference-is p q (results _)
@@ -90,12 +85,12 @@ module _ (vs : List ℤ) where
   operated o (fault s) (ok y) p q = left-faults p q
   operated o (fault s) (fault t) p q = left-faults p q
 
-  negated : {a : Number} (x : Value ℤ) → Evaluates vs a x → Evaluates vs (negation a) (thenValue x (λ z. result (negℤ z)))
+  pub negated : {a : Number} (x : Value ℤ) → Evaluates vs a x → Evaluates vs (negation a) (thenValue x (λ z. result (negℤ z)))
   unfolding thenValue
   negated (ok x) p = negation-is p (results _)
   negated (fault s) p = operand-faults p
 
-  evaluated : {e : Number} → NamesKnown (length vs) e → Evaluates vs e (valueOf vs e)
+  pub evaluated : {e : Number} → NamesKnown (length vs) e → Evaluates vs e (valueOf vs e)
   unfolding valueOf
   evaluated (known-constant {z = z} h) = constant-is (results z)
   evaluated (known-variable {v = v} h) = let q = at-exists vs v h in variable-is (q .1) (subst (λ x. Results (q .0) (result x)) (sym (got vs v (pos 0) (q .1))) (results (q .0)))
@@ -116,7 +111,7 @@ module _ (vs : List ℤ) where
       go true e = unequal-not p q (same-number x y e)
       go false e = unequal-is p q (different e)
 
-  comparison : (c : Comparison) {a b : Number} (x y : Value ℤ) → Evaluates vs a x → Evaluates vs b y → Holds vs (compare c a b) (operands (compared c) x y)
+  pub comparison : (c : Comparison) {a b : Number} (x y : Value ℤ) → Evaluates vs a x → Evaluates vs b y → Holds vs (compare c a b) (operands (compared c) x y)
   unfolding operands compared
   comparison at-most (ok x) (ok y) p q = at-most-is p q
   comparison less (ok x) (ok y) p q = less-is p q
@@ -126,7 +121,7 @@ module _ (vs : List ℤ) where
   comparison c (fault s) (ok y) p q = left-number-faults p q
   comparison c (fault s) (fault t) p q = left-number-faults p q
 
-  connection : (c : Connective) {a b : Truth} (x y : Value Bool) → Holds vs a x → Holds vs b y → Holds vs (connect c a b) (operands (connected c) x y)
+  pub connection : (c : Connective) {a b : Truth} (x y : Value Bool) → Holds vs a x → Holds vs b y → Holds vs (connect c a b) (operands (connected c) x y)
   unfolding operands connected
   connection both (ok x) (ok y) p q = and-is p q
   connection either (ok x) (ok y) p q = or-is p q
@@ -134,7 +129,7 @@ module _ (vs : List ℤ) where
   connection c (fault s) (ok y) p q = left-truth-faults p q
   connection c (fault s) (fault t) p q = left-truth-faults p q
 
-  contrary : {a : Truth} (x : Value Bool) → Holds vs a x → Holds vs (opposite a) (thenValue x (λ b. ok (not b)))
+  pub contrary : {a : Truth} (x : Value Bool) → Holds vs a x → Holds vs (opposite a) (thenValue x (λ b. ok (not b)))
   unfolding thenValue
   contrary (ok x) p = not-is p
   contrary (fault s) p = truth-faults p
@@ -152,7 +147,7 @@ module _ (vs : List ℤ) where
   faults-left f (ok y) = refl
   faults-left f (fault t) = refl
 
-  evaluates-one : {e : Number} {r : Value ℤ} → Evaluates vs e r → valueOf vs e ≡ r
+  pub evaluates-one : {e : Number} {r : Value ℤ} → Evaluates vs e r → valueOf vs e ≡ r
   unfolding valueOf thenValue operands applied
   evaluates-one (constant-is k) = result-one k
   evaluates-one (variable-is {v = v} e k) = ap result (got vs v (pos 0) e) ∙ result-one k
@@ -164,7 +159,7 @@ module _ (vs : List ℤ) where
   evaluates-one (right-faults p q) = rw (evaluates-one p, evaluates-one q) refl
   evaluates-one (operand-faults p) = rw (evaluates-one p) refl
 
-  holds-one : {e : Truth} {r : Value Bool} → Holds vs e r → holds vs e ≡ r
+  pub holds-one : {e : Truth} {r : Value Bool} → Holds vs e r → holds vs e ≡ r
   unfolding holds thenValue operands compared connected
   holds-one (at-most-is p q) = rw (evaluates-one p, evaluates-one q) refl
   holds-one (less-is p q) = rw (evaluates-one p, evaluates-one q) refl
@@ -188,13 +183,3 @@ evaluates-number vs e h r = (λ i. subst (Evaluates vs e) i (evaluated vs h), λ
 
 pub evaluates-truth : (vs : List ℤ) (e : Truth) → TruthNamesKnown (length vs) e → (r : Value Bool) → (holds vs e ≡ r) ↔ Holds vs e r
 evaluates-truth vs e h r = (λ i. subst (Holds vs e) i (held vs h), λ d. holds-one vs d)
-
--- the same of the bytes of an expression
-module _ (ed : Edition) (vs : List ℤ) (s : List ℕ) (z : AllBytes s) where
-  pub evaluates-number-bytes : (e : Number) → numberBytes ed e ≡ s → numberDepth e ≤ 16 → NamesKnown (length vs) e → (r : Value ℤ) → (numberValue ed vs s ≡ r) ↔ Evaluates vs e r
-  unfolding numberValue
-  evaluates-number-bytes e w d h r = rw ((number-written ed (length vs) s e z) .1 (w, d, h), numberValue) (evaluates-number vs e h r)
-
-  pub evaluates-truth-bytes : (e : Truth) → truthBytes ed e ≡ s → truthDepth e ≤ 16 → TruthNamesKnown (length vs) e → (r : Value Bool) → (truthValue ed vs s ≡ r) ↔ Holds vs e r
-  unfolding truthValue
-  evaluates-truth-bytes e w d h r = rw ((truth-written ed (length vs) s e z) .1 (w, d, h), truthValue) (evaluates-truth vs e h r)

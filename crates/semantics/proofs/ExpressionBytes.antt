@@ -173,12 +173,12 @@ bytes-tail e p = go (subst Bytes e p)
     go : {n : ℕ} {t : List ℕ} → Bytes (n ∷ t) → Bytes t
     go (all-cons h p) = p
 
-to-number : (x : Expression) (e : Number) → toNumber x ≡ some e → x ≡ a-number e
+pub to-number : (x : Expression) (e : Number) → toNumber x ≡ some e → x ≡ a-number e
 unfolding toNumber
 to-number (a-number a) e h = ap a-number (some-is h)
 to-number (a-truth a) e h = none-not-some h
 
-to-truth : (x : Expression) (e : Truth) → toTruth x ≡ some e → x ≡ a-truth e
+pub to-truth : (x : Expression) (e : Truth) → toTruth x ≡ some e → x ≡ a-truth e
 unfolding toTruth
 to-truth (a-number a) e h = none-not-some h
 to-truth (a-truth a) e h = ap a-truth (some-is h)

@@ -1,14 +1,16 @@
--- Laws of truths, options and lists that more than one proof cites.
+-- Laws of truths, options, lists and orders that more than one proof cites.
 use mathlib.Core.Path.{_≡_, refl, sym, subst}
-use mathlib.Core.Bool.{Bool, true, false, _&&_}
+use mathlib.Core.Bool.{Bool, true, false, not, _&&_}
 use mathlib.Core.List.{List, [], _∷_, _++_, flatMap, List·Memᴰ as Mem, List·Memᴰ·head as first, List·Memᴰ·tail as later, List·Memᴰ·not-nil, List·Memᴰ·cases-cons}
 use mathlib.Core.Logic.{_⊎_, inl, inr}
 use mathlib.Core.Option.{Option, none, some}
 use Prim.Native.Nat.{ℕ, zero, suc, _≤_, _<_}
 use native.Mathlib.Omega.{arith}
-use borrow.Author.Tests.{eqb-true, eq-eqb, leb-true, le-leb}
-use lib.Dec.{eqb, leb}
-use lib.ListN.{length, getElem?}
+use borrow.Author.Tests.{eqb-true, eq-eqb, leb-true, leb-false, le-leb, le-ltb, lt-ltb}
+use lib.Dec.{eqb, leb, ltb}
+use lib.IntN.{ℤ, pos, negsuc}
+use lib.Signed.{leZ, ltZ}
+use lib.ListN.{length, getD, getElem?}
 pub use Rattle.semantics.specs.Bytes.{All, all-nil, all-cons}
 use Rattle.semantics.specs.Bytes.{every, isSome, within}
 use Rattle.semantics.specs.Plant.{among}
@@ -136,3 +138,23 @@ pub at-exists : {A : Type 0} (l : List A) (k : ℕ) → k < length l → (x : A)
 at-exists [] k h = absurd (omega arith)
 at-exists (y ∷ l) zero h = (y, refl)
 at-exists (y ∷ l) (suc k) h = at-exists l k (omega arith)
+
+-- ---- the element at a number
+pub got : {A : Type 0} (l : List A) (n : ℕ) (d : A) {x : A} → getElem? l n ≡ some x → getD l n d ≡ x
+got [] n d h = none-not-some h
+got (y ∷ l) zero d h = some-is h
+got (y ∷ l) (suc n) d h = got l n d h
+
+-- ---- orders
+ltb-leb : (a b : ℕ) → ltb a b ≡ not (leb b a)
+ltb-leb a b = go (leb b a) refl
+  where
+    go : (t : Bool) → leb b a ≡ t → ltb a b ≡ not t
+    go true e = le-ltb a b (leb-true b a e)
+    go false e = lt-ltb a b (leb-false b a e)
+
+pub ltZ-leZ : (a b : ℤ) → ltZ a b ≡ not (leZ b a)
+ltZ-leZ (pos a) (pos b) = ltb-leb a b
+ltZ-leZ (pos a) (negsuc b) = refl
+ltZ-leZ (negsuc a) (pos b) = refl
+ltZ-leZ (negsuc a) (negsuc b) = ltb-leb b a

@@ -15,7 +15,7 @@ use Rattle.semantics.specs.Sections.{Switch}
 use Rattle.semantics.specs.Plant.{Plant, among}
 use Rattle.semantics.specs.Events.{tick, pick, take-switch}
 use Rattle.semantics.specs.Run.{wait, Next, Control, Situation, Answered, at, over, step}
-use Rattle.semantics.specs.Rules.{SaysTick, SaysPick, SaysSwitch, Found, nothing, found-true, found-fault, Waits, Goes, goes-on, finishes, Rule, when-over, when-senseless, pick-idle, pick-switch-true, pick-switch-fault, pick-test, pick-test-fault, pick-wait, pick-wait-false, pick-wait-fault, pick-assign, pick-assign-fault, pick-assign-outside, pick-switch, pick-stop, switch-missing, switch-taken, switch-false, switch-fault, tick-busy, tick-switch-true, tick-switch-fault, tick-wait-true, tick-wait-fault, tick-taken, tick-outside, Sentence, is-over, is-senseless, is-idle, is-missing, is-busy, is-checked-pick, is-checked-tick, is-early, is-false, is-due, CheckFaults, pick-check, tick-check, Decides, CurrentSwitch, Checks, Standing, Sound}
+use Rattle.semantics.specs.Rules.{SaysTick, SaysPick, SaysSwitch, Found, nothing, found-true, found-fault, Waits, Goes, goes-on, finishes, Rule, when-over, when-senseless, pick-idle, pick-switch-true, pick-test, pick-wait, pick-wait-false, pick-assign, pick-switch, pick-stop, switch-missing, switch-taken, switch-false, tick-busy, tick-switch-true, tick-wait-true, tick-taken, fault-above, fault-below, Sentence, is-over, is-senseless, is-idle, is-missing, is-busy, is-checked-pick, is-checked-tick, is-early, is-false, is-due, CheckFaults, pick-check, tick-check, Decides, CurrentSwitch, Checks, Standing, Sound}
 use Rattle.semantics.proofs.Facts.{true-not-false, by-cases, among-mem, mem-among, within-high}
 use Rattle.semantics.proofs.EventDecoding.{decoded-tick, decoded-pick, decoded-switch}
 use Rattle.semantics.proofs.StepParts.{foundAs, walk-found, Waiting, all-wait, one-acts, waiting, waits-not-acts}
@@ -72,9 +72,6 @@ quiet-no-fault w k = let e = sym (walk-found (check-walk w) 28) ∙ walk-found (
 -- ---- what is taken or faults is not turned away
 taken-not-away : {C : Type 0} (n : ℕ) → 31 < n → within 23 31 n ≡ true → C
 taken-not-away n l h = let k = within-high 23 31 n h in absurd (omega arith)
-
-fault-not-away : {C : Type 0} → within 23 31 203 ≡ true → C
-fault-not-away h = taken-not-away 203 (lit< tt) h
 
 goes-not-away : {C S : Type 0} {vs : List ℤ} {ms : List ℕ} {x : Next S} {a : ℕ} {t : Situation S} → Goes vs ms x a t → within 23 31 a ≡ true → C
 goes-not-away goes-on h = taken-not-away 200 (lit< tt) h
@@ -210,28 +207,21 @@ module _ {S : Type 0} (ed : Edition) (p : Plant) (c : Control S) where
   first-of-rule (when-senseless f g h) r = first-early (lit≤ tt) (is-senseless f g h) (λ m k. from-24 k)
   first-of-rule (pick-idle w f) r = first-early (lit≤ tt) (is-idle w f) (λ m k. pick-25 (of-pick w k))
   first-of-rule (pick-switch-true w m k) r = first-early (lit≤ tt) (is-checked-pick w k) (λ n i. pick-28 m (of-pick w i))
-  first-of-rule (pick-switch-fault w m k) r = fault-not-away r
   first-of-rule (pick-test w m k a h g) r = goes-not-away g r
-  first-of-rule (pick-test-fault w m k a h) r = fault-not-away r
   first-of-rule (pick-wait w m k a h g) r = goes-not-away g r
   first-of-rule (pick-wait-false w m k a h) r = first-late (is-early w a h) (λ n i. pick-29 m k (of-pick w i)) (quiet-unfaulted k)
-  first-of-rule (pick-wait-fault w m k a h) r = fault-not-away r
   first-of-rule (pick-assign w m k a h d i g) r = goes-not-away g r
-  first-of-rule (pick-assign-fault w m k a h) r = fault-not-away r
-  first-of-rule (pick-assign-outside w m k a h d o) r = fault-not-away r
   first-of-rule (pick-switch w m k a g) r = goes-not-away g r
   first-of-rule (pick-stop w m k a) r = taken-not-away 202 (lit< tt) r
   first-of-rule (switch-missing w f) r = first-early (lit≤ tt) (is-missing w f) (λ m i. switch-26 (of-switch w i))
   first-of-rule (switch-taken w h g) r = taken-not-away 200 (lit< tt) r
   first-of-rule (switch-false w h g) r = first-late (is-false w h g) (λ m k. switch-30 h (of-switch w k)) (switch-unfaulted w)
-  first-of-rule (switch-fault w h g) r = fault-not-away r
   first-of-rule (tick-busy w m f) r = first-early (lit≤ tt) (is-busy w m f) (λ n i. tick-27 (of-tick w i))
   first-of-rule (tick-switch-true w q k) r = first-early (lit≤ tt) (is-checked-tick w k) (λ m i. tick-28 q (of-tick w i))
-  first-of-rule (tick-switch-fault w q k) r = fault-not-away r
   first-of-rule (tick-wait-true w q k l) r = first-late (is-due w q l) (λ m i. tick-31 q k (of-tick w i)) (quiet-unfaulted k)
-  first-of-rule (tick-wait-fault w q k l) r = fault-not-away r
   first-of-rule (tick-taken w q k l h i) r = taken-not-away 200 (lit< tt) r
-  first-of-rule (tick-outside w q k l h o) r = fault-not-away r
+  first-of-rule (fault-above f) r = taken-not-away 203 (lit< tt) r
+  first-of-rule (fault-below f) r = taken-not-away 204 (lit< tt) r
 
   -- ---- the first sentence that holds has its rule
   acts : {x : S} {vs : List ℤ} {ms e : List ℕ} {n : ℕ} → SaysPick ed e n → (Sentence ed p c 25 (at x vs ms) e → ⊥) → Mem n (c .acting x)

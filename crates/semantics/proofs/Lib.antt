@@ -14,11 +14,14 @@ pub mod DepthPapers
 -- the step and the rules
 pub mod EventDecoding
 pub mod EventsCut
+pub mod Evaluated
+pub mod ComesTo
 pub mod StepParts
 pub mod Currents
 pub mod OneRate
 pub mod Halting
 pub mod StepRules
+pub mod Sides
 pub mod FirstAnswer
 -- a run, and two controls that agree
 pub mod Verdicts
@@ -41,7 +44,7 @@ pub mod SentenceSteps
 pub mod StartForms
 pub mod TableForms
 pub mod ProperForms
-pub mod Evaluated
+pub mod EvaluatedBytes
 pub mod TablesProper
 pub mod TableEntries
 pub mod TableSentences

@@ -5,7 +5,7 @@ use mathlib.Core.List.{List, [], _∷_, _++_}
 use lib.ListN.{replicate}
 use lib.IntN.{ℤ, pos, negsuc}
 use Rattle.semantics.specs.Editions.{edition1}
-use Rattle.semantics.specs.Expressions.{Operation, Number, constant, operate, thenValue, negation, Truth, connect, either, always, Side, ok, fault, above, operands, valueOf, holds, numberValue, truthValue}
+use Rattle.semantics.specs.Expressions.{constant, negation, Truth, connect, either, always, Side, ok, fault, above, operands, valueOf, holds, numberValue, truthValue}
 use Rattle.semantics.specs.Calls.{tableRun}
 use Rattle.semantics.proofs.Computes.{semantics}
 use Rattle.semantics.specs.K1.{k1-table, start-at, k2-events, k2-records, k3-events, k3-records, k4-events, k4-records}
@@ -45,11 +45,6 @@ K9-or vs t side h = rw h refl
 pub K9-or-bytes : truthValue edition1 [] (0x29 ∷ 0x2f ∷ 0x20 ∷ 0x14 ∷ 0x01 ∷ 0x80 ∷ 0 ∷ 0 ∷ 0 ∷ 0x01 ∷ 0 ∷ 0 ∷ 0 ∷ 0 ∷ []) ≡ fault above
 unfolding semantics
 K9-or-bytes = refl
-
--- of two faults the left operand's comes first
-pub left-fault-first : (vs : List ℤ) (o : Operation) (a b : Number) (s t : Side) → valueOf vs a ≡ fault s → valueOf vs b ≡ fault t → valueOf vs (operate o a b) ≡ fault s
-unfolding valueOf operands thenValue
-left-fault-first vs o a b s t h k = rw (h, k) refl
 
 -- each code by its bytes, with 7 and −3 as the values of the variables
 pub number-codes : (let value = numberValue edition1 (pos 7 ∷ negsuc 2 ∷ []) in

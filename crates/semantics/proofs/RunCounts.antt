@@ -3,10 +3,11 @@ use mathlib.Core.Path.{_≡_, refl, sym, ap, _∙_}
 use mathlib.Core.Bool.{Bool, true, false}
 use mathlib.Core.List.{List, [], _∷_, _++_, map, flatMap}
 use mathlib.Core.Option.{Option, none, some}
-use Prim.Native.Nat.{ℕ, zero, suc, _+_, _*_, _<_}
+use Prim.Native.Nat.{ℕ, zero, suc, _+_, _*_, _≤_, _<_}
 use native.Mathlib.Nat.{suc-mul, zero-mul, add-comm}
 use native.Mathlib.Omega.{arith}
-use borrow.Author.Tests.{eqb-true, eq-eqb, le-leb, lt-leb, ne-eqb}
+use borrow.Author.Tests.{eqb-true, eqb-false, le-leb, lt-leb}
+use lib.Dec.{eqb}
 use lib.ListN.{length, length-append}
 use lib.IntN.{ℤ}
 use Rattle.semantics.specs.Bytes.{within, bigEndian, out4}
@@ -15,9 +16,9 @@ use Rattle.semantics.specs.Expressions.{Side, above, below}
 use Rattle.semantics.specs.Plant.{Plant, selectors}
 use Rattle.semantics.specs.Events.{eventIn}
 use Rattle.semantics.specs.Run.{Next, to, finished, halted, idle, Control, Verdict, Moved, nobody, mover, Done, judge, Situation, Answered, faultAnswer, turnedAway, arrive, follow, settle, step, answers, actingSet, valueBytes, recordBytes, recordOf, isTaken, isTurnedAway, isFaulted, howMany, countsOf}
-use Rattle.semantics.specs.Counting.{Counted, no-answer, one-taken, one-away, one-faulted}
+use Rattle.semantics.specs.Counting.{Counted, no-answer, one-taken, one-away, one-above, one-below}
 use Rattle.semantics.specs.Calls.{recordSize, outcomeOf}
-use Rattle.semantics.proofs.Facts.{within-low, within-high, within-both}
+use Rattle.semantics.proofs.Facts.{by-cases, within-low, within-high, within-both}
 use Rattle.semantics.proofs.Verdicts.{inJudging, Verdicts, is-away, is-faulty, is-pass, Fair, judge-verdicts}
 
 -- ---- an answer is of just one of the three kinds
@@ -31,7 +32,7 @@ unfolding isTaken isTurnedAway isFaulted within
 away-answer n h =
     let low = within-low 23 31 n h in
     let high = within-high 23 31 n h in
-    only-away (rw (lt-leb 200 n (omega arith)) refl) h (ne-eqb n 203 (λ e. omega arith))
+    only-away (rw (lt-leb 200 n (omega arith)) refl) h (rw (lt-leb 203 n (omega arith)) refl)
 
 judged-answer : (n : ℕ) → inJudging n ≡ true → Answer n
 unfolding inJudging isTurnedAway
@@ -56,6 +57,9 @@ one-counted n l (only-faulted t a f) h =
     let i = uncounted isTaken n l t in let j = uncounted isTurnedAway n l a in let m = counted isFaulted n l f in omega arith
 
 -- the three counts by the numbers themselves
+one-fault : {n taken away faulted : ℕ} {l : List ℕ} → 203 ≤ n → n ≤ 204 → Counted l taken away faulted → Counted (n ∷ l) taken away (suc faulted)
+one-fault {n} i j k = by-cases (eqb n 203) (λ e. one-above (eqb-true n 203 e) k) (λ e. one-below (let f = eqb-false n 203 e in omega arith) k)
+
 counted-more : (n : ℕ) (l : List ℕ) → Answer n → Counted l (howMany isTaken l) (howMany isTurnedAway l) (howMany isFaulted l) →
     Counted (n ∷ l) (howMany isTaken (n ∷ l)) (howMany isTurnedAway (n ∷ l)) (howMany isFaulted (n ∷ l))
 unfolding isTaken isTurnedAway isFaulted
@@ -64,7 +68,7 @@ counted-more n l (only-taken t a f) k =
 counted-more n l (only-away t a f) k =
     rw (uncounted isTaken n l t, counted isTurnedAway n l a, uncounted isFaulted n l f) (one-away (within-low 23 31 n a) (within-high 23 31 n a) k)
 counted-more n l (only-faulted t a f) k =
-    rw (uncounted isTaken n l t, uncounted isTurnedAway n l a, counted isFaulted n l f) (one-faulted (eqb-true n 203 f) k)
+    rw (uncounted isTaken n l t, uncounted isTurnedAway n l a, counted isFaulted n l f) (one-fault (within-low 203 204 n f) (within-high 203 204 n f) k)
 
 -- and answers that are counted by the numbers are counted so by the tests
 module _ (n : ℕ) where
@@ -73,8 +77,15 @@ module _ (n : ℕ) where
   no-away h = rw (le-leb 23 n (omega arith), lt-leb n 31 h) refl
 
   no-fault : n < 203 → isFaulted n ≡ false
-  unfolding isFaulted
-  no-fault h = ne-eqb n 203 (λ e. omega arith)
+  unfolding isFaulted within
+  no-fault h = rw (lt-leb 203 n h) refl
+
+-- the answer k, which is neither taken nor turned away, in front of answers that are counted
+fault-told : (n : ℕ) (l : List ℕ) {k t a f : ℕ} → n ≡ k → isTaken k ≡ false → isTurnedAway k ≡ false → isFaulted k ≡ true →
+    (howMany isTaken l ≡ t) × (howMany isTurnedAway l ≡ a) × (howMany isFaulted l ≡ f) →
+    (howMany isTaken (n ∷ l) ≡ t) × (howMany isTurnedAway (n ∷ l) ≡ a) × (howMany isFaulted (n ∷ l) ≡ suc f)
+fault-told n l e i j m q =
+    (uncounted isTaken n l (ap isTaken e ∙ i) ∙ q .0, uncounted isTurnedAway n l (ap isTurnedAway e ∙ j) ∙ q .1, counted isFaulted n l (ap isFaulted e ∙ m) ∙ ap suc (q .2))
 
 each-told : {l : List ℕ} {taken away faulted : ℕ} → Counted l taken away faulted → (howMany isTaken l ≡ taken) × (howMany isTurnedAway l ≡ away) × (howMany isFaulted l ≡ faulted)
 unfolding isTaken isTurnedAway isFaulted within howMany
@@ -85,9 +96,8 @@ each-told (one-taken {a = n} {l = l} i j k) =
 each-told (one-away {a = n} {l = l} i j k) =
     let q = each-told k in
     (uncounted isTaken n l (rw (lt-leb 200 n (omega arith)) refl) ∙ q .0, counted isTurnedAway n l (within-both 23 31 n i j) ∙ ap suc (q .1), uncounted isFaulted n l (no-fault n (omega arith)) ∙ q .2)
-each-told (one-faulted {a = n} {l = l} e k) =
-    let q = each-told k in
-    (uncounted isTaken n l (rw e refl) ∙ q .0, uncounted isTurnedAway n l (no-away n (omega arith)) ∙ q .1, counted isFaulted n l (eq-eqb n 203 e) ∙ ap suc (q .2))
+each-told (one-above {a = n} {l = l} e k) = fault-told n l e refl refl refl (each-told k)
+each-told (one-below {a = n} {l = l} e k) = fault-told n l e refl refl refl (each-told k)
 
 pub counts-told : {l : List ℕ} {taken away faulted : ℕ} → Counted l taken away faulted → countsOf l ≡ record { taken = taken; turned-away = away; faulted = faulted }
 unfolding countsOf

@@ -17,7 +17,8 @@ use Rattle.semantics.specs.Sections.{Variable}
 use Rattle.semantics.specs.Plant.{declared, allDeclared, added}
 use Rattle.semantics.specs.Run.{Action, test, wait, assign, switch, stop, isWait, waitTruth, Verdict, away, faulty, pass, _>>=_, _>>_, allow, valued, walk}
 use Rattle.semantics.specs.Rules.{Found, nothing, found-true, found-fault, Walks, walk-ends, walk-on, stops-at-truth, stops-at-fault, Waits, none-waits, one-waits, InRange, Outside, too-low, too-high, AllInRange, FirstOutside}
-use Rattle.semantics.proofs.Facts.{true-not-false, none-not-some, some-is, by-cases, every-all, all-mem}
+use Rattle.semantics.proofs.Facts.{true-not-false, none-not-some, some-is, by-cases, every-all, all-mem, ltZ-leZ}
+use Rattle.semantics.proofs.ComesTo.{truth-comes-to, truth-value}
 
 -- ---- walks
 unfoldable pub foundAs : ℕ → Found → Verdict (Unit {0})
@@ -28,9 +29,9 @@ foundAs n (found-fault s) = faulty s
 pub walk-found : {ed : Edition} {vs : List ℤ} {ts : List (List ℕ)} {f : Found} → Walks ed vs ts f → (n : ℕ) → walk ed n vs ts ≡ foundAs n f
 unfolding walk foundAs _>>=_ _>>_ allow valued
 walk-found walk-ends n = refl
-walk-found (walk-on e w) n = rw (e, walk) (walk-found w n)
-walk-found (stops-at-truth e) n = rw (e, walk) refl
-walk-found (stops-at-fault e) n = rw (e, walk) refl
+walk-found {ed} {vs} (walk-on e w) n = rw (truth-value ed vs e, walk) (walk-found w n)
+walk-found {ed} {vs} (stops-at-truth e) n = rw (truth-value ed vs e, walk) refl
+walk-found {ed} {vs} (stops-at-fault e) n = rw (truth-value ed vs e, walk) refl
 
 -- every walk stops somewhere or ends
 pub found-walk : (ed : Edition) (vs : List ℤ) (ts : List (List ℕ)) → (f : Found) × Walks ed vs ts f
@@ -38,9 +39,9 @@ found-walk ed vs [] = (nothing, walk-ends)
 found-walk ed vs (t ∷ ts) = go (truthValue ed vs t) refl (found-walk ed vs ts)
   where
     go : (v : Value Bool) → truthValue ed vs t ≡ v → ((f : Found) × Walks ed vs ts f) → (f : Found) × Walks ed vs (t ∷ ts) f
-    go (ok true) e w = (found-true, stops-at-truth e)
-    go (ok false) e w = (w .0, walk-on e (w .1))
-    go (fault s) e w = (found-fault s, stops-at-fault e)
+    go (ok true) e w = (found-true, stops-at-truth (truth-comes-to ed vs t e))
+    go (ok false) e w = (w .0, walk-on (truth-comes-to ed vs t e) (w .1))
+    go (fault s) e w = (found-fault s, stops-at-fault (truth-comes-to ed vs t e))
 
 -- ---- waits
 pub waits-every : {action : ℕ → Action} {ns : List ℕ} {ts : List (List ℕ)} → Waits action ns ts → every (λ n. isWait (action n)) ns ≡ true
@@ -90,19 +91,6 @@ pub waits-not-acts : {action : ℕ → Action} {ns : List ℕ} {ts : List (List 
 waits-not-acts {action} {ns} w m f = true-not-false (sym (waits-every w) ∙ acts-every action ns m f)
 
 -- ---- ranges
-ltb-leb : (a b : ℕ) → ltb a b ≡ not (leb b a)
-ltb-leb a b = go (leb b a) refl
-  where
-    go : (t : Bool) → leb b a ≡ t → ltb a b ≡ not t
-    go true e = le-ltb a b (leb-true b a e)
-    go false e = lt-ltb a b (leb-false b a e)
-
-pub ltZ-leZ : (a b : ℤ) → ltZ a b ≡ not (leZ b a)
-ltZ-leZ (pos a) (pos b) = ltb-leb a b
-ltZ-leZ (pos a) (negsuc b) = refl
-ltZ-leZ (negsuc a) (pos b) = refl
-ltZ-leZ (negsuc a) (negsuc b) = ltb-leb b a
-
 pub inside-declared : {x : Variable} {z : ℤ} → InRange x z → declared x z ≡ ok z
 unfolding declared ranged
 inside-declared {x} {z} i = rw (ltZ-leZ z (x .minimum), ltZ-leZ (x .maximum) z, i .not-below, i .not-above) refl

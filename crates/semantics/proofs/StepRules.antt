@@ -14,8 +14,10 @@ use Rattle.semantics.specs.Sections.{Variable, Switch, Mode}
 use Rattle.semantics.specs.Plant.{Plant, among, currentModes, declared, declaredAt, stored, advance, added, rateOf}
 use Rattle.semantics.specs.Events.{Event, senseless, eventIn}
 use Rattle.semantics.specs.Run.{Action, test, wait, assign, switch, stop, isTest, possible, Next, to, finished, halted, idle, Control, Verdict, away, pass, _>>=_, _>>_, allow, find, valued, nobody, Done, walk, checkModes, assigned, act, judgeSwitch, switchCheck, judgePick, judgeTick, judge, Situation, Answered, at, over, faultAnswer, turnedAway, arrive, follow, settle, step, answers}
-use Rattle.semantics.specs.Rules.{SaysTick, SaysPick, SaysSwitch, Found, nothing, found-true, found-fault, Walks, Waits, InRange, Added, AllInRange, FirstOutside, Goes, goes-on, finishes, Rule, when-over, when-senseless, pick-idle, pick-switch-true, pick-switch-fault, pick-test, pick-test-fault, pick-wait, pick-wait-false, pick-wait-fault, pick-assign, pick-assign-fault, pick-assign-outside, pick-switch, pick-stop, switch-missing, switch-taken, switch-false, switch-fault, tick-busy, tick-switch-true, tick-switch-fault, tick-wait-true, tick-wait-fault, tick-taken, tick-outside, Derives, no-events, one-event, CurrentSwitch, Checks, Comes, by-move, Standing, stands-at, stands-over, Sound, Stopping}
+use Rattle.semantics.specs.Evaluating.{NumberComesTo, TruthComesTo}
+use Rattle.semantics.specs.Rules.{SaysTick, SaysPick, SaysSwitch, Found, nothing, found-true, found-fault, Walks, Waits, InRange, Added, AllInRange, FirstOutside, Goes, goes-on, finishes, Faults, Rule, fault-above, fault-below, when-over, when-senseless, pick-idle, pick-switch-true, pick-switch-fault, pick-test, pick-test-fault, pick-wait, pick-wait-false, pick-wait-fault, pick-assign, pick-assign-fault, pick-assign-outside, pick-switch, pick-stop, switch-missing, switch-taken, switch-false, switch-fault, tick-busy, tick-switch-true, tick-switch-fault, tick-wait-true, tick-wait-fault, tick-taken, tick-outside, Derives, no-events, one-event, CurrentSwitch, Checks, Comes, by-move, Standing, stands-at, stands-over, Sound, Stopping}
 use Rattle.semantics.proofs.Facts.{true-not-false, none-not-some, some-is, by-cases, among-mem, mem-among, at-exists}
+use Rattle.semantics.proofs.ComesTo.{number-comes-to, number-value, truth-comes-to, truth-value}
 use Rattle.semantics.proofs.EventDecoding.{decoded-tick, decoded-pick, decoded-switch, Said, says-tick, says-pick, says-switch, says-nothing, said-of}
 use Rattle.semantics.proofs.Currents.{check-walk, found-check, is-current, current-is, rates-added, added-rates}
 use Rattle.semantics.proofs.StepParts.{foundAs, walk-found, found-walk, waits-every, waits-truths, Waiting, all-wait, one-acts, waiting, acts-every, inside-declared, outside-declared, Lies, lies-inside, lies-outside, lies, AllLie, all-inside, first-outside, all-lie, inside-all, outside-first}
@@ -82,15 +84,6 @@ unfolding arrive
 goes-arrive goes-on s = refl
 goes-arrive finishes s = refl
 
--- "203 fault", whatever its side
-pub fault-203 : (side : Side) → faultAnswer side ≡ 203
-unfolding faultAnswer
-fault-203 above = refl
-fault-203 below = refl
-
-faulted : {S : Type 0} (side : Side) (vs : List ℤ) (ms : List ℕ) → _≡_ {A = Answered S} (record { answer = faultAnswer side; left = over vs ms }) (record { answer = 203; left = over vs ms })
-faulted side vs ms = rw (fault-203 side) refl
-
 -- where this situation is, a STOP that acts halts
 abbrev pub StopsHalt : {S : Type 0} → Control S → Situation S → Type 0
 StopsHalt {S} c s = (x : S) → s .place ≡ some x → (n : ℕ) → Mem n (c .acting x) → c .action n ≡ stop → c .next x n true ≡ halted
@@ -134,36 +127,42 @@ module _ {S : Type 0} (ed : Edition) (p : Plant) (c : Control S) where
   unfolding judge
   by-switch x vs ms {e} {s} {k} h c = by-event x vs ms e (decoded-switch ed h) (switch-verdict ed p vs ms s k c)
 
+  -- a fault is answered by its side
+  pub fault-step : {x : S} {vs : List ℤ} {ms e : List ℕ} {side : Side} → Faults ed p c x vs ms e side → step ed p c (at x vs ms) e ≡ record { answer = faultAnswer side; left = over vs ms }
+  unfolding settle foundAs _>>_ _>>=_ valued act assigned stored thenValue moveOn switched
+  fault-step {x} {vs} {ms} (pick-switch-fault w m k) = by-pick x vs ms w m k
+  fault-step {x} {vs} {ms} (pick-test-fault w m k a h) = rw (by-pick x vs ms w m k, a, truth-value ed vs h) refl
+  fault-step {x} {vs} {ms} (pick-wait-fault w m k a h) = rw (by-pick x vs ms w m k, a, truth-value ed vs h) refl
+  fault-step {x} {vs} {ms} (pick-assign-fault w m k a h) = rw (by-pick x vs ms w m k, a, number-value ed vs h) refl
+  fault-step {x} {vs} {ms} (pick-assign-outside {v = v} {z = z} w m k a h d o) =
+      rw (by-pick x vs ms w m k, a, number-value ed vs h, declared-at (p .variables) v z d, outside-declared o) refl
+  fault-step {x} {vs} {ms} (switch-fault w c g) = rw (by-switch x vs ms w c, truth-value ed vs g) refl
+  fault-step {x} {vs} {ms} (tick-switch-fault w q k) = by-tick x vs ms w q k
+  fault-step {x} {vs} {ms} (tick-wait-fault w q k l) = rw (by-tick x vs ms w q k, walk-found l 31) refl
+  fault-step {x} {vs} {ms} (tick-outside w q k l h o) = rw (by-tick x vs ms w q k, walk-found l 31, outside-advance p ms vs h o) refl
+
   pub rule-step : {s t : Situation S} {e : List ℕ} {a : ℕ} → StopsHalt c s → Rule ed p c s e a t → step ed p c s e ≡ record { answer = a; left = t }
-  unfolding step judge settle turnedAway follow arrive foundAs _>>_ _>>=_ valued allow act assigned stored thenValue moveOn switched
+  unfolding step judge settle turnedAway follow arrive foundAs _>>_ _>>=_ valued allow act assigned stored thenValue moveOn switched faultAnswer
   rule-step y when-over = refl
   rule-step y (when-senseless {x = x} {vs} {ms} {e} f g h) = by-event x vs ms e (senseless-event ed e f g h) refl
   rule-step y (pick-idle {x = x} {vs} {ms} {e} w f) = by-event x vs ms e (decoded-pick ed w) (idle-verdict ed p (c .action) (c .acting x) vs ms f)
   rule-step y (pick-switch-true {x = x} {vs} {ms} w m k) = by-pick x vs ms w m k
-  rule-step y (pick-switch-fault {x = x} {vs} {ms} {side = side} w m k) = by-pick x vs ms w m k ∙ faulted side vs ms
-  rule-step y (pick-test {x = x} {vs} {ms} w m k a h g) = rw (by-pick x vs ms w m k, a, h) (goes-arrive g _)
-  rule-step y (pick-test-fault {x = x} {vs} {ms} {side = side} w m k a h) = rw (by-pick x vs ms w m k, a, h) (faulted side vs ms)
-  rule-step y (pick-wait {x = x} {vs} {ms} w m k a h g) = rw (by-pick x vs ms w m k, a, h) (goes-arrive g _)
-  rule-step y (pick-wait-false {x = x} {vs} {ms} w m k a h) = rw (by-pick x vs ms w m k, a, h) refl
-  rule-step y (pick-wait-fault {x = x} {vs} {ms} {side = side} w m k a h) = rw (by-pick x vs ms w m k, a, h) (faulted side vs ms)
+  rule-step y (pick-test {x = x} {vs} {ms} w m k a h g) = rw (by-pick x vs ms w m k, a, truth-value ed vs h) (goes-arrive g _)
+  rule-step y (pick-wait {x = x} {vs} {ms} w m k a h g) = rw (by-pick x vs ms w m k, a, truth-value ed vs h) (goes-arrive g _)
+  rule-step y (pick-wait-false {x = x} {vs} {ms} w m k a h) = rw (by-pick x vs ms w m k, a, truth-value ed vs h) refl
   rule-step y (pick-assign {x = x} {vs} {ms} {v = v} {z = z} w m k a h d i g) =
-      rw (by-pick x vs ms w m k, a, h, declared-at (p .variables) v z d, inside-declared i) (goes-arrive g _)
-  rule-step y (pick-assign-fault {x = x} {vs} {ms} {side = side} w m k a h) = rw (by-pick x vs ms w m k, a, h) (faulted side vs ms)
-  rule-step y (pick-assign-outside {x = x} {vs} {ms} {v = v} {z = z} {side = side} w m k a h d o) =
-      rw (by-pick x vs ms w m k, a, h, declared-at (p .variables) v z d, outside-declared o) (faulted side vs ms)
+      rw (by-pick x vs ms w m k, a, number-value ed vs h, declared-at (p .variables) v z d, inside-declared i) (goes-arrive g _)
   rule-step y (pick-switch {x = x} {vs} {ms} w m k a g) = rw (by-pick x vs ms w m k, a) (goes-arrive g _)
   rule-step y (pick-stop {x = x} {vs} {ms} {n = n} w m k a) = rw (by-pick x vs ms w m k, a, y x refl n m a) refl
   rule-step y (switch-missing {x = x} {vs} {ms} {e} {s} {k} w f) = by-event x vs ms e (decoded-switch ed w) (missing-verdict ed p vs ms s k f)
-  rule-step y (switch-taken {x = x} {vs} {ms} w c g) = rw (by-switch x vs ms w c, g) refl
-  rule-step y (switch-false {x = x} {vs} {ms} w c g) = rw (by-switch x vs ms w c, g) refl
-  rule-step y (switch-fault {x = x} {vs} {ms} {side = side} w c g) = rw (by-switch x vs ms w c, g) (faulted side vs ms)
+  rule-step y (switch-taken {x = x} {vs} {ms} w c g) = rw (by-switch x vs ms w c, truth-value ed vs g) refl
+  rule-step y (switch-false {x = x} {vs} {ms} w c g) = rw (by-switch x vs ms w c, truth-value ed vs g) refl
   rule-step y (tick-busy {x = x} {vs} {ms} {e} w m f) = by-event x vs ms e (decoded-tick ed w) (busy-verdict ed p (c .action) (c .acting x) vs ms m f)
   rule-step y (tick-switch-true {x = x} {vs} {ms} w q k) = by-tick x vs ms w q k
-  rule-step y (tick-switch-fault {x = x} {vs} {ms} {side = side} w q k) = by-tick x vs ms w q k ∙ faulted side vs ms
   rule-step y (tick-wait-true {x = x} {vs} {ms} w q k l) = rw (by-tick x vs ms w q k, walk-found l 31) refl
-  rule-step y (tick-wait-fault {x = x} {vs} {ms} {side = side} w q k l) = rw (by-tick x vs ms w q k, walk-found l 31) (faulted side vs ms)
   rule-step y (tick-taken {x = x} {vs} {ms = ms} w q k l h i) = rw (by-tick x vs ms w q k, walk-found l 31, inside-advance p ms vs h i) refl
-  rule-step y (tick-outside {x = x} {vs} {ms = ms} {side = side} w q k l h o) = rw (by-tick x vs ms w q k, walk-found l 31, outside-advance p ms vs h o) (faulted side vs ms)
+  rule-step y (fault-above f) = fault-step f
+  rule-step y (fault-below f) = fault-step f
 
 -- ---- some rule applies
 data Going {S : Type 0} (vs : List ℤ) (ms : List ℕ) (n : Next S) : Type 0 where
@@ -206,38 +205,42 @@ module _ {S : Type 0} (ed : Edition) (p : Plant) (c : Control S) where
     gone : {n : ℕ} (b : Bool) → Mem n (c .acting x) → possible (c .action n) b ≡ true → (c .action n ≡ stop → ⊥) → (ys : List ℤ) (ks : List ℕ) → Going ys ks (c .next x n b)
     gone {n} b m q f ys ks = goings ys ks (c .next x n b) (sound .moves x n b come m q) (λ h. f ((sound .halts x n b come m q) .0 h))
 
+    ruled-fault : (side : Side) → Faults ed p c x vs ms e side → Ruled (at x vs ms) e
+    ruled-fault above f = ruled (fault-above f)
+    ruled-fault below f = ruled (fault-below f)
+
     ruled-act : {n : ℕ} → SaysPick ed e n → Mem n (c .acting x) → Checks ed vs (CurrentSwitch p ms) nothing → (a : Action) → c .action n ≡ a → Ruled (at x vs ms) e
-    ruled-act {n} w m k (test t) q = go (truthValue ed vs t) refl
+    ruled-act {n} w m k (test t) q = go (truthValue ed vs t) (truth-comes-to ed vs t refl)
       where
-        taken : (b : Bool) → truthValue ed vs t ≡ ok b → Going vs ms (c .next x n b) → Ruled (at x vs ms) e
+        taken : (b : Bool) → TruthComesTo ed vs t (ok b) → Going vs ms (c .next x n b) → Ruled (at x vs ms) e
         taken b h (going g) = ruled (pick-test w m k q h g)
 
-        go : (v : Value Bool) → truthValue ed vs t ≡ v → Ruled (at x vs ms) e
+        go : (v : Value Bool) → TruthComesTo ed vs t v → Ruled (at x vs ms) e
         go (ok b) h = taken b h (gone b m (test-possible b q) (test-no-stop q) vs ms)
-        go (fault s) h = ruled (pick-test-fault w m k q h)
-    ruled-act {n} w m k (wait t) q = go (truthValue ed vs t) refl
+        go (fault s) h = ruled-fault s (pick-test-fault w m k q h)
+    ruled-act {n} w m k (wait t) q = go (truthValue ed vs t) (truth-comes-to ed vs t refl)
       where
-        taken : truthValue ed vs t ≡ ok true → Going vs ms (c .next x n true) → Ruled (at x vs ms) e
+        taken : TruthComesTo ed vs t (ok true) → Going vs ms (c .next x n true) → Ruled (at x vs ms) e
         taken h (going g) = ruled (pick-wait w m k q h g)
 
-        go : (v : Value Bool) → truthValue ed vs t ≡ v → Ruled (at x vs ms) e
+        go : (v : Value Bool) → TruthComesTo ed vs t v → Ruled (at x vs ms) e
         go (ok true) h = taken h (gone true m (done-possible (c .action n)) (wait-no-stop q) vs ms)
         go (ok false) h = ruled (pick-wait-false w m k q h)
-        go (fault s) h = ruled (pick-wait-fault w m k q h)
-    ruled-act {n} w m k (assign v t) q = go (numberValue ed vs t) refl
+        go (fault s) h = ruled-fault s (pick-wait-fault w m k q h)
+    ruled-act {n} w m k (assign v t) q = go (numberValue ed vs t) (number-comes-to ed vs t refl)
       where
-        taken : (z : ℤ) {d : Variable} → numberValue ed vs t ≡ ok z → getElem? (p .variables) v ≡ some d → InRange d z → Going (set vs v z) ms (c .next x n true) → Ruled (at x vs ms) e
+        taken : (z : ℤ) {d : Variable} → NumberComesTo ed vs t (ok z) → getElem? (p .variables) v ≡ some d → InRange d z → Going (set vs v z) ms (c .next x n true) → Ruled (at x vs ms) e
         taken z h d i (going g) = ruled (pick-assign w m k q h d i g)
 
-        lying : (z : ℤ) {d : Variable} → numberValue ed vs t ≡ ok z → getElem? (p .variables) v ≡ some d → Lies d z → Ruled (at x vs ms) e
+        lying : (z : ℤ) {d : Variable} → NumberComesTo ed vs t (ok z) → getElem? (p .variables) v ≡ some d → Lies d z → Ruled (at x vs ms) e
         lying z h d (lies-inside i) = taken z h d i (gone true m (done-possible (c .action n)) (assign-no-stop q) (set vs v z) ms)
-        lying z h d (lies-outside o) = ruled (pick-assign-outside w m k q h d o)
+        lying z h d (lies-outside {side = s} o) = ruled-fault s (pick-assign-outside w m k q h d o)
 
-        go : (y : Value ℤ) → numberValue ed vs t ≡ y → Ruled (at x vs ms) e
+        go : (y : Value ℤ) → NumberComesTo ed vs t y → Ruled (at x vs ms) e
         go (ok z) h =
             let d = at-exists (p .variables) v (sound .declares x n v t m q) in
             lying z h (d .1) (lies (d .0) z)
-        go (fault s) h = ruled (pick-assign-fault w m k q h)
+        go (fault s) h = ruled-fault s (pick-assign-fault w m k q h)
     ruled-act {n} w m k (switch s i) q = taken (gone true m (done-possible (c .action n)) (switch-no-stop q) vs (set ms s i))
       where
         taken : Going vs (set ms s i) (c .next x n true) → Ruled (at x vs ms) e
@@ -250,7 +253,7 @@ module _ {S : Type 0} (ed : Edition) (p : Plant) (c : Control S) where
         checked : Mem n (c .acting x) → (f : Found) → Checks ed vs (CurrentSwitch p ms) f → Ruled (at x vs ms) e
         checked m nothing k = ruled-act w m k (c .action n) refl
         checked m found-true k = ruled (pick-switch-true w m k)
-        checked m (found-fault s) k = ruled (pick-switch-fault w m k)
+        checked m (found-fault s) k = ruled-fault s (pick-switch-fault w m k)
 
         acting : Mem n (c .acting x) → ((f : Found) × Checks ed vs (CurrentSwitch p ms) f) → Ruled (at x vs ms) e
         acting m f = checked m (f .0) (f .1)
@@ -258,10 +261,10 @@ module _ {S : Type 0} (ed : Edition) (p : Plant) (c : Control S) where
     ruled-switch : {s k : ℕ} → SaysSwitch ed e s k → Ruled (at x vs ms) e
     ruled-switch {s} {k} w = go (getElem? (currentModes p ms) s) refl
       where
-        valid : {i : Switch} → CurrentSwitch p ms s k i → (v : Value Bool) → truthValue ed vs (i .truth) ≡ v → Ruled (at x vs ms) e
+        valid : {i : Switch} → CurrentSwitch p ms s k i → (v : Value Bool) → TruthComesTo ed vs (i .truth) v → Ruled (at x vs ms) e
         valid c (ok true) q = ruled (switch-taken w c q)
         valid c (ok false) q = ruled (switch-false w c q)
-        valid c (fault s) q = ruled (switch-fault w c q)
+        valid c (fault s) q = ruled-fault s (switch-fault w c q)
 
         -- the switch that is named, if there is one
         named : (i : Switch) → CurrentSwitch p ms s k i → (m : Mode) × (getElem? (currentModes p ms) s ≡ some m) × (getElem? (m .switches) k ≡ some i)
@@ -269,7 +272,7 @@ module _ {S : Type 0} (ed : Edition) (p : Plant) (c : Control S) where
 
         found : (m : Mode) → getElem? (currentModes p ms) s ≡ some m → (o : Option Switch) → getElem? (m .switches) k ≡ o → Ruled (at x vs ms) e
         found m h none g = ruled (switch-missing w (λ i c. let q = named i c in none-not-some (sym g ∙ (rw (some-is (sym (q .1) ∙ h)) at (q .2)))))
-        found m h (some i) g = valid (is-current p ms s k h g) (truthValue ed vs (i .truth)) refl
+        found m h (some i) g = valid (is-current p ms s k h g) (truthValue ed vs (i .truth)) (truth-comes-to ed vs (i .truth) refl)
 
         go : (o : Option Mode) → getElem? (currentModes p ms) s ≡ o → Ruled (at x vs ms) e
         go none h = ruled (switch-missing w (λ i c. none-not-some (sym h ∙ (named i c) .1)))
@@ -280,17 +283,17 @@ module _ {S : Type 0} (ed : Edition) (p : Plant) (c : Control S) where
       where
         moving : {ts : List (List ℕ)} → Waits (c .action) (c .acting x) ts → Checks ed vs (CurrentSwitch p ms) nothing → Walks ed vs ts nothing → (ys : List ℤ) → Added p ms vs ys → AllLie (p .variables) ys → Ruled (at x vs ms) e
         moving q k l ys a (all-inside i) = ruled (tick-taken w q k l a i)
-        moving q k l ys a (first-outside o) = ruled (tick-outside w q k l a o)
+        moving q k l ys a (first-outside {side = s} o) = ruled-fault s (tick-outside w q k l a o)
 
         checked : {ts : List (List ℕ)} → Waits (c .action) (c .acting x) ts → Checks ed vs (CurrentSwitch p ms) nothing → (f : Found) → Walks ed vs ts f → Ruled (at x vs ms) e
         checked q k nothing l = moving q k l (added (rateOf p ms) 0 vs) (rates-added p ms vs (sound .one-rate ms)) (all-lie (p .variables) (added (rateOf p ms) 0 vs))
         checked q k found-true l = ruled (tick-wait-true w q k l)
-        checked q k (found-fault s) l = ruled (tick-wait-fault w q k l)
+        checked q k (found-fault s) l = ruled-fault s (tick-wait-fault w q k l)
 
         quiet : (ts : List (List ℕ)) → Waits (c .action) (c .acting x) ts → (f : Found) → Checks ed vs (CurrentSwitch p ms) f → Ruled (at x vs ms) e
         quiet ts q nothing k = let l = found-walk ed vs ts in checked q k (l .0) (l .1)
         quiet ts q found-true k = ruled (tick-switch-true w q k)
-        quiet ts q (found-fault s) k = ruled (tick-switch-fault w q k)
+        quiet ts q (found-fault s) k = ruled-fault s (tick-switch-fault w q k)
 
         go : Waiting (c .action) (c .acting x) → ((f : Found) × Checks ed vs (CurrentSwitch p ms) f) → Ruled (at x vs ms) e
         go (all-wait {ts = ts} q) f = quiet ts q (f .0) (f .1)
@@ -343,28 +346,21 @@ module _ {S : Type 0} (ed : Edition) (p : Plant) (c : Control S) where
   rule-standing st (when-senseless f g h) = st
   rule-standing st (pick-idle w f) = st
   rule-standing st (pick-switch-true w m k) = st
-  rule-standing st (pick-switch-fault w m k) = stands-over
   rule-standing st (pick-test {b = b} w m k q h g) = goes-standing g (λ y i. by-move (comes-of st) m (test-possible b q) i)
-  rule-standing st (pick-test-fault w m k q h) = stands-over
   rule-standing st (pick-wait {n = n} w m k q h g) = goes-standing g (λ y i. by-move (comes-of st) m (done-possible (c .action n)) i)
   rule-standing st (pick-wait-false w m k q h) = st
-  rule-standing st (pick-wait-fault w m k q h) = stands-over
   rule-standing st (pick-assign {n = n} w m k q h d i g) = goes-standing g (λ y i. by-move (comes-of st) m (done-possible (c .action n)) i)
-  rule-standing st (pick-assign-fault w m k q h) = stands-over
-  rule-standing st (pick-assign-outside w m k q h d o) = stands-over
   rule-standing st (pick-switch {n = n} w m k q g) = goes-standing g (λ y i. by-move (comes-of st) m (done-possible (c .action n)) i)
   rule-standing st (pick-stop w m k q) = stands-over
   rule-standing st (switch-missing w f) = st
   rule-standing st (switch-taken w h g) = stands-at (comes-of st)
   rule-standing st (switch-false w h g) = st
-  rule-standing st (switch-fault w h g) = stands-over
   rule-standing st (tick-busy w m f) = st
   rule-standing st (tick-switch-true w q k) = st
-  rule-standing st (tick-switch-fault w q k) = stands-over
   rule-standing st (tick-wait-true w q k l) = st
-  rule-standing st (tick-wait-fault w q k l) = stands-over
   rule-standing st (tick-taken w q k l h i) = stands-at (comes-of st)
-  rule-standing st (tick-outside w q k l h o) = stands-over
+  rule-standing st (fault-above f) = stands-over
+  rule-standing st (fault-below f) = stands-over
 
   -- ---- the whole list
   pub answers-derived : Sound p c → (s : Situation S) → Standing c s → (es : List (List ℕ)) → Derives ed p c s es (answers ed p c s es)
@@ -389,34 +385,39 @@ unfolding strict stopped
 strict-halts c s x e n m q = rw q refl
 
 module _ {S : Type 0} {ed : Edition} {p : Plant} {c : Control S} where
+  strict-fault : {x : S} {vs : List ℤ} {ms e : List ℕ} {side : Side} → Faults ed p c x vs ms e side → Faults ed p (strict c) x vs ms e side
+  unfolding strict
+  strict-fault (pick-switch-fault w m k) = pick-switch-fault w m k
+  strict-fault (pick-test-fault w m k q h) = pick-test-fault w m k q h
+  strict-fault (pick-wait-fault w m k q h) = pick-wait-fault w m k q h
+  strict-fault (pick-assign-fault w m k q h) = pick-assign-fault w m k q h
+  strict-fault (pick-assign-outside w m k q h d o) = pick-assign-outside w m k q h d o
+  strict-fault (switch-fault w h g) = switch-fault w h g
+  strict-fault (tick-switch-fault w q k) = tick-switch-fault w q k
+  strict-fault (tick-wait-fault w q k l) = tick-wait-fault w q k l
+  strict-fault (tick-outside w q k l h o) = tick-outside w q k l h o
+
   strict-rule : {s t : Situation S} {e : List ℕ} {a : ℕ} → Rule ed p c s e a t → Rule ed p (strict c) s e a t
   unfolding strict stopped
   strict-rule when-over = when-over
   strict-rule (when-senseless f g h) = when-senseless f g h
   strict-rule (pick-idle w f) = pick-idle w f
   strict-rule (pick-switch-true w m k) = pick-switch-true w m k
-  strict-rule (pick-switch-fault w m k) = pick-switch-fault w m k
   strict-rule (pick-test {a = a} {b = b} {after = u} w m k q h g) = pick-test {a = a} {b = b} {after = u} w m k q h (rw q g)
-  strict-rule (pick-test-fault w m k q h) = pick-test-fault w m k q h
   strict-rule (pick-wait {a = a} {after = u} w m k q h g) = pick-wait {a = a} {after = u} w m k q h (rw q g)
   strict-rule (pick-wait-false w m k q h) = pick-wait-false w m k q h
-  strict-rule (pick-wait-fault w m k q h) = pick-wait-fault w m k q h
   strict-rule (pick-assign {a = a} {after = u} w m k q h d i g) = pick-assign {a = a} {after = u} w m k q h d i (rw q g)
-  strict-rule (pick-assign-fault w m k q h) = pick-assign-fault w m k q h
-  strict-rule (pick-assign-outside w m k q h d o) = pick-assign-outside w m k q h d o
   strict-rule (pick-switch {a = a} {after = u} w m k q g) = pick-switch {a = a} {after = u} w m k q (rw q g)
   strict-rule (pick-stop w m k q) = pick-stop w m k q
   strict-rule (switch-missing w f) = switch-missing w f
   strict-rule (switch-taken w h g) = switch-taken w h g
   strict-rule (switch-false w h g) = switch-false w h g
-  strict-rule (switch-fault w h g) = switch-fault w h g
   strict-rule (tick-busy w m f) = tick-busy w m f
   strict-rule (tick-switch-true w q k) = tick-switch-true w q k
-  strict-rule (tick-switch-fault w q k) = tick-switch-fault w q k
   strict-rule (tick-wait-true w q k l) = tick-wait-true w q k l
-  strict-rule (tick-wait-fault w q k l) = tick-wait-fault w q k l
   strict-rule (tick-taken w q k l h i) = tick-taken w q k l h i
-  strict-rule (tick-outside w q k l h o) = tick-outside w q k l h o
+  strict-rule (fault-above f) = fault-above (strict-fault f)
+  strict-rule (fault-below f) = fault-below (strict-fault f)
 
   derived-strict : {s : Situation S} {es : List (List ℕ)} {l : List (Answered S)} → Derives ed p c s es l → l ≡ answers ed p (strict c) s es
   unfolding answers
@@ -440,28 +441,21 @@ module _ {S : Type 0} {ed : Edition} {p : Plant} {c : Control S} where
   by-stop (when-senseless f g h) z = absurd (omega arith)
   by-stop (pick-idle w f) z = absurd (omega arith)
   by-stop (pick-switch-true w m k) z = absurd (omega arith)
-  by-stop (pick-switch-fault w m k) z = absurd (omega arith)
   by-stop (pick-test w m k q h g) z = not-202 g z
-  by-stop (pick-test-fault w m k q h) z = absurd (omega arith)
   by-stop (pick-wait w m k q h g) z = not-202 g z
   by-stop (pick-wait-false w m k q h) z = absurd (omega arith)
-  by-stop (pick-wait-fault w m k q h) z = absurd (omega arith)
   by-stop (pick-assign w m k q h d i g) z = not-202 g z
-  by-stop (pick-assign-fault w m k q h) z = absurd (omega arith)
-  by-stop (pick-assign-outside w m k q h d o) z = absurd (omega arith)
   by-stop (pick-switch w m k q g) z = not-202 g z
   by-stop (pick-stop {x = x} {n = n} w m k q) z = record { place = x; node = n; stands = refl; says = w; acts = m; is-stop = q }
   by-stop (switch-missing w f) z = absurd (omega arith)
   by-stop (switch-taken w h g) z = absurd (omega arith)
   by-stop (switch-false w h g) z = absurd (omega arith)
-  by-stop (switch-fault w h g) z = absurd (omega arith)
   by-stop (tick-busy w m f) z = absurd (omega arith)
   by-stop (tick-switch-true w q k) z = absurd (omega arith)
-  by-stop (tick-switch-fault w q k) z = absurd (omega arith)
   by-stop (tick-wait-true w q k l) z = absurd (omega arith)
-  by-stop (tick-wait-fault w q k l) z = absurd (omega arith)
   by-stop (tick-taken w q k l h i) z = absurd (omega arith)
-  by-stop (tick-outside w q k l h o) z = absurd (omega arith)
+  by-stop (fault-above f) z = absurd (omega arith)
+  by-stop (fault-below f) z = absurd (omega arith)
 
   pub halts-by-stop : {s t : Situation S} {e : List ℕ} → Rule ed p c s e 202 t → Stopping ed c s e
   halts-by-stop r = by-stop r refl

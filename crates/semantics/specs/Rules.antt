@@ -1,4 +1,4 @@
--- Document 01, "Run by the rules", rule by rule: a relation between a situation, an event's bytes, its answer and the situation after it.
+-- Document 01, "Run by the rules", with document 02, item 2, rule by rule: a relation between a situation, an event's bytes, its answer and the situation after it.
 -- It is written from the paper, one constructor for each rule, in the manner of source 001's rules; `step` of Run is shown to be just it.
 use mathlib.Core.Path.{_≡_}
 use mathlib.Core.Bool.{Bool, true, false}
@@ -11,7 +11,8 @@ use lib.IntN.{ℤ, pos, _+ℤ_}
 use lib.Signed.{leZ, ltZ}
 use Rattle.semantics.specs.Bytes.{Width, one-byte, two-bytes}
 use Rattle.semantics.specs.Editions.{Edition}
-use Rattle.semantics.specs.Expressions.{Side, above, below, ok, fault, numberValue, truthValue}
+use Rattle.semantics.specs.Expressions.{Side, above, below, ok, fault}
+use Rattle.semantics.specs.Evaluating.{NumberComesTo, TruthComesTo}
 use Rattle.semantics.specs.Sections.{Variable, Rate, Switch, Mode, Selector, Equation, steady, choice}
 use Rattle.semantics.specs.Plant.{Plant}
 use Rattle.semantics.specs.Run.{Action, test, wait, assign, switch, stop, possible, Next, to, finished, halted, idle, Control, Situation, Answered, at, over}
@@ -86,20 +87,20 @@ module _ (ed : Edition) where
   -- "up to the first that is true or faults"
   pub data Walks (vs : List ℤ) : List (List ℕ) → Found → Type 0 where
     walk-ends : Walks vs [] nothing
-    walk-on : {t : List ℕ} {ts : List (List ℕ)} {f : Found} → truthValue ed vs t ≡ ok false → Walks vs ts f → Walks vs (t ∷ ts) f
-    stops-at-truth : {t : List ℕ} {ts : List (List ℕ)} → truthValue ed vs t ≡ ok true → Walks vs (t ∷ ts) found-true
-    stops-at-fault : {t : List ℕ} {ts : List (List ℕ)} {s : Side} → truthValue ed vs t ≡ fault s → Walks vs (t ∷ ts) (found-fault s)
+    walk-on : {t : List ℕ} {ts : List (List ℕ)} {f : Found} → TruthComesTo ed vs t (ok false) → Walks vs ts f → Walks vs (t ∷ ts) f
+    stops-at-truth : {t : List ℕ} {ts : List (List ℕ)} → TruthComesTo ed vs t (ok true) → Walks vs (t ∷ ts) found-true
+    stops-at-fault : {t : List ℕ} {ts : List (List ℕ)} {s : Side} → TruthComesTo ed vs t (fault s) → Walks vs (t ∷ ts) (found-fault s)
 
   -- a truth that is true or faults
   pub data Stops (vs : List ℤ) (t : List ℕ) : Found → Type 0 where
-    by-truth : truthValue ed vs t ≡ ok true → Stops vs t found-true
-    by-fault : {side : Side} → truthValue ed vs t ≡ fault side → Stops vs t (found-fault side)
+    by-truth : TruthComesTo ed vs t (ok true) → Stops vs t found-true
+    by-fault : {side : Side} → TruthComesTo ed vs t (fault side) → Stops vs t (found-fault side)
 
   -- "The switch check evaluates the switches of all current modes, .., and stops at the first that is true or faults.": all before it are false
   pub data Checks (vs : List ℤ) (current : ℕ → ℕ → Switch → Type 0) : Found → Type 0 where
-    check-ends : ((s k : ℕ) (w : Switch) → current s k w → truthValue ed vs (w .truth) ≡ ok false) → Checks vs current nothing
+    check-ends : ((s k : ℕ) (w : Switch) → current s k w → TruthComesTo ed vs (w .truth) (ok false)) → Checks vs current nothing
     check-stops : {s k : ℕ} {w : Switch} {f : Found} → current s k w →
-        ((t l : ℕ) (u : Switch) → Before t l s k → current t l u → truthValue ed vs (u .truth) ≡ ok false) → Stops vs (w .truth) f → Checks vs current f
+        ((t l : ℕ) (u : Switch) → Before t l s k → current t l u → TruthComesTo ed vs (u .truth) (ok false)) → Stops vs (w .truth) f → Checks vs current f
 
 -- "all acting nodes are CONTINUE", with their truths in node order
 pub data Waits (action : ℕ → Action) : List ℕ → List (List ℕ) → Type 0 where
@@ -124,7 +125,7 @@ pub record Added (p : Plant) (ms : List ℕ) (vs ys : List ℤ) : Type 0 where
 pub record AllInRange (xs : List Variable) (ys : List ℤ) : Type 0 where
   pub each : (v : ℕ) (x : Variable) (y : ℤ) → getElem? xs v ≡ some x → getElem? ys v ≡ some y → InRange x y
 
--- the lowest variable outside its range
+-- "On a tick the lowest variable number out of range decides."
 pub record FirstOutside (xs : List Variable) (ys : List ℤ) (side : Side) : Type 0 where
   pub which : ℕ
   pub variable : Variable
@@ -141,6 +142,30 @@ pub data Goes {S : Type 0} (vs : List ℤ) (ms : List ℕ) : Next S → ℕ → 
   finishes : Goes vs ms finished 201 (over vs ms)
 
 module _ {S : Type 0} (ed : Edition) (p : Plant) (c : Control S) where
+  -- how an event faults, and on which side: "the run's steps are taken in their order", and the first fault decides; on a tick "the lowest variable number out of range"
+  pub data Faults (x : S) (vs : List ℤ) (ms e : List ℕ) (side : Side) : Type 0 where
+    -- a pick of a node that acts: in its switch check
+    pick-switch-fault : {n : ℕ} → SaysPick ed e n → Mem n (c .acting x) → Checks ed vs (CurrentSwitch p ms) (found-fault side) → Faults x vs ms e side
+    -- in the truth of a WHILE or an IF
+    pick-test-fault : {t : List ℕ} {n : ℕ} → SaysPick ed e n → Mem n (c .acting x) → Checks ed vs (CurrentSwitch p ms) nothing → c .action n ≡ test t →
+        TruthComesTo ed vs t (fault side) → Faults x vs ms e side
+    -- in that of a CONTINUE
+    pick-wait-fault : {t : List ℕ} {n : ℕ} → SaysPick ed e n → Mem n (c .acting x) → Checks ed vs (CurrentSwitch p ms) nothing → c .action n ≡ wait t →
+        TruthComesTo ed vs t (fault side) → Faults x vs ms e side
+    -- a RESET or REINITIAL: in its number, then at the declared range of its variable
+    pick-assign-fault : {t : List ℕ} {n v : ℕ} → SaysPick ed e n → Mem n (c .acting x) → Checks ed vs (CurrentSwitch p ms) nothing → c .action n ≡ assign v t →
+        NumberComesTo ed vs t (fault side) → Faults x vs ms e side
+    pick-assign-outside : {t : List ℕ} {n v : ℕ} {z : ℤ} {d : Variable} → SaysPick ed e n → Mem n (c .acting x) → Checks ed vs (CurrentSwitch p ms) nothing → c .action n ≡ assign v t →
+        NumberComesTo ed vs t (ok z) → getElem? (p .variables) v ≡ some d → Outside d z side → Faults x vs ms e side
+    -- a switch that exists: in its truth
+    switch-fault : {s k : ℕ} {w : Switch} → SaysSwitch ed e s k → CurrentSwitch p ms s k w → TruthComesTo ed vs (w .truth) (fault side) → Faults x vs ms e side
+    -- a tick while all acting nodes wait: in its switch check, in the walk over the CONTINUE truths, then at the declared ranges
+    tick-switch-fault : {ts : List (List ℕ)} → SaysTick ed e → Waits (c .action) (c .acting x) ts → Checks ed vs (CurrentSwitch p ms) (found-fault side) → Faults x vs ms e side
+    tick-wait-fault : {ts : List (List ℕ)} → SaysTick ed e → Waits (c .action) (c .acting x) ts → Checks ed vs (CurrentSwitch p ms) nothing →
+        Walks ed vs ts (found-fault side) → Faults x vs ms e side
+    tick-outside : {ys : List ℤ} {ts : List (List ℕ)} → SaysTick ed e → Waits (c .action) (c .acting x) ts → Checks ed vs (CurrentSwitch p ms) nothing →
+        Walks ed vs ts nothing → Added p ms vs ys → FirstOutside (p .variables) ys side → Faults x vs ms e side
+
   pub data Rule : Situation S → List ℕ → ℕ → Situation S → Type 0 where
     -- 23: "The run is over."
     when-over : {vs : List ℤ} {ms e : List ℕ} → Rule (over vs ms) e 23 (over vs ms)
@@ -155,37 +180,23 @@ module _ {S : Type 0} (ed : Edition) (p : Plant) (c : Control S) where
     -- 28: "The switch check of a pick or tick stops at a true switch."
     pick-switch-true : {x : S} {vs : List ℤ} {ms e : List ℕ} {n : ℕ} → SaysPick ed e n → Mem n (c .acting x) →
         Checks ed vs (CurrentSwitch p ms) found-true → Rule (at x vs ms) e 28 (at x vs ms)
-    pick-switch-fault : {x : S} {vs : List ℤ} {ms e : List ℕ} {n : ℕ} {side : Side} → SaysPick ed e n → Mem n (c .acting x) →
-        Checks ed vs (CurrentSwitch p ms) (found-fault side) → Rule (at x vs ms) e 203 (over vs ms)
     -- a WHILE or an IF
     pick-test : {x : S} {vs : List ℤ} {ms e t : List ℕ} {n a : ℕ} {b : Bool} {after : Situation S} → SaysPick ed e n → Mem n (c .acting x) →
-        Checks ed vs (CurrentSwitch p ms) nothing → c .action n ≡ test t → truthValue ed vs t ≡ ok b →
+        Checks ed vs (CurrentSwitch p ms) nothing → c .action n ≡ test t → TruthComesTo ed vs t (ok b) →
         Goes vs ms (c .next x n b) a after → Rule (at x vs ms) e a after
-    pick-test-fault : {x : S} {vs : List ℤ} {ms e t : List ℕ} {n : ℕ} {side : Side} → SaysPick ed e n → Mem n (c .acting x) →
-        Checks ed vs (CurrentSwitch p ms) nothing → c .action n ≡ test t → truthValue ed vs t ≡ fault side →
-        Rule (at x vs ms) e 203 (over vs ms)
     -- a CONTINUE
     pick-wait : {x : S} {vs : List ℤ} {ms e t : List ℕ} {n a : ℕ} {after : Situation S} → SaysPick ed e n → Mem n (c .acting x) →
-        Checks ed vs (CurrentSwitch p ms) nothing → c .action n ≡ wait t → truthValue ed vs t ≡ ok true →
+        Checks ed vs (CurrentSwitch p ms) nothing → c .action n ≡ wait t → TruthComesTo ed vs t (ok true) →
         Goes vs ms (c .next x n true) a after → Rule (at x vs ms) e a after
     -- 29: "The CONTINUE is not yet true."
     pick-wait-false : {x : S} {vs : List ℤ} {ms e t : List ℕ} {n : ℕ} → SaysPick ed e n → Mem n (c .acting x) →
-        Checks ed vs (CurrentSwitch p ms) nothing → c .action n ≡ wait t → truthValue ed vs t ≡ ok false →
+        Checks ed vs (CurrentSwitch p ms) nothing → c .action n ≡ wait t → TruthComesTo ed vs t (ok false) →
         Rule (at x vs ms) e 29 (at x vs ms)
-    pick-wait-fault : {x : S} {vs : List ℤ} {ms e t : List ℕ} {n : ℕ} {side : Side} → SaysPick ed e n → Mem n (c .acting x) →
-        Checks ed vs (CurrentSwitch p ms) nothing → c .action n ≡ wait t → truthValue ed vs t ≡ fault side →
-        Rule (at x vs ms) e 203 (over vs ms)
     -- a RESET or REINITIAL
     pick-assign : {x : S} {vs : List ℤ} {ms e t : List ℕ} {n v a : ℕ} {z : ℤ} {d : Variable} {after : Situation S} → SaysPick ed e n → Mem n (c .acting x) →
-        Checks ed vs (CurrentSwitch p ms) nothing → c .action n ≡ assign v t → numberValue ed vs t ≡ ok z →
+        Checks ed vs (CurrentSwitch p ms) nothing → c .action n ≡ assign v t → NumberComesTo ed vs t (ok z) →
         getElem? (p .variables) v ≡ some d → InRange d z →
         Goes (set vs v z) ms (c .next x n true) a after → Rule (at x vs ms) e a after
-    pick-assign-fault : {x : S} {vs : List ℤ} {ms e t : List ℕ} {n v : ℕ} {side : Side} → SaysPick ed e n → Mem n (c .acting x) →
-        Checks ed vs (CurrentSwitch p ms) nothing → c .action n ≡ assign v t → numberValue ed vs t ≡ fault side →
-        Rule (at x vs ms) e 203 (over vs ms)
-    pick-assign-outside : {x : S} {vs : List ℤ} {ms e t : List ℕ} {n v : ℕ} {z : ℤ} {d : Variable} {side : Side} → SaysPick ed e n → Mem n (c .acting x) →
-        Checks ed vs (CurrentSwitch p ms) nothing → c .action n ≡ assign v t → numberValue ed vs t ≡ ok z →
-        getElem? (p .variables) v ≡ some d → Outside d z side → Rule (at x vs ms) e 203 (over vs ms)
     -- a SWITCH
     pick-switch : {x : S} {vs : List ℤ} {ms e : List ℕ} {n s m a : ℕ} {after : Situation S} → SaysPick ed e n → Mem n (c .acting x) →
         Checks ed vs (CurrentSwitch p ms) nothing → c .action n ≡ switch s m →
@@ -199,15 +210,12 @@ module _ {S : Type 0} (ed : Edition) (p : Plant) (c : Control S) where
         ((w : Switch) → CurrentSwitch p ms s k w → ⊥) →
         Rule (at x vs ms) e 26 (at x vs ms)
     switch-taken : {x : S} {vs : List ℤ} {ms e : List ℕ} {s k : ℕ} {w : Switch} → SaysSwitch ed e s k →
-        CurrentSwitch p ms s k w → truthValue ed vs (w .truth) ≡ ok true →
+        CurrentSwitch p ms s k w → TruthComesTo ed vs (w .truth) (ok true) →
         Rule (at x vs ms) e 200 (at x vs (set ms s (w .target)))
     -- 30: "The switch's truth is false."
     switch-false : {x : S} {vs : List ℤ} {ms e : List ℕ} {s k : ℕ} {w : Switch} → SaysSwitch ed e s k →
-        CurrentSwitch p ms s k w → truthValue ed vs (w .truth) ≡ ok false →
+        CurrentSwitch p ms s k w → TruthComesTo ed vs (w .truth) (ok false) →
         Rule (at x vs ms) e 30 (at x vs ms)
-    switch-fault : {x : S} {vs : List ℤ} {ms e : List ℕ} {s k : ℕ} {w : Switch} {side : Side} → SaysSwitch ed e s k →
-        CurrentSwitch p ms s k w → truthValue ed vs (w .truth) ≡ fault side →
-        Rule (at x vs ms) e 203 (over vs ms)
     -- "Tick: all acting nodes are CONTINUE, switch check, their truths in node order up to the first that is true or faults,
     -- then each driven variable adds its current rate"
     -- 27: "A tick while some acting node is no CONTINUE."
@@ -216,19 +224,15 @@ module _ {S : Type 0} (ed : Edition) (p : Plant) (c : Control S) where
     -- 28
     tick-switch-true : {x : S} {vs : List ℤ} {ms e : List ℕ} {ts : List (List ℕ)} → SaysTick ed e → Waits (c .action) (c .acting x) ts →
         Checks ed vs (CurrentSwitch p ms) found-true → Rule (at x vs ms) e 28 (at x vs ms)
-    tick-switch-fault : {x : S} {vs : List ℤ} {ms e : List ℕ} {ts : List (List ℕ)} {side : Side} → SaysTick ed e → Waits (c .action) (c .acting x) ts →
-        Checks ed vs (CurrentSwitch p ms) (found-fault side) → Rule (at x vs ms) e 203 (over vs ms)
     -- 31: "A tick whose walk over the CONTINUE truths stops at a true one."
     tick-wait-true : {x : S} {vs : List ℤ} {ms e : List ℕ} {ts : List (List ℕ)} → SaysTick ed e → Waits (c .action) (c .acting x) ts →
         Checks ed vs (CurrentSwitch p ms) nothing → Walks ed vs ts found-true → Rule (at x vs ms) e 31 (at x vs ms)
-    tick-wait-fault : {x : S} {vs : List ℤ} {ms e : List ℕ} {ts : List (List ℕ)} {side : Side} → SaysTick ed e → Waits (c .action) (c .acting x) ts →
-        Checks ed vs (CurrentSwitch p ms) nothing → Walks ed vs ts (found-fault side) → Rule (at x vs ms) e 203 (over vs ms)
     tick-taken : {x : S} {vs ys : List ℤ} {ms e : List ℕ} {ts : List (List ℕ)} → SaysTick ed e → Waits (c .action) (c .acting x) ts →
         Checks ed vs (CurrentSwitch p ms) nothing → Walks ed vs ts nothing → Added p ms vs ys → AllInRange (p .variables) ys →
         Rule (at x vs ms) e 200 (at x ys ms)
-    tick-outside : {x : S} {vs ys : List ℤ} {ms e : List ℕ} {ts : List (List ℕ)} {side : Side} → SaysTick ed e → Waits (c .action) (c .acting x) ts →
-        Checks ed vs (CurrentSwitch p ms) nothing → Walks ed vs ts nothing → Added p ms vs ys → FirstOutside (p .variables) ys side →
-        Rule (at x vs ms) e 203 (over vs ms)
+    -- "A fault leaves values and modes as before the event and ends the run."; "The answer 203 means above and a new answer 204 means below"
+    fault-above : {x : S} {vs : List ℤ} {ms e : List ℕ} → Faults x vs ms e above → Rule (at x vs ms) e 203 (over vs ms)
+    fault-below : {x : S} {vs : List ℤ} {ms e : List ℕ} → Faults x vs ms e below → Rule (at x vs ms) e 204 (over vs ms)
 
   -- ---- 23 to 31, each by itself: its sentence, in the situation before the event; 24 to 31 speak of a run that is not over
   pub data Sentence : ℕ → Situation S → List ℕ → Type 0 where
@@ -252,15 +256,15 @@ module _ {S : Type 0} (ed : Edition) (p : Plant) (c : Control S) where
         Checks ed vs (CurrentSwitch p ms) found-true → Sentence 28 (at x vs ms) e
     -- 29: "The CONTINUE is not yet true."
     is-early : {x : S} {vs : List ℤ} {ms e t : List ℕ} {n : ℕ} → SaysPick ed e n → c .action n ≡ wait t →
-        truthValue ed vs t ≡ ok false → Sentence 29 (at x vs ms) e
+        TruthComesTo ed vs t (ok false) → Sentence 29 (at x vs ms) e
     -- 30: "The switch's truth is false."
     is-false : {x : S} {vs : List ℤ} {ms e : List ℕ} {s k : ℕ} {w : Switch} → SaysSwitch ed e s k →
-        CurrentSwitch p ms s k w → truthValue ed vs (w .truth) ≡ ok false → Sentence 30 (at x vs ms) e
+        CurrentSwitch p ms s k w → TruthComesTo ed vs (w .truth) (ok false) → Sentence 30 (at x vs ms) e
     -- 31: "A tick whose walk over the CONTINUE truths stops at a true one."
     is-due : {x : S} {vs : List ℤ} {ms e : List ℕ} {ts : List (List ℕ)} → SaysTick ed e → Waits (c .action) (c .acting x) ts →
         Walks ed vs ts found-true → Sentence 31 (at x vs ms) e
 
-  -- the switch check of this pick or tick would fault: "a fault in the switch check is 203 before 29 or 31 is looked at"
+  -- the switch check of this pick or tick would fault: "a fault in the switch check is 203 before 29 or 31 is looked at", or 204 where it lies below
   pub data CheckFaults : Situation S → List ℕ → Type 0 where
     pick-check : {x : S} {vs : List ℤ} {ms e : List ℕ} {n : ℕ} {side : Side} → SaysPick ed e n →
         Checks ed vs (CurrentSwitch p ms) (found-fault side) → CheckFaults (at x vs ms) e

@@ -1,10 +1,9 @@
--- Document 01, "Run by the rules": one event, the run, its records and counts, over any control.
+-- Document 01, "Run by the rules", with document 02, item 2: one event, the run, its records and counts, over any control.
 use mathlib.Core.Bool.{Bool, true, false, not}
 use mathlib.Core.List.{List, [], _∷_, _++_, map, flatMap}
 use mathlib.Core.Option.{Option, none, some}
 use Prim.Native.Nat.{ℕ, suc, _+_, _^_}
 use lib.ListN.{getElem?, set}
-use lib.Dec.{eqb}
 use lib.IntN.{ℤ}
 use Rattle.semantics.specs.Bytes.{every, within, bigEndian, out4, unsigned}
 use Rattle.semantics.specs.Editions.{Edition}
@@ -200,10 +199,10 @@ pub record Answered (S : Type 0) : Type 0 where
   pub answer : ℕ
   pub left : Situation S
 
--- "203 fault", whatever its side
+-- "The answer 203 means above and a new answer 204 means below, for expressions and for declared ranges alike."
 unfoldable pub faultAnswer : Side → ℕ
 faultAnswer above = 203
-faultAnswer below = 203
+faultAnswer below = 204
 
 module _ {S : Type 0} where
   abbrev pub at : S → List ℤ → List ℕ → Situation S
@@ -274,7 +273,7 @@ recordOf ed c o = let s = o .left in recordBytes ed (o .answer) (actingSet c (s 
 abbrev pub answersIn : {S : Type 0} → List (Answered S) → List ℕ
 answersIn {S} l = map (λ (o : Answered S). o .answer) l
 
--- "taken (200..202), turned away (23..31) and faulted (203)"
+-- "taken (200..202), turned away (23..31) and faulted (203)", and of 203 and 204 "Both count as faulted."
 unfoldable pub isTaken : ℕ → Bool
 isTaken n = within 200 202 n
 
@@ -282,13 +281,13 @@ unfoldable pub isTurnedAway : ℕ → Bool
 isTurnedAway n = within 23 31 n
 
 unfoldable pub isFaulted : ℕ → Bool
-isFaulted n = eqb n 203
+isFaulted n = within 203 204 n
 
 unfoldable pub howMany : {A : Type 0} → (A → Bool) → List A → ℕ
 howMany f [] = 0
 howMany f (a ∷ l) = elim (f a) [ true ↦ suc (howMany f l) | false ↦ howMany f l ]
 
--- "The run keeps one short record of taken (200..202), turned away (23..31) and faulted (203)"
+-- "The run keeps one short record of taken (200..202), turned away (23..31) and faulted (203)", now 203 and 204
 pub record Counts : Type 0 where
   pub taken : ℕ
   pub turned-away : ℕ

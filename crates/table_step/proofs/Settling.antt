@@ -134,8 +134,8 @@ module _ {locs places : List ℕ} {x : ℕ} {set : NodeSet} {v : Verdict} (t : T
   pub settled-above : {a : Answered} → v ≡ Above → a ≡ ended 203 → Steps t (some x) vs ms e a vs' ms'
   settled-above q k = steps-as k (record { place = none; is = stepped-above (t .plant) (tableControl t) x (set .words) acts vs ms e vs' ms' l q; stands = stands-over t 203 })
 
-  pub settled-below : {a : Answered} → v ≡ Below → a ≡ ended 203 → Steps t (some x) vs ms e a vs' ms'
-  settled-below q k = steps-as k (record { place = none; is = stepped-below (t .plant) (tableControl t) x (set .words) acts vs ms e vs' ms' l q; stands = stands-over t 203 })
+  pub settled-below : {a : Answered} → v ≡ Below → a ≡ ended 204 → Steps t (some x) vs ms e a vs' ms'
+  settled-below q k = steps-as k (record { place = none; is = stepped-below (t .plant) (tableControl t) x (set .words) acts vs ms e vs' ms' l q; stands = stands-over t 204 })
 
   pub settled-stay : {a : Answered} → v ≡ Stay → a ≡ goingOn 200 x set → Steps t (some x) vs ms e a vs' ms'
   settled-stay q k = steps-as k (record { place = some x; is = stepped-stay (t .plant) (tableControl t) x (set .words) acts vs ms e vs' ms' l q; stands = stands-at 200 set h })

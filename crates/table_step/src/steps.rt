@@ -76,8 +76,8 @@ fn settled(locs: &[u8], places: &[usize], x: usize, acting: NodeSet, v: Verdict)
 {
     match v {
         Verdict::Away(n) => go_on(n, x, acting),
-        Verdict::Above => end(paper::answers::FAULT),
-        Verdict::Below => end(paper::answers::FAULT),
+        Verdict::Above => end(paper::answers::ABOVE),
+        Verdict::Below => end(paper::answers::BELOW),
         Verdict::Stay => go_on(paper::answers::TAKEN, x, acting),
         Verdict::Move(n, truth) => moved(locs, places, x, n, truth),
     }

@@ -136,9 +136,9 @@ module _ {M : Type 1} (𝓤 : URA M) (H : Heap 𝓤) (A : Atoms 𝓤) (W : Given
           booking (h .«turned_away») 23 31 (room .turned-away) (omega arith) (omega arith) (and-then ! (local 5 refl) (and-then ! (lit ! tt) (and-then ! (lit ! tt) (and-then ! (local 9 refl) (no-more !))))) (λ u eu u-fits.
           land ! (from ! (stop !)) (store ! 6 refl (tt, record { fits = u-fits })) $
           assigns ! (of-opd ! (local 6 refl)) (from ! (hop ! (look ! 10 refl) (fld ! refl (stop !)))) (store-in ! 0 (sub ! 1 refl (whole !)) (tt, record { fits = u-fits })) $
-          -- the same with faulted, 203 and 203
+          -- the same with faulted, 203 and 204
           assigns ! (of-opd ! (load ! (from ! (hop ! (look ! 10 refl) (fld ! refl (stop !)))) (look-in ! 0 (sub ! 2 refl (whole !))))) (from ! (stop !)) (store ! 4 refl (tt, record { fits = omega (arith, room .faulted) })) $
-          booking (h .faulted) 203 203 (room .faulted) (omega arith) (omega arith) (and-then ! (local 5 refl) (and-then ! (neg-lit ! tt) (and-then ! (neg-lit ! tt) (and-then ! (local 9 refl) (no-more !))))) (λ v ev v-fits.
+          booking (h .faulted) 203 204 (room .faulted) (omega arith) (omega arith) (and-then ! (local 5 refl) (and-then ! (neg-lit ! tt) (and-then ! (neg-lit ! tt) (and-then ! (local 9 refl) (no-more !))))) (λ v ev v-fits.
           land ! (from ! (stop !)) (store ! 6 refl (tt, record { fits = v-fits })) $
           assigns ! (of-opd ! (local 6 refl)) (from ! (hop ! (look ! 10 refl) (fld ! refl (stop !)))) (store-in ! 0 (sub ! 2 refl (whole !)) (tt, record { fits = v-fits })) $
           assigns ! (of-opd ! (unit-lit !)) (from ! (stop !)) (init ! 12 refl (tt, tt)) $
