@@ -32,8 +32,8 @@
  * under 100. 128 KiB are room for any of them.
  *
  * Schedule files, tables, starting values, events and records are those of
- * document 01, practice events those of item 1 of document 02; numbers of
- * several bytes are big-endian.
+ * document 01, with items 1 and 2 of document 02 (practice events; faults above
+ * and below their range); numbers of several bytes are big-endian.
  */
 #ifndef ZIMTLEITER_H
 #define ZIMTLEITER_H
@@ -46,6 +46,32 @@
 
 /* Bytes that are room for any list of practice events: 10,000 of 3 bytes. */
 #define ZIMTLEITER_PRACTICE_ROOM 30000
+
+/*
+ * The answer of an event, the first byte of its record. Taken: 200, but 201
+ * where the schedule finishes and 202 where a STOP halts it; both end the run.
+ * Faulted: a result left the 32-bit range, or a value its declared range, above
+ * it (203) or below it (204); that ends the run, and values and modes are those
+ * of before the event. Turned away, which changes nothing:
+ *  23  the run is over
+ *  24  the event's kind is unknown, or an unused byte is not 0
+ *  25  the picked node is not acting
+ *  26  there is no such switch
+ *  27  a tick while some acting node is no CONTINUE
+ *  28  the switch check of a pick or tick stops at a true switch
+ *  29  the CONTINUE is not yet true
+ *  30  the switch's truth is false
+ *  31  a tick whose walk over the CONTINUE truths stops at a true one
+ * The steps of an event are taken in their order: the switch check stops at
+ * the first switch that is true (28) or faults, before 29 and 31 are looked at.
+ * Of two operands that both fault the left one's side is told, on a tick that
+ * of the variable with the lowest number out of its range.
+ */
+#define ZIMTLEITER_TAKEN 200
+#define ZIMTLEITER_FINISHED 201
+#define ZIMTLEITER_HALTED 202
+#define ZIMTLEITER_ABOVE 203
+#define ZIMTLEITER_BELOW 204
 
 #ifdef __cplusplus
 extern "C" {
@@ -112,7 +138,7 @@ uint8_t zimtleiter_compile(const uint8_t *file, size_t file_len,
  * On 0 one record for each event stands at the front of records, in their
  * order, and the bytes behind are as they were. A record has 9 bytes, 4 for
  * each variable and 1 for each selector. The counts are those of the events
- * answered 200 to 202 (taken), 23 to 31 (turned away) and 203 (faulted).
+ * answered 200 to 202 (taken), 23 to 31 (turned away) and 203 or 204 (faulted).
  */
 uint8_t zimtleiter_rule_run(const uint8_t *file, size_t file_len,
                             const uint8_t *start, size_t start_len,

@@ -1,7 +1,7 @@
 /*
  * Says how large a schedule is, compiles it, runs it by the rules and by its
  * table over a list of events, from its own initial values and modes, and
- * compares the two runs.
+ * compares the two runs. Where an event faults, it says which and on which side.
  * both SCHEDULE EVENTS
  * both SCHEDULE SEED COUNT: the events are COUNT practice events from SEED
  */
@@ -93,6 +93,18 @@ static struct run print_run(const char *name, struct run r)
     printf("%s: %llu taken, %llu turned away, %llu faulted\n", name, (unsigned long long)r.taken,
            (unsigned long long)r.turned_away, (unsigned long long)r.faulted);
     return r;
+}
+
+/* The event that faulted, if one did, and on which side of its range. */
+static void print_fault(struct run r, size_t size)
+{
+    for (size_t i = 0; i + size <= r.records.length; i += size) {
+        uint8_t answer = r.records.at[i];
+        if (answer == ZIMTLEITER_ABOVE || answer == ZIMTLEITER_BELOW) {
+            printf("event %zu faulted: %s its range\n", i / size + 1, answer == ZIMTLEITER_ABOVE ? "above" : "below");
+            return;
+        }
+    }
 }
 
 static struct run by_rules(struct bytes file, struct bytes start, struct bytes events, size_t room)
@@ -194,6 +206,7 @@ int main(int argc, char **argv)
     size_t room = events.length / 3 * size;
     struct run a = by_rules(file, start, events, room);
     struct run b = by_table(table, start, events, room);
+    print_fault(a, size);
     int agree = same(a, b);
     printf("%zu records of %zu bytes: %s\n", events.length / 3, size, agree ? "the same" : "different");
     free(file.at);

@@ -1,2 +1,3 @@
 -- What the contracts of the programs that run cite.
 pub mod Told
+pub mod Faulting

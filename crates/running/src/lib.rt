@@ -1,4 +1,6 @@
 // What runrules and runtable share: a run of the files that the arguments name.
+mod faults;
+
 use initial_start::Start;
 use records::Counts;
 use records::Ran;
@@ -54,6 +56,30 @@ pub fn start(words: usize, program: &[u8], initial: Start) -> Chosen
     }
 }
 
+// The event that faulted, if one did, of so many, and the side on which a value left its range.
+fn report_fault(records: &[u8], count: usize) {
+    if count == 0 {
+        return;
+    }
+    let size = records.len() / count;
+    if size == 0 {
+        return;
+    }
+    let f = faults::first(records, size);
+    if f.number == 0 {
+        return;
+    }
+    io::write_all(2, b"event ");
+    io::print_decimal(2, f.number as u64);
+    io::write_all(2, b" of ");
+    io::print_decimal(2, count as u64);
+    if f.answer == paper::answers::ABOVE {
+        io::write_all(2, b": above its range\n");
+    } else {
+        io::write_all(2, b": below its range\n");
+    }
+}
+
 fn report(counts: Counts) {
     io::write_all(2, b"taken ");
     io::print_decimal(2, counts.taken as u64);
@@ -64,8 +90,8 @@ fn report(counts: Counts) {
     io::write_all(2, b"\n");
 }
 
-// the refusal as one byte; or the records, so many bytes, and the counts. How many bytes were given to standard output
-pub fn tell(program: &[u8], r: Ran, length: usize, records: &[u8]) -> usize
+// the refusal as one byte; or the records, so many bytes of so many events, and the counts. How many bytes were given to standard output
+pub fn tell(program: &[u8], r: Ran, count: usize, length: usize, records: &[u8]) -> usize
     ensures { λ n. ⌜ n ≡ given r length (now (records .entry)) ⌝ }
 {
     if r.refusal != 0 {
@@ -76,5 +102,6 @@ pub fn tell(program: &[u8], r: Ran, length: usize, records: &[u8]) -> usize
     let k = output::front(length, records);
     output::noticed(program, io::write_all(1, &records[..k]));
     report(r.counts);
+    report_fault(&records[..k], count);
     k
 }

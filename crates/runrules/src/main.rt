@@ -18,7 +18,8 @@ fn run(file: &[u8], events: &[u8], start: Start) {
     let r = rule_run::call::run(file, &bytes[..k], events, &mut records);
     let x = schedule_read::call::read(file);
     let n = output::records_length(events.len(), x.variables, x.selectors);
-    running::tell(b"runrules", r, n, &records);
+    let count = events.len() / paper::EVENT_BYTES;
+    running::tell(b"runrules", r, count, n, &records);
 }
 
 fn main() {

@@ -18,7 +18,8 @@ fn run(table: &[u8], events: &[u8], start: Start) {
     let r = table_run::call::run(table, &bytes[..k], events, &mut records);
     let x = table_read::call::read(table);
     let n = output::records_length(events.len(), x.variables, x.selectors);
-    running::tell(b"runtable", r, n, &records);
+    let count = events.len() / paper::EVENT_BYTES;
+    running::tell(b"runtable", r, count, n, &records);
 }
 
 fn main() {
