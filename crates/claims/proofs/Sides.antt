@@ -10,7 +10,8 @@ use Prim.Native.Nat.{ℕ}
 use lib.IntN.{ℤ, pos, negsuc}
 use lib.ListN.{replicate}
 use Rattle.semantics.specs.Editions.{Edition}
-use Rattle.semantics.specs.Expressions.{Operation, Number, constant, operate, negation, Comparison, Connective, both, Truth, compare, connect, Side, above, below, Value, ok, fault, valueOf, holds, numberValue, truthValue}
+use Rattle.semantics.specs.Expressions.{Operation, Number, constant, operate, negation, Comparison, Connective, both, Truth, compare, connect}
+use Rattle.semantics.specs.Expressions.{Side, above, below, Value, ok, fault, valueOf, holds, numberValue, truthValue}
 use Rattle.semantics.specs.Evaluating.{NumberComesTo, TruthComesTo}
 use Rattle.semantics.specs.Plant.{Plant}
 use Rattle.semantics.specs.Run.{Control, at, over, step}

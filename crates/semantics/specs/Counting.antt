@@ -1,4 +1,5 @@
--- Document 01, "Run by the rules": "taken (200..202), turned away (23..31) and faulted (203), .. each the number of the run's events with such an answer". Of 203 and 204 document 02, item 2: "Both count as faulted."
+-- Document 01, "Run by the rules": "taken (200..202), turned away (23..31) and faulted (203), .. each the number of the run's events with such an answer".
+-- Document 02, item 2, of 203 and 204: "Both count as faulted."
 use mathlib.Core.Path.{_≡_}
 use mathlib.Core.List.{List, [], _∷_}
 use Prim.Native.Nat.{ℕ, suc, _≤_}
