@@ -1,5 +1,5 @@
-"""The tests of cases_test that are made by hand: each with a name, its bytes, and what document 01 gives for it,
-read from the paper and not from a program. The bench papers K1 to K11 of document 01 stand in the names.
+"""The tests of cases_test that are made by hand: each with a name, its bytes, and what documents 01 and 02 give for it,
+read from the papers and not from a program. The bench papers K1 to K11 of document 01 stand in the names.
 
 What the paper gives: parts split by ';'. A part is a line of a call as cases_test writes it, `CALL R, NUMBERS`, of a run with
 its answers behind it where they are told (`200 x3` is an answer three times in a row), or `table = HEX`, `records = HEX`."""
@@ -327,28 +327,51 @@ of_schedule("the widest table, a byte too few", WIDEST, Z, "p1", "compile 14, 0;
 W = variables((LOWEST, HIGHEST, 0))
 of_schedule("K9: negating the lowest", tree(reset(0, neg(var(0))), vs=W), start([LOWEST]), "p0 p0", "rules 0, 0 1 1: 203 23")
 of_schedule("K9: negating the next", tree(reset(0, neg(var(0))), vs=W), start([LOWEST + 1]), "p0", "rules 0, 1 0 0: 201")
-of_schedule("K9: true or a fault", truth(either(TRUE, FAULT)), Z, "p0", "rules 0, 0 0 1: 203")
-of_schedule("false and a fault", truth(both(FALSE, FAULT)), Z, "t", "rules 0, 0 0 1: 203")
-of_schedule("a fault or true", truth(either(FAULT, TRUE)), Z, "p0", "rules 0, 0 0 1: 203")
-of_schedule("not a fault", truth(no(FAULT)), Z, "p0", "rules 0, 0 0 1: 203")
+of_schedule("K9: true or a fault", truth(either(TRUE, FAULT_ABOVE)), Z, "p0", "rules 0, 0 0 1: 203")
+of_schedule("false and a fault", truth(both(FALSE, FAULT_ABOVE)), Z, "t", "rules 0, 0 0 1: 203")
+of_schedule("a fault or true", truth(either(FAULT_ABOVE, TRUE)), Z, "p0", "rules 0, 0 0 1: 203")
+of_schedule("not a fault", truth(no(FAULT_ABOVE)), Z, "p0", "rules 0, 0 0 1: 203")
+
+# what is counted of a run of one event with this answer: taken, turned away, faulted
+ONE_EVENT = {n: "1 0 0" for n in (200, 201, 202)} | {n: "0 1 0" for n in range(23, 32)} | {n: "0 0 1" for n in (203, 204)}
+
+
+def answered(n):
+    return f"rules 0, {ONE_EVENT[n]}: {n}"
+
 
 # results at the borders of 32 bits, in a RESET of a variable with the whole range
-for name, n, good in [
-    ("the highest plus 1", add(const(HIGHEST), const(1)), False),
-    ("the highest plus 0", add(const(HIGHEST), const(0)), True),
-    ("the lowest minus 1", sub(const(LOWEST), const(1)), False),
-    ("0 minus the lowest", sub(const(0), const(LOWEST)), False),
-    ("-1 minus the highest", sub(const(-1), const(HIGHEST)), True),
-    ("46341 times itself", mul(const(46341), const(46341)), False),
-    ("46340 times itself", mul(const(46340), const(46340)), True),
-    ("65536 times -32768", mul(const(65536), const(-32768)), True),
-    ("65536 times 32768", mul(const(65536), const(32768)), False),
-    ("the lowest times the lowest", mul(const(LOWEST), const(LOWEST)), False),
-    ("the lowest times -1", mul(const(LOWEST), const(-1)), False),
-    ("0 times a fault", mul(const(0), TOO_LOW), False),
-    ("beyond and back", sub(add(const(HIGHEST), const(1)), const(1)), False),
+for name, n, answer in [
+    ("the highest plus 1", add(const(HIGHEST), const(1)), 203),
+    ("the highest plus 0", add(const(HIGHEST), const(0)), 201),
+    ("the highest plus the highest", add(const(HIGHEST), const(HIGHEST)), 203),
+    ("the lowest plus -1", add(const(LOWEST), const(-1)), 204),
+    ("the lowest plus the lowest", add(const(LOWEST), const(LOWEST)), 204),
+    ("the lowest minus 1", sub(const(LOWEST), const(1)), 204),
+    ("the lowest minus the highest", sub(const(LOWEST), const(HIGHEST)), 204),
+    ("the highest minus -1", sub(const(HIGHEST), const(-1)), 203),
+    ("the highest minus the lowest", sub(const(HIGHEST), const(LOWEST)), 203),
+    ("0 minus the lowest", sub(const(0), const(LOWEST)), 203),
+    ("-1 minus the highest", sub(const(-1), const(HIGHEST)), 201),
+    ("-2 minus the highest", sub(const(-2), const(HIGHEST)), 204),
+    ("46341 times itself", mul(const(46341), const(46341)), 203),
+    ("46341 times -46341", mul(const(46341), const(-46341)), 204),
+    ("-46341 times -46341", mul(const(-46341), const(-46341)), 203),
+    ("46340 times itself", mul(const(46340), const(46340)), 201),
+    ("65536 times -32768", mul(const(65536), const(-32768)), 201),
+    ("65536 times -32769", mul(const(65536), const(-32769)), 204),
+    ("65536 times 65536", mul(const(65536), const(65536)), 203),
+    ("-65536 times 65536", mul(const(-65536), const(65536)), 204),
+    ("65536 times 32768", mul(const(65536), const(32768)), 203),
+    ("the lowest times the lowest", mul(const(LOWEST), const(LOWEST)), 203),
+    ("the lowest times the highest", mul(const(LOWEST), const(HIGHEST)), 204),
+    ("the lowest times -1", mul(const(LOWEST), const(-1)), 203),
+    ("the lowest times 2", mul(const(LOWEST), const(2)), 204),
+    ("0 times a fault", mul(const(0), TOO_HIGH), 203),
+    ("beyond and back", sub(add(const(HIGHEST), const(1)), const(1)), 203),
+    ("below and back", add(sub(const(LOWEST), const(1)), const(1)), 204),
 ]:
-    of_schedule(name, tree(reset(0, n), vs=W), Z, "p0", "rules 0, 1 0 0: 201" if good else "rules 0, 0 0 1: 203")
+    of_schedule(name, tree(reset(0, n), vs=W), Z, "p0", answered(answer))
 # comparisons of signed numbers: 1 for true, as pick of a CONTINUE
 for name, t, holds in [
     ("-1 <= 1", le(const(-1), const(1)), True),
@@ -423,7 +446,7 @@ of_schedule("no events, no room", K1, start([9]), "", "rules 0, 0 0 0; by table 
 of_schedule("22 counts what is after the end", K1, start([9]), "p1 p2 t",
     "rules 22, 0 0 0; by table 22, 0 0 0; " + unexamined(22), record_room=38)
 
-# events: 23 to 31 and 203, in a plant with a valve: closed, open, draining
+# events: 23 to 31 and 204, in a plant with a valve: closed, open, draining
 VALVE = case(
     0,
     mode([], [(1, le(var(0), const(1)))]),
@@ -448,8 +471,8 @@ BATCHES = schedule(V, equations(rate(0, 1)), loop(TRUE, sequence(reset(0, const(
 of_schedule("thirty batches", BATCHES, Z, " ".join(["p0 p2 t t t t t t t t t t p3"] * 30),
     "rules 0, 360 30 0: 200 x11 31" + " 200 x12 31" * 29 + " 200", record_room=6000)
 DRAIN = schedule(TANK, equations(VALVE), until(FALSE))
-of_schedule("drained to a fault", DRAIN, start([5, 9], [2]), "t t t t", "rules 0, 2 1 1: 200 x2 203 23")
-of_schedule("a switch taken, then a fault", DRAIN, start([0, 4], [1]), "s0.0 s0.1 t", "rules 0, 1 1 1: 30 200 203")
+of_schedule("drained to a fault", DRAIN, start([5, 9], [2]), "t t t t", "rules 0, 2 1 1: 200 x2 204 23")
+of_schedule("a switch taken, then a fault", DRAIN, start([0, 4], [1]), "s0.0 s0.1 t", "rules 0, 1 1 1: 30 200 204")
 of_schedule("no rate in the current mode", DRAIN, start([5, 9], [0]), "t t", "rules 0, 2 0 0: 200 x2")
 of_schedule("a switch to its own mode", plant(case(0, mode([], [(0, TRUE)]))), start([0], [0]), "s0.0 s0.0 p0", "rules 0, 2 1 0: 200 x2 28")
 
@@ -466,27 +489,26 @@ def one(*truths):
 
 for name, cs, modes, answer in [
     ("a true switch", [one(FALSE, TRUE)], [0], 28),
-    ("a fault in the check", [one(FALSE, FAULT)], [0], 203),
-    ("true, then a fault", [one(TRUE, FAULT)], [0], 28),
-    ("a fault, then true", [one(FAULT, TRUE)], [0], 203),
+    ("a fault in the check", [one(FALSE, FAULT_ABOVE)], [0], 203),
+    ("true, then a fault", [one(TRUE, FAULT_ABOVE)], [0], 28),
+    ("a fault, then true", [one(FAULT_ABOVE, TRUE)], [0], 203),
     ("the second selector's is true", [one(FALSE), one(TRUE)], [0, 0], 28),
-    ("true in the first selector, a fault in the second", [one(TRUE), one(FAULT)], [0, 0], 28),
-    ("a fault in the first selector, true in the second", [one(FAULT), one(TRUE)], [0, 0], 203),
-    ("a fault in a mode that is not current", [case(0, mode([], [(0, FAULT)]), mode([], [(0, FALSE)]))], [1], 0),
+    ("true in the first selector, a fault in the second", [one(TRUE), one(FAULT_ABOVE)], [0, 0], 28),
+    ("a fault in the first selector, true in the second", [one(FAULT_ABOVE), one(TRUE)], [0, 0], 203),
+    ("a fault in a mode that is not current", [case(0, mode([], [(0, FAULT_ABOVE)]), mode([], [(0, FALSE)]))], [1], 0),
 ]:
-    counts = {28: "0 1 0", 203: "0 0 1", 0: "1 0 0"}[answer]
     for kind, t, e, good in [
         ("RESET", LEAF, "p0", 201),
         ("STOP", STOP, "p0", 202),
         ("a false CONTINUE", until(FALSE), "t", 200),
         ("a true WHILE", loop(TRUE, STOP), "p0", 200),
     ]:
-        of_schedule(f"{name}: {kind}", checked(*cs, t=t), start([0], modes), e, f"rules 0, {counts}: {answer or good}")
-of_schedule("a fault in the check is before 29", checked(one(FAULT), t=until(FALSE)), start([0], [0]), "p0", "rules 0, 0 0 1: 203")
+        of_schedule(f"{name}: {kind}", checked(*cs, t=t), start([0], modes), e, answered(answer or good))
+of_schedule("a fault in the check is before 29", checked(one(FAULT_ABOVE), t=until(FALSE)), start([0], [0]), "p0", "rules 0, 0 0 1: 203")
 of_schedule("28 is before 29", checked(one(TRUE), t=until(FALSE)), start([0], [0]), "p0", "rules 0, 0 1 0: 28")
 of_schedule("28 is before 31", checked(one(TRUE), t=until(TRUE)), start([0], [0]), "t", "rules 0, 0 1 0: 28")
-of_schedule("27 is before the check", checked(one(FAULT)), start([0], [0]), "t p5", "rules 0, 0 2 0: 27 25")
-of_schedule("a switch event makes no check", checked(one(FAULT, FALSE, TRUE)), start([0], [0]), "s0.1 s0.2 s0.3 s0.0 s0.2",
+of_schedule("27 is before the check", checked(one(FAULT_ABOVE)), start([0], [0]), "t p5", "rules 0, 0 2 0: 27 25")
+of_schedule("a switch event makes no check", checked(one(FAULT_ABOVE, FALSE, TRUE)), start([0], [0]), "s0.1 s0.2 s0.3 s0.0 s0.2",
     "rules 0, 1 3 1: 30 200 26 203 23")
 of_schedule("a SWITCH passes the check", checked(case(0, mode(), mode([], [(0, TRUE)])), t=sequence(switch(0, 1), switch(0, 0))),
     start([0], [0]), "p1 p2 s0.0 p2",
@@ -495,29 +517,231 @@ of_schedule("a SWITCH passes the check", checked(case(0, mode(), mode([], [(0, T
 # a tick's walk over the CONTINUE truths, and its rates
 for name, ts, answer in [
     ("all false", [FALSE, FALSE], 200),
-    ("true, then a fault", [TRUE, FAULT], 31),
-    ("a fault, then true", [FAULT, TRUE], 203),
-    ("false, then a fault", [FALSE, FAULT], 203),
+    ("true, then a fault", [TRUE, FAULT_ABOVE], 31),
+    ("a fault, then true", [FAULT_ABOVE, TRUE], 203),
+    ("false, then a fault", [FALSE, FAULT_ABOVE], 203),
     ("false, then true", [FALSE, TRUE], 31),
 ]:
-    counts = {200: "1 0 0", 31: "0 1 0", 203: "0 0 1"}[answer]
-    of_schedule(f"a tick's truths: {name}", tree(parallel(*map(until, ts))), Z, "t", f"rules 0, {counts}: {answer}")
+    of_schedule(f"a tick's truths: {name}", tree(parallel(*map(until, ts))), Z, "t", answered(answer))
 of_schedule("27: a CONTINUE and a RESET", tree(parallel(until(TRUE), LEAF)), Z, "t p2 t", "rules 0, 1 2 0: 27 200 31")
-of_schedule("a pick of a CONTINUE that faults", truth(FAULT), Z, "p0", "rules 0, 0 0 1: 203")
-of_schedule("a WHILE that faults", tree(loop(FAULT, LEAF)), Z, "p0", "rules 0, 0 0 1: 203")
-of_schedule("an IF that faults", tree(either_of(FAULT, LEAF, LEAF)), Z, "p0 p1", "rules 0, 0 1 1: 203 23")
-of_schedule("a RESET below the range", number(const(-1)), start([5]), "p0", "rules 0, 0 0 1: 203")
+of_schedule("a pick of a CONTINUE that faults", truth(FAULT_ABOVE), Z, "p0", "rules 0, 0 0 1: 203")
+of_schedule("a WHILE that faults", tree(loop(FAULT_ABOVE, LEAF)), Z, "p0", "rules 0, 0 0 1: 203")
+of_schedule("an IF that faults", tree(either_of(FAULT_ABOVE, LEAF, LEAF)), Z, "p0 p1", "rules 0, 0 1 1: 203 23")
+of_schedule("a RESET below the range", number(const(-1)), start([5]), "p0", "rules 0, 0 0 1: 204")
 of_schedule("a RESET above the range", number(const(11)), start([5]), "p0", "rules 0, 0 0 1: 203")
 of_schedule("a REINITIAL at the border", tree(reinitial(0, const(10))), start([5]), "p0", "rules 0, 1 0 0: 201")
 WAITING = until(FALSE)
 of_schedule("a tick past the highest number", schedule(W, equations(rate(0, 1)), WAITING), start([HIGHEST - 1]), "t t t",
     "rules 0, 1 1 1: 200 203 23")
-of_schedule("a tick past the lowest number", schedule(W, equations(rate(0, LOWEST)), WAITING), start([-1]), "t", "rules 0, 0 0 1: 203")
-of_schedule("a tick to the lowest number", schedule(W, equations(rate(0, LOWEST)), WAITING), start([0]), "t t", "rules 0, 1 0 1: 200 203")
+of_schedule("a tick past the lowest number", schedule(W, equations(rate(0, LOWEST)), WAITING), start([-1]), "t", "rules 0, 0 0 1: 204")
+of_schedule("a tick to the lowest number", schedule(W, equations(rate(0, LOWEST)), WAITING), start([0]), "t t", "rules 0, 1 0 1: 200 204")
 THREE_RATES = schedule(variables(*[(0, 10, 0)] * 3), equations(rate(2, 4), rate(0, 1), rate(1, -3)), WAITING)
 of_schedule("a tick that one variable faults", THREE_RATES, start([1, 5, 1]), "t t t",
-    "rules 0, 1 1 1: 200 203 23")
+    "rules 0, 1 1 1: 200 204 23")
 of_schedule("a tick with a rate of 0", schedule(V, equations(rate(0, 0)), WAITING), start([10]), "t t", "rules 0, 2 0 0: 200 x2")
+
+# Above or below (document 02, item 2): 203 is above, 204 is below. A number is assigned to a variable with the whole range.
+SIDES = [("above", TOO_HIGH, FAULT_ABOVE, 203), ("below", TOO_LOW, FAULT_BELOW, 204)]
+
+
+def assigned(n):
+    return tree(reset(0, n), vs=W)
+
+
+# two operands: the left one's side where the left faults, else the right one's
+for name, form, fine, high, low, put in [
+    ("a sum", add, ("0", const(0)), TOO_HIGH, TOO_LOW, assigned),
+    ("a difference", sub, ("0", const(0)), TOO_HIGH, TOO_LOW, assigned),
+    ("a product", mul, ("0", const(0)), TOO_HIGH, TOO_LOW, assigned),
+    ("<=", le, ("0", const(0)), TOO_HIGH, TOO_LOW, truth),
+    ("<", lt, ("0", const(0)), TOO_HIGH, TOO_LOW, truth),
+    ("=", eq, ("0", const(0)), TOO_HIGH, TOO_LOW, truth),
+    ("/=", ne, ("0", const(0)), TOO_HIGH, TOO_LOW, truth),
+    ("and", both, ("false", FALSE), FAULT_ABOVE, FAULT_BELOW, truth),
+    ("or", either, ("true", TRUE), FAULT_ABOVE, FAULT_BELOW, truth),
+]:
+    above, below = ("above", high), ("below", low)
+    for left, right, answer in [
+        (above, below, 203),
+        (below, above, 204),
+        (above, fine, 203),
+        (below, fine, 204),
+        (fine, above, 203),
+        (fine, below, 204),
+    ]:
+        of_schedule(f"{name}: {left[0]}, then {right[0]}", put(form(left[1], right[1])), Z, "p0", answered(answer))
+# the side of a fault stays what it is in the forms over it
+for name, n, answer in [
+    ("a negation of what is above", neg(TOO_HIGH), 203),
+    ("a negation of what is below", neg(TOO_LOW), 204),
+    ("-1 times what is above", mul(const(-1), TOO_HIGH), 203),
+    ("-1 times what is below", mul(const(-1), TOO_LOW), 204),
+    ("below on the right of the left operand, above on the right", add(add(const(0), TOO_LOW), TOO_HIGH), 204),
+    ("above on the right of the left operand, below on the right", mul(sub(const(0), TOO_HIGH), TOO_LOW), 203),
+    ("below on the left of the right operand, above behind it", sub(const(0), add(TOO_LOW, TOO_HIGH)), 204),
+    ("above on the left of the right operand, below behind it", add(const(0), sub(TOO_HIGH, TOO_LOW)), 203),
+    ("below at depth 16, above on the right", add(negs(13, TOO_LOW), TOO_HIGH), 204),
+]:
+    of_schedule(name, assigned(n), Z, "p0", answered(answer))
+for name, t, answer in [
+    ("not what is below", no(FAULT_BELOW), 204),
+    ("below in the second comparison, above behind it", both(either(TRUE, FAULT_BELOW), FAULT_ABOVE), 204),
+    ("above in the second comparison, below behind it", either(both(FALSE, FAULT_ABOVE), FAULT_BELOW), 203),
+]:
+    of_schedule(name, truth(t), Z, "p0", answered(answer))
+# the same form on either side, by the values
+TWO_WHOLE = variables((LOWEST, HIGHEST, 0), (LOWEST, HIGHEST, 0))
+for name, form, high, low in [
+    ("a sum of variables", add(var(0), var(1)), [HIGHEST, 1], [LOWEST, -1]),
+    ("a difference of variables", sub(var(0), var(1)), [HIGHEST, -1], [LOWEST, 1]),
+    ("a product of variables", mul(var(0), var(1)), [LOWEST, -1], [LOWEST, 2]),
+]:
+    for side, begin, answer in [("above", high, 203), ("below", low, 204)]:
+        of_schedule(f"{name} {side}", tree(reset(0, form), vs=TWO_WHOLE), start(begin), "p0", answered(answer))
+for side, _, t, answer in SIDES:
+    for name, file, es in [
+        ("a pick of a CONTINUE", truth(t), "p0"),
+        ("a pick of a WHILE", tree(loop(t, LEAF)), "p0"),
+        ("a pick of an IF", tree(either_of(t, LEAF, STOP)), "p0"),
+        ("a tick over a CONTINUE", truth(t), "t"),
+    ]:
+        of_schedule(f"{name}, its truth {side}", file, Z, es, answered(answer))
+
+# assignments: evaluation first, by 32 bits, then the declared range
+for name, place, es in [("RESET", reset, NO_EQUATION), ("REINITIAL", reinitial, equations(rate(0, 1)))]:
+    for what, declared, n, answer in [
+        ("one below its range", (0, 10, 5), const(-1), 204),
+        ("one above its range", (0, 10, 5), const(11), 203),
+        ("to the lowest number", (0, 10, 5), const(LOWEST), 204),
+        ("to the highest number", (0, 10, 5), const(HIGHEST), 203),
+        ("below a range of negative numbers", (-20, -10, -15), const(-21), 204),
+        ("above a range of negative numbers", (-20, -10, -15), const(-9), 203),
+        ("above 32 bits, all of its range negative", (-20, -10, -15), TOO_HIGH, 203),
+        ("below 32 bits, all of its range positive", (10, 20, 15), TOO_LOW, 204),
+        ("above 32 bits on the way to a number below its range", (5, 10, 5), sub(TOO_HIGH, const(HIGHEST)), 203),
+        ("below 32 bits on the way to a number above its range", (-10, -5, -5), add(TOO_LOW, const(HIGHEST)), 204),
+    ]:
+        of_schedule(f"a {name} {what}", tree(place(0, n), es, variables(declared)), start([declared[2]]), "p0", answered(answer))
+# 50 is above the range of variable 1 and below that of 0; -50 is below the range of 1 and above that of 2
+APART = variables((100, 200, 100), (0, 10, 5), (-200, -100, -100))
+of_schedule("a RESET above the range of variable 1", tree(reset(1, const(50)), vs=APART), start([100, 5, -100]), "p0", answered(203))
+of_schedule("a RESET below the range of variable 1", tree(reset(1, const(-50)), vs=APART), start([100, 5, -100]), "p0", answered(204))
+
+# ticks: the lowest variable number out of range decides
+def ticked(name, vs, es, begin, answer):
+    of_schedule(f"a tick: {name}", schedule(vs, equations(*es), WAITING), begin, "t", answered(answer))
+
+
+for name, first, second, answer in [("0 below, 1 above", -6, 6, 204), ("0 above, 1 below", 6, -6, 203)]:
+    for how, es, modes in [
+        ("two rates", [rate(0, first), rate(1, second)], []),
+        ("two rates, 1 listed first", [rate(1, second), rate(0, first)], []),
+        ("one mode", [case(0, mode([(0, first), (1, second)]))], [0]),
+        ("one mode, 1 listed first", [case(0, mode([(1, second), (0, first)]))], [0]),
+        ("two CASEs", [case(0, mode([(0, first)])), case(0, mode([(1, second)]))], [0, 0]),
+        ("two CASEs, 1 listed first", [case(0, mode([(1, second)])), case(0, mode([(0, first)]))], [0, 0]),
+        ("a rate of 1, then a CASE", [rate(1, second), case(0, mode([(0, first)]))], [0]),
+        ("a CASE of 1, then a rate", [case(0, mode([(1, second)])), rate(0, first)], [0]),
+        ("another mode is current", [case(0, mode([(0, second)]), mode([(0, first)])), rate(1, second)], [1]),
+    ]:
+        ticked(f"{name}, {how}", variables(*[(0, 10, 5)] * 2), es, start([5, 5], modes), answer)
+FIVES, FIVE = variables(*[(0, 10, 5)] * 5), start([5] * 5)
+ticked("variable 3 of 5 below", FIVES, [rate(4, 1), rate(2, -1), rate(0, 2), rate(3, -6), rate(1, 5)], FIVE, 204)
+ticked("variable 3 of 5 above", FIVES, [rate(4, 1), rate(2, -1), rate(0, 2), rate(3, 6), rate(1, 5)], FIVE, 203)
+ticked("1 above, 3 and 4 of 5 below", FIVES, [rate(4, -6), rate(3, -6), rate(1, 6), rate(0, 1)], FIVE, 203)
+ticked("2 below, 3 and 4 of 5 above", FIVES, [rate(3, 6), rate(4, 6), rate(2, -6), rate(0, -1)], FIVE, 204)
+MANY, MANY_FIVES = variables(*[(0, 10, 5)] * 32), start([5] * 32, [0])
+ticked("0 of 32 below, all others above", MANY, [case(0, mode([(v, 6) for v in range(31, 0, -1)] + [(0, -6)]))], MANY_FIVES, 204)
+ticked("0 of 32 above, all others below", MANY, [case(0, mode([(v, -6) for v in range(31, 0, -1)] + [(0, 6)]))], MANY_FIVES, 203)
+ticked("the last of 32 below", MANY, [case(0, mode([(v, -6 if v == 31 else 1) for v in range(32)]))], MANY_FIVES, 204)
+ticked("the last of 32 above", MANY, [case(0, mode([(v, 6 if v == 31 else -1) for v in range(32)]))], MANY_FIVES, 203)
+# a sum that leaves 32 bits is outside its declared range on that side
+ticked("above 32 bits, one range at the top", variables((HIGHEST - 5, HIGHEST, HIGHEST)), [rate(0, 10)], start([HIGHEST]), 203)
+ticked("below 32 bits, one range at the bottom", variables((LOWEST, LOWEST + 5, LOWEST)), [rate(0, -10)], start([LOWEST]), 204)
+ticked("the highest twice, no negative number in its range", variables((1, HIGHEST, 1)), [rate(0, HIGHEST)], start([HIGHEST]), 203)
+ticked("the lowest twice, only negative numbers in its range", variables((LOWEST, -1, -1)), [rate(0, LOWEST)], start([LOWEST]), 204)
+ticked("above a range of negative numbers", variables((-20, -10, -15)), [rate(0, 1)], start([-10]), 203)
+ticked("below a range of positive numbers", variables((10, 20, 15)), [rate(0, -1)], start([10]), 204)
+NARROW_WHOLE = variables((0, 10, 5), (LOWEST, HIGHEST, 0))
+WHOLE_NARROW = variables((LOWEST, HIGHEST, 0), (0, 10, 5))
+ticked("0 below its range, 1 above 32 bits", NARROW_WHOLE, [rate(1, 1), rate(0, -6)], start([5, HIGHEST]), 204)
+ticked("0 above its range, 1 below 32 bits", NARROW_WHOLE, [rate(1, -1), rate(0, 6)], start([5, LOWEST]), 203)
+ticked("0 below 32 bits, 1 above its range", WHOLE_NARROW, [rate(1, 6), rate(0, -1)], start([LOWEST, 5]), 204)
+ticked("0 above 32 bits, 1 below its range", WHOLE_NARROW, [rate(1, -6), rate(0, 1)], start([HIGHEST, 5]), 203)
+
+# the switch check's fault comes before what 28, 29 and 31 are for and before any later fault
+for (side, _, t, answer), (other, other_number, other_truth, _) in zip(SIDES, SIDES[::-1]):
+    for name, cs, node_, e in [
+        ("28, by a pick", [one(t, TRUE)], LEAF, "p0"),
+        ("28, by a tick", [one(FALSE, t, TRUE)], until(FALSE), "t"),
+        ("28 of the next selector, by a pick", [one(FALSE, t), one(TRUE)], STOP, "p0"),
+        ("28 of the next selector, by a tick", [one(t), one(TRUE)], until(FALSE), "t"),
+        ("29", [one(t)], until(FALSE), "p0"),
+        ("31", [one(t)], until(TRUE), "t"),
+        (f"{other} of the next switch, by a pick", [one(t, other_truth)], LEAF, "p0"),
+        (f"{other} of the next switch, by a tick", [one(t, other_truth)], until(FALSE), "t"),
+        (f"{other} of the next selector, by a pick", [one(t), one(other_truth)], LEAF, "p0"),
+        (f"{other} of the next selector, by a tick", [one(FALSE, t), one(other_truth)], until(FALSE), "t"),
+        (f"{other} of the number", [one(t)], reset(0, other_number), "p0"),
+        (f"{other} of a picked truth", [one(t)], until(other_truth), "p0"),
+        (f"{other} of a tick's truth", [one(t)], until(other_truth), "t"),
+    ]:
+        of_schedule(f"{side} in the check comes before {name}", checked(*cs, t=node_), start([0], [0] * len(cs)), e, answered(answer))
+    # the rate leads to the other side
+    cs = [one(t), rate(0, 11 if answer == 204 else -1)]
+    of_schedule(f"{side} in the check comes before {other} of a rate", checked(*cs, t=WAITING), start([0], [0]), "t", answered(answer))
+    cs = [case(0, mode([], [(0, other_truth)]), mode([], [(0, t)]))]
+    of_schedule(f"{side} in the check of the current mode", checked(*cs), start([0], [1]), "p0", answered(answer))
+
+# a tick's walk over the CONTINUE truths: its first fault gives the side
+for name, ts, answer in [
+    ("below, then above", [FAULT_BELOW, FAULT_ABOVE], 204),
+    ("above, then below", [FAULT_ABOVE, FAULT_BELOW], 203),
+    ("false, below, then above", [FALSE, FAULT_BELOW, FAULT_ABOVE], 204),
+    ("false, above, then below", [FALSE, FAULT_ABOVE, FAULT_BELOW], 203),
+    ("below, then true", [FAULT_BELOW, TRUE], 204),
+    ("true, then below", [TRUE, FAULT_BELOW], 31),
+]:
+    of_schedule(f"a tick's truths: {name}", tree(parallel(*map(until, ts))), Z, "t", answered(answer))
+of_schedule("a tick's truths: below in a PARALLEL, then above", tree(parallel(parallel(WAITING, until(FAULT_BELOW)), until(FAULT_ABOVE))),
+    Z, "t", answered(204))
+of_schedule("a tick's truths: below, then a rate above", schedule(V, equations(rate(0, 11)), until(FAULT_BELOW)), Z, "t", answered(204))
+of_schedule("a tick's truths: above, then a rate below", schedule(V, equations(rate(0, -1)), until(FAULT_ABOVE)), Z, "t", answered(203))
+BOTH_SIDES = tree(parallel(until(FAULT_BELOW), until(FAULT_ABOVE)))
+of_schedule("a pick of the CONTINUE below", BOTH_SIDES, Z, "p1", answered(204))
+of_schedule("a pick of the CONTINUE above", BOTH_SIDES, Z, "p2", answered(203))
+
+# switch events: their own truth alone
+BOTH_SWITCHES = checked(one(FAULT_BELOW, FAULT_ABOVE, FALSE), one(FAULT_ABOVE, FAULT_BELOW))
+for es, says in [
+    ("s0.0", answered(204)),
+    ("s0.1", answered(203)),
+    ("s1.0", answered(203)),
+    ("s1.1", answered(204)),
+    ("s0.2 s0.0 s0.2", "rules 0, 0 2 1: 30 204 23"),
+]:
+    of_schedule(f"a switch event that faults: {es}", BOTH_SWITCHES, start([0], [0, 0]), es, says)
+
+# after 204: no node acts, values and modes are those before the event, and all that follows is 23
+SINKING = case(0, mode([(0, -2)], [(1, TRUE)]), mode([(0, -2), (1, 1)]))
+of_schedule("after a tick below", schedule(variables((0, 10, 5), (-5, 5, 0)), equations(SINKING), WAITING), start([5, 0], [0]),
+    "t s0.0 t t t t p0 s0.0 x030000",
+    "rules 0, 3 5 1: 28 200 x3 204 23 x4; by table 0, 3 5 1: 28 200 x3 204 23 x4; examine 0, 82 3 5 1 3 5 1 1; records = "
+    "1C 0000000000000001 00000005 00000000 00 C8 0000000000000001 00000005 00000000 01"
+    "C8 0000000000000001 00000003 00000001 01 C8 0000000000000001 00000001 00000002 01"
+    "CC 0000000000000000 00000001 00000002 01" + "17 0000000000000000 00000001 00000002 01" * 4)
+LOWERED = tree(sequence(reset(0, const(7)), reset(0, sub(var(0), const(8)))))
+of_schedule("after a RESET below", LOWERED, Z, "p1 p2 p2 t",
+    "rules 0, 1 2 1: 200 204 23 x2; by table 0, 1 2 1: 200 204 23 x2; examine 0, 65 1 2 1 1 2 1 1; records = "
+    "C8 0000000000000004 00000007 CC 0000000000000000 00000007" + "17 0000000000000000 00000007" * 2)
+of_schedule("after a switch event below", checked(case(0, mode([], [(1, TRUE)]), mode([], [(0, FAULT_BELOW)]))), start([3], [0]),
+    "s0.0 s0.0 s0.0 p0",
+    "rules 0, 1 2 1: 200 204 23 x2; by table 0, 1 2 1: 200 204 23 x2; records = "
+    "C8 0000000000000001 00000003 01 CC 0000000000000000 00000003 01" + "17 0000000000000000 00000003 01" * 2)
+of_schedule("after a check below", checked(case(0, mode([], [(1, TRUE)]), mode([], [(0, FAULT_BELOW)])), t=switch(0, 0)), start([3], [0]),
+    "p0 s0.0 p0 p0",
+    "rules 0, 1 2 1: 28 200 204 23; by table 0, 1 2 1: 28 200 204 23; records = "
+    "1C 0000000000000001 00000003 00 C8 0000000000000001 00000003 01 CC 0000000000000000 00000003 01 17 0000000000000000 00000003 01")
 
 # trees
 of_schedule("an IF that is true", tree(either_of(lt(var(0), const(5)), STOP, LEAF)), start([4]), "p1 p2 p0 p2 p1",
@@ -578,6 +802,10 @@ def located(locs):
 of_table("a table of our own", located(LOCS), Z, "p2 p1 p0 p0 p2 p2", "read table 0, 1 0 4 2; by table 0, 3 3 0: 25 200 x2 25 201 23")
 of_table("its STOP", located(LOCS), start([3]), "t p0 p5 p5", "read table 0, 1 0 4 2; by table 0, 2 2 0: 27 200 202 23")
 of_table("its test is false", located(LOCS), start([4]), "p0 p0", "by table 0, 1 1 0: 201 23")
+for side, n, t, answer in SIDES:
+    of_table(f"its assignment is {side}", acted((7, 3, b"\x00" + n)), Z, "p7 p7", f"by table 0, 0 1 1: {answer} 23")
+    of_table(f"its test is {side}", acted((7, 1, t)), Z, "p7 p7", f"by table 0, 0 1 1: {answer} 23")
+    of_table(f"its wait is {side}", acted((7, 2, t)), Z, "t p7", f"by table 0, 0 1 1: {answer} 23")
 for n, name, vs, es in [
     (17, "no variables (4)", b"\x00", NO_EQUATION),
     (17, "a byte too many (4)", V + b"\x00", NO_EQUATION),

@@ -78,9 +78,11 @@ TRUE = b"\x2F"
 FALSE = no(TRUE)
 LOWEST = -2147483648
 HIGHEST = 2147483647
-# a number and a truth that fault
-TOO_LOW = neg(const(LOWEST))
-FAULT = le(TOO_LOW, const(0))
+# numbers and truths that fault: 2147483648 is above, -2147483649 is below
+TOO_HIGH = neg(const(LOWEST))
+TOO_LOW = sub(const(LOWEST), const(1))
+FAULT_ABOVE = le(TOO_HIGH, const(0))
+FAULT_BELOW = le(TOO_LOW, const(0))
 
 
 # variables: (minimum, maximum, initial) each

@@ -2,12 +2,24 @@
 //! bench [--rounds N] [--case NAME --who product|plain|fast] | --stack
 //! With --case only the calls of one are made, for a count of instructions; without, all are held to each other and timed.
 mod cases;
+#[allow(dead_code)]
+#[path = "../../differential/src/drafts.rs"]
+mod drafts;
 mod fast;
+#[path = "../../differential/src/forms.rs"]
+mod forms;
+#[allow(dead_code)]
+#[path = "../../differential/src/inputs.rs"]
+mod inputs;
 #[allow(dead_code)]
 #[path = "../../differential/src/plain.rs"]
 mod plain;
 mod product;
+#[path = "../../differential/src/random.rs"]
+mod random;
 mod stack;
+#[path = "../../differential/src/tables.rs"]
+mod tables;
 
 use cases::{Random, Runs};
 use fast::Ran;
@@ -210,6 +222,28 @@ fn damaged(file: &[u8], table: &[u8], name: &str, seed: u64) {
     }
 }
 
+/// A start and events for a schedule or a table.
+fn drawn_runs(r: &mut random::Random, by_table: bool, program: &[u8]) -> Runs {
+    let initial = plain::initial_start(program).unwrap_or_else(|| vec![0; 5]);
+    let start = inputs::start(r, &initial);
+    let events = inputs::events(r, by_table, program, &start);
+    Runs { file: program.to_vec(), start, events }
+}
+
+/// Schedules and tables by the makers of tests/differential, which reach faults on either side in every place.
+fn agree_drawn() {
+    let mut r = random::Random::new(5);
+    for i in 0..5_000 {
+        let file = inputs::file(&mut r);
+        let w = Work::Rules(drawn_runs(&mut r, false, &file));
+        agree(&format!("drawn schedule {i}"), &w, room(&w));
+        let table = inputs::table(&mut r, plain::whole_table(&file).ok().as_ref());
+        let runs = drawn_runs(&mut r, true, &table);
+        let w = Work::Table(table, runs);
+        agree(&format!("drawn table {i}"), &w, room(&w));
+    }
+}
+
 /// Practice events: random seeds, and counts and rooms about their limits.
 fn agree_practice() {
     let mut r = Random(3);
@@ -265,6 +299,7 @@ fn timed(w: &Work, rounds: usize) -> [(u64, u64); 3] {
 
 fn all(rounds: usize, only: Option<&str>) {
     agree_beside();
+    agree_drawn();
     agree_practice();
     println!("Least times of {rounds} rounds in microseconds and their ratios, then the ratios of the middle times, then what the call gave.");
     println!("{:16} {:>10} {:>10} {:>10} {:>8} {:>8}", "case", "product", "plain", "fast", "/ plain", "/ fast");

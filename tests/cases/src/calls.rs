@@ -1,4 +1,4 @@
-//! The calls: what each is lent and what it gives, told by the plain implementation of document 01.
+//! The calls: what each is lent and what it gives, told by the plain implementation of documents 01 and 02.
 use crate::plain::{self, Ran, Refusal};
 
 /// The strings of a case, in their order, and the longest that cases_test takes.

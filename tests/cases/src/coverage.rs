@@ -30,7 +30,7 @@ pub fn missing(cases: &[Case]) -> Vec<String> {
         }
         if call.rooms.contains(&1) {
             println!("  answers:{}", row(&answers));
-            let missing = (23..=31).chain(200..=203).filter(|n| !answers.contains_key(n));
+            let missing = (23..=31).chain(200..=204).filter(|n| !answers.contains_key(n));
             wrong.extend(missing.map(|n| format!("{}: no event answered {n}", call.name)));
         }
     }

@@ -130,11 +130,15 @@ pub fn variables(r: &mut Random, n: usize) -> Vec<[i32; 3]> {
 }
 
 fn switch(r: &mut Random, variables: usize, modes: usize) -> (u8, Vec<u8>) {
-    let truth = if r.one_in(8) { forms::truth(r, variables, 254) } else { forms::rare_truth(r, variables) };
+    let truth = match r.below(16) {
+        0 | 1 => forms::truth(r, variables, 254),
+        2 => forms::faulting_truth(r, variables),
+        _ => forms::rare_truth(r, variables),
+    };
     (r.below(modes) as u8, truth)
 }
 
-fn case(r: &mut Random, variables: usize, own: &[u8]) -> Equation {
+fn case(r: &mut Random, variables: usize, own: &[u8], steep: bool) -> Equation {
     let n = if r.one_in(8) { 8 } else { 1 + r.below(3) };
     let busy = r.one_in(3);
     let modes = (0..n)
@@ -142,7 +146,7 @@ fn case(r: &mut Random, variables: usize, own: &[u8]) -> Equation {
             let driven: Vec<u8> = own.iter().copied().filter(|_| !r.one_in(3)).collect();
             let switches = if busy { r.below(4) } else { r.below(2) };
             Mode {
-                rates: driven.into_iter().map(|v| (v, rate(r))).collect(),
+                rates: driven.into_iter().map(|v| (v, rate(r, steep))).collect(),
                 switches: (0..switches).map(|_| switch(r, variables, n)).collect(),
             }
         })
@@ -150,15 +154,21 @@ fn case(r: &mut Random, variables: usize, own: &[u8]) -> Equation {
     Equation::Case(r.below(n) as u8, modes)
 }
 
-fn rate(r: &mut Random) -> i32 {
-    if r.one_in(4) { r.whole() } else { r.below(7) as i32 - 3 }
+/// A steep one leaves most ranges in one tick.
+fn rate(r: &mut Random, steep: bool) -> i32 {
+    match (steep, r.one_in(4)) {
+        (true, _) => r.of(&[i32::MIN, -2100, 2100, i32::MAX]),
+        (false, true) => r.whole(),
+        (false, false) => r.below(7) as i32 - 3,
+    }
 }
 
-/// Each variable stands in at most one equation.
-pub fn equations(r: &mut Random, variables: usize) -> Vec<Equation> {
+/// Each variable stands in at most one equation. Where all rates are steep, several variables leave their ranges at once.
+pub fn equations(r: &mut Random, variables: usize, steep: bool) -> Vec<Equation> {
     let count = match r.below(8) {
         0 => 16,
         1 => 0,
+        _ if steep => variables.min(16),
         _ => r.below(5),
     };
     let mut free: Vec<u8> = (0..variables as u8).collect();
@@ -166,7 +176,7 @@ pub fn equations(r: &mut Random, variables: usize) -> Vec<Equation> {
         .map(|_| {
             if !free.is_empty() && r.one_in(2) {
                 let v = free.remove(r.below(free.len()));
-                return Equation::Steady(v, rate(r));
+                return Equation::Steady(v, rate(r, steep));
             }
             let mut own = Vec::new();
             for _ in 0..r.below(3) {
@@ -174,7 +184,7 @@ pub fn equations(r: &mut Random, variables: usize) -> Vec<Equation> {
                     own.push(free.remove(r.below(free.len())));
                 }
             }
-            case(r, variables, &own)
+            case(r, variables, &own, steep)
         })
         .collect()
 }
@@ -184,7 +194,7 @@ fn leaf(r: &mut Random, variables: usize, selectors: &[usize], waits: bool) -> V
     match kind {
         0..=2 => {
             let mut p = vec![5];
-            p.extend(if r.one_in(2) { forms::truth(r, variables, 199) } else { forms::rare_truth(r, variables) });
+            p.extend(forms::waited(r, variables));
             p
         }
         3 => vec![9],
@@ -250,10 +260,29 @@ fn parts_of(r: &mut Random, n: usize) -> Vec<usize> {
     l
 }
 
+/// A PARALLEL of CONTINUEs over a plant that is often driven steeply: ticks come at once, and their faults are on both sides.
+fn waiting(r: &mut Random) -> Draft {
+    let n = 2 + r.below(4);
+    let variables = variables(r, n);
+    let steep = r.one_in(2);
+    let equations = equations(r, n, steep);
+    let faulting = r.one_in(3);
+    let count = 1 + r.below(5);
+    let mut nodes = vec![vec![2, count as u8]];
+    for _ in 0..count {
+        let truth = if faulting { forms::faulting_truth(r, n) } else { forms::rare_truth(r, n) };
+        nodes.push([vec![5], truth].concat());
+    }
+    Draft { variables, equations, nodes, miscounted: [0; 3] }
+}
+
 pub fn sound(r: &mut Random) -> Draft {
+    if r.one_in(8) {
+        return waiting(r);
+    }
     let n = if r.one_in(10) { 32 } else { 1 + r.below(4) };
     let variables = variables(r, n);
-    let equations = equations(r, n);
+    let equations = equations(r, n, false);
     let mut d = Draft { variables, equations, nodes: Vec::new(), miscounted: [0; 3] };
     let most = match r.below(40) {
         0 => r.of(&[63, 64, 64, 65]),
@@ -288,7 +317,7 @@ pub fn wide(r: &mut Random, resets: usize, stops: usize, before: usize) -> Draft
     for _ in 0..stops {
         nodes.push(vec![9]);
     }
-    let equations = if r.one_in(2) { Vec::new() } else { equations(r, n) };
+    let equations = if r.one_in(2) { Vec::new() } else { equations(r, n, false) };
     Draft { variables: vec![[i32::MIN, i32::MAX, 0]; n], equations, nodes, miscounted: [0; 3] }
 }
 

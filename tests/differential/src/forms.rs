@@ -206,6 +206,45 @@ pub fn rare_truth(r: &mut Random, variables: usize) -> Vec<u8> {
     l
 }
 
+/// A number that leaves 32 bits always, or where a variable is far enough from 0, on a side that its sign decides.
+fn beyond(r: &mut Random, variables: usize) -> Vec<u8> {
+    let (mut l, last) = match r.below(12) {
+        0 => (vec![0x14], i32::MIN),
+        1 => ([vec![0x10], constant(i32::MAX)].concat(), 1),
+        2 => ([vec![0x10], constant(i32::MIN)].concat(), -1),
+        3 => ([vec![0x11], constant(i32::MIN)].concat(), 1),
+        _ => (vec![0x12, 0x02, r.below(variables) as u8], r.of(&[1, -1]) << (26 + r.below(5))),
+    };
+    l.extend(constant(last));
+    l
+}
+
+/// A comparison of one such number or of two, which are often on different sides.
+fn faulting_comparison(r: &mut Random, variables: usize) -> Vec<u8> {
+    let mut operands = [beyond(r, variables), if r.one_in(3) { constant(1) } else { beyond(r, variables) }];
+    if r.one_in(2) {
+        operands.swap(0, 1);
+    }
+    [vec![r.of(&[0x20, 0x21, 0x22, 0x22, 0x23])], operands.concat()].concat()
+}
+
+/// A truth of at most 47 bytes that faults at many values.
+pub fn faulting_truth(r: &mut Random, variables: usize) -> Vec<u8> {
+    if r.one_in(4) {
+        return [vec![r.of(&[0x28, 0x29])], faulting_comparison(r, variables), faulting_comparison(r, variables)].concat();
+    }
+    faulting_comparison(r, variables)
+}
+
+/// The truth of a CONTINUE.
+pub fn waited(r: &mut Random, variables: usize) -> Vec<u8> {
+    match r.below(8) {
+        0..=3 => truth(r, variables, 199),
+        4 => faulting_truth(r, variables),
+        _ => rare_truth(r, variables),
+    }
+}
+
 /// Cut, overlong, too deep, of the wrong sort, with an unknown code, or with a missing variable (12).
 pub fn broken(r: &mut Random, l: &mut Vec<u8>, is_truth: bool, variables: usize) {
     match r.below(7) {

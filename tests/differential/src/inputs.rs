@@ -220,8 +220,15 @@ fn count(r: &mut Random) -> usize {
 /// Events, chosen with the run of this schedule or table in view where there is one; now and then a byte or two too many.
 pub fn events(r: &mut Random, by_table: bool, program: &[u8], start: &[u8]) -> Vec<u8> {
     let n = count(r);
-    // few events after the end of a run
-    let mut choose = |acting: &[usize]| if acting.is_empty() && r.one_in(3) { None } else { Some(event(r, acting)) };
+    // a switch that faults ends the run at the first check, so that its own event must come before
+    let mut before_any_check = r.one_in(6);
+    let mut choose = |acting: &[usize]| {
+        if std::mem::take(&mut before_any_check) {
+            return Some([2, r.below(2) as u8, r.below(2) as u8]);
+        }
+        // few events after the end of a run
+        if acting.is_empty() && r.one_in(3) { None } else { Some(event(r, acting)) }
+    };
     let rehearse = if by_table { plain::rehearse_table } else { plain::rehearse_rules };
     let mut l = match rehearse(program, start, n, &mut choose) {
         Some(l) => l,

@@ -25,7 +25,7 @@ fn refusals() -> impl Iterator<Item = u8> {
 
 /// The answers in records.
 fn answers() -> impl Iterator<Item = u8> {
-    (23..=31).chain(200..=203)
+    (23..=31).chain(200..=204)
 }
 
 /// What was seen so far.

@@ -98,7 +98,7 @@ fn action(r: &mut Random, node: u8, variables: usize, selectors: &[usize]) -> Ve
         }
         2..=4 => {
             a.push(2);
-            a.extend(if r.one_in(2) { forms::truth(r, variables, 199) } else { forms::rare_truth(r, variables) });
+            a.extend(forms::waited(r, variables));
         }
         5 => {
             a.extend([3, r.below(variables) as u8]);
@@ -129,7 +129,8 @@ fn entry(r: &mut Random, action: &[u8], locations: usize) -> (u8, u16, u16) {
 pub fn made_up(r: &mut Random) -> TableDraft {
     let n = if r.one_in(10) { 32 } else { 1 + r.below(4) };
     let variables = drafts::variables(r, n);
-    let equations = drafts::equations(r, n);
+    let steep = r.one_in(6);
+    let equations = drafts::equations(r, n, steep);
     let plant = Draft { variables, equations, nodes: Vec::new(), miscounted: [0; 3] };
     let selectors = plant.selectors();
     let thin = if r.one_in(10) { r.of(&[1, 2]) } else { r.of(&[8, 16]) };

@@ -155,7 +155,7 @@ fn apply(slots: &[i32], i: Instruction) -> Option<i32> {
     }
 }
 
-/// Every operand is evaluated, and a fault in any is a fault of the whole: the first fault decides.
+/// Every operand is evaluated, and a fault in any is a fault of the whole.
 #[inline(always)]
 fn value(all: &[Instruction], slots: &mut [i32], c: Code) -> Option<i32> {
     let mut i = c.from as usize;
@@ -182,6 +182,24 @@ pub fn number_of(all: &[Instruction], slots: &mut [i32], c: Code) -> Option<i32>
         return Some(slots[c.slot as usize]);
     }
     value(all, slots, c)
+}
+
+/// None where the code does not fault, else whether its first result to leave 32 bits is below them. A left operand's
+/// instructions stand before the right one's, and both before the form's own.
+pub fn falls_below(all: &[Instruction], slots: &mut [i32], c: Code) -> Option<bool> {
+    for x in &all[c.from as usize..c.to as usize] {
+        let Some(z) = apply(slots, *x) else {
+            let (a, b) = (slots[x.a as usize] as i64, slots[x.b as usize] as i64);
+            return Some(match x.op {
+                0x10 => a + b < 0,
+                0x11 => a - b < 0,
+                0x12 => a * b < 0,
+                _ => -a < 0,
+            });
+        };
+        slots[x.to as usize] = z;
+    }
+    None
 }
 
 /// Condition 12 alone, for the compiler: where a number or truth that starts at a place ends; 0 where there is none.

@@ -1,6 +1,6 @@
 //! Events judged over decoded actions and switches. A truth is kept until a variable that it reads changes, and the
 //! record is kept as bytes of which an event writes only what it changed.
-use super::code::{number_of, truth_of, Code, Instruction, Program};
+use super::code::{falls_below, number_of, truth_of, Code, Instruction, Program};
 use super::moves::{Moves, Next};
 use super::plant::{int4, Plant, Switches};
 
@@ -99,7 +99,9 @@ pub struct Runner<'a, C> {
     size: usize,
 }
 
+/// The answer to a fault that is above, and to any fault until `falls_below` has told its side.
 const FAULT: u8 = 203;
+const BELOW: u8 = 204;
 
 /// Copies a record of 13 to 153 bytes in blocks, the last of which may lie over the one before.
 ///
@@ -449,6 +451,44 @@ impl<'a, C: Control> Runner<'a, C> {
         }
     }
 
+    /// What a pick or a tick of these nodes evaluates, in its order: the switch check, then the nodes.
+    fn walked(&self, nodes: u64) -> Vec<Code> {
+        let m = self.machine;
+        let rows = (0..m.plant.selectors).map(|s| 8 * s + self.modes[s] as usize);
+        let switches = rows.flat_map(|row| &m.switches.all[m.switches.first[row] as usize..][..m.switches.count[row] as usize]);
+        let actions = m.actions.iter().enumerate().filter(|(n, _)| nodes >> n & 1 == 1);
+        switches.map(|w| w.code).chain(actions.map(|(_, a)| a.code)).collect()
+    }
+
+    /// Whether the fault of this event is below. The event left values and modes as they were and is judged again, once at the end of
+    /// a run, so that no other event pays for the side.
+    #[cold]
+    #[inline(never)]
+    fn falls_below(&mut self, e: [u8; 3]) -> bool {
+        let m = self.machine;
+        let codes = match e {
+            [0, ..] => self.walked(self.acting),
+            [1, n, _] => self.walked(1 << n),
+            [_, s, k] => {
+                let row = 8 * s as usize + self.modes[s as usize] as usize;
+                vec![m.switches.all[m.switches.first[row] as usize + k as usize].code]
+            }
+        };
+        if let Some(below) = codes.into_iter().find_map(|c| falls_below(&m.instructions, &mut self.slots, c)) {
+            return below;
+        }
+        // no expression faults: a value is outside its declared range
+        let p = &m.plant;
+        if e[0] == 1 {
+            let a = m.actions[e[1] as usize];
+            let z = number_of(&m.instructions, &mut self.slots, a.code);
+            return z.is_some_and(|z| z < p.lows[a.what as usize]);
+        }
+        let mut sums = (0..p.variables).map(|v| (v, self.slots[v] as i64 + self.rates[v] as i64));
+        let first = sums.find(|(v, z)| *z < p.lows[*v] as i64 || (p.highs[*v] as i64) < *z);
+        first.is_some_and(|(v, z)| z < p.lows[v] as i64)
+    }
+
     /// All events; their records go to the front of the buffer.
     pub fn run(&mut self, events: &[u8], records: &mut [u8]) -> Ran {
         let n = events.len() / 3;
@@ -475,6 +515,10 @@ impl<'a, C: Control> Runner<'a, C> {
                     break;
                 }
             }
+        }
+        if faulted != 0 && self.falls_below([events[3 * i - 3], events[3 * i - 2], events[3 * i - 1]]) {
+            // SAFETY: the last record written is that of event i - 1.
+            unsafe { *out.sub(size) = BELOW };
         }
         self.record[0] = 23;
         while i < n {
