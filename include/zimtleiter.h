@@ -50,9 +50,10 @@
 /*
  * The answer of an event, the first byte of its record. Taken: 200, but 201
  * where the schedule finishes and 202 where a STOP halts it; both end the run.
- * Faulted: a result left the 32-bit range, or a value its declared range, above
- * it (203) or below it (204); that ends the run, and values and modes are those
- * of before the event. Turned away, which changes nothing:
+ * Faulted: a result lies outside -2147483648..2147483647, or a value outside
+ * its declared range, above it (203) or below it (204); that ends the run, and
+ * values and modes are those of before the event. Turned away, which changes
+ * nothing:
  *  23  the run is over
  *  24  the event's kind is unknown, or an unused byte is not 0
  *  25  the picked node is not acting
@@ -63,9 +64,10 @@
  *  30  the switch's truth is false
  *  31  a tick whose walk over the CONTINUE truths stops at a true one
  * The steps of an event are taken in their order: the switch check stops at
- * the first switch that is true (28) or faults, before 29 and 31 are looked at.
- * Of two operands that both fault the left one's side is told, on a tick that
- * of the variable with the lowest number out of its range.
+ * the first switch that is true (28) or faults (203 or 204), before 29 and 31
+ * are looked at, and the first fault gives the side. Where both operands fault
+ * it is the left one's side. Where a tick takes several variables out of their
+ * ranges it is that of the lowest variable number.
  */
 #define ZIMTLEITER_TAKEN 200
 #define ZIMTLEITER_FINISHED 201

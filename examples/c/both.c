@@ -95,13 +95,14 @@ static struct run print_run(const char *name, struct run r)
     return r;
 }
 
-/* The event that faulted, if one did, and on which side of its range. */
+/* Which event faulted, if one did, and on which side of its range the result fell. */
 static void print_fault(struct run r, size_t size)
 {
     for (size_t i = 0; i + size <= r.records.length; i += size) {
         uint8_t answer = r.records.at[i];
         if (answer == ZIMTLEITER_ABOVE || answer == ZIMTLEITER_BELOW) {
-            printf("event %zu faulted: %s its range\n", i / size + 1, answer == ZIMTLEITER_ABOVE ? "above" : "below");
+            printf("event %zu of %zu faulted: %s (%u)\n", i / size + 1, r.records.length / size,
+                   answer == ZIMTLEITER_ABOVE ? "too high" : "too low", answer);
             return;
         }
     }

@@ -378,7 +378,7 @@ table-at-front = FileCalls.table-at-front
 
 -- "taken (200..202), turned away (23..31) and faulted (203)", and of 203 and 204 "Both count as faulted.": the counts by these numbers alone.
 -- `RunHolds` says of a run's answers that they are counted so; in `RunsAgree` this reads `countsOf`.
--- Ruled out: a run that counts 202 as turned away; one that counts an answer twice, or 24 to 31 and not 23.
+-- Ruled out: a run that counts 202 or 204 as turned away, or 204 nowhere; one that counts an answer twice, or 24 to 31 and not 23.
 pub counts-told : {l : List ℕ} {taken away faulted : ℕ} → Counted l taken away faulted → countsOf l ≡ record { taken = taken; turned-away = away; faulted = faulted }
 counts-told k = RunCounts.counts-told k
 

@@ -66,7 +66,7 @@ paperTruth Truths.Above = none
 paperTruth Truths.Below = none
 paperTruth Truths.Malformed = none
 
--- a fault, above its range or below it
+-- the number of a fault: true where it lies above its range, false below
 unfoldable pub paperFault : Bool → ℕ
 paperFault true = 203
 paperFault false = 204

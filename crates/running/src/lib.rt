@@ -1,6 +1,7 @@
 // What runrules and runtable share: a run of the files that the arguments name.
 mod faults;
 
+use faults::Fault;
 use initial_start::Start;
 use records::Counts;
 use records::Ran;
@@ -56,16 +57,8 @@ pub fn start(words: usize, program: &[u8], initial: Start) -> Chosen
     }
 }
 
-// The event that faulted, if one did, of so many, and the side on which a value left its range.
-fn report_fault(records: &[u8], count: usize) {
-    if count == 0 {
-        return;
-    }
-    let size = records.len() / count;
-    if size == 0 {
-        return;
-    }
-    let f = faults::first(records, size);
+// Which event faulted, if one did, of so many, and on which side of its range the result fell.
+fn report_fault(f: Fault, count: usize) {
     if f.number == 0 {
         return;
     }
@@ -73,10 +66,10 @@ fn report_fault(records: &[u8], count: usize) {
     io::print_decimal(2, f.number as u64);
     io::write_all(2, b" of ");
     io::print_decimal(2, count as u64);
-    if f.answer == paper::answers::ABOVE {
-        io::write_all(2, b": above its range\n");
+    if f.above {
+        io::write_all(2, b" faulted: too high (203)\n");
     } else {
-        io::write_all(2, b": below its range\n");
+        io::write_all(2, b" faulted: too low (204)\n");
     }
 }
 
@@ -90,7 +83,7 @@ fn report(counts: Counts) {
     io::write_all(2, b"\n");
 }
 
-// the refusal as one byte; or the records, so many bytes of so many events, and the counts. How many bytes were given to standard output
+// the refusal as one byte; or the records of so many events, so many bytes, and the counts. How many bytes were given to standard output
 pub fn tell(program: &[u8], r: Ran, count: usize, length: usize, records: &[u8]) -> usize
     ensures { λ n. ⌜ n ≡ given r length (now (records .entry)) ⌝ }
 {
@@ -102,6 +95,6 @@ pub fn tell(program: &[u8], r: Ran, count: usize, length: usize, records: &[u8])
     let k = output::front(length, records);
     output::noticed(program, io::write_all(1, &records[..k]));
     report(r.counts);
-    report_fault(&records[..k], count);
+    report_fault(faults::of(&records[..k], count), count);
     k
 }

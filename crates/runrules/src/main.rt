@@ -1,4 +1,4 @@
-// runrules SCHEDULE EVENTS [START]: the records of a run on standard output, or the refusal as one byte; the counts on standard error.
+// runrules SCHEDULE EVENTS [START]: the records of a run on standard output, or the refusal as one byte; the counts, and which event faulted, on standard error.
 // Without START the run starts from the initial values and modes of the schedule itself.
 use initial_start::Start;
 ghost use mathlib.Core.Path.{_≡_};

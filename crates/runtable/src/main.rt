@@ -1,4 +1,4 @@
-// runtable TABLE EVENTS [START]: the records of a run on standard output, or the refusal as one byte; the counts on standard error.
+// runtable TABLE EVENTS [START]: the records of a run on standard output, or the refusal as one byte; the counts, and which event faulted, on standard error.
 // Without START the run starts from the initial values and modes of the table itself.
 use initial_start::Start;
 ghost use mathlib.Core.Path.{_≡_};

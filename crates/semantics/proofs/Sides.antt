@@ -8,7 +8,7 @@ use native.Mathlib.Omega.{arith}
 use lib.Dec.{lit<}
 use lib.IntN.{ℤ}
 use Rattle.semantics.specs.Editions.{Edition}
-use Rattle.semantics.specs.Expressions.{Operation, Number, operate, Comparison, Connective, Truth, compare, connect, Side, above, below, Value, ok, fault, thenValue, operands, applied, compared, connected, valueOf, holds, result}
+use Rattle.semantics.specs.Expressions.{Operation, Number, operate, negation, Comparison, Connective, Truth, compare, connect, opposite, Side, above, below, Value, ok, fault, thenValue, operands, applied, compared, connected, valueOf, holds, result}
 use Rattle.semantics.specs.Plant.{Plant}
 use Rattle.semantics.specs.Run.{Next, Control, Situation, Answered, at, over, faultAnswer, step}
 use Rattle.semantics.specs.Rules.{Goes, goes-on, finishes, Faults, Rule, when-senseless, pick-idle, pick-switch-true, pick-test, pick-wait, pick-wait-false, pick-assign, pick-switch, pick-stop, switch-missing, switch-taken, switch-false, tick-busy, tick-switch-true, tick-wait-true, tick-taken, fault-above, fault-below, Standing, Sound}
@@ -51,6 +51,15 @@ module _ (vs : List ℤ) where
     pub right-connected : {x : Bool} → holds vs a ≡ ok x → holds vs b ≡ fault s → holds vs (connect c a b) ≡ fault s
     unfolding holds
     right-connected h k = right-else (connected c) h k
+
+  -- ---- one operand: its side
+  pub negated : (a : Number) {s : Side} → valueOf vs a ≡ fault s → valueOf vs (negation a) ≡ fault s
+  unfolding valueOf thenValue
+  negated a h = rw h refl
+
+  pub opposed : (a : Truth) {s : Side} → holds vs a ≡ fault s → holds vs (opposite a) ≡ fault s
+  unfolding holds thenValue
+  opposed a h = rw h refl
 
 -- ---- 203 and 204 are the answers to faults, each to those on its side
 module _ {S : Type 0} (ed : Edition) (p : Plant) (c : Control S) (x : S) (vs : List ℤ) (ms e : List ℕ) where

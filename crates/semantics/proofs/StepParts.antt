@@ -5,10 +5,8 @@ use mathlib.Core.List.{List, [], _∷_, map, List·Memᴰ as Mem, List·Memᴰ·
 use mathlib.Core.Option.{some}
 use Prim.Native.Nat.{ℕ, zero, suc, _+_, _<_}
 use native.Mathlib.Omega.{arith}
-use borrow.Author.Tests.{leb-true, leb-false, le-ltb, lt-ltb}
-use lib.Dec.{leb, ltb}
-use lib.IntN.{ℤ, pos, negsuc, _+ℤ_}
-use lib.Signed.{leZ, ltZ}
+use lib.IntN.{ℤ, _+ℤ_}
+use lib.Signed.{leZ}
 use lib.ListN.{length, getElem?}
 use Rattle.semantics.specs.Bytes.{every}
 use Rattle.semantics.specs.Editions.{Edition}
@@ -16,7 +14,7 @@ use Rattle.semantics.specs.Expressions.{Side, Value, ok, fault, ranged, 
 use Rattle.semantics.specs.Sections.{Variable}
 use Rattle.semantics.specs.Plant.{declared, allDeclared, added}
 use Rattle.semantics.specs.Run.{Action, test, wait, assign, switch, stop, isWait, waitTruth, Verdict, away, faulty, pass, _>>=_, _>>_, allow, valued, walk}
-use Rattle.semantics.specs.Rules.{Found, nothing, found-true, found-fault, Walks, walk-ends, walk-on, stops-at-truth, stops-at-fault, Waits, none-waits, one-waits, InRange, Outside, too-low, too-high, AllInRange, FirstOutside}
+use Rattle.semantics.specs.Rules.{Found, nothing, found-true, found-fault, Walks, walk-ends, walk-on, stops-at-truth, stops-at-fault, Waits, none-waits, one-waits, InRange, Outside, below-minimum, above-maximum, AllInRange, FirstOutside}
 use Rattle.semantics.proofs.Facts.{true-not-false, none-not-some, some-is, by-cases, every-all, all-mem, ltZ-leZ}
 use Rattle.semantics.proofs.ComesTo.{truth-comes-to, truth-value}
 
@@ -97,8 +95,8 @@ inside-declared {x} {z} i = rw (ltZ-leZ z (x .minimum), ltZ-leZ (x .maximum) z, 
 
 pub outside-declared : {x : Variable} {z : ℤ} {side : Side} → Outside x z side → declared x z ≡ fault side
 unfolding declared ranged
-outside-declared (too-low l) = rw l refl
-outside-declared {x} {z} (too-high l h) = rw (ltZ-leZ z (x .minimum), l, h) refl
+outside-declared (below-minimum l) = rw l refl
+outside-declared {x} {z} (above-maximum l h) = rw (ltZ-leZ z (x .minimum), l, h) refl
 
 -- a number lies inside its range or outside
 pub data Lies (x : Variable) (z : ℤ) : Type 0 where
@@ -110,8 +108,8 @@ lies x z = go (leZ (x .minimum) z) refl (leZ z (x .maximum)) refl
   where
     go : (a : Bool) → leZ (x .minimum) z ≡ a → (b : Bool) → leZ z (x .maximum) ≡ b → Lies x z
     go true e true h = lies-inside (record { not-below = e; not-above = h })
-    go true e false h = lies-outside (too-high e (rw (ltZ-leZ (x .maximum) z, h) refl))
-    go false e b h = lies-outside (too-low (rw (ltZ-leZ z (x .minimum), e) refl))
+    go true e false h = lies-outside (above-maximum e (rw (ltZ-leZ (x .maximum) z, h) refl))
+    go false e b h = lies-outside (below-minimum (rw (ltZ-leZ z (x .minimum), e) refl))
 
 -- ---- rates
 pub added-length : (rate : ℕ → ℤ) (v : ℕ) (zs : List ℤ) → length (added rate v zs) ≡ length zs

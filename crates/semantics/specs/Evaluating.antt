@@ -29,6 +29,7 @@ module _ (vs : List ℤ) where
     -- "Both operands are always evaluated; a fault in either is a fault."; "the left operand's fault coming first"
     left-faults : {o : Operation} {a b : Number} {s : Side} {r : Value ℤ} → Evaluates a (fault s) → Evaluates b r → Evaluates (operate o a b) (fault s)
     right-faults : {o : Operation} {a b : Number} {x : ℤ} {s : Side} → Evaluates a (ok x) → Evaluates b (fault s) → Evaluates (operate o a b) (fault s)
+    -- of one operand: its side
     operand-faults : {a : Number} {s : Side} → Evaluates a (fault s) → Evaluates (negation a) (fault s)
 
   -- "20 ≤, 21 <, 22 =, 23 ≠ (two numbers each), 28 and, 29 or (two truths), 2A not, 2F true"
@@ -43,11 +44,12 @@ module _ (vs : List ℤ) where
     or-is : {a b : Truth} {x y : Bool} → Holds a (ok x) → Holds b (ok y) → Holds (connect either a b) (ok (x || y))
     not-is : {a : Truth} {x : Bool} → Holds a (ok x) → Holds (opposite a) (ok (not x))
     true-is : Holds always (ok true)
-    -- the same of comparisons, "and" and "or"
+    -- "Both operands are always evaluated; a fault in either is a fault."; "the left operand's fault coming first"
     left-number-faults : {c : Comparison} {a b : Number} {s : Side} {r : Value ℤ} → Evaluates a (fault s) → Evaluates b r → Holds (compare c a b) (fault s)
     right-number-faults : {c : Comparison} {a b : Number} {x : ℤ} {s : Side} → Evaluates a (ok x) → Evaluates b (fault s) → Holds (compare c a b) (fault s)
     left-truth-faults : {c : Connective} {a b : Truth} {s : Side} {r : Value Bool} → Holds a (fault s) → Holds b r → Holds (connect c a b) (fault s)
     right-truth-faults : {c : Connective} {a b : Truth} {x : Bool} {s : Side} → Holds a (ok x) → Holds b (fault s) → Holds (connect c a b) (fault s)
+    -- of one operand: its side
     truth-faults : {a : Truth} {s : Side} → Holds a (fault s) → Holds (opposite a) (fault s)
 
 -- ---- from bytes

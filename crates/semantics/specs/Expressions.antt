@@ -1,4 +1,4 @@
--- Document 01, "Numbers and truths".
+-- Document 01, "Numbers and truths", with document 02, item 2.
 use mathlib.Core.Bool.{Bool, true, false, not, _&&_, _||_, cond}
 use mathlib.Core.List.{List, [], _∷_, _++_}
 use mathlib.Core.Option.{Option, none, some}
@@ -46,7 +46,7 @@ truthDepth (opposite a) = suc (truthDepth a)
 truthDepth always = 1
 
 -- ---- evaluation
--- a fault says on which side of its range a result fell
+-- "Evaluation now says on which side of its range a result fell"
 pub data Side : Type 0 where
   above below : Side
 
@@ -66,7 +66,7 @@ unfoldable pub thenValue : {A B : Type 0} → Value A → (A → Value B) → Va
 thenValue (ok a) f = f a
 thenValue (fault s) f = fault s
 
--- "Both operands are always evaluated; a fault in either is a fault." The left operand's comes first.
+-- "Both operands are always evaluated; a fault in either is a fault."; "the left operand's fault coming first"
 unfoldable pub operands : {A B C : Type 0} → (A → B → C) → Value A → Value B → Value C
 operands f (ok a) (ok b) = ok (f a b)
 operands f (ok a) (fault s) = fault s
@@ -262,7 +262,7 @@ module _ (ed : Edition) (variables : ℕ) where
   unfoldable pub truthIn : List ℕ → Option Truth
   truthIn s = whole (readTruth (readExpression depthLimit)) s
 
--- the value of the bytes of a number or truth; what 12 turns away is never evaluated, and faults here
+-- the value of the bytes of a number or truth; what 12 turns away is never evaluated, and faults above here
 unfoldable pub numberValue : Edition → List ℤ → List ℕ → Value ℤ
 numberValue ed vs s = elim (numberIn ed (length vs) s) [ none ↦ fault above | some e ↦ valueOf vs e ]
 

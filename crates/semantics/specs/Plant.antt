@@ -169,7 +169,7 @@ rateAmong (r ∷ rs) v = elim (eqb (r .driven) v) [ true ↦ r .rate | false ↦
 unfoldable pub rateOf : Plant → List ℕ → ℕ → ℤ
 rateOf p ms v = rateAmong (ratesOf (p .equations) ms) v
 
--- "A value outside its declared range faults."
+-- "A value outside its declared range faults.", above it or below it: "for expressions and for declared ranges alike"
 unfoldable pub declared : Variable → ℤ → Value ℤ
 declared x z = ranged (x .minimum) (x .maximum) z
 
@@ -181,7 +181,7 @@ declaredAt xs v z = elim (getElem? xs v) [ none ↦ fault above | some x ↦ dec
 unfoldable pub stored : List Variable → List ℤ → ℕ → ℤ → Value (List ℤ)
 stored xs vs v z = thenValue (declaredAt xs v z) (λ y. ok (set vs v y))
 
--- all of them in range, or the fault of the lowest variable that is not; there are as many values as variables
+-- all of them in range, or a fault: "On a tick the lowest variable number out of range decides."; there are as many values as variables
 unfoldable pub allDeclared : List Variable → List ℤ → Value (List ℤ)
 allDeclared [] zs = ok zs
 allDeclared (x ∷ xs) [] = ok []

@@ -112,9 +112,11 @@ pub record InRange (x : Variable) (z : ℤ) : Type 0 where
   pub not-below : leZ (x .minimum) z ≡ true
   pub not-above : leZ z (x .maximum) ≡ true
 
+-- "for expressions and for declared ranges alike": on which side of its range a value lies.
+-- Where 5 lets a variable pass, what is above the maximum is not below the minimum: the first condition of `above-maximum` says nothing more there.
 pub data Outside (x : Variable) (z : ℤ) : Side → Type 0 where
-  too-low : ltZ z (x .minimum) ≡ true → Outside x z below
-  too-high : leZ (x .minimum) z ≡ true → ltZ (x .maximum) z ≡ true → Outside x z above
+  below-minimum : ltZ z (x .minimum) ≡ true → Outside x z below
+  above-maximum : leZ (x .minimum) z ≡ true → ltZ (x .maximum) z ≡ true → Outside x z above
 
 -- "each driven variable adds its current rate (0 where its CASE's mode gives none)"; a variable that no equation drives adds 0 as well
 pub record Added (p : Plant) (ms : List ℕ) (vs ys : List ℤ) : Type 0 where
@@ -142,7 +144,8 @@ pub data Goes {S : Type 0} (vs : List ℤ) (ms : List ℕ) : Next S → ℕ → 
   finishes : Goes vs ms finished 201 (over vs ms)
 
 module _ {S : Type 0} (ed : Edition) (p : Plant) (c : Control S) where
-  -- how an event faults, and on which side: "the run's steps are taken in their order", and the first fault decides; on a tick "the lowest variable number out of range"
+  -- how an event faults, and on which side: "the run's steps are taken in their order", and the first fault decides;
+  -- where a tick takes values out of their ranges "the lowest variable number out of range decides"
   pub data Faults (x : S) (vs : List ℤ) (ms e : List ℕ) (side : Side) : Type 0 where
     -- a pick of a node that acts: in its switch check
     pick-switch-fault : {n : ℕ} → SaysPick ed e n → Mem n (c .acting x) → Checks ed vs (CurrentSwitch p ms) (found-fault side) → Faults x vs ms e side

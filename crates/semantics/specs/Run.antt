@@ -287,7 +287,7 @@ unfoldable pub howMany : {A : Type 0} → (A → Bool) → List A → ℕ
 howMany f [] = 0
 howMany f (a ∷ l) = elim (f a) [ true ↦ suc (howMany f l) | false ↦ howMany f l ]
 
--- "The run keeps one short record of taken (200..202), turned away (23..31) and faulted (203)", now 203 and 204
+-- "The run keeps one short record of taken (200..202), turned away (23..31) and faulted (203)"; faulted is 203 and 204
 pub record Counts : Type 0 where
   pub taken : ℕ
   pub turned-away : ℕ

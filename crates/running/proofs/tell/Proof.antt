@@ -34,16 +34,19 @@ noticed-requires-2 c κs = search needs
 report-requires : tie.Need-report-requires
 report-requires c κs = search needs
 
-slice-aggregate-report-fault : tie.Need-slice-aggregate-report-fault
-slice-aggregate-report-fault c = search needs
+slice-aggregate-of : tie.Need-slice-aggregate-of
+slice-aggregate-of c = search needs
+
+of-requires : tie.Need-of-requires
+of-requires c κs = search needs
 
 report-fault-requires : tie.Need-report-fault-requires
 report-fault-requires c κs = search needs
 
 returns-2 : tie.Need-returns-2
 unfolding given
-returns-2 c = rw (eq-eqb _ 0 (c .before .before .before .before .before .before .before .if1 .left)) (c .before .before .before .before .before .before .front .ensures .1)
+returns-2 c = let f = c .before .before .before .before .before .before .before in rw (eq-eqb _ 0 (f .before .if1 .left)) (f .front .ensures .1)
 
 pub tell-spec : {M : Type 1} → statement M
 tell-spec = tie.close (tie.spec slice-aggregate-write-all write-all-requires noticed-requires returns front-requires slice-aggregate-write-all-2
-    write-all-requires-2 noticed-requires-2 report-requires slice-aggregate-report-fault report-fault-requires returns-2)
+    write-all-requires-2 noticed-requires-2 report-requires slice-aggregate-of of-requires report-fault-requires returns-2)

@@ -40,8 +40,11 @@ loop-less c = let l = c .before .before .before .loop .inv in omega (arith, l .i
 loop-again : tie.Need-loop-again Inv-loop μ-loop
 loop-again c = let l = c .before .before .before in one-more _ _ _ _ (l .loop .inv) (omega arith) (omega arith) (omega arith)
 
+none-requires : tie.Need-none-requires Inv-loop μ-loop
+none-requires c κs = search needs
+
 returns-2 : tie.Need-returns-2 Inv-loop μ-loop
-returns-2 c = no-more _ _ _ _ (c .before .loop .inv) (omega arith)
+returns-2 c = no-more _ _ _ _ (c .before .before .loop .inv) (omega arith) (c .none .ensures)
 
 pub first-spec : {M : Type 1} → statement M
-first-spec = tie.close (tie.spec Inv-loop μ-loop loop-holds sub-loop shared-slice-read-answer add-t11 returns add-at add-n loop-less loop-again returns-2)
+first-spec = tie.close (tie.spec Inv-loop μ-loop loop-holds sub-loop shared-slice-read-answer add-t11 returns add-at add-n loop-less loop-again none-requires returns-2)
