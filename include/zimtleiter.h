@@ -140,7 +140,8 @@ uint8_t zimtleiter_compile(const uint8_t *file, size_t file_len,
  * On 0 one record for each event stands at the front of records, in their
  * order, and the bytes behind are as they were. A record has 9 bytes, 4 for
  * each variable and 1 for each selector. The counts are those of the events
- * answered 200 to 202 (taken), 23 to 31 (turned away) and 203 or 204 (faulted).
+ * answered 200 to 202 (taken), 23 to 31 (turned away) and 203 or 204 (faulted,
+ * of which there is one at most).
  */
 uint8_t zimtleiter_rule_run(const uint8_t *file, size_t file_len,
                             const uint8_t *start, size_t start_len,

@@ -6,7 +6,7 @@ use mathlib.Core.Path.{_≡_}
 use mathlib.Core.Bool.{Bool}
 use mathlib.Core.List.{List, [], _∷_, _++_}
 use mathlib.Core.Logic.{_↔_}
-use Prim.Native.Nat.{ℕ}
+use Prim.Native.Nat.{ℕ, _≤_}
 use lib.IntN.{ℤ, pos, negsuc}
 use lib.ListN.{replicate}
 use Rattle.semantics.specs.Editions.{Edition}
@@ -14,7 +14,7 @@ use Rattle.semantics.specs.Expressions.{Operation, Number, constant, operate, n
 use Rattle.semantics.specs.Expressions.{Side, above, below, Value, ok, fault, valueOf, holds, numberValue, truthValue}
 use Rattle.semantics.specs.Evaluating.{NumberComesTo, TruthComesTo}
 use Rattle.semantics.specs.Plant.{Plant}
-use Rattle.semantics.specs.Run.{Control, at, over, step}
+use Rattle.semantics.specs.Run.{Control, Situation, at, over, step, answers, answersIn, countsOf}
 use Rattle.semantics.specs.Rules.{Faults, Standing, Sound}
 use Rattle.semantics.specs.K1.{start-at}
 use Rattle.semantics.proofs.ComesTo as ComesTo
@@ -75,6 +75,12 @@ fault-ends ed p c x vs ms e side = Sides.fault-ends ed p c x vs ms e
 -- Ruled out: rules under which a tick may be answered by any variable out of range; a switch check that may stop at any fault.
 pub one-side : {S : Type 0} (ed : Edition) (p : Plant) (c : Control S) (x : S) (vs : List ℤ) (ms e : List ℕ) → Faults ed p c x vs ms e above → Faults ed p c x vs ms e below → ⊥
 one-side = Sides.one-side
+
+-- a run faults once at most, from whatever situation and over whatever events: its count of faults is 0 or 1.
+-- Ruled out: a run that faults anew at each tick; one that answers 204 again to the events after the end.
+pub faults-once : {S : Type 0} (ed : Edition) (p : Plant) (c : Control S) (s : Situation S) (es : List (List ℕ)) → (countsOf (answersIn (answers ed p c s es))) .faulted ≤ 1
+unfolding countsOf
+faults-once = Sides.faults-once
 
 -- ---- papers, each by the rules and by the table: the first event faults and ends the run, the second is turned away with 23
 -- a difference that falls below, a sum that rises above; "K3 and K9's negation remain 203" (K3 is in Papers)

@@ -18,7 +18,7 @@ use Rattle.semantics.specs.Events.{eventIn}
 use Rattle.semantics.specs.Run.{Next, to, finished, halted, idle, Control, Verdict, Moved, nobody, mover, Done, judge, Situation, Answered, faultAnswer, turnedAway, arrive, follow, settle, step, answers, actingSet, valueBytes, recordBytes, recordOf, isTaken, isTurnedAway, isFaulted, howMany, countsOf}
 use Rattle.semantics.specs.Counting.{Counted, no-answer, one-taken, one-away, one-above, one-below}
 use Rattle.semantics.specs.Calls.{recordSize, outcomeOf}
-use Rattle.semantics.proofs.Facts.{by-cases, within-low, within-high, within-both}
+use Rattle.semantics.proofs.Facts.{true-not-false, by-cases, within-low, within-high, within-both}
 use Rattle.semantics.proofs.Verdicts.{inJudging, Verdicts, is-away, is-faulty, is-pass, Fair, judge-verdicts}
 
 -- ---- an answer is of just one of the three kinds
@@ -34,9 +34,12 @@ away-answer n h =
     let high = within-high 23 31 n h in
     only-away (rw (lt-leb 200 n (omega arith)) refl) h (rw (lt-leb 203 n (omega arith)) refl)
 
-judged-answer : (n : ℕ) → inJudging n ≡ true → Answer n
+judged-away : (n : ℕ) → inJudging n ≡ true → isTurnedAway n ≡ true
 unfolding inJudging isTurnedAway
-judged-answer n h = let low = within-low 24 31 n h in away-answer n (within-both 23 31 n (omega arith) (within-high 24 31 n h))
+judged-away n h = let low = within-low 24 31 n h in within-both 23 31 n (omega arith) (within-high 24 31 n h)
+
+judged-answer : (n : ℕ) → inJudging n ≡ true → Answer n
+judged-answer n h = away-answer n (judged-away n h)
 
 module _ {A : Type 0} (f : A → Bool) (x : A) (l : List A) where
   pub counted : f x ≡ true → howMany f (x ∷ l) ≡ suc (howMany f l)
@@ -114,24 +117,31 @@ unfolding flatMap valueBytes out4
 values-length [] = refl
 values-length (v ∷ vs) = let ih = values-length vs in omega arith
 
--- ---- a step: its answer is of one kind, and values and modes stay as many
+-- an answer that turns away is no fault
+away-no-fault : {n : ℕ} → Answer n → isTurnedAway n ≡ true → isFaulted n ≡ false
+away-no-fault (only-taken t a f) h = f
+away-no-fault (only-away t a f) h = f
+away-no-fault (only-faulted t a f) h = true-not-false (sym h ∙ a)
+
+-- ---- a step: its answer is of one kind, a fault ends the run, and values and modes stay as many
 pub record Stepped {S : Type 0} (s : Situation S) (o : Answered S) : Type 0 where
   pub answered : Answer (o .answer)
+  pub fault-ends : isFaulted (o .answer) ≡ true → o .left .place ≡ none
   pub values-kept : length (o .left .values) ≡ length (s .values)
   pub modes-kept : length (o .left .modes) ≡ length (s .modes)
 
 module _ {S : Type 0} (ed : Edition) (p : Plant) (c : Control S) where
-  away-stepped : (s : Situation S) (n : ℕ) → Answer n → Stepped s (turnedAway n s)
+  away-stepped : (s : Situation S) (n : ℕ) → Answer n → isTurnedAway n ≡ true → Stepped s (turnedAway n s)
   unfolding turnedAway
-  away-stepped s n h = record { answered = h; values-kept = refl; modes-kept = refl }
+  away-stepped s n h k = record { answered = h; fault-ends = λ f. true-not-false (sym f ∙ away-no-fault h k); values-kept = refl; modes-kept = refl }
 
   arrive-stepped : (s : Situation S) (x : Next S) (vs : List ℤ) (ms : List ℕ) → length vs ≡ length (s .values) → length ms ≡ length (s .modes) →
       Stepped s (arrive s x vs ms)
   unfolding arrive isTaken isTurnedAway isFaulted within
-  arrive-stepped s (to y) vs ms h k = record { answered = only-taken refl refl refl; values-kept = h; modes-kept = k }
-  arrive-stepped s finished vs ms h k = record { answered = only-taken refl refl refl; values-kept = h; modes-kept = k }
-  arrive-stepped s halted vs ms h k = record { answered = only-taken refl refl refl; values-kept = h; modes-kept = k }
-  arrive-stepped s idle vs ms h k = away-stepped s 25 (only-away refl refl refl)
+  arrive-stepped s (to y) vs ms h k = record { answered = only-taken refl refl refl; fault-ends = λ f. true-not-false (sym f); values-kept = h; modes-kept = k }
+  arrive-stepped s finished vs ms h k = record { answered = only-taken refl refl refl; fault-ends = λ f. refl; values-kept = h; modes-kept = k }
+  arrive-stepped s halted vs ms h k = record { answered = only-taken refl refl refl; fault-ends = λ f. refl; values-kept = h; modes-kept = k }
+  arrive-stepped s idle vs ms h k = away-stepped s 25 (only-away refl refl refl) refl
 
   follow-stepped : (x : S) (s : Situation S) (m : Moved) (vs : List ℤ) (ms : List ℕ) → length vs ≡ length (s .values) → length ms ≡ length (s .modes) →
       Stepped s (follow c x s m vs ms)
@@ -147,8 +157,8 @@ module _ {S : Type 0} (ed : Edition) (p : Plant) (c : Control S) where
   settle-stepped : (x : S) (s : Situation S) {v : Verdict Done} → Verdicts (Fair (c .action) (c .acting x) (s .values) (s .modes)) v →
       Stepped s (settle c x s v)
   unfolding settle
-  settle-stepped x s (is-away {n = n} h) = away-stepped s n (judged-answer n h)
-  settle-stepped x s (is-faulty {s = side}) = record { answered = fault-answer side; values-kept = refl; modes-kept = refl }
+  settle-stepped x s (is-away {n = n} h) = away-stepped s n (judged-answer n h) (judged-away n h)
+  settle-stepped x s (is-faulty {s = side}) = record { answered = fault-answer side; fault-ends = λ f. refl; values-kept = refl; modes-kept = refl }
   settle-stepped x s (is-pass {a = a} f) = follow-stepped x s (a .moved) (a .values) (a .modes) (f .values-kept) (f .modes-kept)
 
   pub step-stepped : (s : Situation S) (e : List ℕ) → Stepped s (step ed p c s e)
@@ -157,7 +167,7 @@ module _ {S : Type 0} (ed : Edition) (p : Plant) (c : Control S) where
     where
       by-place : (o : Option S) → Stepped s
           (elim o [ none ↦ turnedAway 23 s | some x ↦ settle c x s (judge ed p (c .action) (c .acting x) (s .values) (s .modes) (eventIn ed e)) ])
-      by-place none = away-stepped s 23 (only-away refl refl refl)
+      by-place none = away-stepped s 23 (only-away refl refl refl) refl
       by-place (some x) = settle-stepped x s (judge-verdicts ed p (c .action) (c .acting x) (s .values) (s .modes) (eventIn ed e))
 
   -- ---- as many answers as events

@@ -1,18 +1,22 @@
 -- Document 02, item 2: which fault comes first in an expression, and what an event that faults is answered.
 use mathlib.Core.Path.{_≡_, refl, sym, ap, _∙_}
-use mathlib.Core.Bool.{Bool}
-use mathlib.Core.List.{List}
+use mathlib.Core.Bool.{Bool, true}
+use mathlib.Core.List.{List, [], _∷_}
 use mathlib.Core.Logic.{_↔_}
-use Prim.Native.Nat.{ℕ, _<_}
+use mathlib.Core.Option.{none}
+use Prim.Native.Nat.{ℕ, _≤_, _<_}
 use native.Mathlib.Omega.{arith}
 use lib.Dec.{lit<}
 use lib.IntN.{ℤ}
+use Rattle.semantics.specs.Bytes.{within}
 use Rattle.semantics.specs.Editions.{Edition}
 use Rattle.semantics.specs.Expressions.{Operation, Number, operate, negation, Comparison, Connective, Truth, compare, connect, opposite, Side, above, below, Value, ok, fault, thenValue, operands, applied, compared, connected, valueOf, holds, result}
 use Rattle.semantics.specs.Plant.{Plant}
-use Rattle.semantics.specs.Run.{Next, Control, Situation, Answered, at, over, faultAnswer, step}
+use Rattle.semantics.specs.Run.{Next, Control, Situation, Answered, at, over, faultAnswer, turnedAway, step, answers, answersIn, isFaulted, howMany}
 use Rattle.semantics.specs.Rules.{Goes, goes-on, finishes, Faults, Rule, when-senseless, pick-idle, pick-switch-true, pick-test, pick-wait, pick-wait-false, pick-assign, pick-switch, pick-stop, switch-missing, switch-taken, switch-false, tick-busy, tick-switch-true, tick-wait-true, tick-taken, fault-above, fault-below, Standing, Sound}
+use Rattle.semantics.proofs.Facts.{by-cases}
 use Rattle.semantics.proofs.StepRules.{fault-step, rule-of}
+use Rattle.semantics.proofs.RunCounts.{counted, uncounted, step-stepped}
 
 -- ---- two operands: the left one's side where it faults, else the right one's
 left-first : {A B C : Type 0} (f : A → B → C) {a : Value A} {s : Side} → a ≡ fault s → (b : Value B) → operands f a b ≡ fault s
@@ -125,3 +129,26 @@ module _ {S : Type 0} (ed : Edition) (p : Plant) (c : Control S) (x : S) (vs : L
         go (no-fault l) h = absurd (omega arith)
         go (faults-above i f) h = absurd (omega arith)
         go (faults-below i f) h = f
+
+-- ---- a run faults once at most: after the end every event is turned away
+module _ {S : Type 0} (ed : Edition) (p : Plant) (c : Control S) where
+  over-step : (s : Situation S) → s .place ≡ none → (e : List ℕ) → step ed p c s e ≡ turnedAway 23 s
+  unfolding step
+  over-step s h e = rw h refl
+
+  none-after : (s : Situation S) → s .place ≡ none → (es : List (List ℕ)) → howMany isFaulted (answersIn (answers ed p c s es)) ≡ 0
+  unfolding answers howMany isFaulted within turnedAway
+  none-after s h [] = refl
+  none-after s h (e ∷ es) = ap (λ (o : Answered S). howMany isFaulted (o .answer ∷ answersIn (answers ed p c (o .left) es))) (over-step s h e) ∙ none-after s h es
+
+  -- the answer a of an event, and the answers after it
+  one-more : (a : ℕ) (l : List ℕ) → (isFaulted a ≡ true → howMany isFaulted l ≡ 0) → howMany isFaulted l ≤ 1 → howMany isFaulted (a ∷ l) ≤ 1
+  one-more a l f h =
+      by-cases (isFaulted a) (λ e. let k = f e in let j = counted isFaulted a l e in omega arith) (λ e. let j = uncounted isFaulted a l e in omega arith)
+
+  pub faults-once : (s : Situation S) (es : List (List ℕ)) → howMany isFaulted (answersIn (answers ed p c s es)) ≤ 1
+  unfolding answers howMany
+  faults-once s [] = omega arith
+  faults-once s (e ∷ es) =
+      let o = step ed p c s e in
+      one-more (o .answer) (answersIn (answers ed p c (o .left) es)) (λ h. none-after (o .left) (step-stepped ed p c s e .fault-ends h) es) (faults-once (o .left) es)
