@@ -1,22 +1,6 @@
 //! What is measured: schedules as bytes, and events that keep a run going.
 use crate::fast;
-
-/// splitmix64: a seed gives the same events on every machine.
-pub struct Random(pub u64);
-
-impl Random {
-    pub fn word(&mut self) -> u64 {
-        self.0 = self.0.wrapping_add(0x9E37_79B9_7F4A_7C15);
-        let mut z = self.0;
-        z = (z ^ (z >> 30)).wrapping_mul(0xBF58_476D_1CE4_E5B9);
-        z = (z ^ (z >> 27)).wrapping_mul(0x94D0_49BB_1331_11EB);
-        z ^ (z >> 31)
-    }
-
-    pub fn below(&mut self, n: usize) -> usize {
-        (self.word() % n as u64) as usize
-    }
-}
+use crate::random::Random;
 
 /// A schedule by its three sections, nodes without their lengths.
 struct Draft {
@@ -253,8 +237,8 @@ pub struct Runs {
 /// Random events, of which those that end the run are passed over; about one in nine is turned away.
 fn lively(d: &Draft, seed: u64) -> Runs {
     let (file, start) = (d.bytes(), d.start());
-    let mut r = Random(seed);
-    let mut s = Random(seed + 1);
+    let mut r = Random::new(seed);
+    let mut s = Random::new(seed + 1);
     let nodes = d.nodes.len();
     let selectors = d.equations.iter().filter(|e| e[0] == 2).count();
     let propose = || match r.below(8) {
@@ -311,7 +295,7 @@ pub fn picked(between: u8) -> Runs {
 /// An example as it is, with events of any kind.
 pub fn example(file: &[u8], seed: u64, count: usize) -> Runs {
     let d = Draft::of(file);
-    let mut r = Random(seed);
+    let mut r = Random::new(seed);
     let mut events = Vec::new();
     for _ in 0..count {
         match r.below(16) {

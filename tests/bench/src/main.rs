@@ -21,8 +21,9 @@ mod stack;
 #[path = "../../differential/src/tables.rs"]
 mod tables;
 
-use cases::{Random, Runs};
+use cases::Runs;
 use fast::Ran;
+use random::Random;
 use std::hint::black_box;
 
 #[derive(Clone, Copy, PartialEq)]
@@ -204,7 +205,7 @@ fn agree_beside() {
 
 /// A byte changed here and there: the same refusals.
 fn damaged(file: &[u8], table: &[u8], name: &str, seed: u64) {
-    let mut r = Random(seed + 7);
+    let mut r = Random::new(seed + 7);
     for _ in 0..40 {
         let mut f = file.to_vec();
         let mut t = table.to_vec();
@@ -223,7 +224,7 @@ fn damaged(file: &[u8], table: &[u8], name: &str, seed: u64) {
 }
 
 /// A start and events for a schedule or a table.
-fn drawn_runs(r: &mut random::Random, by_table: bool, program: &[u8]) -> Runs {
+fn drawn_runs(r: &mut Random, by_table: bool, program: &[u8]) -> Runs {
     let initial = plain::initial_start(program).unwrap_or_else(|| vec![0; 5]);
     let start = inputs::start(r, &initial);
     let events = inputs::events(r, by_table, program, &start);
@@ -232,7 +233,7 @@ fn drawn_runs(r: &mut random::Random, by_table: bool, program: &[u8]) -> Runs {
 
 /// Schedules and tables by the makers of tests/differential, which reach faults on either side in every place.
 fn agree_drawn() {
-    let mut r = random::Random::new(5);
+    let mut r = Random::new(5);
     for i in 0..5_000 {
         let file = inputs::file(&mut r);
         let w = Work::Rules(drawn_runs(&mut r, false, &file));
@@ -246,7 +247,7 @@ fn agree_drawn() {
 
 /// Practice events: random seeds, and counts and rooms about their limits.
 fn agree_practice() {
-    let mut r = Random(3);
+    let mut r = Random::new(3);
     for count in [0, 1, 2, 300, 9_999, 10_000, 10_001, 1 << 32, (1 << 32) + 1, u64::MAX / 3 + 1, u64::MAX] {
         for more in [0, 1, 2, 3, 4, 40] {
             let room = (3 * count.min(10_002) as usize + more).saturating_sub(3);
