@@ -27,6 +27,12 @@ pub data Answer (n : ℕ) : Type 0 where
   only-away : isTaken n ≡ false → isTurnedAway n ≡ true → isFaulted n ≡ false → Answer n
   only-faulted : isTaken n ≡ false → isTurnedAway n ≡ false → isFaulted n ≡ true → Answer n
 
+-- 203 and 204
+fault-answer : (side : Side) → Answer (faultAnswer side)
+unfolding faultAnswer isTaken isTurnedAway isFaulted within
+fault-answer above = only-faulted refl refl refl
+fault-answer below = only-faulted refl refl refl
+
 away-answer : (n : ℕ) → isTurnedAway n ≡ true → Answer n
 unfolding isTaken isTurnedAway isFaulted within
 away-answer n h =
@@ -148,11 +154,6 @@ module _ {S : Type 0} (ed : Edition) (p : Plant) (c : Control S) where
   unfolding follow
   follow-stepped x s nobody vs ms h k = arrive-stepped s (to x) vs ms h k
   follow-stepped x s (mover n b) vs ms h k = arrive-stepped s (c .next x n b) vs ms h k
-
-  fault-answer : (side : Side) → Answer (faultAnswer side)
-  unfolding faultAnswer isTaken isTurnedAway isFaulted within
-  fault-answer above = only-faulted refl refl refl
-  fault-answer below = only-faulted refl refl refl
 
   settle-stepped : (x : S) (s : Situation S) {v : Verdict Done} → Verdicts (Fair (c .action) (c .acting x) (s .values) (s .modes)) v →
       Stepped s (settle c x s v)
