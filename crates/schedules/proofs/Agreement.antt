@@ -4,12 +4,11 @@ use mathlib.Core.Bool.{Bool, true, false}
 use mathlib.Core.List.{List}
 use mathlib.Core.Logic.{_⊎_, inl, inr}
 use mathlib.Core.Option.{Option, none, some}
-use Prim.Native.Nat.{ℕ, suc, _*_, _≤_}
-use native.Mathlib.Omega.{arith}
+use Prim.Native.Nat.{ℕ, _*_, _≤_}
 use borrow.Author.Tests.{leb-true, not-false}
 use lib.ListN.{length, take, drop}
 use lib.Seq.{take-append-seam}
-use Rattle.semantics.specs.Bytes.{overwrite}
+use Rattle.semantics.specs.Bytes.{every, overwrite}
 use Rattle.semantics.specs.Editions.{Edition}
 use Rattle.semantics.specs.Refusals.{Judged, refused, accepted, _>>=_}
 use Rattle.semantics.specs.Events.{eventsIn}
@@ -20,14 +19,14 @@ use Rattle.semantics.specs.TableFile.{locationLimit}
 use Rattle.semantics.specs.Tables.{judgeTable, tableControl, actionOrStop}
 use Rattle.semantics.specs.Calls.{Program, outcomeOf, runFrom, judgeAdmission, judgeRun, report, tableProgram, tableRun, tableCounts, readTable, wholeEvents, eventCount, recordSize, roomForRecords}
 use Rattle.semantics.specs.Conditions.{Condition, given, is20, is21, is22}
-use Rattle.semantics.proofs.Facts.{true-not-false, All, all-nil, all-cons}
+use Rattle.semantics.proofs.Facts.{true-not-false, All}
 use Rattle.semantics.proofs.Judging as Judging
 use Rattle.semantics.proofs.Admission.{Starts, admission-judged}
 use Rattle.semantics.proofs.EventsCut.{events-length}
 use Rattle.semantics.proofs.CallsHold.{start-values}
 use Rattle.semantics.proofs.Simulation.{Agree, runs-agree}
 use Rattle.semantics.proofs.RunCounts.{counts-sum, written-length}
-use Rattle.semantics.proofs.FirstNumber.{First, here, further, Firsts, refuses}
+use Rattle.semantics.proofs.FirstNumber.{Firsts, refuses, lacks, first-not}
 use Rattle.semantics.proofs.StepRules.{answers-derived}
 pub use Rattle.schedules.specs.Agreement.{RunsAgree, Agrees}
 use Rattle.schedules.specs.Nodes.{actionsOf}
@@ -145,18 +144,9 @@ module _ (ed : Edition) (file : List ℕ) (s : Schedule) (h : judgeFile ed file 
     })
 
 -- ---- no refusal has the number 0
-pub first-not-0 : {l : List Condition} {n : ℕ} → All (λ (c : Condition). c .refusal ≡ 0 → ⊥) l → First n l → n ≡ 0 → ⊥
-first-not-0 (all-cons h k) (here e f) z = h (f ∙ z)
-first-not-0 (all-cons h k) (further e f) z = first-not-0 k f z
-
 pub never-0 : (ed : Edition) (file buffer : List ℕ) → All (λ (c : Condition). c .refusal ≡ 0 → ⊥) (compileConditions ed file buffer)
-unfolding compileConditions fileConditions
-never-0 ed file buffer =
-    all-cons (no 0) (all-cons (no 1) (all-cons (no 2) (all-cons (no 3) (all-cons (no 4) (all-cons (no 5) (all-cons (no 6)
-    (all-cons (no 7) (all-cons (no 8) (all-cons (no 9) (all-cons (no 10) (all-cons (no 11) (all-cons (no 12) (all-cons (no 13) all-nil)))))))))))))
-  where
-    no : (n : ℕ) → suc n ≡ 0 → ⊥
-    no n e = omega arith
+unfolding every compileConditions fileConditions
+never-0 ed file buffer = lacks 0 (compileConditions ed file buffer) refl
 
 -- what compiling accepted: the schedule, and its locations are no more than a table may hold
 pub record Taken (ed : Edition) (file buffer table : List ℕ) : Type 0 where
@@ -180,7 +170,7 @@ of-written ed file room P holds = go (judgeCompile ed file room) refl (compile-f
   where
     go : (j : Judged (List ℕ)) → judgeCompile ed file room ≡ j → Firsts j (compileConditions ed file room) → (compiledInto room j) .refusal ≡ 0 →
         P (take ((compiledInto room j) .written) ((compiledInto room j) .table))
-    go (refused n) e (refuses f) z = absurd (first-not-0 (never-0 ed file room) f z)
+    go (refused n) e (refuses f) z = absurd (first-not (never-0 ed file room) f z)
     go (accepted t) e f z =
         let k = compile-taken ed file room e in
         rw (take-append-seam t (drop (length t) room)) (subst P (k .is-table) (holds (k .of) (k .of-file) (k .few)))

@@ -16,7 +16,7 @@ use Rattle.semantics.specs.Run.{Action}
 use Rattle.semantics.specs.TableFile.{locationLimit, actionBytes, writeAction, writeActions}
 use Rattle.semantics.proofs.Judging as Judging
 use Rattle.semantics.proofs.WrittenTables.{out-length}
-use Rattle.schedules.specs.Nodes.{Node, nodeNamed, nodeReads, actionOf, listed, actionsFrom, actionsOf}
+use Rattle.schedules.specs.Nodes.{Node, nodeNamed, nodeParted, nodeReads, actionOf, listed, actionsFrom, actionsOf}
 use Rattle.schedules.specs.Trees.{Tree, treeOf}
 use Rattle.schedules.specs.Numbering.{locations}
 use Rattle.schedules.specs.Files.{Schedule, judgeFileSections, judgeFile, fileHeader, fileLength}
@@ -147,9 +147,10 @@ module _ (ed : Edition) (file other : List ℕ) (s : SameButOrder ed file other)
       alike-tree _ _ (s .nodes) (s .other-nodes) (s .order) (λ t u h k z.
       as-judged (nodes-in-order ed p (s .nodes) _) (nodes-in-order ed p (s .other-nodes) _) (
       alike-ensure 11 (every (nodeNamed (length (p .variables)) (selectors p)) (s .nodes)) (reordered-every (nodeNamed (length (p .variables)) (selectors p)) (s .order)) (λ h11.
+      alike-ensure 34 (every (nodeParted (p .equations)) (s .nodes)) (reordered-every (nodeParted (p .equations)) (s .order)) (λ h34.
       alike-ensure 12 (every (nodeReads ed (length (p .variables))) (s .nodes) && switchesRead ed p)
       (ap (λ b. b && switchesRead ed p) (reordered-every (nodeReads ed (length (p .variables))) (s .order))) (λ h12.
-      both-accepted (reordered-large ed _ _ refl (s .same-variables) (s .same-equations) h k (s .order) z)))))))))))
+      both-accepted (reordered-large ed _ _ refl (s .same-variables) (s .same-equations) h k (s .order) z))))))))))))
 
   compiled-alike : (room : List ℕ) → Alike (λ (t u : List ℕ). length t ≡ length u) (judgeCompile ed file room) (judgeCompile ed other room)
   compiled-alike room = rw (compile-steps ed file room, compile-steps ed other room) (alike-then _ _ judged-alike (λ a b l.

@@ -3,11 +3,10 @@ use mathlib.Core.Path.{_≡_, refl, sym, ap, subst, _∙_}
 use mathlib.Core.Bool.{Bool}
 use mathlib.Core.List.{List}
 use mathlib.Core.Option.{some}
-use Prim.Native.Nat.{ℕ, suc, _≤_}
-use native.Mathlib.Omega.{arith}
+use Prim.Native.Nat.{ℕ, _≤_}
 use borrow.Author.Tests.{leb-true}
 use lib.ListN.{length}
-use Rattle.semantics.specs.Bytes.{overwrite}
+use Rattle.semantics.specs.Bytes.{every, overwrite}
 use Rattle.semantics.specs.Editions.{Edition}
 use Rattle.semantics.specs.Refusals.{Judged, refused, accepted}
 use Rattle.semantics.specs.Plant.{selectors}
@@ -17,9 +16,9 @@ use Rattle.semantics.specs.Records.{AtFront}
 use Rattle.semantics.specs.Calls.{judgeRun}
 use Rattle.semantics.specs.Conditions.{Condition, runConditions}
 use Rattle.semantics.specs.Statements.{RunHolds}
-use Rattle.semantics.proofs.Facts.{All, all-nil, all-cons}
+use Rattle.semantics.proofs.Facts.{All}
 use Rattle.semantics.proofs.Judging as Judging
-use Rattle.semantics.proofs.FirstNumber.{ran-refusal}
+use Rattle.semantics.proofs.FirstNumber.{lacks, ran-refusal}
 use Rattle.semantics.proofs.RecordForms.{overwritten}
 use Rattle.semantics.proofs.CallsHold.{accepted-of, run-passed, run-built, refused-run}
 use Rattle.schedules.specs.Trees.{Tree}
@@ -90,13 +89,8 @@ pub sound-rules : (ed : Edition) (file : List ℕ) (s : Schedule) → judgeFile 
 sound-rules ed file s h = schedule-sound ed file s (passed ed file s h)
 
 pub rule-numbers : (ed : Edition) (file start events buffer : List ℕ) → All (λ (c : Condition). c .refusal ≡ 0 → ⊥) (ruleRunConditions ed file start events buffer)
-unfolding ruleRunConditions fileConditions runConditions
-rule-numbers ed file start events buffer =
-    all-cons (no 0) (all-cons (no 1) (all-cons (no 2) (all-cons (no 3) (all-cons (no 4) (all-cons (no 5) (all-cons (no 6) (all-cons (no 7)
-    (all-cons (no 8) (all-cons (no 9) (all-cons (no 10) (all-cons (no 11) (all-cons (no 19) (all-cons (no 20) (all-cons (no 21) all-nil))))))))))))))
-  where
-    no : (n : ℕ) → suc n ≡ 0 → ⊥
-    no n e = omega arith
+unfolding every ruleRunConditions fileConditions runConditions
+rule-numbers ed file start events buffer = lacks 0 (ruleRunConditions ed file start events buffer) refl
 
 -- also for schedules that compiling refuses with 13
 pub rule-run-holds : (ed : Edition) (file start events buffer : List ℕ) → (ruleRun ed file start events buffer) .refusal ≡ 0 →

@@ -19,7 +19,7 @@ unfolding FileSections.readFileSections FileSections.fileSectionsIn
 fileSections = tt
 
 unfoldable pub nodes : Unit {0}
-unfolding Nodes.kindOf Nodes.childCount Nodes.nodeOf Nodes.readNode Nodes.readNodes Nodes.nodesIn Nodes.nodeReads Nodes.nodeNamed bind Nodes.actionOf Nodes.nodeAction Nodes.listed Nodes.actionsFrom Nodes.actionsOf
+unfolding Nodes.kindOf Nodes.childCount Nodes.nodeOf Nodes.readNode Nodes.readNodes Nodes.nodesIn Nodes.nodeReads Nodes.nodeNamed Nodes.nodeParted bind Nodes.actionOf Nodes.nodeAction Nodes.listed Nodes.actionsFrom Nodes.actionsOf
 nodes = tt
 
 unfoldable pub trees : Unit {0}

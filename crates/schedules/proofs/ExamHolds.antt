@@ -4,11 +4,10 @@ use mathlib.Core.Bool.{true, false}
 use mathlib.Core.List.{List, [], _∷_, _++_, flatMap}
 use mathlib.Core.Logic.{_⊎_}
 use mathlib.Core.Option.{Option}
-use Prim.Native.Nat.{ℕ, suc, _*_}
-use native.Mathlib.Omega.{arith}
+use Prim.Native.Nat.{ℕ, _*_}
 use lib.ListN.{length, take, drop}
 use lib.Seq.{take-append-seam}
-use Rattle.semantics.specs.Bytes.{overwrite}
+use Rattle.semantics.specs.Bytes.{every, overwrite}
 use Rattle.semantics.specs.Editions.{Edition}
 use Rattle.semantics.specs.Refusals.{Judged, refused, accepted, _>>=_, refusalOf}
 use Rattle.semantics.specs.Plant.{Plant}
@@ -23,17 +22,17 @@ use Rattle.semantics.proofs.SentenceSteps.{Answers}
 use Rattle.semantics.proofs.EventsCut.{room-for-each}
 use Rattle.semantics.proofs.TableSentences.{whole-events, admission-answers}
 use Rattle.semantics.proofs.Admission.{admission-passed}
-use Rattle.semantics.proofs.Facts.{All, all-nil, all-cons, all-append}
+use Rattle.semantics.proofs.Facts.{All}
 use Rattle.semantics.proofs.Judging as Judging
-use Rattle.semantics.proofs.FirstNumber.{Clear, none-left, one-clear, Firsts, refuses, accepts, by-then, by-ensure, by-end, given-some, admission-first}
+use Rattle.semantics.proofs.FirstNumber.{Clear, none-left, one-clear, Firsts, refuses, accepts, lacks, first-not, by-then, by-ensure, by-end, given-some, admission-first}
 use Rattle.schedules.specs.Residuals.{Residual}
 use Rattle.schedules.specs.Files.{Schedule, judgeFile, ruleControl}
 use Rattle.schedules.specs.Compiling.{judgeCompile}
 use Rattle.schedules.specs.Calls.{ruleProgram, ruleRun, compile}
-use Rattle.schedules.specs.Conditions.{filePlant, compileConditions}
+use Rattle.schedules.specs.Conditions.{filePlant, fileConditions, compileConditions}
 use Rattle.schedules.specs.Agreement.{RunsAgree}
 use Rattle.schedules.proofs.FirstNumber.{file-plant, compile-first, compiled-refusal}
-use Rattle.schedules.proofs.Agreement.{agreement, compile-taken, first-not-0, never-0}
+use Rattle.schedules.proofs.Agreement.{agreement, compile-taken}
 use Rattle.schedules.specs.Exam.{Examined, judgeExam, agreed, refusedExam, reported, examTable, examined, examOf, examClauses, ExamHolds}
 use Rattle.schedules.proofs.SameRuns.{agreed-true}
 use Rattle.schedules.proofs.FileSentences.{compile-answers, plant-of-file}
@@ -70,12 +69,9 @@ told {ed} {s} {by-rules = by-rules} {by-table = by-table} {r = r} {t = t} n a e 
   records = ap (take n) (a .rules-records) ∙ written-front _ by-rules n e ∙ sym (ap (take n) (a .table-records) ∙ written-front _ by-table n e);
 })
 
-no-zero : (n : ℕ) → suc n ≡ 0 → ⊥
-no-zero n e = omega arith
-
 pub run-numbers : (ed : Edition) (plant : Option Plant) (start events buffer : List ℕ) → All (λ (c : Condition). c .refusal ≡ 0 → ⊥) (runConditions ed plant start events buffer)
-unfolding runConditions
-run-numbers ed plant start events buffer = all-cons (no-zero 19) (all-cons (no-zero 20) (all-cons (no-zero 21) all-nil))
+unfolding every runConditions
+run-numbers ed plant start events buffer = lacks 0 (runConditions ed plant start events buffer) refl
 
 -- the same of sentences
 known-answers : {A B : Type 0} {j : Judged A} {a : A} (f : A → Judged B) {l : List Clause} → j ≡ accepted a → Answers (f a) l → Answers (j >>= f) l
@@ -98,8 +94,8 @@ module _ (ed : Edition) (file start events table records others : List ℕ) wher
 
   -- no number is 0
   pub exam-numbers : All (λ (c : Condition). c .refusal ≡ 0 → ⊥) (examConditions)
-  unfolding examConditions
-  exam-numbers = all-append (never-0 ed file table) (all-append (run-numbers ed (filePlant ed file) start events records) (all-cons (no-zero 21) all-nil))
+  unfolding every examConditions compileConditions fileConditions runConditions
+  exam-numbers = lacks 0 examConditions refl
 
   pub exam-refusal : (j : Judged ℕ) → (examined ed file start events table records others j) .refusal ≡ refusalOf j
   unfolding examined refusedExam reported refusalOf
@@ -155,7 +151,7 @@ module _ (ed : Edition) (file start events table records others : List ℕ) wher
     where
       go : (j : Judged ℕ) → judgeExam ed file start events table records others ≡ j → Firsts j (examConditions) →
           (examined ed file start events table records others j) .refusal ≡ 0 → ExamHolds ed file start events table records others
-      go (refused n) e (refuses f) z = absurd (first-not-0 exam-numbers f z)
+      go (refused n) e (refuses f) z = absurd (first-not exam-numbers f z)
       go (accepted n) e (accepts c) z =
           let q = exam-compiled e in
           let a = agreement ed file table q in

@@ -26,7 +26,7 @@ use Rattle.semantics.proofs.WrittenSources.{all-drop}
 use Rattle.semantics.proofs.SentenceSteps.{Answers, first-or-none, by-ensure, by-then, by-end, by-map, by-test, by-read}
 use Rattle.semantics.proofs.TableSentences.{as-written, as-variables, as-equations, plant-answers, run-answers}
 use Rattle.schedules.specs.FileSections.{FileSections, fileSectionsIn}
-use Rattle.schedules.specs.Nodes.{Node, nodesIn, nodeNamed, nodeReads}
+use Rattle.schedules.specs.Nodes.{Node, nodesIn, nodeNamed, nodeParted, nodeReads}
 use Rattle.schedules.specs.Trees.{treeOf}
 use Rattle.schedules.specs.Residuals.{Residual}
 use Rattle.schedules.specs.Files.{Schedule, fileHeader, fileLength, judgeFileSections, judgeFile}
@@ -40,7 +40,7 @@ use Rattle.schedules.specs.Sentences.{FileHead, HeadOfFile, three-bytes,
 use Rattle.schedules.proofs.FirstNumber.{file-in-order, nodes-in-order, schedule-refusal, compiled-refusal, passed, compile-steps}
 use Rattle.schedules.proofs.OneTree.{one-tree}
 use Rattle.schedules.proofs.FileForms.{nodes-bytes, sections-bytes}
-use Rattle.schedules.proofs.FilesProper.{nodes-named, nodes-read, schedule-accepted}
+use Rattle.schedules.proofs.FilesProper.{nodes-named, nodes-parted, nodes-read, schedule-accepted}
 use Rattle.schedules.proofs.Demand2.{too-many, beyond}
 use Rattle.schedules.proofs.TableLength.{table-of-length}
 
@@ -117,7 +117,7 @@ module _ (file : List ℕ) (z : AllBytes file) where
         let e = all-read ed (length (p .variables)) (t .equations .limits .each) in
         (λ h. record { nodes = n .0 (and-left a (switchesRead ed p) h); switches = e .0 (and-right a (switchesRead ed p) h) }, λ h. and-both (n .1 (h .nodes)) (e .1 (h .switches)))
 
--- ---- 1 to 12
+-- ---- 1 to 12, with 34
 as-judged : {A : Type 0} {i j : Judged A} {l : List Clause} → i ≡ j → Answers j l → Answers i l
 as-judged {l = l} e k = subst (λ i. Answers i l) (sym e) k
 
@@ -146,7 +146,8 @@ file-answers ed file z = as-judged (file-in-order ed file) (
     } in
     as-judged (nodes-in-order ed p ns _) (
     by-test s (λ y u. source-one file z ed s u) 11 (every (nodeNamed (length (p .variables)) (selectors p)) ns) (nodes-named p ns) (λ h11.
-    by-test s (λ y u. source-one file z ed s u) 12 (every (nodeReads ed (length (p .variables))) ns && switchesRead ed p) (reads-is file z ed (record { plant = p; nodes = ns }) s) (λ h12. by-end _))))))))))
+    by-test s (λ y u. source-one file z ed s u) 34 (every (nodeParted (p .equations)) ns) (nodes-parted p ns) (λ h34.
+    by-test s (λ y u. source-one file z ed s u) 12 (every (nodeReads ed (length (p .variables))) ns && switchesRead ed p) (reads-is file z ed (record { plant = p; nodes = ns }) s) (λ h12. by-end _)))))))))))
 
 -- ---- 13 and 14, and a run
 module _ (ed : Edition) (file : List ℕ) (z : AllBytes file) where

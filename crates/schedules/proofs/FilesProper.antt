@@ -1,6 +1,6 @@
--- A schedule file is accepted just where it is the written form, within the printed limits, of a schedule that 5, 7, 8 and 10 to 12 have nothing against.
-use mathlib.Core.Path.{_≡_, refl, ap, subst, _∙_}
-use mathlib.Core.Bool.{true, false}
+-- A schedule file is accepted just where it is the written form, within the printed limits, of a schedule that 5, 7, 8, 10 to 12 and 34 have nothing against.
+use mathlib.Core.Path.{_≡_, refl, sym, ap, subst, _∙_}
+use mathlib.Core.Bool.{true, false, not}
 use mathlib.Core.List.{List, _∷_}
 use mathlib.Core.Logic.{_↔_}
 use mathlib.Core.Option.{some}
@@ -10,22 +10,22 @@ use lib.ListN.{length}
 use Rattle.semantics.specs.Bytes.{every, isSome}
 use Rattle.semantics.specs.Editions.{Edition}
 use Rattle.semantics.specs.Refusals.{accepted}
-use Rattle.semantics.specs.Plant.{Plant, selectors, switchesRead}
+use Rattle.semantics.specs.Plant.{Plant, selectors, isDriven, switchesRead}
 use Rattle.semantics.specs.Starts.{Start, startIn, startFits}
 use Rattle.semantics.specs.Conditions.{is20}
 use Rattle.semantics.specs.Writing.{AllBytes, startBytes, StartLimits}
 use Rattle.semantics.specs.Expressions.{numberIn, truthIn}
 use Rattle.semantics.specs.Proper.{IsTruth, IsNumber}
-use Rattle.semantics.proofs.Facts.{and-left, and-right, and-both, All}
+use Rattle.semantics.proofs.Facts.{true-not-false, by-cases, and-left, and-right, and-both, All}
 use Rattle.semantics.proofs.Judging.{go-need, go-ensure, go-then}
-use Rattle.semantics.proofs.ProperForms.{every-is, every-plain, truth-read, number-read, plant-proper, mode-there}
+use Rattle.semantics.proofs.ProperForms.{every-is, every-plain, truth-read, number-read, driven-is, plant-proper, mode-there}
 use Rattle.semantics.proofs.PlantPassed.{plant-passed, plant-accepted}
 use Rattle.semantics.proofs.TablesProper.{tail-bytes}
 use Rattle.semantics.proofs.StartForms as StartForms
-use Rattle.schedules.specs.Nodes.{Node, sequence, parallel, while-do, if-else, continue-until, reset, reinitial, switch-to, stop-all, nodeReads, nodeNamed}
+use Rattle.schedules.specs.Nodes.{Node, sequence, parallel, while-do, if-else, continue-until, reset, reinitial, switch-to, stop-all, nodeReads, nodeNamed, nodeParted}
 use Rattle.schedules.specs.Files.{Schedule, judgeFileSections, judgeFile}
 use Rattle.schedules.specs.Writing.{nodeBytes, NodeLimits}
-use Rattle.schedules.specs.Proper.{NamedNode, ReadNode, ScheduleWritten}
+use Rattle.schedules.specs.Proper.{NamedNode, PartedNode, ReadNode, ScheduleWritten}
 use Rattle.schedules.proofs.FirstNumber.{file-in-order, nodes-in-order, passed}
 use Rattle.schedules.proofs.OneTree.{one-tree}
 use Rattle.schedules.proofs.FileForms.{payload-bytes, schedule-bytes, sections-written}
@@ -57,6 +57,29 @@ module _ (p : Plant) where
 
   pub nodes-named : (ns : List Node) → (every (nodeNamed n (selectors p)) ns ≡ true) ↔ All (NamedNode p) ns
   nodes-named ns = every-plain (nodeNamed n (selectors p)) (λ x. (named-there x, named-here x)) ns
+
+  -- ---- 34
+  parted-there : (x : Node) → nodeParted (p .equations) x ≡ true → PartedNode p x
+  unfolding nodeParted
+  parted-there x h = record {
+    resets = λ v e q d. true-not-false (sym (subst (λ x. nodeParted (p .equations) x ≡ true) q h) ∙ ap not ((driven-is (p .equations) v) .1 d));
+    reinitials = λ v e q. (driven-is (p .equations) v) .0 (subst (λ x. nodeParted (p .equations) x ≡ true) q h);
+  }
+
+  parted-here : (x : Node) → PartedNode p x → nodeParted (p .equations) x ≡ true
+  unfolding nodeParted
+  parted-here (sequence k) h = refl
+  parted-here (parallel k) h = refl
+  parted-here (while-do t) h = refl
+  parted-here (if-else t) h = refl
+  parted-here (continue-until t) h = refl
+  parted-here (reset v e) h = by-cases (isDriven (p .equations) v) (λ d. absurd (h .resets v e refl ((driven-is (p .equations) v) .0 d))) (λ d. ap not d)
+  parted-here (reinitial v e) h = (driven-is (p .equations) v) .1 (h .reinitials v e refl)
+  parted-here (switch-to s m) h = refl
+  parted-here stop-all h = refl
+
+  pub nodes-parted : (ns : List Node) → (every (nodeParted (p .equations)) ns ≡ true) ↔ All (PartedNode p) ns
+  nodes-parted ns = every-plain (nodeParted (p .equations)) (λ x. (parted-there x, parted-here x)) ns
 
   -- ---- 12
   module _ (ed : Edition) where
@@ -124,6 +147,7 @@ module _ (ed : Edition) (file : List ℕ) (s : Schedule) where
               (record { is-ordered = j .in-order; named = j .named; once = j .once; reads = and-right (every (nodeReads ed v) (s .nodes)) (switchesRead ed p) (g .reads) });
           tree = (one-tree (s .nodes) (s .root)) .0 (g .tree);
           named = (nodes-named p (s .nodes)) .0 (g .named);
+          parted = (nodes-parted p (s .nodes)) .0 (g .parted);
           read = (nodes-read p ed (l .nodes .each)) .0 (and-left (every (nodeReads ed v) (s .nodes)) (switchesRead ed p) (g .reads));
         };
       }
@@ -150,6 +174,7 @@ module _ (ed : Edition) (file : List ℕ) (s : Schedule) where
             ∙ go-need 10 _ ((one-tree (s .nodes) (s .root)) .1 (h .proper .tree))
             ∙ nodes-in-order ed p (s .nodes) _
             ∙ go-ensure 11 _ ((nodes-named p (s .nodes)) .1 (h .proper .named))
+            ∙ go-ensure 34 _ ((nodes-parted p (s .nodes)) .1 (h .proper .parted))
             ∙ go-ensure 12 _ (and-both ((nodes-read p ed (l .nodes .each)) .1 (h .proper .read)) (k .reads))
             ∙ rw (same, ← h .sections) refl,
       )

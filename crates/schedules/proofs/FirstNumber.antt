@@ -16,13 +16,13 @@ use Rattle.semantics.specs.Conditions.{Condition, _if_, is4, is5, is6, is7, is8
 use Rattle.semantics.proofs.Judging as Judging
 use Rattle.semantics.proofs.FirstNumber.{Firsts, by-ensure, by-need, by-then, by-map, by-end, given-some, bind-some, plant-first, plant-in, run-first}
 use Rattle.schedules.specs.FileSections.{FileSections, fileSectionsIn}
-use Rattle.schedules.specs.Nodes.{Node, nodesIn, nodeNamed, nodeReads}
+use Rattle.schedules.specs.Nodes.{Node, nodesIn, nodeNamed, nodeParted, nodeReads}
 use Rattle.schedules.specs.Trees.{treeOf}
 use Rattle.schedules.specs.Residuals.{Residual}
 use Rattle.schedules.specs.Files.{Schedule, judgeNodes, judgeFileSections, judgeFileLayout, judgeFile, fileHeader, fileLength}
 use Rattle.schedules.specs.Compiling.{scheduleLocations, tableOf, judgeCompile, judgeTableOf}
 use Rattle.schedules.specs.Calls.{ruleProgram, scheduleCounts, compiledInto}
-use Rattle.schedules.specs.Conditions.{fileParts, filePlant, fileNodes, fileTree, fileSchedule, is1, is2, is3, ofPlant, is9, is10, is11, is12, is13, is14, fileConditions, compileConditions, ruleRunConditions}
+use Rattle.schedules.specs.Conditions.{fileParts, filePlant, fileNodes, fileTree, fileSchedule, is1, is2, is3, ofPlant, is9, is10, is11, is34, is12, is13, is14, fileConditions, compileConditions, ruleRunConditions}
 
 -- 1 to 3, as a call goes through them
 pub file-in-order : (ed : Edition) (file : List ℕ) →
@@ -31,11 +31,13 @@ unfolding judgeFile judgeFileLayout
 file-in-order ed file =
     Judging.ensure-then 1 _ _ (judgeFileSections ed) ∙ ap (λ j. ensure 1 (fileHeader ed file) >> j) (Judging.ensure-then 2 _ _ (judgeFileSections ed))
 
--- 11 and 12, as a call goes through them
+-- 11, 34 and 12, as a call goes through them
 pub nodes-in-order : {A : Type 0} (ed : Edition) (p : Plant) (ns : List Node) (j : Judged A) →
-    (judgeNodes ed p ns >> j) ≡ (ensure 11 (every (nodeNamed (length (p .variables)) (selectors p)) ns) >> (ensure 12 (every (nodeReads ed (length (p .variables))) ns && switchesRead ed p) >> j))
+    (judgeNodes ed p ns >> j) ≡ (ensure 11 (every (nodeNamed (length (p .variables)) (selectors p)) ns) >> (ensure 34 (every (nodeParted (p .equations)) ns) >>
+    (ensure 12 (every (nodeReads ed (length (p .variables))) ns && switchesRead ed p) >> j)))
 unfolding judgeNodes
-nodes-in-order ed p ns j = Judging.then-after _ _ j
+nodes-in-order ed p ns j =
+    Judging.then-after _ _ j ∙ ap (λ i. ensure 11 (every (nodeNamed (length (p .variables)) (selectors p)) ns) >> i) (Judging.then-after _ _ j)
 
 as-judged : {A : Type 0} {i j : Judged A} {l : List Condition} → i ≡ j → Firsts j l → Firsts i l
 as-judged {l = l} e f = subst (λ i. Firsts i l) (sym e) f
@@ -53,7 +55,7 @@ module _ (ed : Edition) (file : List ℕ) where
   of-plant e f = rw (of-parts e is4, of-parts e is5, of-parts e is6, of-parts e is7, of-parts e is8) f
 
   pub file-first : Firsts (judgeFile ed file) (fileConditions ed file)
-  unfolding judgeFileSections fileConditions is1 is2 is3 is9 is10 is11 is12 fileNodes filePlant fileParts
+  unfolding judgeFileSections fileConditions is1 is2 is3 is9 is10 is11 is34 is12 fileNodes filePlant fileParts
   file-first = as-judged (file-in-order ed file) (
       by-ensure 1 (fileHeader ed file) refl (λ h1.
       by-ensure 2 (fileLength file) refl (λ h2.
@@ -65,7 +67,8 @@ module _ (ed : Edition) (file : List ℕ) where
       by-need 10 (treeOf ns) (given-some _ n) (λ t g.
       as-judged (nodes-in-order ed p ns _) (
       by-ensure 11 (every (nodeNamed (length (p .variables)) (selectors p)) ns) (given-some _ q ∙ given-some _ n) (λ h11.
-      by-ensure 12 (every (nodeReads ed (length (p .variables))) ns && switchesRead ed p) (given-some _ q ∙ given-some _ n) (λ h12. by-end _)))))))))))
+      by-ensure 34 (every (nodeParted (p .equations)) ns) (given-some _ q ∙ given-some _ n) (λ h34.
+      by-ensure 12 (every (nodeReads ed (length (p .variables))) ns && switchesRead ed p) (given-some _ q ∙ given-some _ n) (λ h12. by-end _))))))))))))
 
 -- an accepted file: its parts, and the conditions that they passed
 pub record Passed (ed : Edition) (file : List ℕ) (s : Schedule) : Type 0 where
@@ -76,6 +79,7 @@ pub record Passed (ed : Edition) (file : List ℕ) (s : Schedule) : Type 0 where
   pub nodes : nodesIn ed (s .sections .schedule) ≡ some (s .nodes)
   pub tree : treeOf (s .nodes) ≡ some (s .root)
   pub named : every (nodeNamed (length (s .plant .variables)) (selectors (s .plant))) (s .nodes) ≡ true
+  pub parted : every (nodeParted (s .plant .equations)) (s .nodes) ≡ true
   pub reads : (every (nodeReads ed (length (s .plant .variables))) (s .nodes) && switchesRead ed (s .plant)) ≡ true
 
 pub passed : (ed : Edition) (file : List ℕ) (s : Schedule) → judgeFile ed file ≡ accepted s → Passed ed file s
@@ -88,7 +92,8 @@ passed ed file s h =
     let f = Judging.passed-need 9 (nodesIn ed (c .0 .schedule)) _ (d .2) in
     let g = Judging.passed-need 10 (treeOf (f .0)) _ (f .2) in
     let i = Judging.passed-ensure 11 _ _ (sym (nodes-in-order ed (d .0) (f .0) _) ∙ g .2) in
-    let j = Judging.passed-ensure 12 _ _ (i .1) in
+    let k = Judging.passed-ensure 34 _ _ (i .1) in
+    let j = Judging.passed-ensure 12 _ _ (k .1) in
     subst (Passed ed file) (Judging.accepted-is (j .1)) (record {
       header = a .0;
       own-length = b .0;
@@ -97,6 +102,7 @@ passed ed file s h =
       nodes = f .1;
       tree = g .1;
       named = i .0;
+      parted = k .0;
       reads = j .0;
     })
 

@@ -21,11 +21,12 @@ use Rattle.schedules.specs.Compiling.{testsOf, scheduleLocations, entryO
 use Rattle.schedules.specs.Calls.{scheduleCounts, readSchedule, Sized, tooMany, cap, sizeTold, sizeCounts, size, compiledInto, compile}
 use Rattle.schedules.specs.Conditions.{compileConditions}
 use Rattle.schedules.specs.Sizes.{Size, sizeOf}
+use Rattle.semantics.proofs.FirstNumber.{first-not}
 use Rattle.schedules.proofs.FirstNumber.{passed, compile-first}
 use Rattle.schedules.proofs.Counting.{total}
 use Rattle.schedules.proofs.LocationCount.{entriesAt, locations-counted, few-locations, refused-13-by-size}
 use Rattle.schedules.proofs.TableAgrees.{tableFor}
-use Rattle.schedules.proofs.Agreement.{first-not-0, never-0, compile-taken, table-judged}
+use Rattle.schedules.proofs.Agreement.{never-0, compile-taken, table-judged}
 
 -- ---- what is told of a size
 pub told-exact : (a : Size) → leb (a .locations) locationLimit ≡ true → sizeTold a ≡ record { refusal = 0; locations = a .locations; entries = a .entries }
@@ -127,7 +128,7 @@ size-of-table ed file room = go (judgeCompile ed file room) refl (compile-first 
     go : (j : Judged (List ℕ)) → judgeCompile ed file room ≡ j → Firsts j (compileConditions ed file room) → (compiledInto room j) .refusal ≡ 0 →
         (t : Table) × (judgeTable ed (take ((compiledInto room j) .written) ((compiledInto room j) .table)) ≡ accepted t) ×
         (size ed file ≡ record { refusal = 0; locations = length (t .locations); entries = length (flatten (t .locations)) })
-    go (refused n) e (refuses f) z = absurd (first-not-0 (never-0 ed file room) f z)
+    go (refused n) e (refuses f) z = absurd (first-not (never-0 ed file room) f z)
     go (accepted t) e f z =
         let k = compile-taken ed file room e in
         let b = subst (λ (x : List ℕ). judgeTable ed x ≡ accepted (tableFor (k .of))) (k .is-table) (table-judged ed file (k .of) (k .of-file) (k .few)) in

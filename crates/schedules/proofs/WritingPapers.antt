@@ -13,13 +13,13 @@ use Rattle.semantics.specs.Run.{assign, wait}
 use Rattle.semantics.specs.Writing.{writeTable, startBytes}
 use Rattle.semantics.specs.Conditions.{given, is20}
 use Rattle.semantics.specs.K1.{k1-file, k1-table}
-use Rattle.schedules.specs.Nodes.{sequence, if-else, continue-until, reset, reinitial, switch-to, stop-all}
+use Rattle.schedules.specs.Nodes.{sequence, if-else, continue-until, reinitial, switch-to, stop-all}
 use Rattle.schedules.specs.Calls.{readSchedule}
 use Rattle.schedules.specs.Writing.{writeFile}
 use Rattle.schedules.specs.Examples.{case-file}
 use Rattle.schedules.proofs.Computes.{schedules}
 
--- ---- K1: variable 0 in 0..10 with rate 1; SEQUENCE of RESET variable 0 to variable 0 + 1; CONTINUE UNTIL 3 ≤ variable 0
+-- ---- K1: variable 0 in 0..10 with rate 1; SEQUENCE of REINITIAL variable 0 to variable 0 + 1; CONTINUE UNTIL 3 ≤ variable 0
 abbrev k1-plant : Plant
 k1-plant = record { variables = record { minimum = pos 0; maximum = pos 10; initial = pos 0 } ∷ []; equations = steady (record { driven = 0; rate = pos 1 }) ∷ [] }
 
@@ -29,7 +29,7 @@ one-more = numberBytes edition1 (operate sum (variable 0) (constant (pos 1)))
 abbrev three-reached : List ℕ
 three-reached = truthBytes edition1 (compare at-most (constant (pos 3)) (variable 0))
 
-pub k1-file-written : k1-file ≡ writeFile edition1 k1-plant (sequence 2 ∷ reset 0 one-more ∷ continue-until three-reached ∷ [])
+pub k1-file-written : k1-file ≡ writeFile edition1 k1-plant (sequence 2 ∷ reinitial 0 one-more ∷ continue-until three-reached ∷ [])
 unfolding schedules k1-file
 k1-file-written = refl
 

@@ -1,4 +1,4 @@
--- Document 01, "When a file, table or event is turned away": 1 to 14 in their order, each as a test of the file alone. They serve proofs.
+-- Document 01, "When a file, table or event is turned away": 1 to 14 in their order, with 34 of document 02, item 3, each as a test of the file alone. They serve proofs.
 -- What a number says as a proposition is in Sentences.
 use mathlib.Core.Bool.{Bool, not, _&&_}
 use mathlib.Core.List.{List, [], _∷_, _++_}
@@ -12,7 +12,7 @@ use Rattle.semantics.specs.Plant.{Plant, selectors, switchesRead}
 use Rattle.semantics.specs.TableFile.{locationLimit}
 use Rattle.semantics.specs.Conditions.{Condition, _if_, given, is4, is5, is6, is7, is8, plantIn, runConditions}
 use Rattle.schedules.specs.FileSections.{FileSections, fileSectionsIn}
-use Rattle.schedules.specs.Nodes.{Node, nodesIn, nodeNamed, nodeReads}
+use Rattle.schedules.specs.Nodes.{Node, nodesIn, nodeNamed, nodeParted, nodeReads}
 use Rattle.schedules.specs.Trees.{Tree, treeOf}
 use Rattle.schedules.specs.Files.{Schedule, fileHeader, fileLength}
 use Rattle.schedules.specs.Compiling.{scheduleLocations, tableOf}
@@ -64,6 +64,10 @@ module _ (ed : Edition) (file : List ℕ) where
   unfoldable pub is11 : Bool
   is11 = given filePlant (λ p. given fileNodes (λ ns. not (every (nodeNamed (length (p .variables)) (selectors p)) ns)))
 
+  -- 34: "RESET belongs to variables that no equation drives, REINITIAL to driven ones. .. a node that breaks it"
+  unfoldable pub is34 : Bool
+  is34 = given filePlant (λ p. given fileNodes (λ ns. not (every (nodeParted (p .equations)) ns)))
+
   -- 12: "A truth or number is cut, overlong, too deep, of the wrong sort, has an unknown code or names a missing variable."
   unfoldable pub is12 : Bool
   is12 = given filePlant (λ p. given fileNodes (λ ns. not (every (nodeReads ed (length (p .variables))) ns && switchesRead ed p)))
@@ -80,12 +84,12 @@ module _ (ed : Edition) (file : List ℕ) where
   unfoldable pub fileConditions : List Condition
   fileConditions =
       (1 if is1) ∷ (2 if is2) ∷ (3 if is3) ∷ (4 if ofPlant is4) ∷ (5 if ofPlant is5) ∷ (6 if ofPlant is6) ∷ (7 if ofPlant is7) ∷ (8 if ofPlant is8) ∷
-      (9 if is9) ∷ (10 if is10) ∷ (11 if is11) ∷ (12 if is12) ∷ []
+      (9 if is9) ∷ (10 if is10) ∷ (11 if is11) ∷ (34 if is34) ∷ (12 if is12) ∷ []
 
-  -- "Compiling checks 1..14"
+  -- "Compiling checks 1..14", and 34 with 11
   unfoldable pub compileConditions : List ℕ → List Condition
   compileConditions buffer = fileConditions ++ ((13 if is13) ∷ (14 if is14 buffer) ∷ [])
 
-  -- "the rule run 1..12 and 20..22"
+  -- "the rule run 1..12 and 20..22", and 34 with 11
   unfoldable pub ruleRunConditions : List ℕ → List ℕ → List ℕ → List Condition
   ruleRunConditions start events buffer = fileConditions ++ runConditions ed filePlant start events buffer

@@ -1,4 +1,4 @@
--- Document 01, "Schedule file": conditions 1 to 12, and the control of a schedule.
+-- Document 01, "Schedule file": conditions 1 to 12 and 34, and the control of a schedule.
 use mathlib.Core.Bool.{Bool, _&&_}
 use mathlib.Core.List.{List}
 use Prim.Native.Nat.{ℕ}
@@ -10,7 +10,7 @@ use Rattle.semantics.specs.Refusals.{Judged, accepted, _>>=_, _>>_, ensure, nee
 use Rattle.semantics.specs.Plant.{Plant, judgePlant, switchesRead, selectors}
 use Rattle.semantics.specs.Run.{Control}
 use Rattle.schedules.specs.FileSections.{FileSections, fileSectionsIn}
-use Rattle.schedules.specs.Nodes.{Node, nodesIn, nodeNamed, nodeReads, nodeAction}
+use Rattle.schedules.specs.Nodes.{Node, nodesIn, nodeNamed, nodeParted, nodeReads, nodeAction}
 use Rattle.schedules.specs.Trees.{Tree, treeOf}
 use Rattle.schedules.specs.Residuals.{Residual, fresh, acting, move}
 
@@ -28,10 +28,11 @@ fileHeader ed f = leb 3 (length f) && eqb (getD f 0 0) (ed .version)
 unfoldable pub fileLength : List ℕ → Bool
 fileLength f = eqb (be2 (getD f 1 0) (getD f 2 0)) (length f)
 
--- 11 of the nodes; 12 of the nodes and of the plant's switches
+-- 11 of the nodes; 34 of the nodes, "directly after 11"; 12 of the nodes and of the plant's switches
 unfoldable pub judgeNodes : Edition → Plant → List Node → Judged (Unit {0})
 judgeNodes ed p ns = do
   ensure 11 (every (nodeNamed (length (p .variables)) (selectors p)) ns)
+  ensure 34 (every (nodeParted (p .equations)) ns)
   ensure 12 (every (nodeReads ed (length (p .variables))) ns && switchesRead ed p)
 
 -- 9 and 10: the nodes of a section, and the tree of nodes
@@ -41,7 +42,7 @@ judgeNodeSection ed s = need 9 (nodesIn ed s)
 abbrev pub judgeTree : List Node → Judged Tree
 judgeTree ns = need 10 (treeOf ns)
 
--- 4 to 12, of the three sections
+-- 4 to 11, 34 and 12, of the three sections
 unfoldable pub judgeFileSections : Edition → FileSections → Judged Schedule
 judgeFileSections ed parts = do
   -- 4 to 8

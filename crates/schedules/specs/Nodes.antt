@@ -1,5 +1,5 @@
--- Document 01, "Schedule file": the schedule section. Conditions 9 and 11, and 12 of the nodes.
-use mathlib.Core.Bool.{Bool, true, cond}
+-- Document 01, "Schedule file": the schedule section. Conditions 9, 11 and 34, and 12 of the nodes.
+use mathlib.Core.Bool.{Bool, true, not, cond}
 use mathlib.Core.List.{List, [], _∷_}
 use mathlib.Core.Option.{Option, none, some, bind}
 use Prim.Native.Nat.{ℕ, suc, _-_}
@@ -8,8 +8,8 @@ use lib.ListN.{getElem?}
 use Rattle.semantics.specs.Bytes.{isSome, within, Reader, _>>=_, guard, from, byte, number, bytes, times, whole, noBytes, twoBytes, byteAndRest}
 use Rattle.semantics.specs.Editions.{Edition}
 use Rattle.semantics.specs.Expressions.{numberIn, truthIn}
-use Rattle.semantics.specs.Sections.{Selector}
-use Rattle.semantics.specs.Plant.{modeExists}
+use Rattle.semantics.specs.Sections.{Selector, Equation}
+use Rattle.semantics.specs.Plant.{modeExists, isDriven}
 use Rattle.semantics.specs.Run.{Action, test, wait, assign, switch, stop}
 use Rattle.semantics.specs.TableFile.{NodeAction}
 
@@ -94,6 +94,18 @@ nodeNamed variables cs (reset v e) = ltb v variables
 nodeNamed variables cs (reinitial v e) = ltb v variables
 nodeNamed variables cs (switch-to s m) = modeExists cs s m
 nodeNamed variables cs stop-all = true
+
+-- Document 02, item 3, 34: "RESET belongs to variables that no equation drives, REINITIAL to driven ones.", in a plant with these equations
+unfoldable pub nodeParted : List Equation → Node → Bool
+nodeParted es (sequence k) = true
+nodeParted es (parallel k) = true
+nodeParted es (while-do t) = true
+nodeParted es (if-else t) = true
+nodeParted es (continue-until t) = true
+nodeParted es (reset v e) = not (isDriven es v)
+nodeParted es (reinitial v e) = isDriven es v
+nodeParted es (switch-to s m) = true
+nodeParted es stop-all = true
 
 -- what a node of kinds 3 to 9 does; "Kinds 6 and 7 both assign."
 unfoldable pub actionOf : Node → Option Action

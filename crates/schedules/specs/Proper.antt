@@ -1,4 +1,4 @@
--- Document 01, "When a file, table or event is turned away": what 10, 11 and 12 ask of the nodes that were read, as relations; and what an accepted file is.
+-- Document 01, "When a file, table or event is turned away": what 10, 11, 34 and 12 ask of the nodes that were read, as relations; and what an accepted file is.
 use mathlib.Core.Path.{_≡_}
 use mathlib.Core.List.{List}
 use Prim.Native.Nat.{ℕ, _<_}
@@ -6,7 +6,7 @@ use lib.ListN.{length}
 use Rattle.semantics.specs.Bytes.{All}
 use Rattle.semantics.specs.Editions.{Edition}
 use Rattle.semantics.specs.Plant.{Plant, selectors}
-use Rattle.semantics.specs.Proper.{IsTruth, IsNumber, ModeThere, ProperPlant}
+use Rattle.semantics.specs.Proper.{IsTruth, IsNumber, ModeThere, Driven, ProperPlant}
 use Rattle.schedules.specs.Nodes.{Node, while-do, if-else, continue-until, reset, reinitial, switch-to}
 use Rattle.schedules.specs.Trees.{Tree}
 use Rattle.schedules.specs.Preorder.{Written}
@@ -19,6 +19,11 @@ pub record NamedNode (p : Plant) (x : Node) : Type 0 where
   pub resets : (v : ℕ) (e : List ℕ) → x ≡ reset v e → v < length (p .variables)
   pub reinitials : (v : ℕ) (e : List ℕ) → x ≡ reinitial v e → v < length (p .variables)
   pub switches : (s m : ℕ) → x ≡ switch-to s m → ModeThere (selectors p) s m
+
+-- ---- document 02, item 3, 34: "RESET belongs to variables that no equation drives, REINITIAL to driven ones."
+pub record PartedNode (p : Plant) (x : Node) : Type 0 where
+  pub resets : (v : ℕ) (e : List ℕ) → x ≡ reset v e → Driven (p .equations) v → ⊥
+  pub reinitials : (v : ℕ) (e : List ℕ) → x ≡ reinitial v e → Driven (p .equations) v
 
 -- ---- 12, of a node
 pub record ReadNode (ed : Edition) (p : Plant) (x : Node) : Type 0 where
@@ -34,6 +39,7 @@ pub record ProperSchedule (ed : Edition) (p : Plant) (ns : List Node) (root : Tr
   pub plant : ProperPlant ed p
   pub tree : Written root 0 ns
   pub named : All (NamedNode p) ns
+  pub parted : All (PartedNode p) ns
   pub read : All (ReadNode ed p) ns
 
 -- what an accepted file is: the written form of its schedule, within the printed limits

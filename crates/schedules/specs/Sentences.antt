@@ -1,4 +1,4 @@
--- Document 01, "When a file, table or event is turned away": 1 to 14 in their order, each with its sentence as a proposition about the file, as in semantics' Sentences.
+-- Document 01, "When a file, table or event is turned away": 1 to 14 in their order, with 34 of document 02, item 3, each with its sentence as a proposition about the file, as in semantics' Sentences.
 use mathlib.Core.Path.{_≡_}
 use mathlib.Core.List.{List, [], _∷_, _++_}
 use Prim.Native.Nat.{ℕ, _≤_}
@@ -15,7 +15,7 @@ use Rattle.schedules.specs.Trees.{Tree}
 use Rattle.schedules.specs.Preorder.{Written}
 use Rattle.schedules.specs.Files.{Schedule}
 use Rattle.schedules.specs.Writing.{writeSections, SectionsLimits, writeNodes, NodesLimits}
-use Rattle.schedules.specs.Proper.{NamedNode, ReadNode, ScheduleWritten}
+use Rattle.schedules.specs.Proper.{NamedNode, PartedNode, ReadNode, ScheduleWritten}
 use Rattle.schedules.specs.Agreement.{TooMany}
 use Rattle.schedules.specs.TableSizes.{tableLength}
 
@@ -28,7 +28,7 @@ pub record FileHead : Type 0 where
 pub data HeadOfFile : List ℕ → FileHead → Type 0 where
   three-bytes : {v a b : ℕ} {s : List ℕ} → HeadOfFile (v ∷ a ∷ b ∷ s) (record { version = v; length-field = be2 a b; rest = s })
 
--- what 11 and 12 speak of
+-- what 11, 34 and 12 speak of
 pub record FileSource : Type 0 where
   pub plant : Plant
   pub nodes : List Node
@@ -85,15 +85,19 @@ module _ (ed : Edition) (file : List ℕ) where
   abbrev pub Sentence11 : Type 0
   Sentence11 = Fails FileSourceThere (λ x. All (NamedNode (x .plant)) (x .nodes))
 
+  -- 34: "RESET belongs to variables that no equation drives, REINITIAL to driven ones. .. a node that breaks it"
+  abbrev pub Sentence34 : Type 0
+  Sentence34 = Fails FileSourceThere (λ x. All (PartedNode (x .plant)) (x .nodes))
+
   -- 12: "A truth or number is cut, overlong, too deep, of the wrong sort, has an unknown code or names a missing variable."
   abbrev pub Sentence12 : Type 0
   Sentence12 = Fails FileSourceThere (AllRead ed)
 
-  -- reading a schedule; 4 to 8 are those of its first two sections
+  -- reading a schedule; 4 to 8 are those of its first two sections; "34, directly after 11"
   abbrev pub fileClauses : List Clause
   fileClauses =
       (1 when Sentence1) ∷ (2 when Sentence2) ∷ (3 when Sentence3) ∷ (plantClauses (PlantSectionsOfFile file) ++
-      ((9 when Sentence9) ∷ (10 when Sentence10) ∷ (11 when Sentence11) ∷ (12 when Sentence12) ∷ []))
+      ((9 when Sentence9) ∷ (10 when Sentence10) ∷ (11 when Sentence11) ∷ (34 when Sentence34) ∷ (12 when Sentence12) ∷ []))
 
   -- 13: "There are over 1,024 locations."
   abbrev pub Sentence13 : Type 0
@@ -103,7 +107,7 @@ module _ (ed : Edition) (file : List ℕ) where
   abbrev pub Sentence14 : List ℕ → Type 0
   Sentence14 buffer = Fails (ScheduleWritten ed file) (λ s. tableLength ed s ≤ length buffer)
 
-  -- "Compiling checks 1..14"
+  -- "Compiling checks 1..14", and 34 with 11
   abbrev pub compileClauses : List ℕ → List Clause
   compileClauses buffer = fileClauses ++ ((13 when Sentence13) ∷ (14 when Sentence14 buffer) ∷ [])
 
@@ -111,6 +115,6 @@ module _ (ed : Edition) (file : List ℕ) where
   pub data FilePlant : Plant → Type 0 where
     file-plant : {s : Schedule} → ScheduleWritten ed file s → FilePlant (s .plant)
 
-  -- "the rule run 1..12 and 20..22"
+  -- "the rule run 1..12 and 20..22", and 34 with 11
   abbrev pub ruleRunClauses : List ℕ → List ℕ → List ℕ → List Clause
   ruleRunClauses start events buffer = fileClauses ++ runClauses ed FilePlant start events buffer

@@ -20,13 +20,13 @@ use Rattle.semantics.specs.Rules.{at-start, stands-at, Sound}
 use Rattle.semantics.specs.TableFile.{NodeAction, Entry, FINISHED, HALTED, NONE, locationLimit, readLocation, locationsIn}
 use Rattle.semantics.specs.Tables.{Table, judgeTable, operandFits, operandsFit, actionsNumbered, actionsFit, actionAt, actionOrStop, goesOn, targetsFit, entryFits, entryNodes, locationFits, locationsFit, risingFrom, goingTo, entryTarget, entryNext, entriesAt, tableControl}
 use Rattle.semantics.specs.Calls.{Program, Outcome, outcomeOf, runFrom, judgeAdmission, judgeRun, report, eventCount, recordSize, roomForRecords, tableProgram, tableRun, tableCounts, readTable}
-use Rattle.semantics.specs.Conditions.{Condition, First, here, further, Firsts, refuses, accepts, tableConditions, runConditions, tableRunConditions}
+use Rattle.semantics.specs.Conditions.{Condition, here, Firsts, refuses, accepts, tableConditions, runConditions, tableRunConditions}
 use Rattle.semantics.specs.Statements.{RunHolds}
 use Rattle.semantics.proofs.Facts.{true-not-false, and-left, and-right, within-high, All, all-nil, all-cons, all-mem, every-all}
 use Rattle.semantics.proofs.Judging as Judging
 use Rattle.semantics.proofs.Admission.{Admits, admission-passed}
 use Rattle.semantics.proofs.Readers as Readers
-use Rattle.semantics.proofs.FirstNumber.{table-run-first, ran-refusal}
+use Rattle.semantics.proofs.FirstNumber.{lacks, first-not, table-run-first, ran-refusal}
 use Rattle.semantics.proofs.Halting.{Fitting, fits-on, fits-end, fits-halt, fitting-moves, fitting-halts}
 use Rattle.semantics.proofs.OneRate.{one-rate}
 use Rattle.semantics.proofs.EventsCut.{events-length}
@@ -195,11 +195,7 @@ module _ (ed : Edition) (table : List ℕ) (t : Table) (h : judgeTable ed table 
 -- no condition has the number 0, so a call that returns 0 has accepted
 pub accepted-of : {A : Type 0} {j : Judged A} {l : List Condition} → Firsts j l → All (λ (c : Condition). c .refusal ≡ 0 → ⊥) l → refusalOf j ≡ 0 → (a : A) × (j ≡ accepted a)
 unfolding refusalOf
-accepted-of (refuses f) h z = absurd (go f h z)
-  where
-    go : {n : ℕ} {l : List Condition} → First n l → All (λ (c : Condition). c .refusal ≡ 0 → ⊥) l → n ≡ 0 → ⊥
-    go (here e f) (all-cons h k) z = h (f ∙ z)
-    go (further e f) (all-cons h k) z = go f k z
+accepted-of (refuses f) h z = absurd (first-not h f z)
 accepted-of (accepts {a = a} c) h z = (a, refl)
 
 -- as many values and modes as the plant has
@@ -258,12 +254,8 @@ module _ {S : Type 0} (ed : Edition) (p : Plant) (c : Control S) (sound : Sound 
       RunHolds ed p c start events buffer (report buffer (accepted (outcomeOf ed (g .control) (runFrom ed g st events))))) e (run-holds st) (a .starts .is-read) (a .room))
 
 table-numbers : (ed : Edition) (table start events buffer : List ℕ) → All (λ (c : Condition). c .refusal ≡ 0 → ⊥) (tableRunConditions ed table start events buffer)
-unfolding tableRunConditions tableConditions runConditions
-table-numbers ed table start events buffer =
-    all-cons (no 14) (all-cons (no 15) (all-cons (no 16) (all-cons (no 17) (all-cons (no 18) (all-cons (no 19) (all-cons (no 20) (all-cons (no 21) all-nil)))))))
-  where
-    no : (n : ℕ) → suc n ≡ 0 → ⊥
-    no n e = omega arith
+unfolding every tableRunConditions tableConditions runConditions
+table-numbers ed table start events buffer = lacks 0 (tableRunConditions ed table start events buffer) refl
 
 pub table-run-holds : (ed : Edition) (table start events buffer : List ℕ) → (tableRun ed table start events buffer) .refusal ≡ 0 →
     (t : Table) × (judgeTable ed table ≡ accepted t) × RunHolds ed (t .plant) (tableControl t) start events buffer (tableRun ed table start events buffer)

@@ -30,7 +30,7 @@ unfolding Sections.readVariable Sections.readVariables Sections.variablesIn Sect
 sections = tt
 
 unfoldable pub plant : Unit {0}
-unfolding Plant.ordered Plant.rateNamed Plant.switchNamed Plant.modeNamed Plant.equationNamed Plant.among Plant.apart Plant.onceAfter Plant.ratesDrive Plant.modeDrives Plant.drives Plant.modeOnce Plant.modesOnce Plant.drivenOnce Plant.switchReads Plant.modeReads Plant.equationReads Plant.switchesRead Plant.judgeVariables Plant.judgeEquations Plant.judgePlant Plant.selectorsOf Plant.selectors Plant.modeExists Plant.currentOf Plant.currentModes Plant.switchTruths Plant.currentTruths Plant.ratesOf Plant.rateAmong Plant.rateOf Plant.declared Plant.declaredAt Plant.stored Plant.allDeclared Plant.added Plant.advance
+unfolding Plant.ordered Plant.rateNamed Plant.switchNamed Plant.modeNamed Plant.equationNamed Plant.among Plant.apart Plant.onceAfter Plant.ratesDrive Plant.modeDrives Plant.drives Plant.modeOnce Plant.modesOnce Plant.drivenOnce Plant.isDriven Plant.switchReads Plant.modeReads Plant.equationReads Plant.switchesRead Plant.judgeVariables Plant.judgeEquations Plant.judgePlant Plant.selectorsOf Plant.selectors Plant.modeExists Plant.currentOf Plant.currentModes Plant.switchTruths Plant.currentTruths Plant.ratesOf Plant.rateAmong Plant.rateOf Plant.declared Plant.declaredAt Plant.stored Plant.allDeclared Plant.added Plant.advance
 plant = tt
 
 unfoldable pub events : Unit {0}

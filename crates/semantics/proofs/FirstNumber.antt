@@ -1,9 +1,11 @@
 -- A call refuses with the first number of its list that applies, and accepts where none does.
-use mathlib.Core.Path.{_≡_, refl, ap, _∙_}
+use mathlib.Core.Path.{_≡_, refl, sym, ap, _∙_}
 use mathlib.Core.Bool.{Bool, true, false, not, _||_}
 use mathlib.Core.List.{List, [], _∷_, _++_}
 use mathlib.Core.Option.{Option, none, some, bind}
 use Prim.Native.Nat.{ℕ}
+use borrow.Author.Tests.{eq-eqb}
+use lib.Dec.{eqb}
 use lib.ListN.{length, drop}
 use Rattle.semantics.specs.Bytes.{every, isSome}
 use Rattle.semantics.specs.Editions.{Edition}
@@ -16,6 +18,7 @@ use Rattle.semantics.specs.Starts.{startIn, startFits}
 use Rattle.semantics.specs.Calls.{Program, Outcome, report, tableCounts, judgeStart, judgeAdmission, judgeRun, tableProgram, wholeEvents, roomForRecords}
 use Rattle.semantics.specs.Conditions.{Condition, _if_, anyApplies, given, is4, is5, is6, is7, is8, is12Switches, plantConditions, plantIn, tableParts, tablePlant, is15, is16, is17, is18, is19, tableConditions, is20, is21, is22, runConditions, tableRunConditions}
 pub use Rattle.semantics.specs.Conditions.{First, here, further, Clear, none-left, one-clear, Firsts, refuses, accepts}
+use Rattle.semantics.proofs.Facts.{true-not-false, every-all, All, all-cons, all-map}
 use Rattle.semantics.proofs.Judging
 use Rattle.semantics.proofs.PlantPassed.{variables-passed, equations-passed, plant-passed}
 use Rattle.semantics.proofs.TablePassed.{table-passed}
@@ -43,6 +46,14 @@ by-need n (some a) {b} e f = after e (f a refl)
     after : {B : Type 0} {j : Judged B} {l : List Condition} → b ≡ false → Firsts j l → Firsts j ((n if b) ∷ l)
     after e (refuses g) = refuses (further e g)
     after e (accepts k) = accepts (one-clear e k)
+
+-- ---- numbers that a list does not have: a test, which computes
+pub lacks : (n : ℕ) (l : List Condition) → every (λ (c : Condition). not (eqb (c .refusal) n)) l ≡ true → All (λ (c : Condition). c .refusal ≡ n → ⊥) l
+lacks n l h = all-map (λ c k e. true-not-false (sym k ∙ ap not (eq-eqb (c .refusal) n e))) (every-all (λ (c : Condition). not (eqb (c .refusal) n)) l h)
+
+pub first-not : {l : List Condition} {m n : ℕ} → All (λ (c : Condition). c .refusal ≡ n → ⊥) l → First m l → m ≡ n → ⊥
+first-not (all-cons h k) (here e f) z = h (f ∙ z)
+first-not (all-cons h k) (further e f) z = first-not k f z
 
 first-append : {n : ℕ} {k : List Condition} (l : List Condition) → First n k → First n (k ++ l)
 first-append l (here e h) = here e h

@@ -13,10 +13,10 @@ use Rattle.semantics.specs.Bytes.{every, isSome}
 use Rattle.semantics.specs.Editions.{Edition}
 use Rattle.semantics.specs.Expressions.{Number, constant, variable, operate, negation, Truth, compare, connect, opposite, always, numberBytes, truthBytes, numberDepth, truthDepth, numberKnown, truthKnown, numberIn, truthIn}
 use Rattle.semantics.specs.Sections.{Variable, Rate, Mode, Selector, Equation, steady, choice}
-use Rattle.semantics.specs.Plant.{Plant, ordered, rateNamed, switchNamed, modeNamed, equationNamed, among, apart, onceAfter, ratesDrive, modeDrives, drives, modeOnce, modesOnce, drivenOnce, switchReads, modeReads, equationReads, switchesRead, modeExists}
+use Rattle.semantics.specs.Plant.{Plant, ordered, rateNamed, switchNamed, modeNamed, equationNamed, among, apart, onceAfter, ratesDrive, modeDrives, drives, modeOnce, modesOnce, drivenOnce, isDriven, switchReads, modeReads, equationReads, switchesRead, modeExists}
 use Rattle.semantics.specs.Rules.{InRange}
 use Rattle.semantics.specs.Writing.{AllBytes, ModeLimits, SelectorLimits, PayloadLimits, steady-within, choice-within, EquationLimits}
-use Rattle.semantics.specs.Proper.{NamesKnown, known-constant, known-variable, known-operands, known-negation, TruthNamesKnown, known-numbers, known-truths, known-opposite, known-always, IsTruth, IsNumber, NamedInMode, Named, named-steady, named-choice, Distinct, distinct-nil, distinct-cons, OnceInModes, once-steady, once-choice, Drives, drives-always, drives-in-mode, Apart, apart-nil, apart-cons, DrivenOnce, TruthsInMode, Truths, truths-steady, truths-choice, ProperPlant, ModeThere}
+use Rattle.semantics.specs.Proper.{NamesKnown, known-constant, known-variable, known-operands, known-negation, TruthNamesKnown, known-numbers, known-truths, known-opposite, known-always, IsTruth, IsNumber, NamedInMode, Named, named-steady, named-choice, Distinct, distinct-nil, distinct-cons, OnceInModes, once-steady, once-choice, Drives, drives-always, drives-in-mode, Apart, apart-nil, apart-cons, DrivenOnce, Driven, TruthsInMode, Truths, truths-steady, truths-choice, ProperPlant, ModeThere}
 use Rattle.semantics.proofs.Facts.{true-not-false, by-cases, and-left, and-right, and-both, every-all, all-every, among-mem, mem-among, All, all-nil, all-cons, all-map, all-mem}
 use Rattle.semantics.proofs.OneRate.{map-mem}
 use Rattle.semantics.proofs.ExpressionBytes.{number-is, truth-is, expression-bytes, truth-bytes}
@@ -172,32 +172,41 @@ rate-there (r ∷ l) n m = go (List·Memᴰ·cases-cons m) (rate-there l n)
     go (inl e) f = (r, first refl, sym e)
     go (inr m) f = let p = f m in (p .0, later (p .1), p .2)
 
-modes-there : (l : List Mode) (n : ℕ) → Mem n (flatMap modeDrives l) → (m : Mode) × Mem m l × (r : Rate) × Mem r (m .rates) × (r .driven ≡ n)
-unfolding flatMap ratesDrive modeDrives
-modes-there [] n i = absurd (List·Memᴰ·not-nil i)
-modes-there (m ∷ l) n i = go (List·Memᴰ·append-cases (modeDrives m) i) (modes-there l n)
-  where
-    There : List Mode → Type 0
-    There l = (m : Mode) × Mem m l × (r : Rate) × Mem r (m .rates) × (r .driven ≡ n)
-
-    go : Mem n (modeDrives m) ⊎ Mem n (flatMap modeDrives l) → (Mem n (flatMap modeDrives l) → There l) → There (m ∷ l)
-    go (inl i) f = let p = rate-there (m .rates) n i in (m, first refl, p .0, p .1, p .2)
-    go (inr i) f = let p = f i in (p .0, later (p .1), p .2, p .3, p .4)
-
-modes-here : {l : List Mode} {m : Mode} {n : ℕ} → Mem m l → Mem n (modeDrives m) → Mem n (flatMap modeDrives l)
+-- in the lists of all where it is in that of one
+flat-there : {A : Type 0} (f : A → List ℕ) (l : List A) (n : ℕ) → Mem n (flatMap f l) → (x : A) × Mem x l × Mem n (f x)
 unfolding flatMap
-modes-here {n = n} (first {xs = l} e) i = Memᴰ·append-left (flatMap modeDrives l) (subst (λ m. Mem n (modeDrives m)) e i)
-modes-here (later {x = x} k) i = Memᴰ·append-right (modeDrives x) (modes-here k i)
+flat-there f [] n i = absurd (List·Memᴰ·not-nil i)
+flat-there {A} f (x ∷ l) n i = go (List·Memᴰ·append-cases (f x) i) (flat-there f l n)
+  where
+    go : Mem n (f x) ⊎ Mem n (flatMap f l) → (Mem n (flatMap f l) → (y : A) × Mem y l × Mem n (f y)) → (y : A) × Mem y (x ∷ l) × Mem n (f y)
+    go (inl i) h = (x, first refl, i)
+    go (inr i) h = let p = h i in (p .0, later (p .1), p .2)
+
+flat-here : {A : Type 0} (f : A → List ℕ) {l : List A} {x : A} {n : ℕ} → Mem x l → Mem n (f x) → Mem n (flatMap f l)
+unfolding flatMap
+flat-here f {n = n} (first {xs = l} e) i = Memᴰ·append-left (flatMap f l) (subst (λ x. Mem n (f x)) e i)
+flat-here f (later {x = x} k) i = Memᴰ·append-right (f x) (flat-here f k i)
 
 drives-there : (e : Equation) (n : ℕ) → Mem n (drives e) → Drives e n
-unfolding drives
+unfolding drives ratesDrive modeDrives
 drives-there (steady r) n m = drives-always (sym (List·Memᴰ·eq-of-singleton m))
-drives-there (choice c) n m = let p = modes-there (c .modes) n m in drives-in-mode (p .1) (p .3) (p .4)
+drives-there (choice c) n m =
+    let p = flat-there modeDrives (c .modes) n m in
+    let q = rate-there (p .0 .rates) n (p .2) in
+    drives-in-mode (p .1) (q .1) (q .2)
 
 drives-here : {e : Equation} {n : ℕ} → Drives e n → Mem n (drives e)
 unfolding drives ratesDrive modeDrives
 drives-here (drives-always h) = first (sym h)
-drives-here (drives-in-mode {m = m} i j h) = modes-here i (subst (λ n. Mem n (modeDrives m)) h (map-mem (m .rates) j))
+drives-here (drives-in-mode {m = m} i j h) = flat-here modeDrives i (subst (λ n. Mem n (modeDrives m)) h (map-mem (m .rates) j))
+
+-- document 02, item 3: a variable is driven where it is in some equation
+pub driven-is : (es : List Equation) (v : ℕ) → (isDriven es v ≡ true) ↔ Driven es v
+unfolding isDriven
+driven-is es v = (
+  λ h. (let p = flat-there drives es v (among-mem v (flatMap drives es) h) in record { equation = p .0; listed = p .1; names = drives-there (p .0) v (p .2) }),
+  λ d. mem-among v (flatMap drives es) (flat-here drives (d .listed) (drives-here (d .names))),
+)
 
 -- no equation drives what is in the list
 abbrev NotAmong : List ℕ → List Equation → Type 0

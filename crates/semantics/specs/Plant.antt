@@ -78,6 +78,10 @@ unfoldable pub drivenOnce : List ℕ → List Equation → Bool
 drivenOnce seen [] = true
 drivenOnce seen (e ∷ es) = equationOnce seen e && drivenOnce (drives e ++ seen) es
 
+-- Document 02, item 3: a variable that some equation drives, in whichever mode of a CASE
+unfoldable pub isDriven : List Equation → ℕ → Bool
+isDriven es v = among v (flatMap drives es)
+
 -- 12, of the switches
 unfoldable pub switchReads : Edition → ℕ → Switch → Bool
 switchReads ed variables w = isSome (truthIn ed variables (w .truth))

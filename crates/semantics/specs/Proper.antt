@@ -79,6 +79,12 @@ pub record DrivenOnce (es : List Equation) : Type 0 where
   pub in-modes : All OnceInModes es
   pub apart : Apart es
 
+-- ---- document 02, item 3: some equation drives it
+pub record Driven (es : List Equation) (v : ℕ) : Type 0 where
+  pub equation : Equation
+  pub listed : Mem equation es
+  pub names : Drives equation v
+
 -- ---- 12 of the switches
 abbrev pub TruthsInMode : Edition → ℕ → Mode → Type 0
 TruthsInMode ed variables m = All (λ (w : Switch). IsTruth ed variables (w .truth)) (m .switches)
