@@ -13,7 +13,7 @@ use Rattle.semantics.specs.Sections.{Rate, Equation, steady, readSwitch, readMo
 use Rattle.semantics.specs.Plant.{ratesOf, rateAmong}
 use Rattle.semantics.specs.Writing.{writeSwitch, writeMode, writeEquation}
 use Rattle.semantics.proofs.Readers.{given}
-use Rattle.plant.specs.Equations.{startsFrom, ratesFrom, steadyRates, Stands}
+use Rattle.plant.specs.Equations.{startsFrom, each, steadyRates, Stands}
 use Rattle.plant.proofs.EquationSizes.{Cuts, mode-length, cuts-switch, cuts-equation}
 use Rattle.plant.proofs.RateArrays.{rate-put}
 use Rattle.plant.proofs.EquationPlaces.{same-value, Headed, headed, switch-at, mode-at, switchesFrom, kind-before, steady-at, choice-at, equation-at}
@@ -161,7 +161,7 @@ none-left r {s} {p} n e t = sym (given [] (drop p s) (rw e at (t .got)))
 
 -- ---- the rates of kind 1
 pub steady-none : {s : List ℕ} {p : ℕ} (n : ℕ) → n ≡ 0 → (t : Stands (times n readEquation) s p) → replicate 32 (pos 0) ≡ steadyRates (t .value)
-unfolding ratesFrom rateAmong ratesOf
+unfolding each rateAmong ratesOf
 steady-none n e t = rw (none-left readEquation n e t) refl
 
 pub steady-more : (s : List ℕ) (p n : ℕ) (i : 0 < n) (k : ℕ) (e : k ≡ nat2At s p) {rates out : List ℤ} → ((t : Stands (times (n - 1) readEquation) s (p + 2 + k)) → rates ≡ steadyRates (t .value)) → ((t : Stands readEquationBody s (p + 2)) (es : List Equation) → rates ≡ steadyRates es → out ≡ steadyRates (t .value ∷ es)) → (t : Stands (times n readEquation) s p) → out ≡ steadyRates (t .value)

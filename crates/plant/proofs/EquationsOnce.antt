@@ -1,6 +1,6 @@
 -- Condition 8 of one equation and of all: what is known before each turn, and why a turn keeps it.
 use mathlib.Core.Path.{_≡_, refl, sym, ap, subst, _∙_}
-use mathlib.Core.Bool.{Bool, true, false, _&&_}
+use mathlib.Core.Bool.{Bool, true, false, _&&_, _||_, or-false, or-assoc, or-comm}
 use mathlib.Core.List.{List, [], _∷_, _++_, flatMap}
 use mathlib.Core.Option.{some}
 use Prim.Native.Nat.{ℕ, _+_, _-_, _≤_, _<_}
@@ -10,12 +10,14 @@ use lib.Dec.{eqb, ltb}
 use lib.ListN.{length, getD, take, drop, replicate}
 use Rattle.semantics.specs.Bytes.{every, read, times}
 use Rattle.semantics.specs.Sections.{Rate, Mode, Equation, steady, choice, readRate, readMode, readEquation, equationIn, equationsIn}
-use Rattle.semantics.specs.Plant.{rateNamed, switchNamed, modeNamed, equationNamed, among, onceAfter, modeDrives, drives, modesOnce, equationOnce, drivenOnce, ratesDrive, modeOnce}
+use Rattle.semantics.specs.Plant.{rateNamed, switchNamed, modeNamed, equationNamed, among, onceAfter, modeDrives, drives, modesOnce, equationOnce, drivenOnce, isDriven, ratesDrive, modeOnce}
 use Rattle.semantics.proofs.Facts.{true-not-false, some-is, and-left, and-right, by-cases, All, all-nil, all-cons, every-all}
 use Rattle.semantics.proofs.PlantPassed.{equations-passed}
 use Rattle.codec.proofs.Reading.{nat2At}
 use Rattle.codec.proofs.Known.{Cons}
-use Rattle.plant.specs.Driven.{Named, Small, Held, Few, Marks, Tried, ratesOnce, modesApart}
+use Rattle.plant.specs.Driven.{Named, Small, Held, Few, Marks, Tried, ratesOnce, modesApart, drivenMarks, drivenAnswer}
+use Rattle.plant.specs.Equations.{each}
+use Rattle.plant.proofs.ByVariable.{each-is}
 use Rattle.plant.proofs.Marks.{among-append, among-there, small-left, small-right}
 use Rattle.plant.proofs.Walks.{next-of, all-left, none-left, Shape, is-steady, is-choice, shape-of, not-both, equation-inside, EquationAt, equation-at, lent-is, lent-inside, lent-end, section-at}
 use Rattle.plant.proofs.DrivenOnce.{marked-none}
@@ -97,6 +99,15 @@ once-split : (noted : List ℕ) (q : Equation) (es : List Equation) → drivenOn
 unfolding drivenOnce
 once-split noted q es = refl
 
+-- the answer, by whether 8 lets the section pass
+answer-once : (es : List Equation) {seen : List Bool} → drivenOnce [] es ≡ true → seen ≡ drivenMarks es → record { once = true; marks = seen } ≡ drivenAnswer es
+unfolding drivenAnswer
+answer-once es e m = rw (e, m) refl
+
+answer-not : (es : List Equation) → drivenOnce [] es ≡ false → record { once = false; marks = replicate 32 false } ≡ drivenAnswer es
+unfolding drivenAnswer
+answer-not es e = rw e refl
+
 pub record OnceGoing (s : List ℕ) (seen : List Bool) (p i : ℕ) : Type 0 where
   pub all : List Equation
   pub is : equationsIn s ≡ some all
@@ -108,11 +119,13 @@ pub record OnceGoing (s : List ℕ) (seen : List Bool) (p i : ℕ) : Type 0 wher
   pub stands : Marks noted seen
   pub sized : length seen ≡ 32
   pub same : drivenOnce [] all ≡ drivenOnce noted rest
+  pub named : (v : ℕ) → isDriven all v ≡ (among v noted || among v (flatMap drives rest))
 
 pub section-inside : (s : List ℕ) → Named s → 1 ≤ length s
 section-inside s n = section-at s (equations-passed (n .variables) s (n .judged) .is) .inside
 
 pub once-start : (s : List ℕ) → Named s → OnceGoing s (replicate 32 false) 1 0
+unfolding isDriven among
 once-start s n =
     let j = equations-passed (n .variables) s (n .judged) in
     let k = section-at s (j .is) in
@@ -127,14 +140,20 @@ once-start s n =
       stands = record { at = marked-none .at };
       sized = marked-none .sized;
       same = refl;
+      named = λ v. refl;
     }
 
 module _ {s : List ℕ} {seen : List Bool} {p i : ℕ} (g : OnceGoing s seen p i) where
-  pub once-end : i ≡ getD s 0 0 → (es : List Equation) → equationsIn s ≡ some es → true ≡ drivenOnce [] es
-  unfolding drivenOnce
+  pub once-end : i ≡ getD s 0 0 → (es : List Equation) → equationsIn s ≡ some es → record { once = true; marks = seen } ≡ drivenAnswer es
+  unfolding drivenOnce among flatMap
   once-end k es h =
       let z = none-left readEquation (getD s 0 0) i (drop p s) k (g .got) .0 in
-      sym (ap (drivenOnce []) (some-is (sym h ∙ g .is)) ∙ g .same ∙ ap (drivenOnce (g .noted)) z)
+      let all : es ≡ g .all = some-is (sym h ∙ g .is) in
+      let once = ap (drivenOnce []) all ∙ g .same ∙ ap (drivenOnce (g .noted)) z in
+      let named : (v : ℕ) → among v (g .noted) ≡ isDriven es v =
+          λ v. sym (ap (λ es. isDriven es v) all ∙ g .named v ∙ ap (λ es. among v (g .noted) || among v (flatMap drives es)) z ∙ or-false (among v (g .noted))) in
+      let marks = each-is (isDriven es) false seen (λ v i. g .stands .at v (omega (arith, g .sized)) ∙ named v) ∙ ap (each (isDriven es) 0) (g .sized) in
+      answer-once es once marks
 
   module _ (h : i < getD s 0 0) where
     next : Cons readEquation (getD s 0 0 - (i + 1)) (drop p s) (g .rest) []
@@ -168,8 +187,17 @@ module _ {s : List ℕ} {seen : List Bool} {p i : ℕ} (g : OnceGoing s seen p i
         next-test : drivenOnce [] (g .all) ≡ (r && drivenOnce (drives (next .head) ++ g .noted) (next .tail))
         next-test = g .same ∙ ap (drivenOnce (g .noted)) (sym (next .is)) ∙ once-split (g .noted) (next .head) (next .tail) ∙ ap (λ y. y && drivenOnce (drives (next .head) ++ g .noted) (next .tail)) (sym (tried .is))
 
-        pub once-false : r ≡ false → (es : List Equation) → equationsIn s ≡ some es → false ≡ drivenOnce [] es
-        once-false f es k = sym (ap (drivenOnce []) (some-is (sym k ∙ g .is)) ∙ next-test ∙ ap (λ y. y && drivenOnce (drives (next .head) ++ g .noted) (next .tail)) f)
+        pub once-false : r ≡ false → (es : List Equation) → equationsIn s ≡ some es → record { once = false; marks = replicate 32 false } ≡ drivenAnswer es
+        once-false f es k = answer-not es (ap (drivenOnce []) (some-is (sym k ∙ g .is)) ∙ next-test ∙ ap (λ y. y && drivenOnce (drives (next .head) ++ g .noted) (next .tail)) f)
+
+        next-named : (v : ℕ) → isDriven (g .all) v ≡ (among v (drives (next .head) ++ g .noted) || among v (flatMap drives (next .tail)))
+        unfolding flatMap
+        next-named v =
+            let h = among v (drives (next .head)) in
+            let n = among v (g .noted) in
+            let t = among v (flatMap drives (next .tail)) in
+            g .named v ∙ ap (λ es. n || among v (flatMap drives es)) (sym (next .is)) ∙ ap (λ b. n || b) (among-append v (drives (next .head)) (flatMap drives (next .tail)))
+            ∙ sym (or-assoc n h t) ∙ ap (λ b. b || t) (or-comm n h ∙ sym (among-append v (drives (next .head)) (g .noted)))
 
         pub once-next : r ≡ true → OnceGoing s c (p + 2 + m) (i + 1)
         once-next f = record {
@@ -183,4 +211,5 @@ module _ {s : List ℕ} {seen : List Bool} {p i : ℕ} (g : OnceGoing s seen p i
           stands = tried .marks f;
           sized = tried .sized f;
           same = next-test ∙ ap (λ y. y && drivenOnce (drives (next .head) ++ g .noted) (next .tail)) f;
+          named = next-named;
         }

@@ -1,6 +1,7 @@
 pub mod EquationParts
 pub mod EquationSizes
 pub mod EquationPlaces
+pub mod ByVariable
 pub mod RateArrays
 pub mod EquationIndex
 pub mod EquationCases

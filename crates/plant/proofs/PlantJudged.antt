@@ -1,11 +1,11 @@
 -- Both sections judged in order, from the answers about each: what the code that asks for them returns.
 use mathlib.Core.Path.{_≡_, refl, sym, ap, _∙_}
-use mathlib.Core.Bool.{Bool, true, false}
+use mathlib.Core.Bool.{Bool, true, false, cond}
 use mathlib.Core.List.{List, []}
 use mathlib.Core.Option.{some}
 use Prim.Native.Nat.{ℕ, _≤_}
 use native.Mathlib.Omega.{arith}
-use lib.ListN.{length}
+use lib.ListN.{length, replicate}
 use Rattle.semantics.specs.Editions.{edition1}
 use Rattle.semantics.specs.Refusals.{Judged, refused, accepted, ensure, _>>=_, _>>_}
 use Rattle.semantics.specs.Sections.{Variable, Equation, equationsIn}
@@ -14,7 +14,8 @@ use Rattle.semantics.proofs.Judging.{go-then, go-ensure}
 use Rattle.semantics.proofs.PlantPassed.{variables-passed}
 use Rattle.plant.specs.Variables.{variablesAnswer, variablesOf, refusedBy, answer}
 use Rattle.plant.specs.Equations.{equationsOf, answerTo, refusedEquations, acceptedEquations}
-use Rattle.plant.specs.Driven.{Named}
+use Rattle.plant.specs.Driven.{Named, drivenMarks, drivenAnswer}
+use Rattle.plant.specs.declared.driven.Driven.{Driven}
 use Rattle.plant.specs.PlantRead.{refusedPlant, acceptedPlant, plantAnswer, plantOf}
 use Rattle.plant.specs.declared.sections.PlantRead.{PlantRead}
 use Rattle.plant.specs.declared.variables.Variables.{Variables}
@@ -29,12 +30,23 @@ unfolding _>>=_
 stops f e = rw e refl
 
 -- the fields of the two answers
-abbrev pub gathered : Variables → Equations → PlantRead
-gathered v e = record { refusal = 0; variables = v .count; lows = v .lows; highs = v .highs; selectors = e .selectors; modes = e .modes; «mode_offsets» = e .«mode_offsets»; steady = e .steady }
+abbrev pub gathered : Variables → Equations → List Bool → PlantRead
+gathered v e marks = record {
+  refusal = 0;
+  variables = v .count;
+  lows = v .lows;
+  highs = v .highs;
+  selectors = e .selectors;
+  modes = e .modes;
+  «mode_offsets» = e .«mode_offsets»;
+  steady = e .steady;
+  driven = marks;
+}
 
-fields : {v : Variables} {e : Equations} (xs : List Variable) (qs : List Equation) → v ≡ answer 0 xs → e ≡ acceptedEquations qs → gathered v e ≡ acceptedPlant (record { variables = xs; equations = qs })
+fields : {v : Variables} {e : Equations} {marks : List Bool} (xs : List Variable) (qs : List Equation) → v ≡ answer 0 xs → e ≡ acceptedEquations qs → marks ≡ drivenMarks qs →
+    gathered v e marks ≡ acceptedPlant (record { variables = xs; equations = qs })
 unfolding answer acceptedEquations acceptedPlant selectors
-fields xs qs h k = rw (h, k) refl
+fields xs qs h k m = rw (h, k, m) refl
 
 module _ (vs es : List ℕ) {v : Variables} (h : v ≡ variablesOf vs) where
   pub by-variables : 1 ≤ v .refusal → refusedPlant (v .refusal) ≡ plantOf vs es
@@ -91,16 +103,24 @@ module _ (vs es : List ℕ) {v : Variables} (h : v ≡ variablesOf vs) where
         unfolding judgePlant qs
         after-7 = go-then _ judged-variables ∙ go-then _ (taken .judged)
 
-        module _ {b : Bool} (f : (qs : List Equation) → equationsIn es ≡ some qs → b ≡ drivenOnce [] qs) where
-          is-once : b ≡ drivenOnce [] qs
+        module _ {d : Driven} (f : (qs : List Equation) → equationsIn es ≡ some qs → d ≡ drivenAnswer qs) where
+          driven-is : d ≡ drivenAnswer qs
           unfolding qs
-          is-once = f (taken .section .equations) (taken .section .read)
+          driven-is = f (taken .section .equations) (taken .section .read)
 
-          pub by-8 : b ≡ false → refusedPlant 8 ≡ plantOf vs es
+          is-once : d .once ≡ drivenOnce [] qs
+          unfolding drivenAnswer
+          is-once = ap (λ (d : Driven). d .once) driven-is
+
+          marks-are : d .once ≡ true → d .marks ≡ drivenMarks qs
+          unfolding drivenAnswer
+          marks-are w = ap (λ (d : Driven). d .marks) driven-is ∙ ap (λ b. cond b (drivenMarks qs) (replicate 32 false)) (sym is-once ∙ w)
+
+          pub by-8 : d .once ≡ false → refusedPlant 8 ≡ plantOf vs es
           unfolding plantOf plantAnswer ensure _>>_
           by-8 w = rw (after-7, sym is-once, w) refl
 
-          ends : b ≡ true → judgePlant edition1 vs es ≡ accepted (record { variables = xs; equations = qs })
+          ends : d .once ≡ true → judgePlant edition1 vs es ≡ accepted (record { variables = xs; equations = qs })
           ends w = after-7 ∙ go-ensure 8 _ (sym is-once ∙ w)
 
           variables-are : v ≡ answer 0 xs
@@ -110,6 +130,6 @@ module _ (vs es : List ℕ) {v : Variables} (h : v ≡ variablesOf vs) where
           unfolding equationsOf answerTo qs
           equations-are = answered ∙ ap answerTo (taken .judged)
 
-          pub passed : b ≡ true → gathered v e ≡ plantOf vs es
+          pub passed : d .once ≡ true → gathered v e (d .marks) ≡ plantOf vs es
           unfolding plantOf plantAnswer
-          passed w = fields xs qs variables-are equations-are ∙ ap plantAnswer (sym (ends w))
+          passed w = fields xs qs variables-are equations-are (marks-are w) ∙ ap plantAnswer (sym (ends w))

@@ -2,22 +2,23 @@
 use mathlib.Core.Path.{_≡_, refl, sym, ap, _∙_}
 use mathlib.Core.List.{List, map}
 use mathlib.Core.Option.{some}
-use Prim.Native.Nat.{ℕ, suc, _≤_}
+use Prim.Native.Nat.{ℕ, _≤_}
 use native.Mathlib.Omega.{arith}
 use lib.IntN.{pos}
 use lib.ListN.{length, getD, getElem?}
+use Rattle.semantics.specs.Bytes.{every}
 use Rattle.semantics.specs.Editions.{edition1}
 use Rattle.semantics.specs.Refusals.{Judged, refused, accepted, refusalOf}
 use Rattle.semantics.specs.Sections.{Variable}
 use Rattle.semantics.specs.Plant.{Plant, selectors, judgePlant}
 use Rattle.semantics.specs.Conditions.{plantConditions}
-use Rattle.semantics.proofs.Facts.{all-nil, all-cons}
-use Rattle.semantics.proofs.FirstNumber.{plant-first}
+use Rattle.semantics.proofs.FirstNumber.{lacks, plant-first}
 use Rattle.semantics.proofs.CallsHold.{accepted-of}
 use Rattle.semantics.proofs.PlantPassed.{PlantPassed, plant-passed}
 use Rattle.codec.specs.Padding.{pad}
 use Rattle.plant.specs.Variables.{column}
 use Rattle.plant.specs.Equations.{modeCount, modePlaces, steadyRates, acceptedEquations, SectionStands}
+use Rattle.plant.specs.Driven.{drivenMarks}
 use Rattle.plant.specs.PlantRead.{refusedPlant, acceptedPlant, plantAnswer, plantOf}
 use Rattle.plant.specs.declared.sections.PlantRead.{PlantRead}
 use Rattle.plant.proofs.VariableLaws.{Accepted, column-at, count-of, count-low, count-high}
@@ -91,6 +92,10 @@ module _ (vs es : List ℕ) {p : Plant} (h : judgePlant edition1 vs es ≡ accep
   unfolding acceptedPlant acceptedEquations
   steady-of = ap (λ (r : PlantRead). r .steady) answered
 
+  pub driven-of : plantOf vs es .driven ≡ drivenMarks (p .equations)
+  unfolding acceptedPlant
+  driven-of = ap (λ (r : PlantRead). r .driven) answered
+
 -- ---- the other way
 pub record Passes (vs es : List ℕ) : Type 0 where
   pub plant : Plant
@@ -98,10 +103,7 @@ pub record Passes (vs es : List ℕ) : Type 0 where
 
 -- no call is refused with 0
 pub passes : (vs es : List ℕ) → plantOf vs es .refusal ≡ 0 → Passes vs es
-unfolding plantConditions
+unfolding every plantConditions
 passes vs es h =
-    let k = accepted-of (plant-first edition1 vs es) (all-cons (no 3) (all-cons (no 4) (all-cons (no 5) (all-cons (no 6) (all-cons (no 7) all-nil))))) (sym (refusal-of vs es) ∙ h) in
+    let k = accepted-of (plant-first edition1 vs es) (lacks 0 (plantConditions edition1 vs es) refl) (sym (refusal-of vs es) ∙ h) in
     record { plant = k .0; is = k .1 }
-  where
-    no : (n : ℕ) → suc n ≡ 0 → ⊥
-    no n e = omega arith

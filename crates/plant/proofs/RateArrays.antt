@@ -1,9 +1,8 @@
 -- Arrays with the rate of each variable.
-use mathlib.Core.Path.{_≡_, refl, sym, ap, ap₂, _∙_}
+use mathlib.Core.Path.{_≡_, refl, sym, ap, _∙_}
 use mathlib.Core.Bool.{Bool, true, false}
-use mathlib.Core.List.{List, [], _∷_}
-use Prim.Native.Nat.{ℕ, zero, suc, _+_, _<_}
-use native.Mathlib.Nat.{zero-add}
+use mathlib.Core.List.{List, _∷_}
+use Prim.Native.Nat.{ℕ, _<_}
 use native.Mathlib.Omega.{arith}
 use borrow.Author.Tests.{eqb-true, eqb-false}
 use lib.Dec.{eqb}
@@ -13,31 +12,16 @@ use lib.Seq.{getD-set-same, getD-set-other}
 use Rattle.semantics.specs.Sections.{Rate}
 use Rattle.semantics.specs.Plant.{rateAmong}
 use Rattle.plant.specs.Equations.{ratesFrom}
+use Rattle.plant.proofs.ByVariable.{each-length, each-at, each-is, each-same}
 
 pub rates-length : (rs : List Rate) (v n : ℕ) → length (ratesFrom rs v n) ≡ n
-unfolding ratesFrom
-rates-length rs v zero = refl
-rates-length rs v (suc n) = ap suc (rates-length rs (suc v) n)
-
-from-at : (rs : List Rate) (v n i : ℕ) → i < n → getD (ratesFrom rs v n) i (pos 0) ≡ rateAmong rs (v + i)
-unfolding ratesFrom
-from-at rs v zero i h = absurd (omega arith)
-from-at rs v (suc n) zero h = let e : v ≡ v + 0 = omega arith in ap (rateAmong rs) e
-from-at rs v (suc n) (suc i) h = let e : suc v + i ≡ v + suc i = omega arith in from-at rs (suc v) n i (omega arith) ∙ ap (rateAmong rs) e
+rates-length rs = each-length (rateAmong rs)
 
 pub rate-at : (rs : List Rate) (n v : ℕ) → v < n → getD (ratesFrom rs 0 n) v (pos 0) ≡ rateAmong rs v
-rate-at rs n v h = from-at rs 0 n v h ∙ ap (rateAmong rs) (zero-add v)
-
--- an array with these entries
-from-each : (rs : List Rate) (v : ℕ) (zs : List ℤ) → ((i : ℕ) → i < length zs → getD zs i (pos 0) ≡ rateAmong rs (v + i)) → zs ≡ ratesFrom rs v (length zs)
-unfolding ratesFrom
-from-each rs v [] h = refl
-from-each rs v (z ∷ zs) h =
-    let e : v + 0 ≡ v = omega arith in
-    ap₂ _∷_ (h 0 (omega arith) ∙ ap (rateAmong rs) e) (from-each rs (suc v) zs (λ i j. let f : v + suc i ≡ suc v + i = omega arith in h (suc i) (omega arith) ∙ ap (rateAmong rs) f))
+rate-at rs = each-at (rateAmong rs) (pos 0)
 
 pub rates-are : (rs : List Rate) (zs : List ℤ) → ((v : ℕ) → v < length zs → getD zs v (pos 0) ≡ rateAmong rs v) → zs ≡ ratesFrom rs 0 (length zs)
-rates-are rs zs h = from-each rs 0 zs (λ i j. h i j ∙ ap (rateAmong rs) (sym (zero-add i)))
+rates-are rs = each-is (rateAmong rs) (pos 0)
 
 -- one rate more
 pub rate-put : (r : Rate) (rs : List Rate) (n : ℕ) → set (ratesFrom rs 0 n) (r .driven) (r .rate) ≡ ratesFrom (r ∷ rs) 0 n
@@ -52,6 +36,4 @@ rate-put r rs n =
 
 -- lists that give each variable the same rate
 pub rates-same : (rs qs : List Rate) → ((v : ℕ) → rateAmong rs v ≡ rateAmong qs v) → (v n : ℕ) → ratesFrom rs v n ≡ ratesFrom qs v n
-unfolding ratesFrom
-rates-same rs qs h v zero = refl
-rates-same rs qs h v (suc n) = ap₂ _∷_ (h v) (rates-same rs qs h (suc v) n)
+rates-same rs qs = each-same (rateAmong rs) (rateAmong qs)

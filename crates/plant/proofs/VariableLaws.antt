@@ -2,16 +2,16 @@
 use mathlib.Core.Path.{_≡_, refl, sym, ap, _∙_}
 use mathlib.Core.List.{List, [], map}
 use mathlib.Core.Option.{some}
-use Prim.Native.Nat.{ℕ, suc, _≤_}
+use Prim.Native.Nat.{ℕ, _≤_}
 use native.Mathlib.Omega.{arith}
 use lib.IntN.{ℤ, pos}
 use lib.ListN.{length, getD, getElem?, take, length-map}
+use Rattle.semantics.specs.Bytes.{every}
 use Rattle.semantics.specs.Editions.{edition1}
 use Rattle.semantics.specs.Refusals.{Judged, refused, accepted, refusalOf}
 use Rattle.semantics.specs.Sections.{Variable}
 use Rattle.semantics.specs.Plant.{judgeVariables}
-use Rattle.semantics.proofs.Facts.{all-nil, all-cons}
-use Rattle.semantics.proofs.FirstNumber.{variables-first}
+use Rattle.semantics.proofs.FirstNumber.{lacks, variables-first}
 use Rattle.semantics.proofs.CallsHold as Judging
 use Rattle.semantics.proofs.PlantPassed.{VariablesPassed}
 use Rattle.codec.proofs.Padding.{pad-long, take-pad, pad-map-some}
@@ -25,12 +25,9 @@ Accepted s vs = VariablesPassed edition1 s vs
 
 -- no section is refused with 0
 pub accepted-of : (s : List ℕ) → variablesOf s .refusal ≡ 0 → (vs : List Variable) × (judgeVariables edition1 s ≡ accepted vs)
-unfolding variablesOf variablesAnswer refusedBy answer refusalOf
-accepted-of s h = Judging.accepted-of (variables-first edition1 s []) (all-cons (no 3) (all-cons (no 4) all-nil)) (sym (number (judgeVariables edition1 s)) ∙ h)
+unfolding every variablesOf variablesAnswer refusedBy answer refusalOf
+accepted-of s h = Judging.accepted-of (variables-first edition1 s []) (lacks 0 _ refl) (sym (number (judgeVariables edition1 s)) ∙ h)
   where
-    no : (n : ℕ) → suc n ≡ 0 → ⊥
-    no n e = omega arith
-
     number : (j : Judged (List Variable)) → variablesAnswer j .refusal ≡ refusalOf j
     number (refused n) = refl
     number (accepted vs) = refl

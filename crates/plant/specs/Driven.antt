@@ -1,15 +1,17 @@
--- Condition 8 of an equation section that 6 and 7 let pass.
+-- Condition 8 of an equation section that 6 and 7 let pass, and which variables its equations drive.
 use mathlib.Core.Path.{_≡_}
-use mathlib.Core.Bool.{Bool, true, false, _&&_}
+use mathlib.Core.Bool.{Bool, true, false, cond, _&&_}
 use mathlib.Core.List.{List, [], _++_, flatMap}
 use mathlib.Core.Option.{Option}
 use Prim.Native.Nat.{ℕ, _≤_, _<_}
-use lib.ListN.{length, getD, drop}
+use lib.ListN.{length, getD, drop, replicate}
 use Rattle.semantics.specs.Bytes.{every, Reader, read}
 use Rattle.semantics.specs.Refusals.{accepted}
 use Rattle.semantics.specs.Sections.{Rate, Mode, Equation, variableLimit}
-use Rattle.semantics.specs.Plant.{judgeEquations, among, apart, onceAfter, ratesDrive, modeDrives, modeOnce}
+use Rattle.semantics.specs.Plant.{judgeEquations, among, apart, onceAfter, ratesDrive, modeDrives, modeOnce, drivenOnce, isDriven}
 use Rattle.plant.specs.Sound.{There, Sound}
+use Rattle.plant.specs.Equations.{each}
+use Rattle.plant.specs.declared.driven.Driven.{Driven}
 
 -- a section that 6 and 7 let pass, where there are at most 32 variables
 pub record Named (s : List ℕ) : Type 0 where
@@ -52,3 +54,12 @@ modesApart before ms = every modeOnce ms && apart before (flatMap modeDrives ms)
 -- what r reads at place p of s is tried, whatever variables the two arrays mark
 abbrev pub TriedAt : {A : Type 0} → Reader A → (List ℕ → A → Bool) → (A → List ℕ) → List ℕ → ℕ → List Bool → List Bool → Bool → List Bool → Type 0
 TriedAt {A} r test named s p a b x c = (v : A) (e : List ℕ) → r (drop p s) ≡ read v e → (before seen : List ℕ) → Marks before a → Marks seen b → Tried (test before v) (named v ++ seen) x c
+
+-- ---- the answer
+-- of each variable whether some equation drives it, in an array of 32
+abbrev pub drivenMarks : List Equation → List Bool
+drivenMarks es = each (isDriven es) 0 variableLimit
+
+-- where 8 applies no variable is marked
+unfoldable pub drivenAnswer : List Equation → Driven
+drivenAnswer es = record { once = drivenOnce [] es; marks = cond (drivenOnce [] es) (drivenMarks es) (replicate variableLimit false) }

@@ -37,11 +37,15 @@ modePlaces p (choice c ∷ es) = pad modeLimit 0 (startsFrom writeMode (p + 5) (
 unfoldable pub modeCount : Selector → ℕ
 modeCount c = length (c .modes)
 
--- ---- rates
--- of each of the n variables from v on
-unfoldable pub ratesFrom : List Rate → ℕ → ℕ → List ℤ
-ratesFrom rs v zero = []
-ratesFrom rs v (suc n) = rateAmong rs v ∷ ratesFrom rs (suc v) n
+-- ---- arrays by variable
+-- f of each of the n variables from v on
+unfoldable pub each : {A : Type 0} → (ℕ → A) → ℕ → ℕ → List A
+each f v zero = []
+each f v (suc n) = f v ∷ each f (suc v) n
+
+-- their rates
+abbrev pub ratesFrom : List Rate → ℕ → ℕ → List ℤ
+ratesFrom rs v n = each (rateAmong rs) v n
 
 -- those of kind 1, in an array of 32: in force where no CASE has a mode
 abbrev pub steadyRates : List Equation → List ℤ

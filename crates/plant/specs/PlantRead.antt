@@ -1,4 +1,5 @@
 -- Conditions 4 to 8: the two sections as the code answers them.
+use mathlib.Core.Bool.{false}
 use mathlib.Core.List.{List}
 use Prim.Native.Nat.{ℕ, _*_}
 use lib.IntN.{pos}
@@ -9,6 +10,7 @@ use Rattle.semantics.specs.Sections.{Variable, variableLimit, equationLimit, mo
 use Rattle.semantics.specs.Plant.{Plant, selectors, judgePlant}
 use Rattle.plant.specs.Variables.{column}
 use Rattle.plant.specs.Equations.{acceptedEquations}
+use Rattle.plant.specs.Driven.{drivenMarks}
 use Rattle.plant.specs.declared.sections.PlantRead.{PlantRead}
 
 unfoldable pub refusedPlant : ℕ → PlantRead
@@ -21,9 +23,10 @@ refusedPlant n = record {
   modes = replicate equationLimit 0;
   «mode_offsets» = replicate (equationLimit * modeLimit) 0;
   steady = replicate variableLimit (pos 0);
+  driven = replicate variableLimit false;
 }
 
--- the variables' ranges, and of the equations what Equations has
+-- the variables' ranges, of the equations what Equations has, and which variables they drive
 unfoldable pub acceptedPlant : Plant → PlantRead
 acceptedPlant p = record {
   refusal = 0;
@@ -34,6 +37,7 @@ acceptedPlant p = record {
   modes = acceptedEquations (p .equations) .modes;
   «mode_offsets» = acceptedEquations (p .equations) .«mode_offsets»;
   steady = acceptedEquations (p .equations) .steady;
+  driven = drivenMarks (p .equations);
 }
 
 unfoldable pub plantAnswer : Judged Plant → PlantRead

@@ -1,14 +1,20 @@
-// The equation section once more, after 6 and 7: no variable in two equations or twice in one mode (8).
+// The equation section once more, after 6 and 7: no variable in two equations or twice in one mode (8), and which variables are driven (for 34).
 use crate::places::past;
 ghost use mathlib.Core.Path.{_≡_};
-ghost use mathlib.Core.List.{List, [], _++_, flatMap};
+ghost use mathlib.Core.List.{List, _++_, flatMap};
 ghost use mathlib.Core.Option.{some};
 ghost use Prim.Native.Nat.{ℕ};
 ghost use lib.ListN.{length};
 ghost use Rattle.semantics.specs.Bytes.{times};
 ghost use Rattle.semantics.specs.Sections.{Equation, variableLimit, readRate, readMode, equationIn, equationsIn};
-ghost use Rattle.semantics.specs.Plant.{drives, equationOnce, drivenOnce, ratesDrive, modeDrives};
-ghost use Rattle.plant.specs.Driven.{Named, Held, Few, Marks, ratesOnce, modesApart, Tried, TriedAt};
+ghost use Rattle.semantics.specs.Plant.{drives, equationOnce, ratesDrive, modeDrives};
+ghost use Rattle.plant.specs.Driven.{Named, Held, Few, Marks, ratesOnce, modesApart, Tried, TriedAt, drivenAnswer};
+
+// whether 8 lets the section pass; of each variable whether some equation drives it, where it does
+pub struct Driven {
+    pub once: bool,
+    pub marks: [bool; paper::VARIABLES],
+}
 
 // n rates from a place on: none of a variable marked before, no variable twice; their variables are marked
 fn rates(
@@ -78,10 +84,10 @@ fn equation(s: &[u8], seen: &mut [bool; paper::VARIABLES]) -> bool
     modes(s, 1 + 1 + 1, s[2] as usize, &before, seen)
 }
 
-// 8, of a section that 6 and 7 let pass
-pub fn once(s: &[u8]) -> bool
+// of a section that 6 and 7 let pass
+pub fn read(s: &[u8]) -> Driven
     requires { ⌜ Named (now s) ⌝ }
-    ensures { λ r. ⌜ ((es : List Equation) → equationsIn (now (s .entry)) ≡ some es → r ≡ drivenOnce [] es) ⌝ }
+    ensures { λ r. ⌜ ((es : List Equation) → equationsIn (now (s .entry)) ≡ some es → r ≡ drivenAnswer es) ⌝ }
 {
     let n = s[0] as usize;
     let mut seen = [false; paper::VARIABLES];
@@ -91,10 +97,16 @@ pub fn once(s: &[u8]) -> bool
         let b = p + 2;
         let e = b + codec::nat2(s, p);
         if !equation(&s[b..e], &mut seen) {
-            return false;
+            return Driven {
+                once: false,
+                marks: [false; paper::VARIABLES],
+            };
         }
         p = e;
         i += 1;
     }
-    true
+    Driven {
+        once: true,
+        marks: seen,
+    }
 }

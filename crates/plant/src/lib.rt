@@ -1,5 +1,5 @@
 // The plant's two sections, read by position: conditions 4 to 8, and 12 of the switches.
-pub mod driven; // driven.rt: 8
+pub mod driven; // driven.rt: 8, and which variables are driven
 pub mod equations; // equations.rt: 6 and 7
 mod places; // places.rt: where the parts of a sound equation section end
 pub mod sections; // sections.rt: 4 to 8 in order

@@ -14,6 +14,7 @@ pub struct PlantRead {
     pub modes: [usize; paper::EQUATIONS],
     pub mode_offsets: [usize; paper::MODE_PLACES],
     pub steady: [i32; paper::VARIABLES],
+    pub driven: [bool; paper::VARIABLES],
 }
 
 // a plant that is refused, and all else empty
@@ -29,10 +30,11 @@ pub fn refused(n: u8) -> PlantRead
         modes: [0; paper::EQUATIONS],
         mode_offsets: [0; paper::MODE_PLACES],
         steady: [0; paper::VARIABLES],
+        driven: [false; paper::VARIABLES],
     }
 }
 
-// the first refusal of the two sections; where there is none, what a run looks up in them
+// the first refusal of the two sections; where there is none, what a run and the checks of a schedule's nodes look up in them
 pub fn read(vs: &[u8], es: &[u8]) -> PlantRead
     ensures { λ r. ⌜ r ≡ plantOf (now (vs .entry)) (now (es .entry)) ⌝ }
 {
@@ -47,7 +49,8 @@ pub fn read(vs: &[u8], es: &[u8]) -> PlantRead
     if second != 0 {
         return refused(second);
     }
-    if !driven::once(es) {
+    let d = driven::read(es);
+    if !d.once {
         return refused(8);
     }
     let lows = v.lows;
@@ -56,6 +59,7 @@ pub fn read(vs: &[u8], es: &[u8]) -> PlantRead
     let modes = e.modes;
     let places = e.mode_offsets;
     let steady = e.steady;
+    let driven = d.marks;
     PlantRead {
         refusal: 0,
         variables,
@@ -65,5 +69,6 @@ pub fn read(vs: &[u8], es: &[u8]) -> PlantRead
         modes,
         mode_offsets: places,
         steady,
+        driven,
     }
 }

@@ -25,23 +25,31 @@ refused-requires-2 c κs = search needs
 returns-2 : tie.Need-returns-2
 returns-2 c = c .refused2 .ensures ∙ by-equations (c .before .before .before .before .before .before .before .args .vs .now) (c .before .before .before .before .before .before .before .args .es .now) (c .before .before .before .before .read .ensures) (c .before .before .before .if1 .left) (c .before .before .read2 .ensures) (c .before .if2 .taken)
 
-once-requires : tie.Need-once-requires
-once-requires c κs = named (c .before .before .before .before .before .before .args .vs .now) (c .before .before .before .before .before .before .args .es .now) (c .before .before .before .read .ensures) (c .before .before .if1 .left) (c .before .read2 .ensures) (c .if2 .left)
+read-requires-3 : tie.Need-read-requires-3
+read-requires-3 c κs =
+    let r = c .before .before .before in
+    let a = r .before .before .before .args in
+    named (a .vs .now) (a .es .now) (r .read .ensures) (c .before .before .if1 .left) (c .before .read2 .ensures) (c .if2 .left)
 
 refused-requires-3 : tie.Need-refused-requires-3
 refused-requires-3 c κs = search needs
 
 returns-3 : tie.Need-returns-3
 returns-3 c =
-    let c7 = c .before .before .before .before .before .before .before in
-    c .refused3 .ensures ∙ by-8 (c7 .before .before .args .vs .now) (c7 .before .before .args .es .now) (c .before .before .before .before .before .before .read .ensures) (c .before .before .before .before .before .if1 .left) (c .before .before .before .before .read2 .ensures) (c .before .before .before .if2 .left) (c .before .before .once .ensures) (not-true _ (c .before .if3 .taken))
+    let d = c .before .before .before in
+    let r = d .before .before .before .before in
+    let a = r .before .before .before .args in
+    c .refused3 .ensures ∙ by-8 (a .vs .now) (a .es .now) (r .read .ensures) (d .before .before .before .if1 .left) (d .before .before .read2 .ensures) (d .before .if2 .left) (d .read3 .ensures) (not-true _ (c .before .if3 .taken))
 
 returns-4 : tie.Need-returns-4
 returns-4 c =
-    let c7 = c .before .before .before .before .before .before .before in
-    passed (c7 .before .before .before .before .before .before .args .vs .now) (c7 .before .before .before .before .before .before .args .es .now) (c7 .before .before .before .read .ensures) (c7 .before .before .if1 .left) (c7 .before .read2 .ensures) (c .before .before .before .before .before .before .before .if2 .left) (c .before .before .before .before .before .before .once .ensures) (not-false _ (c .before .before .before .before .before .if3 .left))
+    let t = c .before .before .before .before .before .before in
+    let d = t .before .before in
+    let r = d .before .before .before .before in
+    let a = r .before .before .before .args in
+    passed (a .vs .now) (a .es .now) (r .read .ensures) (d .before .before .before .if1 .left) (d .before .before .read2 .ensures) (d .before .if2 .left) (d .read3 .ensures) (not-false _ (t .if3 .left))
 
 pub read-spec : {M : Type 1} → statement M
 read-spec =
     tie.close
-    (tie.spec read-requires refused-requires returns read-requires-2 refused-requires-2 returns-2 once-requires refused-requires-3 returns-3 returns-4)
+    (tie.spec read-requires refused-requires returns read-requires-2 refused-requires-2 returns-2 read-requires-3 refused-requires-3 returns-3 returns-4)

@@ -4,8 +4,8 @@ use native.Mathlib.Omega.{arith}
 use borrow.Author.Tests.{not-true, not-false}
 use lib.ListN.{getD}
 use Rattle.plant.proofs.EquationsOnce.{OnceGoing, section-inside, once-start, next-inside, slice-inside, next-few, once-false, once-next, once-end}
-use Rattle.plant.proofs.driven.once.Statement.{statement}
-use Rattle.plant.proofs.driven.once.Tie as tie
+use Rattle.plant.proofs.driven.read.Statement.{statement}
+use Rattle.plant.proofs.driven.read.Tie as tie
 
 abbrev Inv-loop : tie.InvT-loop
 Inv-loop s n seen₀ p₀ i₀ seen p i = (i ≤ getD s 0 0) × OnceGoing s seen p i
@@ -58,8 +58,8 @@ loop-again c = (omega arith, once-next (c .before .before .before .before .befor
 returns-2 : tie.Need-returns-2 Inv-loop μ-loop
 returns-2 c = once-end (c .before .loop .inv .1) (omega arith)
 
-pub once-spec : {M : Type 1} → statement M
-once-spec =
+pub read-spec : {M : Type 1} → statement M
+read-spec =
     tie.close
     (tie.spec Inv-loop μ-loop shared-slice-read-n cast-n loop-holds add-b nat2-requires add-e sub-equation part-equation-start part-equation-end
     equation-requires returns add-i loop-less loop-again returns-2)
