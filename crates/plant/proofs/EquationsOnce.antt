@@ -151,7 +151,7 @@ module _ {s : List ℕ} {seen : List Bool} {p i : ℕ} (g : OnceGoing s seen p i
       let all : es ≡ g .all = some-is (sym h ∙ g .is) in
       let once = ap (drivenOnce []) all ∙ g .same ∙ ap (drivenOnce (g .noted)) z in
       let named : (v : ℕ) → among v (g .noted) ≡ isDriven es v =
-          λ v. sym (ap (λ es. isDriven es v) all ∙ g .named v ∙ ap (λ es. among v (g .noted) || among v (flatMap drives es)) z ∙ or-false (among v (g .noted))) in
+      λ v. sym (ap (λ es. isDriven es v) all ∙ g .named v ∙ ap (λ es. among v (g .noted) || among v (flatMap drives es)) z ∙ or-false (among v (g .noted))) in
       let marks = each-is (isDriven es) false seen (λ v i. g .stands .at v (omega (arith, g .sized)) ∙ named v) ∙ ap (each (isDriven es) 0) (g .sized) in
       answer-once es once marks
 

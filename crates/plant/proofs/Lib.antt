@@ -21,5 +21,6 @@ pub mod EquationsOnce
 pub mod TruthTurns
 pub mod PlantJudged
 pub mod PlantLaws
+pub mod DrivenVariables
 pub mod ModeCounts
 pub mod PaperNumbers

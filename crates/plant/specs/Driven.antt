@@ -63,3 +63,7 @@ drivenMarks es = each (isDriven es) 0 variableLimit
 -- where 8 applies no variable is marked
 unfoldable pub drivenAnswer : List Equation → Driven
 drivenAnswer es = record { once = drivenOnce [] es; marks = cond (drivenOnce [] es) (drivenMarks es) (replicate variableLimit false) }
+
+-- marks tells of every number whether these equations drive a variable of that number
+pub record DrivenAt (marks : List Bool) (es : List Equation) : Type 0 where
+  pub at : (v : ℕ) → getD marks v false ≡ isDriven es v

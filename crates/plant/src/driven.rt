@@ -7,8 +7,8 @@ ghost use Prim.Native.Nat.{ℕ};
 ghost use lib.ListN.{length};
 ghost use Rattle.semantics.specs.Bytes.{times};
 ghost use Rattle.semantics.specs.Sections.{Equation, variableLimit, readRate, readMode, equationIn, equationsIn};
-ghost use Rattle.semantics.specs.Plant.{drives, equationOnce, ratesDrive, modeDrives};
-ghost use Rattle.plant.specs.Driven.{Named, Held, Few, Marks, ratesOnce, modesApart, Tried, TriedAt, drivenAnswer};
+ghost use Rattle.semantics.specs.Plant.{drives, equationOnce, isDriven, ratesDrive, modeDrives};
+ghost use Rattle.plant.specs.Driven.{Named, Held, Few, Marks, ratesOnce, modesApart, Tried, TriedAt, drivenAnswer, DrivenAt};
 
 // whether 8 lets the section pass; of each variable whether some equation drives it, where it does
 pub struct Driven {
@@ -109,4 +109,14 @@ pub fn read(s: &[u8]) -> Driven
         once: true,
         marks: seen,
     }
+}
+
+// some equation drives variable v
+pub fn is_driven(v: usize, marks: &[bool]) -> bool
+    ensures { λ r. ⌜ ((es : List Equation) → DrivenAt (now (marks .entry)) es → r ≡ isDriven es v) ⌝ }
+{
+    if v >= marks.len() {
+        return false;
+    }
+    marks[v]
 }

@@ -1,4 +1,4 @@
--- A pass over all nodes by their index, with a test of each.
+-- A pass over all nodes by their index: what a test tells of each.
 use mathlib.Core.Path.{_≡_, refl, sym, ap, _∙_}
 use mathlib.Core.Bool.{Bool, true, false, _&&_, and-false}
 use mathlib.Core.List.{List, [], _∷_}
@@ -10,8 +10,8 @@ use lib.ListN.{length, getD, take, drop, getElem?}
 use Rattle.semantics.specs.Bytes.{every}
 use Rattle.semantics.proofs.Facts.{none-not-some, some-is, at-exists}
 use Rattle.schedules.specs.Nodes.{Node}
-use Rattle.tree_read.specs.Index.{NodesAt}
-use Rattle.schedule_read.specs.Indexed.{Indexed, Made, Tells, Passes}
+use Rattle.tree_read.specs.declared.nodes.Nodes.{Nodes}
+use Rattle.schedule_read.specs.Indexed.{NodesIn, Indexed, Made, Tells}
 
 -- ---- every element from number i on
 every-next : {A : Type 0} (P : A → Bool) (l : List A) (i : ℕ) {x : A} → getElem? l i ≡ some x → P x ≡ true → every P (drop i l) ≡ every P (drop (suc i) l)
@@ -33,52 +33,28 @@ every-end P [] (suc i) h = refl
 every-end P (y ∷ l) zero h = absurd (omega arith)
 every-end P (y ∷ l) (suc i) h = every-end P l i (omega arith)
 
--- ---- the nodes before number i pass P
-pub record Passing (P : Node → Bool) (s kinds starts ends : List ℕ) (count i : ℕ) : Type 0 where
-  pub of : (ns : List Node) → NodesAt s kinds starts ends count ns → every P ns ≡ every P (drop i ns)
-
-module _ {s kinds starts ends : List ℕ} {count : ℕ} where
-  -- what code slices out of s
-  pub made : (i : ℕ) → i < count → Indexed s kinds starts ends count → Made (getD kinds i 0) (take (getD ends i 0 - getD starts i 0) (drop (getD starts i 0) s))
-  made i h d =
-      let x = at-exists (d .nodes) i (omega (arith, d .at .counted)) in
-      record { node = x .0; is = d .at .entries i h .node ∙ x .1 }
-
-  module _ (P : Node → Bool) where
-    pub pass-start : Passing P s kinds starts ends count 0
-    pass-start = record { of = λ ns d. refl }
-
-    pub pass-end : {i : ℕ} → count ≤ i → Passing P s kinds starts ends count i → Passes P s kinds starts ends count true
-    pass-end {i} h k = record { of = λ ns d. sym (k .of ns d ∙ every-end P ns i (omega (arith, d .counted))) }
-
-    module _ {i : ℕ} {r : Bool} (h : i < count) (k : Passing P s kinds starts ends count i) (t : Tells P (getD kinds i 0) (take (getD ends i 0 - getD starts i 0) (drop (getD starts i 0) s)) r) where
-      here : (ns : List Node) → NodesAt s kinds starts ends count ns → (x : Node) × (getElem? ns i ≡ some x) × (P x ≡ r)
-      here ns d =
-          let x = at-exists ns i (omega (arith, d .counted)) in
-          (x .0, x .1, sym (t .of (x .0) (d .entries i h .node ∙ x .1)))
-
-      pub pass-next : r ≡ true → Passing P s kinds starts ends count (i + 1)
-      pass-next e = record { of = λ ns d. let y = here ns d in k .of ns d ∙ rw add-one (every-next P ns i (y .1) (y .2 ∙ e)) }
-
-      pub pass-stop : r ≡ false → Passes P s kinds starts ends count false
-      pass-stop e = record { of = λ ns d. let y = here ns d in sym (k .of ns d ∙ every-stop P ns i (y .1) (y .2 ∙ e)) }
+-- what code slices out of s
+pub made : {s : List ℕ} {n : Nodes} (i : ℕ) → i < n .count → Indexed s n → Made (getD (n .kinds) i 0) (take (getD (n .ends) i 0 - getD (n .starts) i 0) (drop (getD (n .starts) i 0) s))
+made i h d =
+    let x = at-exists (d .nodes) i (omega (arith, d .at .counted)) in
+    record { node = x .0; is = d .at .entries i h .node ∙ x .1 }
 
 -- ---- a test of each, and t beside it, told so far by r
-pub record Telling (P : Node → Bool) (s kinds starts ends : List ℕ) (count i : ℕ) (t r : Bool) : Type 0 where
-  pub of : (ns : List Node) → NodesAt s kinds starts ends count ns → (every P ns && t) ≡ (every P (drop i ns) && r)
+pub record Telling (P : Node → Bool) (s : List ℕ) (n : Nodes) (i : ℕ) (t r : Bool) : Type 0 where
+  pub of : (ns : List Node) → NodesIn s n ns → (every P ns && t) ≡ (every P (drop i ns) && r)
 
-module _ {s kinds starts ends : List ℕ} {count : ℕ} (P : Node → Bool) {t : Bool} where
-  pub tell-start : Telling P s kinds starts ends count 0 t t
+module _ {s : List ℕ} {n : Nodes} (P : Node → Bool) {t : Bool} where
+  pub tell-start : Telling P s n 0 t t
   tell-start = record { of = λ ns d. refl }
 
-  pub tell-end : {i : ℕ} {r : Bool} → count ≤ i → Telling P s kinds starts ends count i t r → (ns : List Node) → NodesAt s kinds starts ends count ns → (every P ns && t) ≡ r
+  pub tell-end : {i : ℕ} {r : Bool} → n .count ≤ i → Telling P s n i t r → (ns : List Node) → NodesIn s n ns → (every P ns && t) ≡ r
   tell-end {i} {r} h k ns d = k .of ns d ∙ ap (λ b. b && r) (every-end P ns i (omega (arith, d .counted)))
 
-  pub tell-next : {i : ℕ} {r x q : Bool} → i < count → Telling P s kinds starts ends count i t r → Tells P (getD kinds i 0) (take (getD ends i 0 - getD starts i 0) (drop (getD starts i 0) s)) x → q ≡ (r && x) →
-      Telling P s kinds starts ends count (i + 1) t q
+  pub tell-next : {i : ℕ} {r x q : Bool} → i < n .count → Telling P s n i t r → Tells P (getD (n .kinds) i 0) (take (getD (n .ends) i 0 - getD (n .starts) i 0) (drop (getD (n .starts) i 0) s)) x → q ≡ (r && x) →
+      Telling P s n (i + 1) t q
   tell-next {i} {r} {x} {q} h k u e = record { of = λ ns d. k .of ns d ∙ (let y = node-at ns d in step (every P (drop i ns)) (every P (drop (i + 1) ns)) x r (λ z. rw add-one (every-next P ns i (y .1) (y .2 ∙ z))) (λ z. every-stop P ns i (y .1) (y .2 ∙ z))) ∙ ap (λ b. every P (drop (i + 1) ns) && b) (sym e) }
     where
-      node-at : (ns : List Node) → NodesAt s kinds starts ends count ns → (y : Node) × (getElem? ns i ≡ some y) × (P y ≡ x)
+      node-at : (ns : List Node) → NodesIn s n ns → (y : Node) × (getElem? ns i ≡ some y) × (P y ≡ x)
       node-at ns d =
           let y = at-exists ns i (omega (arith, d .counted)) in
           (y .0, y .1, sym (u .of (y .0) (d .entries i h .node ∙ y .1)))

@@ -11,9 +11,9 @@ use lib.ListN.{length, getD, take, drop}
 use lib.Seq.{take-all}
 use Rattle.semantics.specs.Bytes.{noBytes, twoBytes, byteAndRest}
 use Rattle.semantics.specs.Editions.{edition1}
-use Rattle.semantics.specs.Sections.{Selector}
+use Rattle.semantics.specs.Sections.{Selector, Equation}
 use Rattle.semantics.proofs.Facts.{none-not-some, some-is}
-use Rattle.schedules.specs.Nodes.{Node, sequence, parallel, while-do, if-else, continue-until, reset, reinitial, switch-to, stop-all, Kind, a-sequence, a-parallel, a-while, an-if, a-continue, a-reset, a-reinitial, a-switch, a-stop, no-kind, kindOf, childCount, nodeOf, nodeReads, nodeNamed}
+use Rattle.schedules.specs.Nodes.{Node, sequence, parallel, while-do, if-else, continue-until, reset, reinitial, switch-to, stop-all, Kind, a-sequence, a-parallel, a-while, an-if, a-continue, a-reset, a-reinitial, a-switch, a-stop, no-kind, kindOf, childCount, nodeOf, nodeReads, nodeNamed, nodeParted}
 use Rattle.schedule_read.specs.Indexed.{Tells}
 
 -- ---- a kind by its number
@@ -115,6 +115,16 @@ module _ {k : ℕ} {b : List ℕ} where
         (λ _ e. ap (nodeNamed variables cs) (some-is e)) (λ _ e. ap (nodeNamed variables cs) (some-is e)) (λ _ e. ap (nodeNamed variables cs) (some-is e))
         (λ i. absurd (f i)) (λ i. absurd (g i)) (λ i. absurd (h i))
         (λ _. stop-passes (nodeNamed variables cs) stop-all refl b) (λ e. none-not-some e);
+  }
+
+  pub assigns-nothing : (es : List Equation) → (k ≡ 6 → ⊥) → (k ≡ 7 → ⊥) → Tells (nodeParted es) k b true
+  unfolding nodeOf nodeParted
+  assigns-nothing es f g = record {
+    of = λ x. by-kind (λ j. nodeOf j b ≡ some x → true ≡ nodeParted es x) k
+        (λ _. count-passes (nodeParted es) sequence (λ n. refl) b) (λ _. count-passes (nodeParted es) parallel (λ n. refl) b)
+        (λ _ e. ap (nodeParted es) (some-is e)) (λ _ e. ap (nodeParted es) (some-is e)) (λ _ e. ap (nodeParted es) (some-is e))
+        (λ i. absurd (f i)) (λ i. absurd (g i)) (λ _ e. ap (nodeParted es) (paired switch-to b e .is))
+        (λ _. stop-passes (nodeParted es) stop-all refl b) (λ e. none-not-some e);
   }
 
   pub reads-nothing : (variables : ℕ) → (k ≡ 3 → ⊥) → (k ≡ 4 → ⊥) → (k ≡ 5 → ⊥) → (k ≡ 6 → ⊥) → (k ≡ 7 → ⊥) → Tells (nodeReads edition1 variables) k b true

@@ -1,14 +1,15 @@
 -- What the index of a schedule file promises to those that run or compile it.
 use mathlib.Core.Path.{_≡_, refl, sym, ap, subst, _∙_}
 use mathlib.Core.List.{List}
-use Prim.Native.Nat.{ℕ, suc}
-use native.Mathlib.Omega.{arith}
+use Prim.Native.Nat.{ℕ}
 use Rattle.semantics.specs.Editions.{edition1}
 use Rattle.semantics.specs.Refusals.{Judged, refused, accepted, refusalOf}
 use Rattle.semantics.specs.Conditions.{Condition}
-use Rattle.semantics.proofs.Facts.{All, all-nil, all-cons}
+use Rattle.semantics.proofs.Facts.{All}
 use Rattle.semantics.proofs.Judging.{accepted-is}
 use Rattle.semantics.proofs.CallsHold.{accepted-of}
+use Rattle.semantics.proofs.FirstNumber.{lacks}
+use Rattle.semantics.specs.Bytes.{every}
 use Rattle.schedules.specs.Laid.{Laid}
 use Rattle.schedules.specs.Files.{Schedule, judgeFileLayout, judgeFile}
 use Rattle.schedules.specs.FileSections.{FileSections}
@@ -29,13 +30,8 @@ use Rattle.schedule_read.proofs.PartsStand.{Inside, laid-out, accepted-
 
 -- ---- refused or not
 numbers-not-0 : (f : List ℕ) → All (λ (c : Condition). c .refusal ≡ 0 → ⊥) (fileConditions edition1 f)
-unfolding fileConditions
-numbers-not-0 f =
-    all-cons (no 0) (all-cons (no 1) (all-cons (no 2) (all-cons (no 3) (all-cons (no 4) (all-cons (no 5) (all-cons (no 6)
-    (all-cons (no 7) (all-cons (no 8) (all-cons (no 9) (all-cons (no 10) (all-cons (no 11) all-nil)))))))))))
-  where
-    no : (n : ℕ) → suc n ≡ 0 → ⊥
-    no n e = omega arith
+unfolding every fileConditions
+numbers-not-0 f = lacks 0 (fileConditions edition1 f) refl
 
 module _ (f : List ℕ) {ix : ScheduleIndex} (h : ScheduleIndexed f ix) where
   refusal-is : ix .refusal ≡ refusalOf (judgeFile edition1 f)

@@ -1,6 +1,6 @@
 -- A schedule file judged in order: what the answers about its parts make of the whole.
 use mathlib.Core.Path.{_≡_, refl, sym, ap, subst, _∙_}
-use mathlib.Core.Bool.{Bool, true, false, _&&_}
+use mathlib.Core.Bool.{Bool, true, false, _&&_, and-true}
 use mathlib.Core.List.{List}
 use mathlib.Core.Option.{some}
 use Prim.Native.Nat.{ℕ, _-_, _≤_}
@@ -13,20 +13,21 @@ use Rattle.semantics.specs.Sections.{Selector, Equation, equationsIn}
 use Rattle.semantics.specs.Plant.{Plant, judgePlant, switchesRead, equationReads, selectors}
 use Rattle.semantics.proofs.Judging.{refused-not-accepted, refused-is, go-then, go-need}
 use Rattle.schedules.specs.FileSections.{FileSections}
-use Rattle.schedules.specs.Nodes.{Node, nodesIn, nodeNamed, nodeReads}
+use Rattle.schedules.specs.Nodes.{Node, nodesIn, nodeNamed, nodeParted, nodeReads}
 use Rattle.schedules.specs.Trees.{Tree, treeOf}
 use Rattle.schedules.specs.Files.{Schedule, judgeFileLayout, judgeFile, judgeFileSections, judgeNodes}
 use Rattle.schedules.specs.Calls.{scheduleCounts, readSchedule}
 use Rattle.schedules.proofs.FirstNumber as FirstNumber
 use Rattle.plant.specs.ModeCounts.{ModesAt}
+use Rattle.plant.specs.Driven.{DrivenAt}
 use Rattle.plant.specs.Sound.{There}
 use Rattle.plant.specs.PlantRead.{refusedPlant, acceptedPlant, plantAnswer, plantOf}
 use Rattle.plant.specs.declared.sections.PlantRead.{PlantRead}
 use Rattle.plant.proofs.ModeCounts.{modes-held, modes-full, modes-room}
+use Rattle.plant.proofs.DrivenVariables.{marks-length, driven-held}
 use Rattle.plant.proofs.PlantLaws.{passed-all, passes, variables-of, variables-high, selectors-of}
 use Rattle.schedule_read.specs.FileParts.{noParts, partsIn, partsRead, partsOf, sectionsAt}
-use Rattle.tree_read.specs.Index.{NodesAt}
-use Rattle.schedule_read.specs.Indexed.{Indexed, Passes}
+use Rattle.schedule_read.specs.Indexed.{NodesIn, Indexed}
 use Rattle.tree_read.specs.Index.{notNodes, nodesOf}
 use Rattle.tree_read.specs.Ends.{noTree, TreeAt, TreeIn}
 use Rattle.schedule_read.specs.ScheduleFile.{numbers, noSchedule, IndexAt, ScheduleIndexed, SectionsIndexed, PlantAt, Planted, NodesJudged}
@@ -69,7 +70,7 @@ module _ (f : List ℕ) {p : Parts} (h : p ≡ partsOf f) where
   unfolding sectionsAt judgeFile
   by-sections {ix} z x = record { at = subst (λ q. IndexAt q (judgeFile edition1 f) ix) h (subst (λ j. IndexAt p j ix) (sym (go-then _ (parts-stand z .are))) (x .at)) }
 
--- ---- 11 and 12
+-- ---- 11, 34 and 12
 then-refused : {j : Judged (Unit {0})} {n : ℕ} (k : Judged Schedule) → j ≡ refused n → (j >> k) ≡ refused n
 unfolding _>>_
 then-refused k e = rw e refl
@@ -78,44 +79,59 @@ then-accepted : {j : Judged (Unit {0})} {u : Unit {0}} (k : Judged Schedule) →
 unfolding _>>_
 then-accepted k e = rw e refl
 
--- neither refuses with 0
+-- none refuses with 0
 some-number : (p : Plant) (ns : List Node) {m : ℕ} → judgeNodes edition1 p ns ≡ refused m → 1 ≤ m
 unfolding judgeNodes ensure _>>_
-some-number p ns h = go (every (nodeNamed (length (p .variables)) (selectors p)) ns) (every (nodeReads edition1 (length (p .variables))) ns && switchesRead edition1 p) h
+some-number p ns h =
+    go (every (nodeNamed (length (p .variables)) (selectors p)) ns) (every (nodeParted (p .equations)) ns) (every (nodeReads edition1 (length (p .variables))) ns && switchesRead edition1 p) h
   where
-    go : (a b : Bool) {m : ℕ} → (ensure 11 a >> ensure 12 b) ≡ refused m → 1 ≤ m
-    go true true h = refused-not-accepted (sym h)
-    go true false h = let i = refused-is h in omega arith
-    go false b h = let i = refused-is h in omega arith
+    go : (a b c : Bool) {m : ℕ} → (ensure 11 a >> (ensure 34 b >> ensure 12 c)) ≡ refused m → 1 ≤ m
+    go true true true h = refused-not-accepted (sym h)
+    go true true false h = let i = refused-is h in omega arith
+    go true false c h = let i = refused-is h in omega arith
+    go false b c h = let i = refused-is h in omega arith
 
--- by the answers about the nodes' names, their truths and numbers, and the switches' truths
-module _ {es modes : List ℕ} {v c : ℕ} where
-  pub equations-there : Planted es v c modes → There (equationsIn es)
+module _ {es modes : List ℕ} {driven : List Bool} {v c : ℕ} where
+  pub equations-there : Planted es v c modes driven → There (equationsIn es)
   equations-there d = record { value = d .plant .equations; is = d .at .equations }
 
-module _ {es s kinds starts ends modes : List ℕ} {count v c : ℕ} where
-  module _ {a : Bool} (h : (cs : List Selector) → ModesAt modes c cs → Passes (nodeNamed v cs) s kinds starts ends count a) where
-    names-are : (ns : List Node) → NodesAt s kinds starts ends count ns → (p : Plant) → PlantAt es v c modes p → a ≡ every (nodeNamed (length (p .variables)) (selectors p)) ns
-    names-are ns d p e = h (selectors p) (e .modes-at) .of ns d ∙ ap (λ n. every (nodeNamed n (selectors p)) ns) (sym (e .counted))
+-- a, b and r answer what the three ask of all nodes, the last of the switches too
+pub record Told (es s : List ℕ) (n : Nodes) (v c : ℕ) (modes : List ℕ) (driven : List Bool) (a b r : Bool) : Type 0 where
+  pub names : (ns : List Node) → NodesIn s n ns → (p : Plant) → PlantAt es v c modes driven p → a ≡ every (nodeNamed (length (p .variables)) (selectors p)) ns
+  pub parts : (ns : List Node) → NodesIn s n ns → (p : Plant) → PlantAt es v c modes driven p → b ≡ every (nodeParted (p .equations)) ns
+  pub reads : (ns : List Node) → NodesIn s n ns → (p : Plant) → PlantAt es v c modes driven p →
+      r ≡ (every (nodeReads edition1 (length (p .variables))) ns && switchesRead edition1 p)
 
-    pub by-11 : a ≡ false → NodesJudged es s kinds starts ends count v c modes 11
+module _ {es s : List ℕ} (n : Nodes) {v c : ℕ} {modes : List ℕ} {driven : List Bool} {a b r : Bool} where
+  -- by the pass over the nodes, and the answer about the switches before it
+  pub told : {t : Bool} → ((cs : List Selector) → ModesAt modes c cs → (ns : List Node) → NodesIn s n ns → (every (nodeNamed v cs) ns && true) ≡ a) →
+      ((qs : List Equation) → DrivenAt driven qs → (ns : List Node) → NodesIn s n ns → (every (nodeParted qs) ns && true) ≡ b) →
+      ((qs : List Equation) → equationsIn es ≡ some qs → t ≡ every (equationReads edition1 v) qs) →
+      ((ns : List Node) → NodesIn s n ns → (every (nodeReads edition1 v) ns && t) ≡ r) → Told es s n v c modes driven a b r
+  unfolding switchesRead
+  told f g l k = record {
+    names = λ ns d p e. sym (f (selectors p) (e .modes-at) ns d) ∙ and-true _ ∙ ap (λ n. every (nodeNamed n (selectors p)) ns) (sym (e .counted));
+    parts = λ ns d p e. sym (g (p .equations) (e .driven-at) ns d) ∙ and-true _;
+    reads = λ ns d p e. sym (k ns d) ∙ ap (λ q. every (nodeReads edition1 v) ns && q) (l (p .equations) (e .equations))
+        ∙ ap (λ n. every (nodeReads edition1 n) ns && every (equationReads edition1 n) (p .equations)) (sym (e .counted));
+  }
+
+  module _ (h : Told es s n v c modes driven a b r) where
+    pub by-11 : a ≡ false → NodesJudged es s n v c modes driven 11
     unfolding judgeNodes ensure _>>_ refusalOf
-    by-11 x ns d p e = rw (sym (names-are ns d p e) ∙ x) refl
+    by-11 x ns d p e = rw (sym (h .names ns d p e) ∙ x) refl
 
-    module _ (x : a ≡ true) {t b : Bool} (l : (qs : List Equation) → equationsIn es ≡ some qs → t ≡ every (equationReads edition1 v) qs) (k : (ns : List Node) → NodesAt s kinds starts ends count ns → (every (nodeReads edition1 v) ns && t) ≡ b) where
-      all-read : (ns : List Node) → NodesAt s kinds starts ends count ns → (p : Plant) → PlantAt es v c modes p → b ≡ (every (nodeReads edition1 (length (p .variables))) ns && switchesRead edition1 p)
-      unfolding switchesRead
-      all-read ns d p e =
-          let z = l (p .equations) (e .equations) in
-          sym (k ns d) ∙ ap (λ q. every (nodeReads edition1 v) ns && q) z ∙ ap (λ n. every (nodeReads edition1 n) ns && every (equationReads edition1 n) (p .equations)) (sym (e .counted))
+    pub by-34 : a ≡ true → b ≡ false → NodesJudged es s n v c modes driven 34
+    unfolding judgeNodes ensure _>>_ refusalOf
+    by-34 x y ns d p e = rw (sym (h .names ns d p e) ∙ x, sym (h .parts ns d p e) ∙ y) refl
 
-      pub by-12 : b ≡ false → NodesJudged es s kinds starts ends count v c modes 12
-      unfolding judgeNodes ensure _>>_ refusalOf
-      by-12 y ns d p e = rw (sym (names-are ns d p e) ∙ x, sym (all-read ns d p e) ∙ y) refl
+    pub by-12 : a ≡ true → b ≡ true → r ≡ false → NodesJudged es s n v c modes driven 12
+    unfolding judgeNodes ensure _>>_ refusalOf
+    by-12 x y z ns d p e = rw (sym (h .names ns d p e) ∙ x, sym (h .parts ns d p e) ∙ y, sym (h .reads ns d p e) ∙ z) refl
 
-      pub nodes-passed : b ≡ true → NodesJudged es s kinds starts ends count v c modes 0
-      unfolding judgeNodes ensure _>>_ refusalOf
-      nodes-passed y ns d p e = rw (sym (names-are ns d p e) ∙ x, sym (all-read ns d p e) ∙ y) refl
+    pub nodes-passed : a ≡ true → b ≡ true → r ≡ true → NodesJudged es s n v c modes driven 0
+    unfolding judgeNodes ensure _>>_ refusalOf
+    nodes-passed x y z ns d p e = rw (sym (h .names ns d p e) ∙ x, sym (h .parts ns d p e) ∙ y, sym (h .reads ns d p e) ∙ z) refl
 
 -- ---- 4 to 8
 module _ (at-parts : Parts) (vs es s : List ℕ) {p : PlantRead} (h : p ≡ plantOf vs es) where
@@ -141,18 +157,22 @@ module _ (at-parts : Parts) (vs es s : List ℕ) {p : PlantRead} (h : p ≡ plan
     variables-are : p .variables ≡ length (plant .variables)
     variables-are = ap (λ (p : PlantRead). p .variables) h ∙ variables-of vs es plant-is
 
-    plant-at : PlantAt es (p .variables) (p .selectors) (p .modes) plant
+    plant-at : PlantAt es (p .variables) (p .selectors) (p .modes) (p .driven) plant
     plant-at = record {
       equations = passed-all vs es plant-is .equations;
       counted = sym variables-are;
       few = omega (arith, variables-are, variables-high vs es plant-is);
       modes-at = subst (λ (p : PlantRead). ModesAt (p .modes) (p .selectors) (selectors plant)) (sym h) (modes-held vs es plant-is);
+      driven-at = subst (λ (p : PlantRead). DrivenAt (p .driven) (plant .equations)) (sym h) (driven-held vs es plant-is);
     }
 
     pub counts-full : length (p .modes) ≡ 16
     counts-full = ap (λ (p : PlantRead). length (p .modes)) h ∙ modes-full vs es plant-is
 
-    pub planted : Planted es (p .variables) (p .selectors) (p .modes)
+    pub marks-full : length (p .driven) ≡ 32
+    marks-full = ap (λ (p : PlantRead). length (p .driven)) h ∙ marks-length vs es plant-is
+
+    pub planted : Planted es (p .variables) (p .selectors) (p .modes) (p .driven)
     planted = record { plant = plant; at = plant-at; room = subst (λ (p : PlantRead). p .selectors ≤ length (p .modes)) (sym h) (modes-room vs es plant-is) }
 
     -- ---- 9
@@ -169,10 +189,10 @@ module _ (at-parts : Parts) (vs es s : List ℕ) {p : PlantRead} (h : p ≡ plan
         unfolding ns
         nodes-are = nodes-accepted s (sym (ap (λ (n : Nodes). n .refusal) k) ∙ y) .1
 
-        at : NodesAt s (n .kinds) (n .starts) (n .ends) (n .count) ns
+        at : NodesIn s n ns
         at = found-nodes s k nodes-are
 
-        pub index-of : Indexed s (n .kinds) (n .starts) (n .ends) (n .count)
+        pub index-of : Indexed s n
         index-of = record { nodes = ns; at = at }
 
         -- ---- 10
@@ -181,8 +201,8 @@ module _ (at-parts : Parts) (vs es s : List ℕ) {p : PlantRead} (h : p ≡ plan
           unfolding judgeFileSections need _>>=_
           by-tree x v = record { at = answer-refused at-parts (go-then _ plant-is ∙ go-need 9 _ nodes-are ∙ rw (tree-refused s nodes-are w x) refl) v }
 
-          -- ---- 11 and 12
-          module _ (x : t .ok ≡ true) {r : ℕ} (q : NodesJudged es s (n .kinds) (n .starts) (n .ends) (n .count) (p .variables) (p .selectors) (p .modes) r) where
+          -- ---- 11, 34 and 12
+          module _ (x : t .ok ≡ true) {r : ℕ} (q : NodesJudged es s n (p .variables) (p .selectors) (p .modes) (p .driven) r) where
             last : r ≡ refusalOf (judgeNodes edition1 plant ns)
             last = q ns at plant plant-at
 

@@ -1,17 +1,19 @@
 -- Nodes by their index, and what a test of each node answers.
 use mathlib.Core.Path.{_≡_}
-use mathlib.Core.Bool.{Bool}
 use mathlib.Core.List.{List}
 use mathlib.Core.Option.{some}
 use Prim.Native.Nat.{ℕ}
-use Rattle.semantics.specs.Bytes.{every}
 use Rattle.schedules.specs.Nodes.{Node, kindOf, nodeOf}
 use Rattle.tree_read.specs.Index.{NodesAt}
+use Rattle.tree_read.specs.declared.nodes.Nodes.{Nodes}
 
--- it is the index of some nodes
-pub record Indexed (s kinds starts ends : List ℕ) (count : ℕ) : Type 0 where
+-- n is the index of these nodes of s; of some nodes
+abbrev pub NodesIn : List ℕ → Nodes → List Node → Type 0
+NodesIn s n ns = NodesAt s (n .kinds) (n .starts) (n .ends) (n .count) ns
+
+pub record Indexed (s : List ℕ) (n : Nodes) : Type 0 where
   pub nodes : List Node
-  pub at : NodesAt s kinds starts ends count nodes
+  pub at : NodesIn s n nodes
 
 -- a kind and a payload make a node
 pub record Made (k : ℕ) (b : List ℕ) : Type 0 where
@@ -22,7 +24,3 @@ pub record Made (k : ℕ) (b : List ℕ) : Type 0 where
 -- r is what P says of the node of this kind and payload
 pub record Tells {A : Type 0} (P : Node → A) (k : ℕ) (b : List ℕ) (r : A) : Type 0 where
   pub of : (x : Node) → nodeOf (kindOf k) b ≡ some x → r ≡ P x
-
--- r answers whether each of the nodes of which this is the index passes P
-pub record Passes (P : Node → Bool) (s kinds starts ends : List ℕ) (count : ℕ) (r : Bool) : Type 0 where
-  pub of : (ns : List Node) → NodesAt s kinds starts ends count ns → r ≡ every P ns

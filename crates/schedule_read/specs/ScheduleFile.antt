@@ -1,5 +1,6 @@
--- The call "reading a schedule" (1 to 12), as the code answers it and in the parts that the code has.
+-- The call "reading a schedule" (1 to 11, 34, 12), as the code answers it and in the parts that the code has.
 use mathlib.Core.Path.{_≡_}
+use mathlib.Core.Bool.{Bool}
 use mathlib.Core.List.{List}
 use mathlib.Core.Option.{some}
 use Prim.Native.Nat.{ℕ, _≤_}
@@ -12,11 +13,13 @@ use Rattle.schedules.specs.Nodes.{Node}
 use Rattle.schedules.specs.Files.{Schedule, judgeFile, judgeFileSections, judgeNodes}
 use Rattle.schedules.specs.Calls.{ScheduleRead}
 use Rattle.plant.specs.ModeCounts.{ModesAt}
+use Rattle.plant.specs.Driven.{DrivenAt}
 use Rattle.plant.specs.PlantRead.{refusedPlant, plantOf}
-use Rattle.tree_read.specs.Index.{NodesAt}
 use Rattle.schedule_read.specs.FileParts.{noParts, partsOf}
 use Rattle.tree_read.specs.Index.{notNodes, nodesOf}
 use Rattle.tree_read.specs.Ends.{noTree, TreeAt}
+use Rattle.schedule_read.specs.Indexed.{NodesIn}
+use Rattle.tree_read.specs.declared.nodes.Nodes.{Nodes}
 use Rattle.schedule_read.specs.declared.call.FileRead.{FileRead}
 use Rattle.schedule_read.specs.declared.call.ScheduleIndex.{ScheduleIndex}
 use Rattle.schedule_read.specs.declared.parts.Parts.{Parts}
@@ -46,24 +49,24 @@ pub record ScheduleIndexed (f : List ℕ) (ix : ScheduleIndex) : Type 0 where
   pub at : IndexAt (partsOf f) (judgeFile edition1 f) ix
 
 -- ---- for the code's own contracts
--- 4 to 12, of the sections that stand there
+-- 4 to 11, 34 and 12, of the sections that stand there
 pub record SectionsIndexed (p : Parts) (vs es s : List ℕ) (ix : ScheduleIndex) : Type 0 where
   pub at : IndexAt p (judgeFileSections edition1 (record { variables = vs; equations = es; schedule = s })) ix
 
--- p is a plant of v variables and c selectors with these equations and mode counts
-pub record PlantAt (es : List ℕ) (v c : ℕ) (modes : List ℕ) (p : Plant) : Type 0 where
+-- p is a plant of v variables and c selectors with these equations and mode counts, and these variables are driven
+pub record PlantAt (es : List ℕ) (v c : ℕ) (modes : List ℕ) (driven : List Bool) (p : Plant) : Type 0 where
   pub equations : equationsIn es ≡ some (p .equations)
   pub counted : length (p .variables) ≡ v
   pub few : v ≤ 32
   pub modes-at : ModesAt modes c (selectors p)
+  pub driven-at : DrivenAt driven (p .equations)
 
 -- there is one
-pub record Planted (es : List ℕ) (v c : ℕ) (modes : List ℕ) : Type 0 where
+pub record Planted (es : List ℕ) (v c : ℕ) (modes : List ℕ) (driven : List Bool) : Type 0 where
   pub plant : Plant
-  pub at : PlantAt es v c modes plant
+  pub at : PlantAt es v c modes driven plant
   pub room : c ≤ length modes
 
--- r is the number of 11 and 12, of whatever nodes and plant the code's arrays stand for
-abbrev pub NodesJudged : List ℕ → List ℕ → List ℕ → List ℕ → List ℕ → ℕ → ℕ → ℕ → List ℕ → ℕ → Type 0
-NodesJudged es s kinds starts ends count v c modes r =
-    (ns : List Node) → NodesAt s kinds starts ends count ns → (p : Plant) → PlantAt es v c modes p → r ≡ refusalOf (judgeNodes edition1 p ns)
+-- r is the number of 11, 34 and 12, of whatever nodes and plant the code's arrays stand for
+abbrev pub NodesJudged : List ℕ → List ℕ → Nodes → ℕ → ℕ → List ℕ → List Bool → ℕ → Type 0
+NodesJudged es s n v c modes driven r = (ns : List Node) → NodesIn s n ns → (p : Plant) → PlantAt es v c modes driven p → r ≡ refusalOf (judgeNodes edition1 p ns)

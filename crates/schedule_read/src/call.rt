@@ -1,9 +1,10 @@
-// The call "reading a schedule": conditions 1 to 12, in order.
+// The call "reading a schedule": conditions 1 to 11, 34 and 12, in order.
 ghost use mathlib.Core.Path.{_≡_};
 ghost use Rattle.semantics.specs.Editions.{edition1};
 ghost use Rattle.schedules.specs.Calls.{readSchedule};
 ghost use Rattle.schedule_read.specs.Indexed.{Indexed};
 ghost use Rattle.schedule_read.specs.ScheduleFile.{numbers, noSchedule, SectionsIndexed, ScheduleIndexed, Planted, NodesJudged};
+use super::assignments;
 use super::names;
 use super::operands;
 use super::parts;
@@ -49,37 +50,43 @@ fn refused(n: u8) -> ScheduleIndex
     }
 }
 
-// 11 and 12, or 0, in one pass: 11 of any node comes before 12; kinds, starts and ends are the nodes' index in s, modes has the mode counts of the equations es
+// 11, 34 and 12, or 0, in one pass: each of any node comes before the next one of any; n is the nodes' index in s,
+// modes has the mode counts of the equations es, driven which variables they drive
 fn checked(
     es: &[u8],
     s: &[u8],
-    kinds: &[u8],
-    starts: &[usize],
-    ends: &[usize],
-    count: usize,
+    n: Nodes,
     variables: usize,
     selectors: usize,
     modes: &[usize],
+    driven: &[bool],
 ) -> u8
-    requires { ⌜ Indexed (now s) (now kinds) (now starts) (now ends) count × Planted (now es) variables selectors (now modes) ⌝ }
-    ensures { λ r. ⌜ NodesJudged (now (es .entry)) (now (s .entry)) (now (kinds .entry)) (now (starts .entry)) (now (ends .entry)) count variables selectors (now (modes .entry)) r ⌝ }
+    requires { ⌜ Indexed (now s) n × Planted (now es) variables selectors (now modes) (now driven) ⌝ }
+    ensures { λ r. ⌜ NodesJudged (now (es .entry)) (now (s .entry)) n variables selectors (now (modes .entry)) (now (driven .entry)) r ⌝ }
 {
+    let mut named = true;
+    let mut parted = true;
     let mut read = plant::truths::read(es, variables);
     let mut i = 0;
-    while i < count {
-        let k = kinds[i];
-        let b = starts[i];
-        let e = ends[i];
-        if !names::one(k, &s[b..e], variables, selectors, modes) {
-            return 11;
-        }
+    while i < n.count {
+        let k = n.kinds[i];
+        let b = n.starts[i];
+        let e = n.ends[i];
+        named = both(named, names::one(k, &s[b..e], variables, selectors, modes));
+        parted = both(parted, assignments::one(k, &s[b..e], driven));
         read = both(read, operands::one(k, &s[b..e], variables));
         i += 1;
+    }
+    if !named {
+        return 11;
+    }
+    if !parted {
+        return 34;
     }
     if read { 0 } else { 12 }
 }
 
-// 4 to 12, of the three sections that stand at these places
+// 4 to 11, 34 and 12, of the three sections that stand at these places
 fn sections(parts: Parts, vs: &[u8], es: &[u8], s: &[u8]) -> ScheduleIndex
     ensures { λ r. ⌜ SectionsIndexed parts (now (vs .entry)) (now (es .entry)) (now (s .entry)) r ⌝ }
 {
@@ -95,25 +102,12 @@ fn sections(parts: Parts, vs: &[u8], es: &[u8], s: &[u8]) -> ScheduleIndex
     let variables = p.variables;
     let selectors = p.selectors;
     let modes = p.modes;
-    let count = n.count;
-    let kinds = n.kinds;
-    let starts = n.starts;
-    let ends = n.ends;
+    let driven = p.driven;
     let t = tree::read(s, n);
     if !t.ok {
         return refused(10);
     }
-    let last = checked(
-        es,
-        s,
-        &kinds,
-        &starts,
-        &ends,
-        count,
-        variables,
-        selectors,
-        &modes,
-    );
+    let last = checked(es, s, n, variables, selectors, &modes, &driven);
     if last != 0 {
         return refused(last);
     }

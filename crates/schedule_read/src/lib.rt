@@ -1,5 +1,6 @@
 // Reading a schedule file.
 pub mod actions;
+pub mod assignments;
 pub mod call;
 pub mod names;
 pub mod operands;
