@@ -1,4 +1,4 @@
-//! A schedule file: 1 to 11, its nodes and its tree. Sets of nodes are words.
+//! A schedule file: 1 to 11 and 34, its nodes and its tree. Sets of nodes are words.
 use super::code;
 use super::plant::{nat2, Plant};
 
@@ -100,12 +100,23 @@ impl<'a> Schedule<'a> {
         &self.sections[2][self.from[n] as usize..self.to[n] as usize]
     }
 
-    fn named(&self) -> bool {
-        (0..self.count).all(|n| match self.kinds[n] {
-            6 | 7 => (self.payload(n)[0] as usize) < self.plant.variables,
-            8 => self.plant.mode_exists(self.payload(n)[0], self.payload(n)[1]),
-            _ => true,
-        })
+    /// 11 and 34 in one walk: 34 is noted, since a later node's 11 comes before it.
+    fn named(&self) -> Result<(), u8> {
+        let mut parted = true;
+        for n in 0..self.count {
+            match self.kinds[n] {
+                k @ (6 | 7) => {
+                    let v = self.payload(n)[0];
+                    if v as usize >= self.plant.variables {
+                        return Err(11);
+                    }
+                    parted &= self.plant.driven >> v & 1 == k as u32 - 6;
+                }
+                8 if !self.plant.mode_exists(self.payload(n)[0], self.payload(n)[1]) => return Err(11),
+                _ => {}
+            }
+        }
+        if parted { Ok(()) } else { Err(34) }
     }
 
     /// 12 of the nodes
@@ -117,7 +128,7 @@ impl<'a> Schedule<'a> {
         })
     }
 
-    /// 1 to 11
+    /// 1 to 11, 34
     pub fn read(f: &'a [u8]) -> Result<Self, u8> {
         if f.len() < 3 || f[0] != 1 {
             return Err(1);
@@ -139,13 +150,11 @@ impl<'a> Schedule<'a> {
         };
         x.nodes().ok_or(9)?;
         x.tree().ok_or(10)?;
-        if !x.named() {
-            return Err(11);
-        }
+        x.named()?;
         Ok(x)
     }
 
-    /// 1 to 12
+    /// 1 to 11, 34, 12
     pub fn checked(f: &'a [u8]) -> Result<Self, u8> {
         let s = Schedule::read(f)?;
         if s.operands_read() && s.plant.switches_read(s.sections[1]) { Ok(s) } else { Err(12) }
