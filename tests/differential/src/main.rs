@@ -84,8 +84,10 @@ impl Tally {
             let refused: Vec<String> = refusals(k).map(|n| format!("{n}:{}", self.refusals[k].get(&n).unwrap_or(&0))).collect();
             println!("  refused {call}: {}", refused.join(" "));
         }
-        let situations: Vec<String> = SITUATIONS.iter().map(|s| format!("{} {}: {}", s.0, s.1, self.situations.get(s).unwrap_or(&0))).collect();
-        println!("  {}", situations.join(", "));
+        for row in SITUATIONS.chunk_by(|a, b| a.0 == b.0) {
+            let counts: Vec<String> = row.iter().map(|s| format!("{} {}", self.situations.get(s).unwrap_or(&0), s.1)).collect();
+            println!("  {}: {}", row[0].0, counts.join(", "));
+        }
         let answers: Vec<String> = answers().map(|n| format!("{n}:{}", self.answers.get(&n).unwrap_or(&0))).collect();
         println!("  answered: {}", answers.join(" "));
         let [file, table, events, records] = self.longest;
