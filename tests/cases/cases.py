@@ -45,10 +45,10 @@ def changed(b, at, v):
     return b[:at] + bytes([v]) + b[at + 1 :]
 
 
-# K1, spelled as in the paper
+# K1, spelled as in the papers: document 02 makes node 1 a REINITIAL
 K1 = bytes.fromhex(
     "01 0038 000D 01 00000000 0000000A 00000000 0009 01 0006 01 00 00000001"
-    "0019 03 020102 0A0600100200 0100000001 0905200100000003 0200"
+    "0019 03 020102 0A0700100200 0100000001 0905200100000003 0200"
 )
 K1_TABLE = bytes.fromhex(
     "01 0000004B 000D 01 00000000 0000000A 00000000 0009 01 0006 01 00 00000001"
@@ -66,10 +66,11 @@ of_schedule("K1 K4, from 9", K1, start([9]), "p1 p2",
 tight("K1 K4", K1, start([9]), "p1 p2", "2 0 0", 75, 26)
 of_table("K1's table as in the paper", K1_TABLE, start([9]), "p1 p2", "read table 0, 1 0 2 2; by table 0, 2 0 0: 200 201")
 
-# what most files below have: one variable from 0 to 10, no equation, one RESET
+# what most files below have: one variable from 0 to 10, no equation, one RESET; where an equation drives the variable, one REINITIAL
 V = variables((0, 10, 0))
 NO_EQUATION = equations()
 LEAF = reset(0, const(1))
+DRIVEN_LEAF = reinitial(0, const(1))
 Z = start([0])
 
 
@@ -83,8 +84,13 @@ def tree(t, es=NO_EQUATION, vs=V):
     return schedule(vs, es, t)
 
 
-def plant(*es, vs=V):
-    return schedule(vs, equations(*es), LEAF)
+def plant(*es, vs=V, leaf=LEAF):
+    return schedule(vs, equations(*es), leaf)
+
+
+def driving(*es):
+    """With equations that drive the variable."""
+    return plant(*es, leaf=DRIVEN_LEAF)
 
 
 # 1, 2, 3
@@ -133,14 +139,14 @@ refused(6, "half a length", file_of(V, b"\x01\x00", nodes(LEAF)))
 refused(6, "an empty record", file_of(V, b"\x01\x00\x00", nodes(LEAF)))
 refused(6, "kind 0", plant(b"\x00\x00" + i4(1)))
 refused(6, "kind 3", plant(b"\x03\x00" + i4(1)))
-refused(6, "a rate of five bytes", plant(rate(0, 1) + b"\x00"))
-refused(6, "a rate of three bytes", plant(rate(0, 1)[:-1]))
+refused(6, "a rate of five bytes", driving(rate(0, 1) + b"\x00"))
+refused(6, "a rate of three bytes", driving(rate(0, 1)[:-1]))
 refused(6, "no modes", plant(b"\x02\x00\x00"))
 refused(6, "nine modes", plant(case(0, *[mode()] * 9)))
 refused(6, "a CASE without its mode count", plant(b"\x02\x00"))
 refused(6, "a mode missing", plant(changed(ONE_MODE, 2, 2)))
 refused(6, "bytes after the last mode", plant(ONE_MODE + b"\x00"))
-refused(6, "rates cut", plant(changed(case(0, mode([(0, 1)])), 3, 2)))
+refused(6, "rates cut", driving(changed(case(0, mode([(0, 1)])), 3, 2)))
 refused(6, "no switch count", plant(case(0, b"\x00")))
 refused(6, "a switch missing", plant(case(0, b"\x00\x01")))
 refused(6, "a switch of length 0", plant(case(0, b"\x00\x01\x00")))
@@ -150,18 +156,18 @@ of_schedule("no switch, no rate", plant(ONE_MODE), start([0], [0]), "p0", "read 
 of_schedule("16 selectors", schedule(V, equations(*[ONE_MODE] * 16), LEAF), start([0], [0] * 16), "t p0 t",
     "read 0, 1 16 1; rules 0, 1 2 0: 27 201 23; by table 0, 1 2 0")
 tight("16 selectors", schedule(V, equations(*[ONE_MODE] * 16), LEAF), start([0], [0] * 16), "t p0 t", "1 2 0", 159, 87)
-of_schedule("8 modes, the last current", plant(case(7, *[mode()] * 7, mode([(0, 3)], [(7, FALSE)]))), start([0], [7]), "s0.0 s0.1 p0",
+of_schedule("8 modes, the last current", driving(case(7, *[mode()] * 7, mode([(0, 3)], [(7, FALSE)]))), start([0], [7]), "s0.0 s0.1 p0",
     "read 0, 1 1 1; rules 0, 1 2 0: 30 26 201")
 refused(7, "a rate of a missing variable", plant(rate(1, 1)))
 refused(7, "initial mode missing", plant(case(1, mode())))
-refused(7, "a mode's rate of a missing variable", plant(case(0, mode(), mode([(0, 1), (1, 1)]))))
+refused(7, "a mode's rate of a missing variable", driving(case(0, mode(), mode([(0, 1), (1, 1)]))))
 refused(7, "a switch to a missing mode", plant(case(0, mode(), mode([], [(0, TRUE), (2, TRUE)]))))
-refused(7, "7 later than what 8 is for", plant(rate(0, 1), rate(0, 1), rate(1, 1)))
-refused(8, "two rates of one variable", plant(rate(0, 1), rate(0, 1)))
-refused(8, "a rate and a CASE", plant(rate(0, 1), case(0, mode(), mode([(0, 1)]))))
-refused(8, "two CASEs", plant(case(0, mode([(0, 1)])), case(0, mode(), mode([(0, 2)]))))
-refused(8, "twice in one mode", plant(case(0, mode(), mode([(0, 1), (0, 1)]))))
-of_schedule("one variable in two modes", plant(case(0, mode([(0, 1)]), mode([(0, 2)]))), start([0], [1]), "p0",
+refused(7, "7 later than what 8 is for", driving(rate(0, 1), rate(0, 1), rate(1, 1)))
+refused(8, "two rates of one variable", driving(rate(0, 1), rate(0, 1)))
+refused(8, "a rate and a CASE", driving(rate(0, 1), case(0, mode(), mode([(0, 1)]))))
+refused(8, "two CASEs", driving(case(0, mode([(0, 1)])), case(0, mode(), mode([(0, 2)]))))
+refused(8, "twice in one mode", driving(case(0, mode(), mode([(0, 1), (0, 1)]))))
+of_schedule("one variable in two modes", driving(case(0, mode([(0, 1)]), mode([(0, 2)]))), start([0], [1]), "p0",
     "read 0, 1 1 1; rules 0, 1 0 0: 201")
 
 # 9, 10, 11
@@ -467,7 +473,7 @@ of_schedule("28 and 30: the valve", FILL, start([1, 9], [0]), "p1 s0.0 s0.0 s0.1
 of_schedule("filled, closed, drained", FILL, start([5, 9], [0]), "p1 p2 t t p2 s0.0 s0.1 p2 t p3 t",
     "rules 0, 6 5 0: 200 29 200 28 x2 200 26 200 27 200 x2")
 # a batch of nine ticks, thirty times: 390 events
-BATCHES = schedule(V, equations(rate(0, 1)), loop(TRUE, sequence(reset(0, const(0)), until(le(const(9), var(0))))))
+BATCHES = schedule(V, equations(rate(0, 1)), loop(TRUE, sequence(reinitial(0, const(0)), until(le(const(9), var(0))))))
 of_schedule("thirty batches", BATCHES, Z, " ".join(["p0 p2 t t t t t t t t t t p3"] * 30),
     "rules 0, 360 30 0: 200 x11 31" + " 200 x12 31" * 29 + " 200", record_room=6000)
 DRAIN = schedule(TANK, equations(VALVE), until(FALSE))
@@ -529,7 +535,7 @@ of_schedule("a WHILE that faults", tree(loop(FAULT_ABOVE, LEAF)), Z, "p0", "rule
 of_schedule("an IF that faults", tree(either_of(FAULT_ABOVE, LEAF, LEAF)), Z, "p0 p1", "rules 0, 0 1 1: 203 23")
 of_schedule("a RESET below the range", number(const(-1)), start([5]), "p0", "rules 0, 0 0 1: 204")
 of_schedule("a RESET above the range", number(const(11)), start([5]), "p0", "rules 0, 0 0 1: 203")
-of_schedule("a REINITIAL at the border", tree(reinitial(0, const(10))), start([5]), "p0", "rules 0, 1 0 0: 201")
+of_schedule("a REINITIAL at the border", tree(reinitial(0, const(10)), equations(rate(0, 1))), start([5]), "p0", "rules 0, 1 0 0: 201")
 WAITING = until(FALSE)
 of_schedule("a tick past the highest number", schedule(W, equations(rate(0, 1)), WAITING), start([HIGHEST - 1]), "t t t",
     "rules 0, 1 1 1: 200 203 23")
@@ -763,6 +769,111 @@ of_schedule("an IF in a WHILE in a SEQUENCE", tree(sequence(loop(le(var(0), cons
     "rules 0, 9 0 0: 200 x8 202")
 
 
+# RESET belongs to variables that no equation drives, REINITIAL to driven ones (document 02, item 3); 34 otherwise.
+# What drives variable 0, with the modes of a start
+AFTER = case(0, mode(), mode([(0, 1)]))
+for name, es, modes in [
+    ("a rate", [rate(0, 1)], []),
+    ("a rate of 0", [rate(0, 0)], []),
+    ("the initial mode", [case(0, mode([(0, 1)]), mode())], [1]),
+    ("a mode that is not the initial one", [AFTER], [0]),
+    ("the mode before the initial one", [case(1, mode([(0, 1)]), mode())], [1]),
+    ("a rate of 0 in a mode that is not the initial one", [case(0, mode(), mode([(0, 0)]))], [0]),
+    ("two modes of one CASE", [case(0, mode([(0, 1)]), mode([(0, 2)]))], [1]),
+    ("the last of 8 modes", [case(0, *[mode()] * 7, mode([(0, 1)]))], [0]),
+    ("the second CASE", [ONE_MODE, AFTER], [0, 0]),
+    ("the first of 16 equations", [rate(0, 1)] + [ONE_MODE] * 15, [0] * 15),
+    ("the last of 16 equations", [ONE_MODE] * 15 + [AFTER], [0] * 16),
+]:
+    begin = start([0], modes)
+    refused(34, f"RESET of what is driven by {name}", plant(*es), begin)
+    of_schedule(f"REINITIAL of what is driven by {name}", driving(*es), begin, "p0",
+        f"read 0, 1 {len(modes)} 1; size 0, 1 1; rules 0, 1 0 0: 201; by table 0, 1 0 0: 201")
+# what drives nothing
+for name, es, modes in [
+    ("no equation", [], []),
+    ("a CASE without a rate", [case(0, mode(), mode())], [0]),
+    ("the truth of a switch", [one(lt(var(0), const(0)))], [0]),
+    ("the truth of a switch in another mode", [case(0, mode(), mode([], [(0, eq(var(0), var(0)))]))], [0]),
+]:
+    begin = start([0], modes)
+    refused(34, f"REINITIAL of what stands in {name}", driving(*es), begin)
+    of_schedule(f"RESET of what stands in {name}", plant(*es), begin, "p0",
+        f"read 0, 1 {len(modes)} 1; size 0, 1 1; rules 0, 1 0 0: 201; by table 0, 1 0 0: 201")
+PAIR = variables(*[(0, 10, 0)] * 2)
+ZERO = le(const(0), var(0))
+refused(34, "REINITIAL of what stands in the truth of a CONTINUE alone", tree(sequence(until(ZERO), DRIVEN_LEAF)), es="p1")
+refused(34, "REINITIAL of what stands in the truths of a WHILE and an IF alone", tree(loop(ZERO, either_of(ZERO, DRIVEN_LEAF, STOP))))
+refused(34, "REINITIAL of what stands in its own number alone", tree(reinitial(0, add(var(0), const(1)))))
+refused(34, "REINITIAL of what stands in the number of a driven one alone",
+    tree(sequence(reinitial(1, var(0)), DRIVEN_LEAF), equations(rate(1, 1)), PAIR), start([0, 0]), "p1")
+# other variables, and which of them
+refused(34, "RESET of 0, 0 of 2 driven", tree(reset(0, var(1)), equations(rate(0, 1)), PAIR), start([0, 0]))
+refused(34, "RESET of 1, 1 of 2 driven", tree(reset(1, var(0)), equations(rate(1, 1)), PAIR), start([0, 0]))
+refused(34, "REINITIAL of 0, 1 of 2 driven", tree(reinitial(0, var(1)), equations(rate(1, 1)), PAIR), start([0, 0]))
+refused(34, "REINITIAL of 1, 0 of 2 driven", tree(reinitial(1, var(0)), equations(rate(0, 1)), PAIR), start([0, 0]))
+refused(34, "REINITIAL of 1, where mode 1 drives 0", tree(reinitial(1, const(1)), equations(AFTER), PAIR), start([0, 0], [1]))
+refused(34, "RESET of a mode's second rate", tree(reset(1, const(1)), equations(case(0, mode([(0, 1), (1, 1)]))), PAIR), start([0, 0], [0]))
+of_schedule("RESET of 1 and REINITIAL of 0, 0 of 2 driven", tree(sequence(reset(1, const(2)), DRIVEN_LEAF), equations(rate(0, 1)), PAIR),
+    start([0, 0]), "p1 p2", "rules 0, 2 0 0: 200 201; by table 0, 2 0 0: 200 201; "
+    "records = C8 0000000000000004 00000000 00000002 C9 0000000000000000 00000001 00000002")
+MANY_ZEROS = variables(*[(0, 10, 0)] * 32)
+LAST_DRIVEN, LAST_FREE = case(0, mode(), mode([(31, 1)])), case(0, mode(), mode([(v, 1) for v in range(31)]))
+ZEROS = start([0] * 32, [0])
+refused(34, "RESET of variable 31 of 32, it alone driven", tree(reset(31, const(1)), equations(LAST_DRIVEN), MANY_ZEROS), ZEROS)
+refused(34, "REINITIAL of variable 31 of 32, all others driven", tree(reinitial(31, const(1)), equations(LAST_FREE), MANY_ZEROS), ZEROS)
+of_schedule("REINITIAL of variable 31 of 32, it alone driven", tree(reinitial(31, const(1)), equations(LAST_DRIVEN), MANY_ZEROS), ZEROS, "p0",
+    "read 0, 32 1 1; rules 0, 1 0 0: 201; by table 0, 1 0 0: 201")
+of_schedule("RESET of variable 31 of 32, all others driven", tree(reset(31, const(1)), equations(LAST_FREE), MANY_ZEROS), ZEROS, "p0",
+    "read 0, 32 1 1; rules 0, 1 0 0: 201; by table 0, 1 0 0: 201")
+
+# 34 in either direction: the plant, the assignment that keeps the rule, and the kind that breaks it
+for name, es, good, bad in [("RESET", equations(rate(0, 1)), DRIVEN_LEAF, reset), ("REINITIAL", NO_EQUATION, LEAF, reinitial)]:
+    wrong = bad(0, const(1))
+    # each node, reached or not
+    for where, t in [
+        ("behind a STOP", sequence(STOP, wrong)),
+        ("in a WHILE that is false", loop(FALSE, wrong)),
+        ("in the first branch of an IF that is false", either_of(FALSE, wrong, STOP)),
+        ("in the second branch of an IF that is true", either_of(TRUE, STOP, wrong)),
+        ("in the first of three branches", parallel(wrong, good, good)),
+        ("in the last of three branches", parallel(good, good, wrong)),
+        ("at node 63", sequence(*[good] * 62, wrong)),
+    ]:
+        refused(34, f"{name} {where}", tree(t, es), es="p1")
+    # any 10 or 11 comes before it
+    refused(9, f"9 before 34 of a {name}", file_of(V, es, nodes(wrong + node(10))))
+    refused(10, f"10 before 34 of a {name}", tree(wrong + STOP, es))
+    for what, missing in [("RESET", reset(1, const(1))), ("REINITIAL", reinitial(1, const(1))), ("SWITCH", switch(0, 0))]:
+        refused(11, f"{what} at a later node than 34 of a {name}", tree(sequence(wrong, good, missing), es))
+        refused(11, f"{what} at an earlier node than 34 of a {name}", tree(sequence(missing, good, wrong), es))
+    # it comes before any 12
+    for what, t in [
+        ("its own, no number", bad(0, b"")),
+        ("its own, a truth", bad(0, TRUE)),
+        ("its own, a missing variable", bad(0, var(1))),
+        ("its own, of depth 17", bad(0, negs(16, var(0)))),
+        ("an earlier CONTINUE's", sequence(until(b""), wrong)),
+        ("an earlier assignment's", sequence(node(good[0][0], b"\x00"), wrong)),
+        ("a later IF's", sequence(wrong, either_of(const(1), STOP, STOP))),
+        ("the WHILE's around it", loop(var(1), wrong)),
+    ]:
+        refused(34, f"{name} before 12, {what}", tree(t, es), es="p1")
+    # before 13, 14, and 20 to 22
+    refused(34, f"{name} before 13", tree(sequence(good, good, parallel(*[good] * 9, wrong)), es))
+    of_schedule(f"34: {name} before 14, 20, 21 and 22", tree(wrong, es), b"", "x00",
+        "read 34, 0 0 0; size 34, 0 0; compile 34, 0; rules 34, 0 0 0; " + unexamined(34), table_room=0, record_room=0)
+BROKEN = case(0, mode([], [(0, const(1))]), mode([(0, 1)], [(0, b"")]))
+refused(34, "RESET before 12, a switch's", plant(BROKEN), start([0], [0]))
+refused(34, "REINITIAL before 12, a switch's", driving(one(TRUE, TRUE + TRUE)), start([0], [0]))
+refused(12, "a switch's, where a REINITIAL keeps the rule", driving(BROKEN), start([0], [0]))
+refused(8, "8 before 34: RESET of what two equations drive", plant(rate(0, 1), rate(0, 1)))
+refused(7, "7 before 34: REINITIAL, a rate of a missing variable", driving(rate(1, 1)))
+refused(34, "K1 with a RESET at node 1", changed(K1, K1.index(b"\x0A\x07") + 1, 6), es="p1")
+refused(34, "K1 with a rate of a second variable in place of the first's",
+    tree(sequence(reinitial(0, add(var(0), const(1))), until(le(const(3), var(0)))), equations(rate(1, 1)), PAIR), start([0, 0]), "p1")
+
+
 # Tables: 15 to 19
 def refused_table(n, name, table, begin=Z, es="p0"):
     of_table(f"{n}: {name}", table, begin, es, f"read table {n}, 0 0 0 0; by table {n}, 0 0 0")
@@ -802,6 +913,9 @@ def located(locs):
 of_table("a table of our own", located(LOCS), Z, "p2 p1 p0 p0 p2 p2", "read table 0, 1 0 4 2; by table 0, 3 3 0: 25 200 x2 25 201 23")
 of_table("its STOP", located(LOCS), start([3]), "t p0 p5 p5", "read table 0, 1 0 4 2; by table 0, 2 2 0: 27 200 202 23")
 of_table("its test is false", located(LOCS), start([4]), "p0 p0", "by table 0, 1 1 0: 201 23")
+# an assign does not tell whether it was a RESET or a REINITIAL
+for name, es in [("a driven variable", equations(rate(0, 1))), ("a variable that is not driven", NO_EQUATION)]:
+    of_table(f"an assignment to {name}", acted((7, 3, b"\x00" + const(2)), es=es), Z, "p7", "read table 0, 1 0 1 1; by table 0, 1 0 0: 200")
 for side, n, t, answer in SIDES:
     of_table(f"its assignment is {side}", acted((7, 3, b"\x00" + n)), Z, "p7 p7", f"by table 0, 0 1 1: {answer} 23")
     of_table(f"its test is {side}", acted((7, 1, t)), Z, "p7 p7", f"by table 0, 0 1 1: {answer} 23")

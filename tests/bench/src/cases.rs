@@ -69,11 +69,11 @@ impl Draft {
         Draft { variables, equations, nodes }
     }
 
-    /// The schedule over and over: a WHILE true, whose body is the schedule and then the resets.
-    fn over_and_over(mut self, resets: &[Vec<u8>]) -> Draft {
-        let mut nodes = vec![vec![3, 0x2F], vec![1, 1 + resets.len() as u8]];
+    /// The schedule over and over: a WHILE true, whose body is the schedule and then the assignments.
+    fn over_and_over(mut self, assignments: &[Vec<u8>]) -> Draft {
+        let mut nodes = vec![vec![3, 0x2F], vec![1, 1 + assignments.len() as u8]];
         nodes.append(&mut self.nodes);
-        nodes.extend_from_slice(resets);
+        nodes.extend_from_slice(assignments);
         Draft { nodes, ..self }
     }
 }
@@ -101,8 +101,14 @@ fn node(kind: u8, payload: &[u8]) -> Vec<u8> {
     [&[kind], payload].concat()
 }
 
+/// Of a variable that no equation drives.
 fn reset(v: u8, number: &[u8]) -> Vec<u8> {
     [&[6, v], number].concat()
+}
+
+/// Of a driven variable.
+fn reinitial(v: u8, number: &[u8]) -> Vec<u8> {
+    [&[7, v], number].concat()
 }
 
 fn level(high: i32) -> [i32; 3] {
@@ -157,15 +163,16 @@ pub fn picks() -> Vec<u8> {
     (0..640).flat_map(|i| [1, (i % 64) as u8, 0]).collect()
 }
 
-/// A branch of eight nodes that moves among five places: WHILE over SEQUENCE of CONTINUE, IF and RESET.
-fn branch(v: u8) -> Vec<Vec<u8>> {
+/// A branch of eight nodes that moves among five places: WHILE over SEQUENCE of CONTINUE, IF and assignments.
+fn branch(v: u8, driven: bool) -> Vec<Vec<u8>> {
+    let assign = if driven { reinitial } else { reset };
     vec![
         node(3, &form(0x21, &variable(v), &constant(90))),
         vec![1, 3],
         node(5, &at_least(v, 40)),
         node(4, &form(0x21, &variable(v), &constant(60))),
-        reset(v, &form(0x10, &variable(v), &constant(5))),
-        reset(v, &constant(0)),
+        assign(v, &form(0x10, &variable(v), &constant(5))),
+        assign(v, &constant(0)),
         vec![8, v % 2, 1],
     ]
 }
@@ -184,11 +191,12 @@ pub fn mixed() -> Vec<u8> {
         let branches = if first == 2 { 2 } else { 3 };
         nodes.push(vec![2, branches]);
         for b in 0..branches {
-            nodes.extend(branch((first + b) % 4));
+            let v = (first + b) % 4;
+            nodes.extend(branch(v, v < 2));
         }
     }
     nodes.push(vec![1, 3]);
-    nodes.push(reset(0, &constant(1)));
+    nodes.push(reinitial(0, &constant(1)));
     nodes.push(node(5, &at_least(1, 10)));
     nodes.push(vec![9]);
     Draft { variables, equations: vec![case(0), case(1)], nodes }.bytes()
@@ -221,7 +229,7 @@ fn wide() -> Draft {
     nodes.push(node(3, &[0x2F]));
     nodes.push(vec![1, 2]);
     nodes.push(node(5, &at_least(3, 60)));
-    nodes.push(reset(3, &constant(20)));
+    nodes.push(reinitial(3, &constant(20)));
     Draft { variables, equations, nodes }
 }
 
@@ -269,12 +277,12 @@ pub fn filling() -> Runs {
 }
 
 pub fn vessels() -> Runs {
-    let again = [reset(0, &constant(0)), reset(1, &constant(0))];
+    let again = [reinitial(0, &constant(0)), reinitial(1, &constant(0))];
     lively(&Draft::of(include_bytes!("../../../examples/vessels.schedule")).over_and_over(&again), 12)
 }
 
 pub fn batch() -> Runs {
-    let again = [reset(0, &constant(20))];
+    let again = [reinitial(0, &constant(20))];
     lively(&Draft::of(include_bytes!("../../../examples/batch.schedule")).over_and_over(&again), 13)
 }
 

@@ -231,13 +231,16 @@ fn drawn_runs(r: &mut Random, by_table: bool, program: &[u8]) -> Runs {
     Runs { file: program.to_vec(), start, events }
 }
 
-/// Schedules and tables by the makers of tests/differential, which reach faults on either side in every place.
+/// Schedules and tables by the makers of tests/differential, which reach faults on either side in every place, and 34 beside 11 and 12.
 fn agree_drawn() {
     let mut r = Random::new(5);
     for i in 0..5_000 {
         let file = inputs::file(&mut r);
+        let name = format!("drawn schedule {i}");
+        agree(&name, &Work::Compile(file.clone()), 70_000);
+        agree(&name, &Work::Size(file.clone()), 0);
         let w = Work::Rules(drawn_runs(&mut r, false, &file));
-        agree(&format!("drawn schedule {i}"), &w, room(&w));
+        agree(&name, &w, room(&w));
         let table = inputs::table(&mut r, plain::whole_table(&file).ok().as_ref());
         let runs = drawn_runs(&mut r, true, &table);
         let w = Work::Table(table, runs);

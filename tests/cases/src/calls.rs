@@ -40,13 +40,20 @@ pub struct Call {
 
 /// In the order of their numbers, from 1.
 pub const CALLS: [Call; 7] = [
-    Call { name: "read", reads: &[FILE], rooms: &[], numbers: 3, refusals: &[(1, 12)], gives: read },
+    Call { name: "read", reads: &[FILE], rooms: &[], numbers: 3, refusals: &[(1, 12), (34, 34)], gives: read },
     Call { name: "read table", reads: &[TABLE], rooms: &[], numbers: 4, refusals: &[(15, 19)], gives: read_table },
-    Call { name: "size", reads: &[FILE], rooms: &[], numbers: 2, refusals: &[(1, 12)], gives: size },
-    Call { name: "compile", reads: &[FILE], rooms: &[0], numbers: 1, refusals: &[(1, 14)], gives: compile },
-    Call { name: "rules", reads: &[FILE, START, EVENTS], rooms: &[1], numbers: 3, refusals: &[(1, 12), (20, 22)], gives: rules },
+    Call { name: "size", reads: &[FILE], rooms: &[], numbers: 2, refusals: &[(1, 12), (34, 34)], gives: size },
+    Call { name: "compile", reads: &[FILE], rooms: &[0], numbers: 1, refusals: &[(1, 14), (34, 34)], gives: compile },
+    Call { name: "rules", reads: &[FILE, START, EVENTS], rooms: &[1], numbers: 3, refusals: &[(1, 12), (20, 22), (34, 34)], gives: rules },
     Call { name: "by table", reads: &[TABLE, START, EVENTS], rooms: &[1], numbers: 3, refusals: &[(15, 22)], gives: by_table },
-    Call { name: "examine", reads: &[FILE, START, EVENTS], rooms: &[0, 1, 2], numbers: 8, refusals: &[(1, 14), (20, 22)], gives: examine },
+    Call {
+        name: "examine",
+        reads: &[FILE, START, EVENTS],
+        rooms: &[0, 1, 2],
+        numbers: 8,
+        refusals: &[(1, 14), (20, 22), (34, 34)],
+        gives: examine,
+    },
 ];
 
 fn numbers(l: &[u64]) -> Given {

@@ -1,6 +1,7 @@
 //! What the cases reach, printed, and what they must reach.
-use crate::calls::CALLS;
+use crate::calls::{CALLS, FILE};
 use crate::case::Case;
+use crate::plain::{self, SITUATIONS, Situation};
 use std::collections::BTreeMap;
 
 /// The bench papers of document 01 that stand in names of cases.
@@ -8,6 +9,13 @@ const PAPERS: [&str; 11] = ["K1", "K2", "K3", "K4", "K5", "K6", "K7", "K8", "K9"
 
 fn row(seen: &BTreeMap<u8, usize>) -> String {
     seen.iter().map(|(n, times)| format!(" {n}:{times}")).collect()
+}
+
+/// Situations of RESET and REINITIAL that no schedule is in, by the call that reads one.
+fn situations_missing(cases: &[Case]) -> Vec<String> {
+    let read = cases.iter().filter(|c| c.call().name == "read");
+    let seen: Vec<Situation> = read.flat_map(|c| plain::situations(&c.lent.strings[FILE], c.outcome.as_ref().err().copied())).collect();
+    SITUATIONS.iter().filter(|s| !seen.contains(s)).map(|s| format!("no schedule with {} {}", s.0, s.1)).collect()
 }
 
 /// Prints what is seen of each call. Gives what is missing, and refusals that are not the call's.
@@ -35,6 +43,7 @@ pub fn missing(cases: &[Case]) -> Vec<String> {
         }
     }
     let named = |k: &&str| cases.iter().any(|c| c.name.split(|x: char| !x.is_alphanumeric()).any(|w| w == *k));
+    wrong.extend(situations_missing(cases));
     wrong.extend(PAPERS.iter().filter(|k| !named(k)).map(|k| format!("no case of {k}")));
     wrong
 }

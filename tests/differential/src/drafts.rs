@@ -110,6 +110,29 @@ impl Draft {
         file_of(&self.sections())
     }
 
+    /// Named by an equation of kind 1, or by a rate in any mode of a CASE.
+    fn drives(&self, v: u8) -> bool {
+        self.equations.iter().any(|e| match e {
+            Equation::Steady(x, _) => *x == v,
+            Equation::Case(_, modes) => modes.iter().any(|m| m.rates.iter().any(|(x, _)| *x == v)),
+            Equation::Bytes(_) => false,
+        })
+    }
+
+    /// The kind that the rule of 34 gives an assignment to this variable.
+    fn kind_for(&self, v: u8) -> u8 {
+        if self.drives(v) { 7 } else { 6 }
+    }
+
+    /// Every assignment gets the kind that its variable takes with these equations.
+    pub fn part_assignments(&mut self) {
+        for k in 0..self.nodes.len() {
+            if let [6 | 7, v, ..] = self.nodes[k][..] {
+                self.nodes[k][0] = self.kind_for(v);
+            }
+        }
+    }
+
     /// The mode count of each selector.
     pub fn selectors(&self) -> Vec<usize> {
         self.equations.iter().filter_map(|e| if let Equation::Case(_, ms) = e { Some(ms.len()) } else { None }).collect()
@@ -189,6 +212,11 @@ pub fn equations(r: &mut Random, variables: usize, steep: bool) -> Vec<Equation>
         .collect()
 }
 
+fn assignment(r: &mut Random, kind: u8, v: u8, variables: usize) -> Vec<u8> {
+    [vec![kind, v], forms::number(r, variables, 198)].concat()
+}
+
+/// Assignments are RESETs; `part_assignments` makes REINITIALs of those to driven variables.
 fn leaf(r: &mut Random, variables: usize, selectors: &[usize], waits: bool) -> Vec<u8> {
     let kind = if waits && !r.one_in(4) { 0 } else { r.below(if selectors.is_empty() { 8 } else { 10 }) };
     match kind {
@@ -199,9 +227,8 @@ fn leaf(r: &mut Random, variables: usize, selectors: &[usize], waits: bool) -> V
         }
         3 => vec![9],
         4..=7 => {
-            let mut p = vec![r.of(&[6, 7]), r.below(variables) as u8];
-            p.extend(forms::number(r, variables, 198));
-            p
+            let v = r.below(variables) as u8;
+            assignment(r, 6, v, variables)
         }
         _ => {
             let s = r.below(selectors.len());
@@ -292,10 +319,11 @@ pub fn sound(r: &mut Random) -> Draft {
     let waits = r.one_in(3);
     let selectors = d.selectors();
     tree(r, most, n, &selectors, waits, &mut d.nodes);
+    d.part_assignments();
     d
 }
 
-/// A PARALLEL of RESETs and STOPs, now and then behind others in a SEQUENCE: the largest tables, and 13.
+/// A PARALLEL of assignments and STOPs, now and then behind others in a SEQUENCE: the largest tables, and 13.
 pub fn wide(r: &mut Random, resets: usize, stops: usize, before: usize) -> Draft {
     let n = if r.one_in(2) { 1 } else { 1 + r.below(32) };
     let reset = |r: &mut Random| {
@@ -318,7 +346,9 @@ pub fn wide(r: &mut Random, resets: usize, stops: usize, before: usize) -> Draft
         nodes.push(vec![9]);
     }
     let equations = if r.one_in(2) { Vec::new() } else { equations(r, n, false) };
-    Draft { variables: vec![[i32::MIN, i32::MAX, 0]; n], equations, nodes, miscounted: [0; 3] }
+    let mut d = Draft { variables: vec![[i32::MIN, i32::MAX, 0]; n], equations, nodes, miscounted: [0; 3] };
+    d.part_assignments();
+    d
 }
 
 /// A CASE with switches that never hold, so long that the equation section grows by so many bytes; at least 40.
@@ -356,32 +386,94 @@ fn holds_form(node: &[u8]) -> bool {
     }
 }
 
-/// The form of a node or of a switch.
-fn break_form(r: &mut Random, d: &mut Draft) {
+/// The truth of a switch; false where there is none.
+fn break_switch(r: &mut Random, d: &mut Draft) -> bool {
     let n = d.variables.len();
-    let switches: Vec<&mut (u8, Vec<u8>)> = d
+    let mut switches: Vec<&mut (u8, Vec<u8>)> = d
         .equations
         .iter_mut()
         .filter_map(|e| if let Equation::Case(_, ms) = e { Some(ms) } else { None })
         .flatten()
         .flat_map(|m| &mut m.switches)
         .collect();
-    if !switches.is_empty() && r.one_in(3) {
-        let k = r.below(switches.len());
-        if let Some(w) = switches.into_iter().nth(k) {
-            forms::broken(r, &mut w.1, true, n);
-        }
-        return;
+    if switches.is_empty() {
+        return false;
     }
-    let holders: Vec<usize> = (0..d.nodes.len()).filter(|k| holds_form(&d.nodes[*k])).collect();
-    if holders.is_empty() {
-        return;
-    }
-    let k = r.of(&holders);
+    let k = r.below(switches.len());
+    forms::broken(r, &mut switches[k].1, true, n);
+    true
+}
+
+/// The form of this node, which holds one.
+fn break_node(r: &mut Random, d: &mut Draft, k: usize) {
+    let n = d.variables.len();
     let front = if d.nodes[k][0] >= 6 { 2 } else { 1 };
     let mut l = d.nodes[k].split_off(front);
     forms::broken(r, &mut l, front == 1, n);
     d.nodes[k].extend(l);
+}
+
+/// The form of a node or of a switch.
+fn break_form(r: &mut Random, d: &mut Draft) {
+    if r.one_in(3) && break_switch(r, d) {
+        return;
+    }
+    let holders: Vec<usize> = (0..d.nodes.len()).filter(|k| holds_form(&d.nodes[*k])).collect();
+    if !holders.is_empty() {
+        let k = r.of(&holders);
+        break_node(r, d, k);
+    }
+}
+
+/// An equation that drives v: of kind 1, in the initial mode of a CASE, in its other mode, or in both.
+fn driver(r: &mut Random, v: u8) -> Equation {
+    let z = rate(r, false);
+    let [with, without] = [vec![(v, z)], Vec::new()].map(|rates| Mode { rates, switches: Vec::new() });
+    match r.below(4) {
+        0 => Equation::Steady(v, z),
+        1 => Equation::Case(0, vec![with, without]),
+        2 => Equation::Case(0, vec![without, with]),
+        _ => Equation::Case(1, vec![with.clone(), with]),
+    }
+}
+
+/// A RESET of a driven variable, or a REINITIAL of another (34).
+fn unfit_assignment(r: &mut Random, d: &mut Draft) -> Vec<u8> {
+    let n = d.variables.len();
+    let v = r.below(n) as u8;
+    if !d.drives(v) && d.equations.len() < 16 && r.one_in(3) {
+        let e = driver(r, v);
+        d.equations.push(e);
+    }
+    assignment(r, 13 - d.kind_for(v), v, n)
+}
+
+/// A node that names what is missing (11).
+fn unnamed(r: &mut Random, d: &Draft) -> Vec<u8> {
+    let n = d.variables.len();
+    match r.below(3) {
+        0 => vec![8, d.selectors().len() as u8, 0],
+        k => assignment(r, 5 + k as u8, n as u8, n),
+    }
+}
+
+/// 34, and often 11 or 12 with it: in the same node, in one before or behind it, or in a switch.
+fn flaw_assignment(r: &mut Random, d: &mut Draft) {
+    let leaves: Vec<usize> = (0..d.nodes.len()).filter(|k| matches!(d.nodes[*k].first(), Some(5..=9))).collect();
+    if leaves.is_empty() {
+        return;
+    }
+    let (k, other) = (r.of(&leaves), r.of(&leaves));
+    d.nodes[k] = unfit_assignment(r, d);
+    match r.below(8) {
+        0 | 1 if other != k => d.nodes[other] = unnamed(r, d),
+        2 => break_node(r, d, k),
+        3 if holds_form(&d.nodes[other]) => break_node(r, d, other),
+        4 | 5 => {
+            break_switch(r, d);
+        }
+        _ => {}
+    }
 }
 
 fn flaw_equation(r: &mut Random, d: &mut Draft) {
@@ -511,12 +603,13 @@ pub fn flaw(r: &mut Random, d: &mut Draft) {
     if d.nodes.is_empty() {
         return;
     }
-    match r.below(12) {
+    match r.below(15) {
         0 | 1 => flaw_variable(r, d),
         2..=4 => flaw_equation(r, d),
         5 | 6 => flaw_node(r, d),
         7 => flaw_tree(r, d),
         8..=10 => break_form(r, d),
+        11..=13 => flaw_assignment(r, d),
         _ => {
             let k = r.below(3);
             d.miscounted[k] = r.of(&[1, 255, 2, 254, 64]);

@@ -54,6 +54,7 @@ fn near_65536(r: &mut Random) -> Draft {
     let (resets, stops) = r.of(&[(9, 18), (9, 20), (8, 42), (8, 45), (7, 55)]);
     let mut d = drafts::wide(r, resets, stops, 0);
     d.equations.truncate(15);
+    d.part_assignments();
     let wanted = 65_530 + r.below(13);
     if let Ok(t) = plain::whole_table(&d.file()) {
         if t.len() + 60 <= wanted && wanted - t.len() < 32_000 {
@@ -80,6 +81,7 @@ fn many_locations(r: &mut Random) -> Draft {
 fn long(r: &mut Random) -> Draft {
     let mut d = drafts::sound(r);
     d.equations.truncate(13);
+    d.part_assignments();
     let mut left = r.of(&[20_000usize, 60_000, 65_534, 65_535, 65_535, 65_536, 65_540]).saturating_sub(d.file().len());
     // one padding holds at most 8 times 255 switches
     while left >= 60 {

@@ -1,5 +1,6 @@
 //! The calls of the product against the plain implementation, on inputs from a seed.
 //! differential [SEED [SECONDS]]
+//! Status 1 at a difference, and where the inputs of the whole run do not reach every refusal, answer and situation.
 mod drafts;
 mod forms;
 mod inputs;
@@ -8,9 +9,11 @@ mod product;
 mod random;
 mod tables;
 
+use plain::{SITUATIONS, Situation};
 use product::Given;
 use random::Random;
 use std::collections::BTreeMap;
+use std::ops::RangeInclusive;
 use std::time::{Duration, Instant};
 
 const CALLS: [&str; 7] = ["read_schedule", "read_table", "compile", "rule_run", "table_run", "size", "practice"];
@@ -18,9 +21,12 @@ const CALLS: [&str; 7] = ["read_schedule", "read_table", "compile", "rule_run", 
 /// The most bytes of practice events that are run, so that the other inputs have the most of the time.
 const LONGEST_DRILL: usize = 900;
 
-/// The numbers that these calls are refused with.
-fn refusals() -> impl Iterator<Item = u8> {
-    (1..=22).chain(32..=33)
+/// The numbers that each call is refused with, in the order of CALLS.
+const REFUSALS: [&[RangeInclusive<u8>]; 7] =
+    [&[1..=12, 34..=34], &[15..=19], &[1..=14, 34..=34], &[1..=12, 20..=22, 34..=34], &[15..=22], &[1..=12, 34..=34], &[32..=33]];
+
+fn refusals(call: usize) -> impl Iterator<Item = u8> {
+    REFUSALS[call].iter().cloned().flatten()
 }
 
 /// The answers in records.
@@ -34,7 +40,8 @@ struct Tally {
     inputs: u64,
     calls: [u64; 7],
     accepted: [u64; 7],
-    refusals: BTreeMap<u8, u64>,
+    refusals: [BTreeMap<u8, u64>; 7],
+    situations: BTreeMap<Situation, u64>,
     answers: BTreeMap<u8, u64>,
     longest: [usize; 4],
     edges: [u64; 4],
@@ -61,7 +68,7 @@ impl Tally {
         if refusal == 0 {
             self.accepted[call] += 1;
         } else {
-            *self.refusals.entry(refusal).or_default() += 1;
+            *self.refusals[call].entry(refusal).or_default() += 1;
         }
     }
 
@@ -73,8 +80,14 @@ impl Tally {
         println!("{} s, {} inputs, 0 differences", since.elapsed().as_secs(), self.inputs);
         let calls: Vec<String> = (0..CALLS.len()).map(|k| format!("{} {} of {}", CALLS[k], self.accepted[k], self.calls[k])).collect();
         println!("  accepted: {}", calls.join(", "));
-        let refusals: Vec<String> = refusals().map(|n| format!("{n}:{}", self.refusals.get(&n).unwrap_or(&0))).collect();
-        println!("  refused: {}", refusals.join(" "));
+        for (k, call) in CALLS.iter().enumerate() {
+            let refused: Vec<String> = refusals(k).map(|n| format!("{n}:{}", self.refusals[k].get(&n).unwrap_or(&0))).collect();
+            println!("  refused {call}: {}", refused.join(" "));
+        }
+        for row in SITUATIONS.chunk_by(|a, b| a.0 == b.0) {
+            let counts: Vec<String> = row.iter().map(|s| format!("{} {}", self.situations.get(s).unwrap_or(&0), s.1)).collect();
+            println!("  {}: {}", row[0].0, counts.join(", "));
+        }
         let answers: Vec<String> = answers().map(|n| format!("{n}:{}", self.answers.get(&n).unwrap_or(&0))).collect();
         println!("  answered: {}", answers.join(" "));
         let [file, table, events, records] = self.longest;
@@ -95,10 +108,22 @@ impl Tally {
         }
     }
 
-    /// Numbers and answers that no input has reached.
-    fn unseen(&self) -> Vec<u8> {
-        let unrefused = refusals().filter(|n| !self.refusals.contains_key(n));
-        unrefused.chain(answers().filter(|n| !self.answers.contains_key(n))).collect()
+    /// A schedule file, and what reading it is refused with.
+    fn saw_situations(&mut self, file: &[u8], refused: Option<u8>) {
+        for s in plain::situations(file, refused) {
+            *self.situations.entry(s).or_default() += 1;
+        }
+    }
+
+    /// Refusals, answers and situations that no input has reached.
+    fn unseen(&self) -> Vec<String> {
+        let mut l = Vec::new();
+        for (k, call) in CALLS.iter().enumerate() {
+            l.extend(refusals(k).filter(|n| !self.refusals[k].contains_key(n)).map(|n| format!("{call} {n}")));
+        }
+        l.extend(answers().filter(|n| !self.answers.contains_key(n)).map(|n| n.to_string()));
+        l.extend(SITUATIONS.iter().filter(|s| !self.situations.contains_key(s)).map(|s| format!("{} {}", s.0, s.1)));
+        l
     }
 }
 
@@ -131,6 +156,9 @@ fn read(r: &mut Random, t: &mut Tally, call: usize, bytes: &[u8]) -> Result<(), 
     } else {
         (plain::read_table(bytes).err(), product::read_table(r, bytes))
     };
+    if call == 0 {
+        t.saw_situations(bytes, refused);
+    }
     let wanted = Given { refusal: refused.unwrap_or(0), ..Given::default() };
     t.saw(call, wanted.refusal);
     compare(call, &[("bytes", bytes)], given, wanted)
@@ -257,5 +285,7 @@ fn main() {
     }
     println!("seed {seed}, the end");
     t.print(since);
-    println!("  not reached: {:?}", t.unseen());
+    let unseen = t.unseen();
+    println!("  not reached: {}", if unseen.is_empty() { "nothing".to_string() } else { unseen.join(", ") });
+    std::process::exit(!unseen.is_empty() as i32);
 }

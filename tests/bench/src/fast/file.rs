@@ -1,4 +1,4 @@
-//! A schedule file: 1 to 11, its nodes and its tree. Sets of nodes are words.
+//! A schedule file: 1 to 11 and 34, its nodes and its tree. Sets of nodes are words.
 use super::code;
 use super::plant::{nat2, Plant};
 
@@ -13,6 +13,10 @@ pub struct Schedule<'a> {
     pub parent: [u8; 64],
     /// the number after the last node of each subtree
     pub ends: [u8; 64],
+    /// no node names a missing variable, selector or mode
+    named: bool,
+    /// the variables of the RESETs, and those of the REINITIALs
+    assigned: [u32; 2],
 }
 
 /// Sections with lengths of 2 bytes, or of 4.
@@ -33,6 +37,27 @@ fn sections(f: &[u8]) -> Option<[&[u8]; 3]> {
 }
 
 impl<'a> Schedule<'a> {
+    /// Whether the node whose l bytes stand behind p has the layout of its kind. What 11 and 34 are judged by is noted.
+    #[inline(always)]
+    fn fits(&mut self, s: &[u8], p: usize, l: usize) -> bool {
+        match s[p + 1] {
+            1 | 2 => l == 2 && s[p + 2] >= 1,
+            3..=5 => true,
+            k @ (6 | 7) if l >= 2 => {
+                let v = s[p + 2];
+                self.named &= (v as usize) < self.plant.variables;
+                self.assigned[k as usize - 6] |= 1u32.wrapping_shl(v as u32);
+                true
+            }
+            8 if l == 3 => {
+                self.named &= self.plant.mode_exists(s[p + 2], s[p + 3]);
+                true
+            }
+            9 => l == 1,
+            _ => false,
+        }
+    }
+
     fn nodes(&mut self) -> Option<()> {
         let s = self.sections[2];
         let n = *s.first()? as usize;
@@ -45,19 +70,10 @@ impl<'a> Schedule<'a> {
             if !(1..=200).contains(&l) || s.len() - p - 1 < l {
                 return None;
             }
-            let k = s[p + 1];
-            let fits = match k {
-                1 | 2 => l == 2 && s[p + 2] >= 1,
-                3..=5 => true,
-                6 | 7 => l >= 2,
-                8 => l == 3,
-                9 => l == 1,
-                _ => false,
-            };
-            if !fits {
+            if !self.fits(s, p, l) {
                 return None;
             }
-            self.kinds[i] = k;
+            self.kinds[i] = s[p + 1];
             self.from[i] = p as u16 + 2;
             self.to[i] = (p + 1 + l) as u16;
             p += 1 + l;
@@ -100,12 +116,10 @@ impl<'a> Schedule<'a> {
         &self.sections[2][self.from[n] as usize..self.to[n] as usize]
     }
 
-    fn named(&self) -> bool {
-        (0..self.count).all(|n| match self.kinds[n] {
-            6 | 7 => (self.payload(n)[0] as usize) < self.plant.variables,
-            8 => self.plant.mode_exists(self.payload(n)[0], self.payload(n)[1]),
-            _ => true,
-        })
+    /// 34: every RESET is of a variable that is not driven, every REINITIAL of a driven one.
+    fn parted(&self) -> bool {
+        let [resets, reinitials] = self.assigned;
+        resets & self.plant.driven == 0 && reinitials & !self.plant.driven == 0
     }
 
     /// 12 of the nodes
@@ -117,7 +131,7 @@ impl<'a> Schedule<'a> {
         })
     }
 
-    /// 1 to 11
+    /// 1 to 11, 34
     pub fn read(f: &'a [u8]) -> Result<Self, u8> {
         if f.len() < 3 || f[0] != 1 {
             return Err(1);
@@ -136,16 +150,18 @@ impl<'a> Schedule<'a> {
             to: [0; 64],
             parent: [255; 64],
             ends: [0; 64],
+            named: true,
+            assigned: [0; 2],
         };
         x.nodes().ok_or(9)?;
         x.tree().ok_or(10)?;
-        if !x.named() {
+        if !x.named {
             return Err(11);
         }
-        Ok(x)
+        if x.parted() { Ok(x) } else { Err(34) }
     }
 
-    /// 1 to 12
+    /// 1 to 11, 34, 12
     pub fn checked(f: &'a [u8]) -> Result<Self, u8> {
         let s = Schedule::read(f)?;
         if s.operands_read() && s.plant.switches_read(s.sections[1]) { Ok(s) } else { Err(12) }

@@ -19,7 +19,7 @@ use moves::Moves;
 use run::{action, Action, Machine, Runner};
 use table::{ByTable, Table};
 
-/// The machine of a schedule file: 1 to 12.
+/// The machine of a schedule file: 1 to 11, 34, 12.
 fn machine(file: &[u8]) -> Result<(Machine<'_>, Vec<i32>, Moves), u8> {
     let s = Schedule::read(file)?;
     let mut program = Program::new(s.sections[1].len() + s.sections[2].len());
@@ -36,7 +36,7 @@ fn machine(file: &[u8]) -> Result<(Machine<'_>, Vec<i32>, Moves), u8> {
     Ok((Machine { plant: s.plant, equations: s.sections[1], switches, actions, instructions }, slots, moves))
 }
 
-/// Locations and entries: 1 to 12; 1,025 and 0 where there are over 1,024 locations.
+/// Locations and entries: 1 to 11, 34, 12; 1,025 and 0 where there are over 1,024 locations.
 pub fn size(file: &[u8]) -> Result<[u64; 2], u8> {
     let s = Schedule::checked(file)?;
     Ok(size::of(&s).map_or([1025, 0], |(l, e)| [l as u64, e as u64]))

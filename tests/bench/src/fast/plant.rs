@@ -11,6 +11,8 @@ pub struct Plant {
     pub places: [u32; 128],
     /// the rates of kind 1
     pub steady: [i32; 32],
+    /// the set of the driven variables
+    pub driven: u32,
 }
 
 #[derive(Clone, Copy, Default)]
@@ -42,6 +44,7 @@ struct Noted {
     named: bool,
     once: bool,
     owner: [u8; 32],
+    driven: u32,
 }
 
 impl Noted {
@@ -55,6 +58,7 @@ impl Noted {
             self.once = false;
         }
         *mine |= 1 << v;
+        self.driven |= 1 << v;
         *o = equation;
     }
 }
@@ -90,8 +94,16 @@ impl Plant {
         if !(1..=32).contains(&n) || s.len() != 1 + 12 * n {
             return Err(4);
         }
-        let mut x =
-            Plant { variables: n, lows: [0; 32], highs: [0; 32], selectors: 0, modes: [0; 16], places: [0; 128], steady: [0; 32] };
+        let mut x = Plant {
+            variables: n,
+            lows: [0; 32],
+            highs: [0; 32],
+            selectors: 0,
+            modes: [0; 16],
+            places: [0; 128],
+            steady: [0; 32],
+            driven: 0,
+        };
         for i in 0..n {
             let p = 1 + 12 * i;
             let (low, high, first) = (int4(s, p), int4(s, p + 4), int4(s, p + 8));
@@ -163,7 +175,7 @@ impl Plant {
 
     pub fn read(vs: &[u8], es: &[u8]) -> Result<Plant, u8> {
         let mut x = Plant::variables(vs)?;
-        let mut noted = Noted { named: true, once: true, owner: [255; 32] };
+        let mut noted = Noted { named: true, once: true, owner: [255; 32], driven: 0 };
         x.equations(es, &mut noted).ok_or(6)?;
         if !noted.named {
             return Err(7);
@@ -171,6 +183,7 @@ impl Plant {
         if !noted.once {
             return Err(8);
         }
+        x.driven = noted.driven;
         Ok(x)
     }
 
