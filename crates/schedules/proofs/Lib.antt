@@ -61,3 +61,5 @@ pub mod SameRuns
 pub mod ExamHolds
 pub mod WritingPapers
 pub mod ExchangedBytes
+-- kinds 6 and 7
+pub mod ExchangedKinds
