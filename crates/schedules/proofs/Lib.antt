@@ -61,5 +61,6 @@ pub mod SameRuns
 pub mod ExamHolds
 pub mod WritingPapers
 pub mod ExchangedBytes
--- kinds 6 and 7
+-- RESET and REINITIAL
 pub mod ExchangedKinds
+pub mod Number34
