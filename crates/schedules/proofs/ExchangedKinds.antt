@@ -1,12 +1,12 @@
 -- Kinds 6 and 7 of a node exchanged: the same tree, the same table, one byte of the file, and 34 where the file was accepted.
-use mathlib.Core.Path.{_≡_, refl, sym, ap, ap₂, subst, _∙_}
+use mathlib.Core.Path.{_≡_, refl, sym, ap, subst, _∙_}
 use mathlib.Core.Bool.{Bool, true, false, not}
 use mathlib.Core.List.{List, [], _∷_, _++_, flatMap, append-assoc}
 use mathlib.Core.Logic.{_⊎_, inl, inr}
 use mathlib.Core.Option.{Option, none, some}
-use Prim.Native.Nat.{ℕ, zero, suc, _+_, _≤_, _<_}
+use Prim.Native.Nat.{ℕ, zero, suc, _+_, _<_}
 use native.Mathlib.Omega.{arith}
-use lib.ListN.{length, getElem?, drop, length-append}
+use lib.ListN.{length, getElem?, length-append}
 use Rattle.semantics.specs.Bytes.{All, every, out, out2}
 use Rattle.semantics.specs.Editions.{Edition}
 use Rattle.semantics.specs.Refusals.{Judged, refused, accepted, _>>_, ensure}
@@ -16,21 +16,20 @@ use Rattle.semantics.specs.Run.{isTest}
 use Rattle.semantics.specs.TableFile.{NodeAction, tableBytes, inSection2}
 use Rattle.semantics.specs.Tables.{actionOrStop}
 use Rattle.semantics.specs.Writing.{AllBytes, writeVariables, writeEquations}
-use Rattle.semantics.specs.Proper.{Driven}
 use Rattle.semantics.proofs.Facts.{true-not-false, by-cases, all-nil, all-cons, all-mem, at-mem, every-all, some-is, none-not-some}
 use Rattle.semantics.proofs.Judging.{go-need, go-ensure, go-then}
 use Rattle.semantics.proofs.PlantPassed.{plant-passed, plant-accepted}
-use Rattle.schedules.specs.Nodes.{Node, sequence, parallel, while-do, if-else, continue-until, reset, reinitial, switch-to, stop-all, nodeNamed, nodeParted, actionOf, listed, actionsFrom, actionsOf}
-use Rattle.schedules.specs.Trees.{Tree, Forest, nil, cons, children, treeFrom, ofNone, Walked, lost, walked, onward, found, readForest, readTree, noneLeft, treeOf}
+use Rattle.schedules.specs.Nodes.{Node, sequence, parallel, while-do, if-else, continue-until, reset, reinitial, switch-to, stop-all}
+use Rattle.schedules.specs.Nodes.{nodeNamed, nodeParted, actionOf, listed, actionsFrom, actionsOf}
+use Rattle.schedules.specs.Trees.{Tree, Forest, children, treeFrom, Walked, lost, walked, onward, found, readForest, readTree, noneLeft, treeOf}
 use Rattle.schedules.specs.Numbering.{locations}
 use Rattle.schedules.specs.Files.{Schedule, judgeFileSections, judgeFile}
 use Rattle.schedules.specs.Compiling.{testsOf, scheduleLocations, rowsOf, tableOf}
-use Rattle.schedules.specs.Writing.{nodeBytes, NodeLimits, PayloadLimits, reset-within, reinitial-within, writeNode, writeNodes, NodesLimits, writeSections, sectionsOf, writeFile, FileLimits}
-use Rattle.schedules.specs.Proper.{ScheduleWritten}
+use Rattle.schedules.specs.Writing.{nodeBytes, NodeLimits, PayloadLimits, reset-within, reinitial-within, writeNode, writeNodes, writeSections, writeFile, FileLimits}
 use Rattle.schedules.specs.Exchanged.{otherKind, exchangedAt, exchanged, OneByte}
 use Rattle.schedules.proofs.FirstNumber.{file-in-order, nodes-in-order, passed}
 use Rattle.schedules.proofs.FileForms.{schedule-bytes}
-use Rattle.schedules.proofs.FilesProper.{nodes-parted, schedule-accepted}
+use Rattle.schedules.proofs.FilesProper.{schedule-accepted}
 
 -- ---- the table: "Kinds 6 and 7 both assign."
 same-action : (x : Node) → actionOf (otherKind x) ≡ actionOf x
@@ -282,7 +281,9 @@ at-node f n ns h e = all-mem (every-all f ns e) (at-mem ns n h)
 
 breaks : (es : List Equation) (n : ℕ) (ns : List Node) {x : Node} → getElem? ns n ≡ some x → (nodeParted es x ≡ true → nodeParted es (otherKind x) ≡ true → ⊥) →
     every (nodeParted es) ns ≡ true → every (nodeParted es) (exchangedAt n ns) ≡ false
-breaks es n ns h f e = by-cases (every (nodeParted es) (exchangedAt n ns)) (λ t. absurd (f (at-node (nodeParted es) n ns h e) (at-node (nodeParted es) n (exchangedAt n ns) (other-there n ns h) t))) (λ t. t)
+breaks es n ns h f e =
+    let rule = nodeParted es in
+    by-cases (every rule (exchangedAt n ns)) (λ t. absurd (f (at-node rule n ns h e) (at-node rule n (exchangedAt n ns) (other-there n ns h) t))) (λ t. t)
 
 not-both : (es : List Equation) (v : ℕ) (e : List ℕ) → nodeParted es (reset v e) ≡ true → nodeParted es (reinitial v e) ≡ true → ⊥
 unfolding nodeParted

@@ -23,7 +23,6 @@ use Rattle.schedules.specs.Compiling.{judgeTableOf, judgeCompile}
 use Rattle.schedules.specs.Calls.{scheduleCounts, readSchedule, sizeCounts, size, ruleProgram, ruleRun, compiledInto, compile}
 use Rattle.schedules.specs.Conditions.{filePlant, fileConditions, compileConditions, ruleRunConditions}
 use Rattle.schedules.specs.Exam.{judgeExam, refusedExam, examined, examOf}
-use Rattle.schedules.specs.Proper.{PartedNode}
 use Rattle.schedules.proofs.FirstNumber.{passed, file-first, compile-first, rule-run-first, schedule-refusal, compiled-refusal}
 use Rattle.schedules.proofs.FilesProper.{nodes-parted}
 use Rattle.schedules.proofs.ExamHolds.{examConditions, exam-judged, exam-refusal}
