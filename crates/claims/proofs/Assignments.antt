@@ -53,12 +53,17 @@ exchanged-table = ExchangedKinds.exchanged-table
 pub exchanged-tree : (n : ℕ) (ns : List Node) → treeOf (exchangedAt n ns) ≡ treeOf ns
 exchanged-tree = ExchangedKinds.exchanged-tree
 
--- the file alters in one byte, 6 for 7 or 7 for 6.
+-- the file alters in one byte, 6 to 7 or 7 to 6: the written form of any nodes, and so every accepted file.
 -- Ruled out: a REINITIAL that is written with another length; one whose number stands before its variable.
 pub exchanged-byte : (ed : Edition) (p : Plant) (ns : List Node) (n v : ℕ) (e : List ℕ) →
     (getElem? ns n ≡ some (reset v e) → OneByte 6 7 (writeFile ed p ns) (writeFile ed p (exchangedAt n ns))) ×
     (getElem? ns n ≡ some (reinitial v e) → OneByte 7 6 (writeFile ed p ns) (writeFile ed p (exchangedAt n ns)))
 exchanged-byte = ExchangedKinds.exchanged-byte
+
+pub accepted-byte : (ed : Edition) (file : List ℕ) (s : Schedule) → All (λ b. b < 256) file → judgeFile ed file ≡ accepted s → (n v : ℕ) (e : List ℕ) →
+    (getElem? (s .nodes) n ≡ some (reset v e) → OneByte 6 7 file (writeFile ed (s .plant) (exchangedAt n (s .nodes)))) ×
+    (getElem? (s .nodes) n ≡ some (reinitial v e) → OneByte 7 6 file (writeFile ed (s .plant) (exchangedAt n (s .nodes))))
+accepted-byte = ExchangedKinds.accepted-byte
 
 -- so of one schedule the two kinds are never both taken: an accepted file with this one byte altered is refused with 34.
 -- Ruled out: a reader that takes either kind; one that gives 9 or 12 for the altered byte.
@@ -88,7 +93,7 @@ pub only-as-reading : (ed : Edition) (file : List ℕ) →
 only-as-reading ed file = (Number34.compile-34 ed file, Number34.rule-run-34 ed file, Number34.examine-34 ed file)
 
 -- a table's action does not tell its kind: reading a table and running one never give 34, whatever the bytes.
--- Ruled out: a table reader that refuses an assignment of a driven variable; a table run that gives 34 in place of 18.
+-- Ruled out: a table reader that refuses with 34 an assignment of a variable that no equation drives; a table run that gives 34 in place of 18.
 pub tables-never-34 : ((ed : Edition) (table : List ℕ) → (readTable ed table) .refusal ≡ 34 → ⊥) ×
     ((ed : Edition) (table start events buffer : List ℕ) → (tableRun ed table start events buffer) .refusal ≡ 34 → ⊥)
 tables-never-34 = (Number34.read-table-never-34, Number34.table-run-never-34)

@@ -326,3 +326,13 @@ exchanged-34 ed file s z h n v e i =
     limits : (getElem? (s .nodes) n ≡ some (reset v e)) ⊎ (getElem? (s .nodes) n ≡ some (reinitial v e)) → FileLimits ed (s .plant) (s .nodes) → FileLimits ed (s .plant) (exchangedAt n (s .nodes))
     limits (inl h) l = limits-kept ed (s .plant) n (s .nodes) h ((other-byte v e) .0) l
     limits (inr h) l = limits-kept ed (s .plant) n (s .nodes) h ((other-byte v e) .1) l
+
+-- an accepted file is the written form of its schedule, so that the other file differs from it in that byte
+pub accepted-byte : (ed : Edition) (file : List ℕ) (s : Schedule) → AllBytes file → judgeFile ed file ≡ accepted s → (n v : ℕ) (e : List ℕ) →
+    (getElem? (s .nodes) n ≡ some (reset v e) → OneByte 6 7 file (writeFile ed (s .plant) (exchangedAt n (s .nodes)))) ×
+    (getElem? (s .nodes) n ≡ some (reinitial v e) → OneByte 7 6 file (writeFile ed (s .plant) (exchangedAt n (s .nodes))))
+accepted-byte ed file s z h n v e =
+    let other = writeFile ed (s .plant) (exchangedAt n (s .nodes)) in
+    let bytes = (schedule-accepted ed file s) .0 (z, h) .bytes in
+    let b = exchanged-byte ed (s .plant) (s .nodes) n v e in
+    (λ i. subst (λ (f : List ℕ). OneByte 6 7 f other) (sym bytes) (b .0 i), λ i. subst (λ (f : List ℕ). OneByte 7 6 f other) (sym bytes) (b .1 i))
