@@ -539,9 +539,9 @@ pub schedule-bytes : (ed : Edition) (file : List ℕ) (p : Plant) (ns : List Nod
     (All (λ b. b < 256) file × FileReadAs ed file p ns) ↔ ((file ≡ writeFile ed p ns) × FileLimits ed p ns)
 schedule-bytes = FileForms.schedule-bytes
 
--- and 5, 7, 8, 10, 11 and 12 turn none of these away but those that their sentences name (`ProperSchedule`): a file is accepted as this schedule exactly
+-- and 5, 7, 8, 10, 11, 34 and 12 turn none of these away but those that their sentences name (`ProperSchedule`): a file is accepted as this schedule exactly
 -- where it is the written form of it.
--- Ruled out: a reader that refuses a variable which two modes of one CASE drive; one that takes a REINITIAL of a missing variable.
+-- Ruled out: a reader that refuses a variable which two modes of one CASE drive; one that takes a REINITIAL of a missing variable, or of one that no equation drives.
 pub schedule-accepted : (ed : Edition) (file : List ℕ) (s : Schedule) → (All (λ b. b < 256) file × (judgeFile ed file ≡ accepted s)) ↔ ScheduleWritten ed file s
 schedule-accepted = FilesProper.schedule-accepted
 

@@ -2,3 +2,4 @@ pub mod Claims
 pub mod Papers
 pub mod Practice
 pub mod Sides
+pub mod Assignments

@@ -7,6 +7,7 @@ use Rattle.schedules.specs.Numbering as Numbering
 use Rattle.schedules.specs.Files as Files
 use Rattle.schedules.specs.Compiling as Compiling
 use Rattle.schedules.specs.Writing as Writing
+use Rattle.schedules.specs.Exchanged as Exchanged
 use Rattle.schedules.specs.Calls as Calls
 use Rattle.schedules.specs.Sizes as Sizes
 use Rattle.schedules.specs.TableSizes as TableSizes
@@ -46,6 +47,10 @@ unfoldable pub writing : Unit {0}
 unfolding Writing.nodeBytes Writing.writeNode Writing.writeNodes Writing.writeSections Writing.writeFile
 writing = tt
 
+unfoldable pub exchanges : Unit {0}
+unfolding Exchanged.otherKind Exchanged.exchangedAt Exchanged.exchanged
+exchanges = tt
+
 unfoldable pub calls : Unit {0}
 unfolding Calls.scheduleCounts Calls.readSchedule Calls.tooMany Calls.cap Calls.sizeTold Calls.sizeCounts Calls.size Calls.ruleProgram Calls.ruleRun Calls.compiledInto Calls.compile
 calls = tt
@@ -55,5 +60,5 @@ unfolding Sizes.one Sizes.nothingLeft Sizes.inTurn Sizes.sideBySide Sizes.sequen
 sizes = tt
 
 unfoldable pub schedules : Unit {0}
-unfolding Semantics.semantics ℕ-discrete fileSections nodes trees residuals numbering files compiling writing calls sizes
+unfolding Semantics.semantics ℕ-discrete fileSections nodes trees residuals numbering files compiling writing exchanges calls sizes
 schedules = tt

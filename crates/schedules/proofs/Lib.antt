@@ -4,6 +4,7 @@ pub mod Papers
 pub mod ActingOrder
 pub mod Traps
 pub mod SidePapers
+pub mod AcceptedAssignments
 pub mod CasePaper
 -- trees and residuals
 pub mod TreeShapes
@@ -60,3 +61,6 @@ pub mod SameRuns
 pub mod ExamHolds
 pub mod WritingPapers
 pub mod ExchangedBytes
+-- RESET and REINITIAL
+pub mod ExchangedKinds
+pub mod Number34

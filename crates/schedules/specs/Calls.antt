@@ -15,7 +15,7 @@ use Rattle.schedules.specs.Files.{Schedule, judgeFile, ruleControl}
 use Rattle.schedules.specs.Compiling.{judgeCompile}
 use Rattle.schedules.specs.Sizes.{Size, sizeOf}
 
--- ---- the call "reading a schedule": 1 to 12
+-- ---- the call "reading a schedule": 1 to 11, 34 and 12
 pub record ScheduleRead : Type 0 where
   pub refusal : ℕ
   pub variables : ℕ
@@ -34,7 +34,7 @@ scheduleCounts (accepted s) = record {
 unfoldable pub readSchedule : Edition → List ℕ → ScheduleRead
 readSchedule ed f = scheduleCounts (judgeFile ed f)
 
--- ---- the call "size of a schedule": 1 to 12 as for reading; how many locations and entries its table has
+-- ---- the call "size of a schedule": the numbers of reading; how many locations and entries its table has
 pub record Sized : Type 0 where
   pub refusal : ℕ
   pub locations : ℕ
@@ -58,7 +58,7 @@ sizeCounts (accepted s) = sizeTold (sizeOf (s .root))
 unfoldable pub size : Edition → List ℕ → Sized
 size ed f = sizeCounts (judgeFile ed f)
 
--- ---- the call "running a schedule by the rules": 1 to 12 and 20 to 22
+-- ---- the call "running a schedule by the rules": the numbers of reading, and 20 to 22
 abbrev pub programOf : Schedule → Program Residual
 programOf s = record { plant = s .plant; control = ruleControl s }
 
@@ -70,7 +70,7 @@ ruleProgram ed f = do
 unfoldable pub ruleRun : Edition → List ℕ → List ℕ → List ℕ → List ℕ → Ran
 ruleRun ed f start events buffer = report buffer (judgeRun ed (ruleProgram ed f) start events buffer)
 
--- ---- the call "compiling": 1 to 14
+-- ---- the call "compiling": the numbers of reading, then 13 and 14
 pub record Compiled : Type 0 where
   pub refusal : ℕ
   pub written : ℕ

@@ -22,5 +22,7 @@ pub mod TableSizes
 pub mod Sentences
 pub mod Exam
 pub mod Reordered
+pub mod Exchanged
 pub mod Examples
 pub mod SideExamples
+pub mod AssignmentExamples

@@ -11,6 +11,7 @@ pub mod Admission
 -- papers
 pub mod Papers
 pub mod DepthPapers
+pub mod DrivenPapers
 -- the step and the rules
 pub mod EventDecoding
 pub mod EventsCut
