@@ -32,8 +32,9 @@
  * under 100. 128 KiB are room for any of them.
  *
  * Schedule files, tables, starting values, events and records are those of
- * document 01, with items 1 and 2 of document 02 (practice events; faults above
- * and below their range); numbers of several bytes are big-endian.
+ * document 01, with items 1 to 3 of document 02 (practice events; faults above
+ * and below their range; RESET and REINITIAL parted); numbers of several bytes
+ * are big-endian.
  */
 #ifndef ZIMTLEITER_H
 #define ZIMTLEITER_H
@@ -80,7 +81,8 @@ extern "C" {
 #endif
 
 /*
- * Reads a schedule file and judges it. Returns 0, or
+ * Reads a schedule file and judges it. Returns 0, or the first of these that
+ * applies, in this order
  *   1  the file has under 3 bytes, or byte 0 is not 1
  *   2  its length field is not its length
  *   3  the three sections do not fill it just so
@@ -93,17 +95,20 @@ extern "C" {
  *      count breaks its layout
  *  10  the nodes do not make just one tree
  *  11  a node names a missing variable, selector or mode
+ *  34  a RESET of a variable that some equation drives (an equation of kind 1,
+ *      or a rate in any mode of a CASE), or a REINITIAL of one that none does
  *  12  a truth or number is cut, overlong, too deep, of the wrong sort, has an
  *      unknown code or names a missing variable
  */
 uint8_t zimtleiter_read_schedule(const uint8_t *file, size_t file_len);
 
 /*
- * How large the table of a schedule is, without compiling it. Returns 0, or 1 to
- * 12 as above. On 0 *locations and *entries are the numbers of locations and of
- * entries that the schedule's table has; where there are over 1,024 locations,
- * so that zimtleiter_compile returns 13, they are 1,025 and 0. docs/BORDER.md
- * has the rule by which the numbers can be worked out from the tree.
+ * How large the table of a schedule is, without compiling it. Returns 0, or a
+ * number as zimtleiter_read_schedule does. On 0 *locations and *entries are the
+ * numbers of locations and of entries that the schedule's table has; where
+ * there are over 1,024 locations, so that zimtleiter_compile returns 13, they
+ * are 1,025 and 0. docs/BORDER.md has the rule by which the numbers can be
+ * worked out from the tree.
  */
 uint8_t zimtleiter_size(const uint8_t *file, size_t file_len,
                         uint64_t *locations, uint64_t *entries);
@@ -121,7 +126,8 @@ uint8_t zimtleiter_size(const uint8_t *file, size_t file_len,
 uint8_t zimtleiter_read_table(const uint8_t *table, size_t table_len);
 
 /*
- * Compiles a schedule file. Returns 0, 1 to 12 as above, or
+ * Compiles a schedule file. Returns 0, a number as zimtleiter_read_schedule
+ * does, or
  *  13  there are over 1,024 locations
  *  14  the lent buffer is shorter than the table
  * On 0 the first *length bytes of table are the schedule's table, and those
@@ -132,7 +138,7 @@ uint8_t zimtleiter_compile(const uint8_t *file, size_t file_len,
 
 /*
  * Runs a schedule by the rules over a list of events, 3 bytes each. Returns 0,
- * 1 to 12 as above, or
+ * a number as zimtleiter_read_schedule does, or
  *  20  the starting values (4 bytes each, then modes) have a wrong length,
  *      value or mode
  *  21  the event bytes are not a multiple of 3

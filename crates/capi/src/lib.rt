@@ -10,7 +10,7 @@ ghost use Rattle.compiler.specs.Answers.{returned, sized};
 ghost use Rattle.practice.specs.Answers.{practised};
 ghost use Rattle.capi.specs.Returned.{ran, Behind};
 
-// 0, or the first of 1 to 12 that applies
+// 0, or the first of 1 to 11, 34, 12 that applies
 #[no_mangle]
 pub extern "C" fn zimtleiter_read_schedule(file: &[u8]) -> u8
     ensures { λ r. ⌜ r ≡ readSchedule edition1 (now (file .entry)) .refusal ⌝ }
@@ -28,7 +28,7 @@ pub extern "C" fn zimtleiter_read_table(table: &[u8]) -> u8
     x.refusal
 }
 
-// 0 and the numbers of locations and entries, or 1,025 and 0 where 13 would apply; or the first of 1 to 12 that applies, and both 0
+// 0 and the numbers of locations and entries, or 1,025 and 0 where 13 would apply; or the first of 1 to 11, 34, 12 that applies, and both 0
 #[no_mangle]
 pub extern "C" fn zimtleiter_size(file: &[u8], locations: &mut u64, entries: &mut u64) -> u8
     ensures { λ r. ⌜ sized r (now (locations .exit)) (now (entries .exit)) ≡ size edition1 (now (file .entry)) ⌝ }
@@ -39,7 +39,7 @@ pub extern "C" fn zimtleiter_size(file: &[u8], locations: &mut u64, entries: &mu
     x.refusal
 }
 
-// 0, the table and its length; or the first of 1 to 14 that applies, and length 0
+// 0, the table and its length; or the first of 1 to 11, 34, 12 to 14 that applies, and length 0
 #[no_mangle]
 pub extern "C" fn zimtleiter_compile(file: &[u8], table: &mut [u8], length: &mut u64) -> u8
     ensures { λ r. ⌜ returned r (now (length .exit)) (now (table .exit)) ≡ compile edition1 (now (file .entry)) (now (table .entry)) ⌝ }
@@ -61,7 +61,7 @@ fn counted(r: Ran, taken: &mut u64, turned_away: &mut u64, faulted: &mut u64) ->
     r.refusal
 }
 
-// 0, the records and their counts; or the first of 1 to 12 and 20 to 22 that applies, and counts 0
+// 0, the records and their counts; or the first of 1 to 11, 34, 12, 20 to 22 that applies, and counts 0
 #[no_mangle]
 pub extern "C" fn zimtleiter_rule_run(
     file: &[u8],

@@ -99,8 +99,8 @@ pub tables-never-34 : ((ed : Edition) (table : List ℕ) → (readTable ed table
 tables-never-34 = (Number34.read-table-never-34, Number34.table-run-never-34)
 
 -- ---- papers: the number that reading returns
--- K1 with node 1 of kind 6, as it was, and of kind 7
--- Ruled out: a reader that goes on taking K1 as it was; one that refuses K1 as it is now.
+-- K1 with node 1 of kind 6, as document 01 prints it, and of kind 7
+-- Ruled out: a reader that takes both; one that refuses both.
 pub K1-kind-6 : told k1-reset-file ≡ 34
 K1-kind-6 = Papers.K1-kind-6
 

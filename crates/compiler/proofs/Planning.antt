@@ -76,7 +76,7 @@ module _ {j : Judged (List ℕ)} {a b : ℕ} (t : Told j a b) where
       go (refused n) e = absurd (t .numbered (e ∙ ap refused (ap (λ k. (compiledInto [] k) .refusal) (sym e) ∙ sym (t .number) ∙ h)))
       go (accepted l) e = (l, e, t .length ∙ ap (λ k. (compiledInto [] k) .written) e)
 
--- 1 to 12
+-- 1 to 11, 34 and 12
 pub measure-refused : (f : List ℕ) {ix : ScheduleIndex} → ScheduleIndexed f ix → (ix .refusal ≡ 0 → ⊥) → judgeTableOf edition1 f ≡ refused (ix .refusal)
 unfolding judgeTableOf _>>=_
 measure-refused f h z = rw (index-refused f h z) refl

@@ -1,4 +1,4 @@
-// The call "compiling": conditions 1 to 14, in order, and the table.
+// The call "compiling": conditions 1 to 11, 34 and 12 to 14, in order, and the table.
 use numbering::spot::Spot;
 use schedule_read::call::ScheduleIndex;
 use schedule_read::parts::Parts;

@@ -1,11 +1,11 @@
-// The call "size of a schedule": 1 to 12 as for reading, or how many locations and entries its table has, without numbering them.
+// The call "size of a schedule": 1 to 11, 34 and 12 as for reading, or how many locations and entries its table has, without numbering them.
 use sizes::OVER;
 ghost use mathlib.Core.Path.{_≡_};
 ghost use Rattle.semantics.specs.Editions.{edition1};
 ghost use Rattle.schedules.specs.Calls.{size};
 ghost use Rattle.compiler.specs.Answers.{sized};
 
-// refused with 1 to 12, both numbers 0 then; or the exact numbers; or 1,025 and 0 where there are over 1,024 locations
+// refused as a file is read, both numbers 0 then; or the exact numbers; or 1,025 and 0 where there are over 1,024 locations
 pub struct TableSize {
     pub refusal: u8,
     pub locations: usize,

@@ -39,7 +39,7 @@ fn refused(n: u8) -> Examined
     }
 }
 
-// 1 to 14, 20 to 22, and 22 of the second record buffer, in order; of the events and the buffers only their lengths count
+// 1 to 11, 34, 12 to 14, 20 to 22, and 22 of the second record buffer, in order; of the events and the buffers only their lengths count
 fn judged(
     file: &[u8],
     start: &[u8],

@@ -4,7 +4,7 @@ ghost use mathlib.Core.Path.{_≡_};
 ghost use Rattle.initial_start.specs.Held.{held};
 ghost use Rattle.initial_start.specs.Initial.{scheduleStart};
 
-// none where 1 to 12 refuse the file: no section of it stands anywhere then
+// none where the file is refused: no section of it stands anywhere then
 pub fn start(file: &[u8]) -> Start
     ensures { λ r. ⌜ r ≡ held (scheduleStart (now (file .entry))) ⌝ }
 {

@@ -1,4 +1,4 @@
-// The call "running a schedule by the rules": 1 to 12, then 20 to 22, then its events.
+// The call "running a schedule by the rules": 1 to 11, 34 and 12, then 20 to 22, then its events.
 use super::runs;
 use records::Counts;
 use records::Ran;
@@ -86,7 +86,7 @@ pub fn run(file: &[u8], start: &[u8], events: &[u8], records: &mut [u8]) -> Ran
     Ran { refusal: 0, counts }
 }
 
-// 1 to 12 and 20 to 22 in order, or 0: of a run with so many event bytes and a record buffer of so many bytes
+// 1 to 11, 34, 12, 20 to 22 in order, or 0: of a run with so many event bytes and a record buffer of so many bytes
 pub fn check(file: &[u8], start: &[u8], events: usize, room: usize) -> u8
     ensures { λ r. ⌜ ((es d : List ℕ) → length es ≡ events → length d ≡ room
         → r ≡ refusalOf (judgeRun edition1 (ruleProgram edition1 (now (file .entry))) (now (start .entry)) es d)) ⌝ }

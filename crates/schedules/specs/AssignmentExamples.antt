@@ -10,7 +10,7 @@ use Rattle.schedules.specs.Nodes.{Node, reset, reinitial}
 use Rattle.schedules.specs.Calls.{readSchedule}
 use Rattle.schedules.specs.Writing.{writeFile}
 
--- K1 as it was before: node 1 of kind 6
+-- K1 as document 01 prints it, node 1 of kind 6
 unfoldable pub k1-reset-file : List ℕ
 k1-reset-file =
     0x01 ∷ 0x00 ∷ 0x38 ∷

@@ -1,5 +1,5 @@
 -- The calls: all that each returns, and what a lent buffer holds afterwards, for all inputs.
--- Document 01: "the rule run 1..12 and 20..22, the table run 15..22".
+-- Document 01: "the rule run 1..12 and 20..22, the table run 15..22"; 34 of document 02, item 3, is checked where 11 is.
 use mathlib.Core.Bool.{Bool}
 use mathlib.Core.List.{List, flatMap}
 use Prim.Native.Nat.{ℕ, _+_, _*_, _/_, _%_}
