@@ -27,8 +27,8 @@
  *
  * Stack, as measured on the largest plants, the deepest trees and the deepest
  * expressions: zimtleiter_compile 76,000 bytes, zimtleiter_table_run 53,000,
- * zimtleiter_read_table 42,000, zimtleiter_rule_run 38,000,
- * zimtleiter_read_schedule 23,000, zimtleiter_size 22,000, zimtleiter_practice
+ * zimtleiter_read_table 42,000, zimtleiter_rule_run 39,000,
+ * zimtleiter_read_schedule 24,000, zimtleiter_size 23,000, zimtleiter_practice
  * under 100. 128 KiB are room for any of them.
  *
  * Schedule files, tables, starting values, events and records are those of

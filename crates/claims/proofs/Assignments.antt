@@ -1,24 +1,25 @@
 -- Document 02, item 3, as theorems about the definitions: RESET and REINITIAL parted.
 -- What a statement, or a group of them, rules out is named by two wrong products that it does not let by.
--- "It refuses with 34, directly after 11, a node that breaks it.": the lists of `first-number-read-schedule`, `-compile`, `-rule-run` and `-examine` have `Sentence34` between 11 and 12;
--- `schedule-accepted` has the rule among what an accepted file keeps (`ProperSchedule`).
+-- "It refuses with 34, directly after 11, a node that breaks it.": the lists of `first-number-read-schedule`, `-compile`, `-rule-run` and `-examine` have
+-- `Sentence34` between 11 and 12, and `-size` is as reading; `schedule-accepted` has the rule among what an accepted file keeps (`ProperSchedule`).
 -- "What is compiled and run is compared for schedules that keep this rule.": `agreement` and `examine-agrees` speak of files that compiling accepts, and these keep it.
 use mathlib.Core.Path.{_≡_}
-use mathlib.Core.Bool.{true}
-use mathlib.Core.List.{List, [], _∷_}
+use mathlib.Core.Bool.{true, false}
+use mathlib.Core.List.{List, [], _∷_, _++_}
 use mathlib.Core.Logic.{_↔_, _⊎_}
 use mathlib.Core.Option.{some}
 use Prim.Native.Nat.{ℕ, _<_}
 use lib.ListN.{getElem?}
 use Rattle.semantics.specs.Bytes.{All}
-use Rattle.semantics.specs.Editions.{Edition}
+use Rattle.semantics.specs.Editions.{Edition, edition1}
 use Rattle.semantics.specs.Refusals.{refused, accepted}
 use Rattle.semantics.specs.Plant.{Plant, isDriven}
-use Rattle.semantics.specs.Sections.{Equation}
+use Rattle.semantics.specs.Sections.{Rate, Switch, Mode, Equation, steady, choice}
 use Rattle.semantics.specs.Run.{noCounts}
 use Rattle.semantics.specs.Proper.{Driven}
 use Rattle.semantics.specs.Calls.{readTable, tableRun}
 use Rattle.semantics.specs.K1.{k1-file}
+use Rattle.semantics.proofs.DrivenPapers as DrivenPapers
 use Rattle.semantics.proofs.ProperForms as ProperForms
 use Rattle.schedules.specs.Nodes.{Node, sequence, parallel, while-do, if-else, continue-until, reset, reinitial, stop-all}
 use Rattle.schedules.specs.Trees.{treeOf}
@@ -27,17 +28,37 @@ use Rattle.schedules.specs.Compiling.{tableOf}
 use Rattle.schedules.specs.Calls.{readSchedule, size, ruleRun, compile}
 use Rattle.schedules.specs.Exam.{refusedExam, examOf}
 use Rattle.schedules.specs.Writing.{writeFile}
+use Rattle.schedules.specs.Proper.{Breaks}
+use Rattle.schedules.specs.Sentences.{FileSource, FileSourceThere, Sentence34}
 use Rattle.schedules.specs.Exchanged.{exchangedAt, exchanged, OneByte}
-use Rattle.schedules.specs.AssignmentExamples.{k1-reset-file, planned, steadily, mode, rate, caseOf, switchOn, resets, reinitials, number0, truth0, told, Kinds, Around}
+use Rattle.schedules.specs.AssignmentExamples.{k1-reset-file, k1Plant, k1Nodes, planned, steadily, mode, rate, caseOf, switchOn, resets, reinitials, number0, truth0, told, Kinds, Around}
 use Rattle.schedules.proofs.ExchangedKinds as ExchangedKinds
 use Rattle.schedules.proofs.Number34 as Number34
-use Rattle.schedules.proofs.AcceptedAssignments as Papers
+use Rattle.schedules.proofs.WritingPapers as Writing
+use Rattle.schedules.proofs.AcceptedKinds as Papers
 
 -- ---- "RESET belongs to variables that no equation drives, REINITIAL to driven ones."
 -- driven is a variable that an equation of kind 1 names, or a rate in any mode of a CASE (`Drives`).
 -- Ruled out: a test that looks at the initial modes only; one that takes a variable at rate 0 for undriven.
 pub driven-is : (es : List Equation) (v : ℕ) → (isDriven es v ≡ true) ↔ Driven es v
 driven-is = ProperForms.driven-is
+
+-- wherever a rate stands, in an equation of kind 1 or in any mode of any CASE, whatever the rate and whatever stands around it; a switch drives nothing.
+-- Ruled out: a test that looks at the first modes or equations only; one that takes a variable with a negative rate for undriven.
+pub driven-anywhere : (r : Rate) (before behind : List Equation) → isDriven (before ++ (steady r ∷ behind)) (r .driven) ≡ true
+driven-anywhere = ProperForms.driven-anywhere
+
+pub driven-in-any-mode : (r : Rate) (rs qs : List Rate) (ws : List Switch) (ms ns : List Mode) (initial : ℕ) (before behind : List Equation) →
+    isDriven (before ++ (choice (record { initial = initial; modes = ms ++ (record { rates = rs ++ (r ∷ qs); switches = ws } ∷ ns) }) ∷ behind)) (r .driven) ≡ true
+driven-in-any-mode = ProperForms.driven-in-any-mode
+
+pub switch-drives-nothing : (t : List ℕ) (v : ℕ) → isDriven (choice (record { initial = 0; modes = record { rates = []; switches = record { target = 0; truth = t } ∷ [] } ∷ [] }) ∷ []) v ≡ false
+switch-drives-nothing = DrivenPapers.switch-drives-nothing
+
+-- 34's sentence: the file has a node that is a RESET of a driven variable or a REINITIAL of one that is not.
+-- Ruled out: a sentence about the first such node's branch only; one that does not hold where two nodes break the rule.
+pub sentence-34 : (ed : Edition) (file : List ℕ) → Sentence34 ed file ↔ ((x : FileSource) × FileSourceThere ed file x × Breaks (x .plant) (x .nodes))
+sentence-34 = Number34.sentence-34
 
 -- of an accepted file every RESET's variable is driven by no equation, and every REINITIAL's by some.
 -- Ruled out: a reader that looks at RESETs only; one that looks at the nodes that are reached only.
@@ -72,7 +93,7 @@ pub exchanged-34 : (ed : Edition) (file : List ℕ) (s : Schedule) → All (λ b
 exchanged-34 = ExchangedKinds.exchanged-34
 
 -- ---- all calls that check 11 check 34: where reading a schedule gives it, so do size, compiling, the run by the rules and examining, whatever else is lent, and nothing is written.
--- Ruled out: a rule run that takes a schedule which compiling refuses; an examining that gives 14 or 22 first, or a length.
+-- Ruled out: a rule run that takes a schedule which compiling refuses with 34; an examining that gives 14 or 22 first, or a length.
 pub read-34 : (ed : Edition) (file : List ℕ) → ((readSchedule ed file) .refusal ≡ 34) ↔ (judgeFile ed file ≡ refused 34)
 read-34 = Number34.read-34
 
@@ -84,7 +105,7 @@ pub every-call-34 : (ed : Edition) (file : List ℕ) → (readSchedule ed file) 
     ((start events table records others : List ℕ) → examOf ed file start events table records others ≡ refusedExam 34 table records others)
 every-call-34 = Number34.every-call-34
 
--- and they give it nowhere else.
+-- and they give it nowhere else (size: `first-number-size`).
 -- Ruled out: a compiler that gives 34 for a schedule with too many locations; a run that gives 34 where its start is wrong.
 pub only-as-reading : (ed : Edition) (file : List ℕ) →
     ((room : List ℕ) → (compile ed file room) .refusal ≡ 34 → (readSchedule ed file) .refusal ≡ 34) ×
@@ -109,6 +130,9 @@ K1-kind-7 = Papers.K1-kind-7
 
 pub K1-one-byte : OneByte 6 7 k1-reset-file k1-file
 K1-one-byte = Papers.K1-one-byte
+
+pub K1-exchanged : k1-reset-file ≡ writeFile edition1 k1Plant (exchangedAt 1 k1Nodes)
+K1-exchanged = Writing.k1-exchanged
 
 -- a RESET alone and a REINITIAL alone: the variable is driven by an equation of kind 1, by none, another variable is, the last equation drives it
 -- Ruled out: a reader that looks at RESETs only; one that takes all variables for driven where there is an equation, or looks at the first equation only.
@@ -168,6 +192,13 @@ last-of-many = Papers.last-of-many
 
 pub first-of-many : Around (λ es x. planned (steadily 1 1 ∷ es) (sequence 3 ∷ x ∷ resets 2 ∷ reinitials 1 ∷ [])) 34 0
 first-of-many = Papers.first-of-many
+
+-- two nodes that break it, of both kinds in either order and of one kind
+-- Ruled out: a reader for which two wrongs cancel out; one that gives 12 where several nodes break the rule.
+pub two-break : (let file : Node → Node → List ℕ = λ x y. planned (steadily 1 1 ∷ []) (sequence 2 ∷ x ∷ y ∷ []) in
+    (told (file (reinitials 0) (resets 1)) ≡ 34) × (told (file (resets 1) (reinitials 0)) ≡ 34)
+    × (told (file (resets 1) (resets 1)) ≡ 34) × (told (file (reinitials 0) (reinitials 2)) ≡ 34))
+two-break = Papers.two-break
 
 -- 10 and 11 of any node come first, whichever stands in front; a REINITIAL of a missing variable, which nothing drives, is 11
 -- Ruled out: a reader that goes node by node, 11 and then 34 of each; 34 before 10, or for a missing variable.

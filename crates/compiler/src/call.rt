@@ -25,7 +25,7 @@ pub struct Compiled {
     pub length: usize,
 }
 
-// What is known of a table before it is written: 1 to 13 and its length; where the file's sections and nodes stand, the kinds of the nodes' actions,
+// What is known of a table before it is written: 1 to 11, 34, 12, 13 and its length; where the file's sections and nodes stand, the kinds of the nodes' actions,
 // how many actions and locations there are and the bytes of their rows.
 struct Plan {
     refusal: u8,
@@ -103,7 +103,7 @@ fn made(x: ScheduleIndex, m: Measured) -> Plan
     }
 }
 
-// 1 to 13, and what the table is made of
+// 1 to 11, 34, 12 and 13, and what the table is made of
 fn planned(file: &[u8]) -> Plan
     ensures told { λ r. ⌜ Told (judgeTableOf edition1 (now (file .entry))) (r .refusal) (r .length) ⌝ }
     ensures planned { λ r. ⌜ (r .refusal ≡ 0 → Planned (now (file .entry)) r) ⌝ }
@@ -178,7 +178,7 @@ pub fn compile(file: &[u8], table: &mut [u8]) -> Compiled
     }
 }
 
-// 1 to 13, and the length of the table that compiling would write
+// 1 to 11, 34, 12 and 13, and the length of the table that compiling would write
 pub fn measure(file: &[u8]) -> Compiled
     ensures { λ r. ⌜ Told (judgeTableOf edition1 (now (file .entry))) (r .refusal) (r .length) ⌝ }
 {

@@ -10,7 +10,7 @@ ghost use Rattle.semantics.specs.Sections.{Equation, variableLimit, readRate, r
 ghost use Rattle.semantics.specs.Plant.{drives, equationOnce, isDriven, ratesDrive, modeDrives};
 ghost use Rattle.plant.specs.Driven.{Named, Held, Few, Marks, ratesOnce, modesApart, Tried, TriedAt, drivenAnswer, DrivenAt};
 
-// whether 8 lets the section pass; of each variable whether some equation drives it, where it does
+// whether 8 lets the section pass, and which variables some equation drives; none is marked where 8 applies
 pub struct Driven {
     pub once: bool,
     pub marks: [bool; paper::VARIABLES],
@@ -84,7 +84,7 @@ fn equation(s: &[u8], seen: &mut [bool; paper::VARIABLES]) -> bool
     modes(s, 1 + 1 + 1, s[2] as usize, &before, seen)
 }
 
-// of a section that 6 and 7 let pass
+// 8, and which variables are driven, of a section that 6 and 7 let pass
 pub fn read(s: &[u8]) -> Driven
     requires { ⌜ Named (now s) ⌝ }
     ensures { λ r. ⌜ ((es : List Equation) → equationsIn (now (s .entry)) ≡ some es → r ≡ drivenAnswer es) ⌝ }

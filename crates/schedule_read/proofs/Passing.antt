@@ -50,8 +50,8 @@ module _ {s : List ℕ} {n : Nodes} (P : Node → Bool) {t : Bool} where
   pub tell-end : {i : ℕ} {r : Bool} → n .count ≤ i → Telling P s n i t r → (ns : List Node) → NodesIn s n ns → (every P ns && t) ≡ r
   tell-end {i} {r} h k ns d = k .of ns d ∙ ap (λ b. b && r) (every-end P ns i (omega (arith, d .counted)))
 
-  pub tell-next : {i : ℕ} {r x q : Bool} → i < n .count → Telling P s n i t r → Tells P (getD (n .kinds) i 0) (take (getD (n .ends) i 0 - getD (n .starts) i 0) (drop (getD (n .starts) i 0) s)) x → q ≡ (r && x) →
-      Telling P s n (i + 1) t q
+  pub tell-next : {i : ℕ} {r x q : Bool} → i < n .count → Telling P s n i t r →
+      Tells P (getD (n .kinds) i 0) (take (getD (n .ends) i 0 - getD (n .starts) i 0) (drop (getD (n .starts) i 0) s)) x → q ≡ (r && x) → Telling P s n (i + 1) t q
   tell-next {i} {r} {x} {q} h k u e = record { of = λ ns d. k .of ns d ∙ (let y = node-at ns d in step (every P (drop i ns)) (every P (drop (i + 1) ns)) x r (λ z. rw add-one (every-next P ns i (y .1) (y .2 ∙ z))) (λ z. every-stop P ns i (y .1) (y .2 ∙ z))) ∙ ap (λ b. every P (drop (i + 1) ns) && b) (sym e) }
     where
       node-at : (ns : List Node) → NodesIn s n ns → (y : Node) × (getElem? ns i ≡ some y) × (P y ≡ x)

@@ -7,10 +7,11 @@ use Rattle.schedules.specs.Nodes.{Node, kindOf, nodeOf}
 use Rattle.tree_read.specs.Index.{NodesAt}
 use Rattle.tree_read.specs.declared.nodes.Nodes.{Nodes}
 
--- n is the index of these nodes of s; of some nodes
+-- n is the index of these nodes, which stand in s
 abbrev pub NodesIn : List ℕ → Nodes → List Node → Type 0
 NodesIn s n ns = NodesAt s (n .kinds) (n .starts) (n .ends) (n .count) ns
 
+-- it is the index of some nodes
 pub record Indexed (s : List ℕ) (n : Nodes) : Type 0 where
   pub nodes : List Node
   pub at : NodesIn s n nodes

@@ -1,4 +1,4 @@
-// A RESET of a variable that no equation drives, a REINITIAL of one that some equation does (34).
+// Whether a RESET's variable is driven by no equation and a REINITIAL's by some (34 where not).
 ghost use mathlib.Core.List.{List};
 ghost use Rattle.semantics.specs.Sections.{Equation};
 ghost use Rattle.plant.specs.Driven.{DrivenAt};

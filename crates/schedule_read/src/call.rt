@@ -50,8 +50,8 @@ fn refused(n: u8) -> ScheduleIndex
     }
 }
 
-// 11, 34 and 12, or 0, in one pass: each of any node comes before the next one of any; n is the nodes' index in s,
-// modes has the mode counts of the equations es, driven which variables they drive
+// 11, 34 and 12, or 0, in one pass: 11 of any node comes before 34 of any, and that before 12 of any node or switch;
+// n is the nodes' index in s, modes has the mode counts of the equations es, driven which variables they drive
 fn checked(
     es: &[u8],
     s: &[u8],

@@ -147,7 +147,8 @@ file-answers ed file z = as-judged (file-in-order ed file) (
     as-judged (nodes-in-order ed p ns _) (
     by-test s (λ y u. source-one file z ed s u) 11 (every (nodeNamed (length (p .variables)) (selectors p)) ns) (nodes-named p ns) (λ h11.
     by-test s (λ y u. source-one file z ed s u) 34 (every (nodeParted (p .equations)) ns) (nodes-parted p ns) (λ h34.
-    by-test s (λ y u. source-one file z ed s u) 12 (every (nodeReads ed (length (p .variables))) ns && switchesRead ed p) (reads-is file z ed (record { plant = p; nodes = ns }) s) (λ h12. by-end _)))))))))))
+    by-test s (λ y u. source-one file z ed s u) 12 (every (nodeReads ed (length (p .variables))) ns && switchesRead ed p)
+    (reads-is file z ed (record { plant = p; nodes = ns }) s) (λ h12. by-end _)))))))))))
 
 -- ---- 13 and 14, and a run
 module _ (ed : Edition) (file : List ℕ) (z : AllBytes file) where

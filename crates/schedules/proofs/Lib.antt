@@ -4,7 +4,7 @@ pub mod Papers
 pub mod ActingOrder
 pub mod Traps
 pub mod SidePapers
-pub mod AcceptedAssignments
+pub mod AcceptedKinds
 pub mod CasePaper
 -- trees and residuals
 pub mod TreeShapes

@@ -1,9 +1,11 @@
 -- 34 in the calls: each call over a schedule file gives it just where reading does, no call over a table gives it, and an accepted file keeps its rule.
 use mathlib.Core.Path.{_≡_, refl, sym, ap, subst, _∙_}
+use mathlib.Core.Bool.{Bool, false}
 use mathlib.Core.List.{List, [], _∷_, _++_}
 use mathlib.Core.Logic.{_↔_}
 use mathlib.Core.Option.{Option, some}
-use Prim.Native.Nat.{ℕ}
+use Prim.Native.Nat.{ℕ, suc}
+use borrow.Author.Tests.{not-false}
 use native.Mathlib.Omega.{arith}
 use lib.ListN.{getElem?}
 use Rattle.semantics.specs.Bytes.{All, every}
@@ -15,9 +17,12 @@ use Rattle.semantics.specs.Calls.{judgeRun, report, tableProgram, tableRun, rea
 use Rattle.semantics.specs.Conditions.{Condition, First, here, further, Clear, one-clear, Firsts, refuses, accepts, tableConditions, runConditions, tableRunConditions}
 use Rattle.semantics.specs.Tables.{judgeTable}
 use Rattle.semantics.specs.Proper.{Driven}
-use Rattle.semantics.proofs.Facts.{true-not-false, all-mem, at-mem}
+use Rattle.semantics.proofs.Facts.{true-not-false, by-cases, all-mem, at-mem}
+use Rattle.semantics.proofs.ProperForms.{driven-is}
 use Rattle.semantics.proofs.FirstNumber.{lacks, first-not, table-first, table-run-first, table-refusal, ran-refusal}
-use Rattle.schedules.specs.Nodes.{reset, reinitial}
+use Rattle.schedules.specs.Nodes.{Node, sequence, parallel, while-do, if-else, continue-until, reset, reinitial, switch-to, stop-all, nodeParted}
+use Rattle.schedules.specs.Proper.{PartedNode, Breaks, reset-of-driven, reinitial-of-undriven}
+use Rattle.schedules.specs.Sentences.{FileSource, FileSourceThere, Sentence34}
 use Rattle.schedules.specs.Files.{Schedule, judgeFile}
 use Rattle.schedules.specs.Compiling.{judgeTableOf, judgeCompile}
 use Rattle.schedules.specs.Calls.{scheduleCounts, readSchedule, sizeCounts, size, ruleProgram, ruleRun, compiledInto, compile}
@@ -126,6 +131,40 @@ unfolding every tableRun tableRunConditions tableConditions runConditions
 table-run-never-34 ed table start events buffer h =
     let j = judgeRun ed (tableProgram ed table) start events buffer in
     first-not (lacks 34 (tableRunConditions ed table start events buffer) refl) (first-34 (table-run-first ed table start events buffer) (sym (ran-refusal buffer j) ∙ h)) refl
+
+-- ---- a node that breaks the rule
+failing-at : {A : Type 0} (P : A → Bool) (l : List A) → every P l ≡ false → (n : ℕ) × (x : A) × (getElem? l n ≡ some x) × (P x ≡ false)
+unfolding every
+failing-at P [] h = true-not-false h
+failing-at {A} P (x ∷ l) h = by-cases (P x) (λ e. behind (failing-at P l (rw (e, every) at h))) (λ e. (0, x, refl, e))
+  where
+    behind : (n : ℕ) × (y : A) × (getElem? l n ≡ some y) × (P y ≡ false) → (n : ℕ) × (y : A) × (getElem? (x ∷ l) n ≡ some y) × (P y ≡ false)
+    behind q = (suc (q .0), q .1, q .2, q .3)
+
+module _ (p : Plant) {ns : List Node} where
+  breaking : (x : Node) (n : ℕ) → getElem? ns n ≡ some x → nodeParted (p .equations) x ≡ false → Breaks p ns
+  unfolding nodeParted
+  breaking (sequence k) n i h = true-not-false h
+  breaking (parallel k) n i h = true-not-false h
+  breaking (while-do t) n i h = true-not-false h
+  breaking (if-else t) n i h = true-not-false h
+  breaking (continue-until t) n i h = true-not-false h
+  breaking (reset v e) n i h = reset-of-driven n v e i ((driven-is (p .equations) v) .0 (not-false _ h))
+  breaking (reinitial v e) n i h = reinitial-of-undriven n v e i (λ d. true-not-false (sym ((driven-is (p .equations) v) .1 d) ∙ h))
+  breaking (switch-to s m) n i h = true-not-false h
+  breaking stop-all n i h = true-not-false h
+
+  not-all : Breaks p ns → All (PartedNode p) ns → ⊥
+  not-all (reset-of-driven n v e i d) a = (all-mem a (at-mem ns n i)) .resets v e refl d
+  not-all (reinitial-of-undriven n v e i d) a = d ((all-mem a (at-mem ns n i)) .reinitials v e refl)
+
+  one-breaks : (All (PartedNode p) ns → ⊥) → Breaks p ns
+  one-breaks h = by-cases (every (nodeParted (p .equations)) ns) (λ e. absurd (h ((nodes-parted p ns) .0 e)))
+      (λ e. (let q = failing-at (nodeParted (p .equations)) ns e in breaking (q .1) (q .0) (q .2) (q .3)))
+
+-- what 34 says: some node of the file breaks the rule
+pub sentence-34 : (ed : Edition) (file : List ℕ) → Sentence34 ed file ↔ ((x : FileSource) × FileSourceThere ed file x × Breaks (x .plant) (x .nodes))
+sentence-34 ed file = (λ f. (f .part, f .there, one-breaks (f .part .plant) (f .broken)), λ b. record { part = b .0; there = b .1; broken = not-all (b .0 .plant) (b .2) })
 
 -- ---- an accepted file
 pub parted : (ed : Edition) (file : List ℕ) (s : Schedule) → judgeFile ed file ≡ accepted s → (n v : ℕ) (e : List ℕ) →

@@ -1,13 +1,13 @@
 -- Papers of the written forms: K1's bytes and those of the CASE paper are what the writers give; two CASEs make a file, and a start may stand in any mode.
 use mathlib.Core.Path.{_≡_, refl}
 use mathlib.Core.Bool.{false}
-use mathlib.Core.List.{List, [], _∷_}
+use mathlib.Core.List.{[], _∷_}
 use mathlib.Core.Option.{some}
 use Prim.Native.Nat.{ℕ}
 use lib.IntN.{pos, negsuc}
 use Rattle.semantics.specs.Editions.{edition1}
-use Rattle.semantics.specs.Expressions.{constant, variable, operate, Truth, compare, sum, difference, at-most, less, equal, numberBytes, truthBytes}
-use Rattle.semantics.specs.Sections.{Rate, Switch, Mode, Equation, steady, choice}
+use Rattle.semantics.specs.Expressions.{constant, variable, operate, Truth, compare, difference, less, equal, numberBytes, truthBytes}
+use Rattle.semantics.specs.Sections.{Rate, Switch, Mode, Equation, choice}
 use Rattle.semantics.specs.Plant.{Plant}
 use Rattle.semantics.specs.Run.{assign, wait}
 use Rattle.semantics.specs.Writing.{writeTable, startBytes}
@@ -16,26 +16,24 @@ use Rattle.semantics.specs.K1.{k1-file, k1-table}
 use Rattle.schedules.specs.Nodes.{sequence, if-else, continue-until, reinitial, switch-to, stop-all}
 use Rattle.schedules.specs.Calls.{readSchedule}
 use Rattle.schedules.specs.Writing.{writeFile}
+use Rattle.schedules.specs.Exchanged.{exchangedAt}
 use Rattle.schedules.specs.Examples.{case-file}
+use Rattle.schedules.specs.AssignmentExamples.{k1-reset-file, k1Plant, oneMore, threeReached, k1Nodes}
 use Rattle.schedules.proofs.Computes.{schedules}
 
--- ---- K1: variable 0 in 0..10 with rate 1; SEQUENCE of REINITIAL variable 0 to variable 0 + 1; CONTINUE UNTIL 3 ≤ variable 0
-abbrev k1-plant : Plant
-k1-plant = record { variables = record { minimum = pos 0; maximum = pos 10; initial = pos 0 } ∷ []; equations = steady (record { driven = 0; rate = pos 1 }) ∷ [] }
-
-abbrev one-more : List ℕ
-one-more = numberBytes edition1 (operate sum (variable 0) (constant (pos 1)))
-
-abbrev three-reached : List ℕ
-three-reached = truthBytes edition1 (compare at-most (constant (pos 3)) (variable 0))
-
-pub k1-file-written : k1-file ≡ writeFile edition1 k1-plant (sequence 2 ∷ reinitial 0 one-more ∷ continue-until three-reached ∷ [])
+-- ---- K1
+pub k1-file-written : k1-file ≡ writeFile edition1 k1Plant k1Nodes
 unfolding schedules k1-file
 k1-file-written = refl
 
+-- K1 as document 01 prints it: the same with kinds 6 and 7 of node 1 exchanged
+pub k1-exchanged : k1-reset-file ≡ writeFile edition1 k1Plant (exchangedAt 1 k1Nodes)
+unfolding schedules k1-reset-file
+k1-exchanged = refl
+
 pub k1-table-written : k1-table ≡ writeTable edition1 (record {
-  plant = k1-plant;
-  actions = record { node = 1; action = assign 0 one-more } ∷ record { node = 2; action = wait three-reached } ∷ [];
+  plant = k1Plant;
+  actions = record { node = 1; action = assign 0 oneMore } ∷ record { node = 2; action = wait threeReached } ∷ [];
   locations = (record { node = 1; target = 1; other = 0xffff } ∷ []) ∷ (record { node = 2; target = 0xfffe; other = 0xffff } ∷ []) ∷ [];
 })
 unfolding schedules k1-table
@@ -58,7 +56,7 @@ case-plant = record {
 }
 
 pub case-file-written : case-file ≡ writeFile edition1 case-plant (
-    sequence 3 ∷ continue-until three-reached ∷
+    sequence 3 ∷ continue-until threeReached ∷
     reinitial 1 (numberBytes edition1 (operate difference (constant (pos 3)) (constant (pos 10)))) ∷
     if-else (truthBytes edition1 (compare less (variable 1) (constant (pos 0)))) ∷ switch-to 0 1 ∷ stop-all ∷ [])
 unfolding schedules case-file

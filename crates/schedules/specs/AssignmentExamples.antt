@@ -4,9 +4,10 @@ use mathlib.Core.List.{List, [], _∷_}
 use Prim.Native.Nat.{ℕ}
 use lib.IntN.{pos}
 use Rattle.semantics.specs.Editions.{edition1}
-use Rattle.semantics.specs.Expressions.{constant, variable, compare, at-most, numberBytes, truthBytes}
+use Rattle.semantics.specs.Expressions.{constant, variable, operate, sum, compare, at-most, numberBytes, truthBytes}
 use Rattle.semantics.specs.Sections.{Variable, Rate, Switch, Mode, Equation, steady, choice}
-use Rattle.schedules.specs.Nodes.{Node, reset, reinitial}
+use Rattle.semantics.specs.Plant.{Plant}
+use Rattle.schedules.specs.Nodes.{Node, sequence, continue-until, reset, reinitial}
 use Rattle.schedules.specs.Calls.{readSchedule}
 use Rattle.schedules.specs.Writing.{writeFile}
 
@@ -18,6 +19,19 @@ k1-reset-file =
     0x00 ∷ 0x09 ∷ 0x01 ∷ 0x00 ∷ 0x06 ∷ 0x01 ∷ 0x00 ∷ 0 ∷ 0 ∷ 0 ∷ 0x01 ∷
     0x00 ∷ 0x19 ∷ 0x03 ∷ 0x02 ∷ 0x01 ∷ 0x02 ∷ 0x0A ∷ 0x06 ∷ 0x00 ∷ 0x10 ∷ 0x02 ∷ 0x00 ∷ 0x01 ∷ 0 ∷ 0 ∷ 0 ∷ 0x01 ∷
     0x09 ∷ 0x05 ∷ 0x20 ∷ 0x01 ∷ 0 ∷ 0 ∷ 0 ∷ 0x03 ∷ 0x02 ∷ 0x00 ∷ []
+
+-- K1's plant and nodes: variable 0 in 0..10 with rate 1; SEQUENCE of REINITIAL variable 0 to variable 0 + 1 and CONTINUE UNTIL 3 ≤ variable 0
+abbrev pub k1Plant : Plant
+k1Plant = record { variables = record { minimum = pos 0; maximum = pos 10; initial = pos 0 } ∷ []; equations = steady (record { driven = 0; rate = pos 1 }) ∷ [] }
+
+abbrev pub oneMore : List ℕ
+oneMore = numberBytes edition1 (operate sum (variable 0) (constant (pos 1)))
+
+abbrev pub threeReached : List ℕ
+threeReached = truthBytes edition1 (compare at-most (constant (pos 3)) (variable 0))
+
+abbrev pub k1Nodes : List Node
+k1Nodes = sequence 2 ∷ reinitial 0 oneMore ∷ continue-until threeReached ∷ []
 
 -- ---- plants and nodes
 abbrev to10 : Variable

@@ -19,7 +19,7 @@ use Rattle.schedules.specs.Calls.{ruleProgram, ruleRun, compile}
 use Rattle.schedules.specs.Sentences.{FilePlant, compileClauses}
 use Rattle.schedules.specs.Agreement.{RunsAgree}
 
--- "A call returns the first that applies": 1 to 14, 34 among them, of the file and the room for its table, 20 to 22 of the start, the events and the room for the first
+-- "A call returns the first that applies": 1 to 11, 34, 12 to 14 of the file and the room for its table, 20 to 22 of the start, the events and the room for the first
 -- records, then 22 of the room for the others. All are judged before anything is written. What it accepts: the length of the records of such a run.
 unfoldable pub judgeExam : Edition → (file start events table records others : List ℕ) → Judged ℕ
 judgeExam ed file start events table records others = do

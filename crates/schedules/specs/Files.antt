@@ -1,4 +1,4 @@
--- Document 01, "Schedule file": conditions 1 to 12 and 34, and the control of a schedule.
+-- Document 01, "Schedule file": conditions 1 to 12, with 34 of document 02, item 3, and the control of a schedule.
 use mathlib.Core.Bool.{Bool, _&&_}
 use mathlib.Core.List.{List}
 use Prim.Native.Nat.{ℕ}

@@ -1,4 +1,4 @@
--- Document 01, "Schedule file": the schedule section. Conditions 9, 11 and 34, and 12 of the nodes.
+-- Document 01, "Schedule file": the schedule section. Conditions 9 and 11, 34 of document 02, item 3, and 12 of the nodes.
 use mathlib.Core.Bool.{Bool, true, not, cond}
 use mathlib.Core.List.{List, [], _∷_}
 use mathlib.Core.Option.{Option, none, some, bind}

@@ -1,8 +1,10 @@
--- Document 01, "When a file, table or event is turned away": what 10, 11, 34 and 12 ask of the nodes that were read, as relations; and what an accepted file is.
+-- Document 01, "When a file, table or event is turned away": what 10, 11 and 12, and 34 of document 02, item 3, ask of the nodes that were read, as relations;
+-- and what an accepted file is.
 use mathlib.Core.Path.{_≡_}
 use mathlib.Core.List.{List}
+use mathlib.Core.Option.{some}
 use Prim.Native.Nat.{ℕ, _<_}
-use lib.ListN.{length}
+use lib.ListN.{length, getElem?}
 use Rattle.semantics.specs.Bytes.{All}
 use Rattle.semantics.specs.Editions.{Edition}
 use Rattle.semantics.specs.Plant.{Plant, selectors}
@@ -24,6 +26,11 @@ pub record NamedNode (p : Plant) (x : Node) : Type 0 where
 pub record PartedNode (p : Plant) (x : Node) : Type 0 where
   pub resets : (v : ℕ) (e : List ℕ) → x ≡ reset v e → Driven (p .equations) v → ⊥
   pub reinitials : (v : ℕ) (e : List ℕ) → x ≡ reinitial v e → Driven (p .equations) v
+
+-- "a node that breaks it": a RESET of a variable that some equation drives, or a REINITIAL of one that none does
+pub data Breaks (p : Plant) (ns : List Node) : Type 0 where
+  reset-of-driven : (n v : ℕ) (e : List ℕ) → getElem? ns n ≡ some (reset v e) → Driven (p .equations) v → Breaks p ns
+  reinitial-of-undriven : (n v : ℕ) (e : List ℕ) → getElem? ns n ≡ some (reinitial v e) → (Driven (p .equations) v → ⊥) → Breaks p ns
 
 -- ---- 12, of a node
 pub record ReadNode (ed : Edition) (p : Plant) (x : Node) : Type 0 where

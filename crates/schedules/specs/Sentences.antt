@@ -1,4 +1,5 @@
--- Document 01, "When a file, table or event is turned away": 1 to 14 in their order, with 34 of document 02, item 3, each with its sentence as a proposition about the file, as in semantics' Sentences.
+-- Document 01, "When a file, table or event is turned away": 1 to 14 in their order, with 34 of document 02, item 3, each with its sentence as a proposition
+-- about the file, as in semantics' Sentences.
 use mathlib.Core.Path.{_≡_}
 use mathlib.Core.List.{List, [], _∷_, _++_}
 use Prim.Native.Nat.{ℕ, _≤_}

@@ -29,9 +29,9 @@ unfolding semantics
 initial-mode-drives z = (refl, refl, refl)
 
 -- an equation of kind 1 drives the variable that it names, and no other
-pub kind-1-drives : (z : ℤ) → (isDriven (steady (record { driven = 1; rate = z }) ∷ []) 1 ≡ true) × (isDriven (steady (record { driven = 1; rate = z }) ∷ []) 0 ≡ false)
+pub steady-drives : (z : ℤ) → (isDriven (steady (record { driven = 1; rate = z }) ∷ []) 1 ≡ true) × (isDriven (steady (record { driven = 1; rate = z }) ∷ []) 0 ≡ false)
 unfolding semantics
-kind-1-drives z = (refl, refl)
+steady-drives z = (refl, refl)
 
 -- a switch drives nothing, whatever its truth names
 pub switch-drives-nothing : (t : List ℕ) (v : ℕ) → isDriven (choice (record { initial = 0; modes = record { rates = []; switches = record { target = 0; truth = t } ∷ [] } ∷ [] }) ∷ []) v ≡ false

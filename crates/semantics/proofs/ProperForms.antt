@@ -12,7 +12,7 @@ use lib.Signed.{leZ}
 use Rattle.semantics.specs.Bytes.{every, isSome}
 use Rattle.semantics.specs.Editions.{Edition}
 use Rattle.semantics.specs.Expressions.{Number, constant, variable, operate, negation, Truth, compare, connect, opposite, always, numberBytes, truthBytes, numberDepth, truthDepth, numberKnown, truthKnown, numberIn, truthIn}
-use Rattle.semantics.specs.Sections.{Variable, Rate, Mode, Selector, Equation, steady, choice}
+use Rattle.semantics.specs.Sections.{Variable, Rate, Switch, Mode, Selector, Equation, steady, choice}
 use Rattle.semantics.specs.Plant.{Plant, ordered, rateNamed, switchNamed, modeNamed, equationNamed, among, apart, onceAfter, ratesDrive, modeDrives, drives, modeOnce, modesOnce, drivenOnce, isDriven, switchReads, modeReads, equationReads, switchesRead, modeExists}
 use Rattle.semantics.specs.Rules.{InRange}
 use Rattle.semantics.specs.Writing.{AllBytes, ModeLimits, SelectorLimits, PayloadLimits, steady-within, choice-within, EquationLimits}
@@ -207,6 +207,18 @@ driven-is es v = (
   λ h. (let p = flat-there drives es v (among-mem v (flatMap drives es) h) in record { equation = p .0; listed = p .1; names = drives-there (p .0) v (p .2) }),
   λ d. mem-among v (flatMap drives es) (flat-here drives (d .listed) (drives-here (d .names))),
 )
+
+-- wherever its rate stands: in an equation of kind 1, in any mode of a CASE
+pub driven-anywhere : (r : Rate) (before behind : List Equation) → isDriven (before ++ (steady r ∷ behind)) (r .driven) ≡ true
+driven-anywhere r before behind = (driven-is _ (r .driven)) .1 (record { equation = steady r; listed = Memᴰ·append-right before (first refl); names = drives-always refl })
+
+pub driven-in-any-mode : (r : Rate) (rs qs : List Rate) (ws : List Switch) (ms ns : List Mode) (initial : ℕ) (before behind : List Equation) →
+    isDriven (before ++ (choice (record { initial = initial; modes = ms ++ (record { rates = rs ++ (r ∷ qs); switches = ws } ∷ ns) }) ∷ behind)) (r .driven) ≡ true
+driven-in-any-mode r rs qs ws ms ns initial before behind = (driven-is _ (r .driven)) .1 (record {
+  equation = choice (record { initial = initial; modes = ms ++ (record { rates = rs ++ (r ∷ qs); switches = ws } ∷ ns) });
+  listed = Memᴰ·append-right before (first refl);
+  names = drives-in-mode (Memᴰ·append-right ms (first refl)) (Memᴰ·append-right rs (first refl)) refl;
+})
 
 -- no equation drives what is in the list
 abbrev NotAmong : List ℕ → List Equation → Type 0

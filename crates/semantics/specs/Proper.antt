@@ -1,4 +1,5 @@
--- Document 01, "When a file, table or event is turned away": what 5, 7, 8, 11, 34 and 12, and 17 to 19, ask of what was read, as relations.
+-- Document 01, "When a file, table or event is turned away": what 5, 7, 8, 11 and 12, and 17 to 19, ask of what was read, as relations;
+-- and when a variable is driven, for 34 of document 02, item 3.
 use mathlib.Core.Path.{_≡_}
 use mathlib.Core.Bool.{true}
 use mathlib.Core.List.{List, [], _∷_, map, List·Memᴰ as Mem}

@@ -39,7 +39,9 @@ returns-3 c =
     let d = c .before .before .before in
     let r = d .before .before .before .before in
     let a = r .before .before .before .args in
-    c .refused3 .ensures ∙ by-8 (a .vs .now) (a .es .now) (r .read .ensures) (d .before .before .before .if1 .left) (d .before .before .read2 .ensures) (d .before .if2 .left) (d .read3 .ensures) (not-true _ (c .before .if3 .taken))
+    c .refused3 .ensures
+    ∙ by-8 (a .vs .now) (a .es .now) (r .read .ensures) (d .before .before .before .if1 .left) (d .before .before .read2 .ensures) (d .before .if2 .left)
+    (d .read3 .ensures) (not-true _ (c .before .if3 .taken))
 
 returns-4 : tie.Need-returns-4
 returns-4 c =
@@ -47,7 +49,8 @@ returns-4 c =
     let d = t .before .before in
     let r = d .before .before .before .before in
     let a = r .before .before .before .args in
-    passed (a .vs .now) (a .es .now) (r .read .ensures) (d .before .before .before .if1 .left) (d .before .before .read2 .ensures) (d .before .if2 .left) (d .read3 .ensures) (not-false _ (t .if3 .left))
+    passed (a .vs .now) (a .es .now) (r .read .ensures) (d .before .before .before .if1 .left) (d .before .before .read2 .ensures) (d .before .if2 .left)
+    (d .read3 .ensures) (not-false _ (t .if3 .left))
 
 pub read-spec : {M : Type 1} → statement M
 read-spec =

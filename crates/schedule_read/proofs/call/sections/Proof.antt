@@ -29,7 +29,8 @@ returns-3 c =
     let n = y .before .before in
     let p = n .before .before in
     let a = p .before .before .before .before .args in
-    by-tree (a .parts) (a .vs .now) (a .es .now) (a .s .now) (p .read .ensures) (n .before .if1 .left) (n .read2 .ensures) (y .if2 .left) (t .read3 .ensures) (not-true _ (c .before .if3 .taken)) (c .refused3 .ensures)
+    by-tree (a .parts) (a .vs .now) (a .es .now) (a .s .now) (p .read .ensures) (n .before .if1 .left) (n .read2 .ensures) (y .if2 .left) (t .read3 .ensures)
+    (not-true _ (c .before .if3 .taken)) (c .refused3 .ensures)
 
 slice-aggregate-checked : tie.Need-slice-aggregate-checked
 slice-aggregate-checked c =

@@ -1,9 +1,10 @@
 -- Papers of document 02, item 3: which RESETs and REINITIALs reading takes, and which number the others get.
 use mathlib.Core.Path.{_≡_, refl}
-use mathlib.Core.List.{[], _∷_}
+use mathlib.Core.List.{List, [], _∷_}
+use Prim.Native.Nat.{ℕ}
 use lib.ListN.{take, drop}
 use Rattle.semantics.specs.K1.{k1-file}
-use Rattle.schedules.specs.Nodes.{sequence, parallel, while-do, if-else, continue-until, reset, reinitial, stop-all}
+use Rattle.schedules.specs.Nodes.{Node, sequence, parallel, while-do, if-else, continue-until, reset, reinitial, stop-all}
 use Rattle.schedules.specs.Exchanged.{OneByte}
 use Rattle.schedules.specs.AssignmentExamples.{k1-reset-file, planned, steadily, mode, rate, caseOf, switchOn, resets, reinitials, number0, truth0, told, Kinds, Around}
 use Rattle.schedules.proofs.Computes.{schedules}
@@ -92,6 +93,13 @@ last-of-many = record { driven-reset = refl; driven-reinitial = refl; undriven-r
 pub first-of-many : Around (λ es x. planned (steadily 1 1 ∷ es) (sequence 3 ∷ x ∷ resets 2 ∷ reinitials 1 ∷ [])) 34 0
 unfolding schedules
 first-of-many = record { driven-reset = refl; driven-reinitial = refl; undriven-reset = refl; undriven-reinitial = refl }
+
+-- ---- two nodes that break it: of both kinds in either order, of one kind
+pub two-break : (let file : Node → Node → List ℕ = λ x y. planned (steadily 1 1 ∷ []) (sequence 2 ∷ x ∷ y ∷ []) in
+    (told (file (reinitials 0) (resets 1)) ≡ 34) × (told (file (resets 1) (reinitials 0)) ≡ 34)
+    × (told (file (resets 1) (resets 1)) ≡ 34) × (told (file (reinitials 0) (reinitials 2)) ≡ 34))
+unfolding schedules
+two-break = (refl, refl, refl, refl)
 
 -- ---- "directly after 11": 10 and 11 of any node come first, whichever stands in front
 pub no-tree : Around (λ es x. planned es (x ∷ stop-all ∷ [])) 10 10
