@@ -66,11 +66,11 @@ of_schedule("K1 K4, from 9", K1, start([9]), "p1 p2",
 tight("K1 K4", K1, start([9]), "p1 p2", "2 0 0", 75, 26)
 of_table("K1's table as in the paper", K1_TABLE, start([9]), "p1 p2", "read table 0, 1 0 2 2; by table 0, 2 0 0: 200 201")
 
-# what most files below have: one variable from 0 to 10, no equation, one RESET; where an equation drives the variable, one REINITIAL
+# what most files below have: one variable from 0 to 10, no equation, and one node, a RESET; some have a REINITIAL in its place
 V = variables((0, 10, 0))
 NO_EQUATION = equations()
 LEAF = reset(0, const(1))
-DRIVEN_LEAF = reinitial(0, const(1))
+REINITIAL_LEAF = reinitial(0, const(1))
 Z = start([0])
 
 
@@ -88,9 +88,9 @@ def plant(*es, vs=V, leaf=LEAF):
     return schedule(vs, equations(*es), leaf)
 
 
-def driving(*es):
-    """With equations that drive the variable."""
-    return plant(*es, leaf=DRIVEN_LEAF)
+def with_reinitial(*es):
+    """With these equations, and a REINITIAL as the one node."""
+    return plant(*es, leaf=REINITIAL_LEAF)
 
 
 # 1, 2, 3
@@ -139,14 +139,14 @@ refused(6, "half a length", file_of(V, b"\x01\x00", nodes(LEAF)))
 refused(6, "an empty record", file_of(V, b"\x01\x00\x00", nodes(LEAF)))
 refused(6, "kind 0", plant(b"\x00\x00" + i4(1)))
 refused(6, "kind 3", plant(b"\x03\x00" + i4(1)))
-refused(6, "a rate of five bytes", driving(rate(0, 1) + b"\x00"))
-refused(6, "a rate of three bytes", driving(rate(0, 1)[:-1]))
+refused(6, "a rate of five bytes", with_reinitial(rate(0, 1) + b"\x00"))
+refused(6, "a rate of three bytes", with_reinitial(rate(0, 1)[:-1]))
 refused(6, "no modes", plant(b"\x02\x00\x00"))
 refused(6, "nine modes", plant(case(0, *[mode()] * 9)))
 refused(6, "a CASE without its mode count", plant(b"\x02\x00"))
 refused(6, "a mode missing", plant(changed(ONE_MODE, 2, 2)))
 refused(6, "bytes after the last mode", plant(ONE_MODE + b"\x00"))
-refused(6, "rates cut", driving(changed(case(0, mode([(0, 1)])), 3, 2)))
+refused(6, "rates cut", with_reinitial(changed(case(0, mode([(0, 1)])), 3, 2)))
 refused(6, "no switch count", plant(case(0, b"\x00")))
 refused(6, "a switch missing", plant(case(0, b"\x00\x01")))
 refused(6, "a switch of length 0", plant(case(0, b"\x00\x01\x00")))
@@ -156,18 +156,18 @@ of_schedule("no switch, no rate", plant(ONE_MODE), start([0], [0]), "p0", "read 
 of_schedule("16 selectors", schedule(V, equations(*[ONE_MODE] * 16), LEAF), start([0], [0] * 16), "t p0 t",
     "read 0, 1 16 1; rules 0, 1 2 0: 27 201 23; by table 0, 1 2 0")
 tight("16 selectors", schedule(V, equations(*[ONE_MODE] * 16), LEAF), start([0], [0] * 16), "t p0 t", "1 2 0", 159, 87)
-of_schedule("8 modes, the last current", driving(case(7, *[mode()] * 7, mode([(0, 3)], [(7, FALSE)]))), start([0], [7]), "s0.0 s0.1 p0",
-    "read 0, 1 1 1; rules 0, 1 2 0: 30 26 201")
+of_schedule("8 modes, the last current", with_reinitial(case(7, *[mode()] * 7, mode([(0, 3)], [(7, FALSE)]))), start([0], [7]),
+    "s0.0 s0.1 p0", "read 0, 1 1 1; rules 0, 1 2 0: 30 26 201")
 refused(7, "a rate of a missing variable", plant(rate(1, 1)))
 refused(7, "initial mode missing", plant(case(1, mode())))
-refused(7, "a mode's rate of a missing variable", driving(case(0, mode(), mode([(0, 1), (1, 1)]))))
+refused(7, "a mode's rate of a missing variable", with_reinitial(case(0, mode(), mode([(0, 1), (1, 1)]))))
 refused(7, "a switch to a missing mode", plant(case(0, mode(), mode([], [(0, TRUE), (2, TRUE)]))))
-refused(7, "7 later than what 8 is for", driving(rate(0, 1), rate(0, 1), rate(1, 1)))
-refused(8, "two rates of one variable", driving(rate(0, 1), rate(0, 1)))
-refused(8, "a rate and a CASE", driving(rate(0, 1), case(0, mode(), mode([(0, 1)]))))
-refused(8, "two CASEs", driving(case(0, mode([(0, 1)])), case(0, mode(), mode([(0, 2)]))))
-refused(8, "twice in one mode", driving(case(0, mode(), mode([(0, 1), (0, 1)]))))
-of_schedule("one variable in two modes", driving(case(0, mode([(0, 1)]), mode([(0, 2)]))), start([0], [1]), "p0",
+refused(7, "7 later than what 8 is for", with_reinitial(rate(0, 1), rate(0, 1), rate(1, 1)))
+refused(8, "two rates of one variable", with_reinitial(rate(0, 1), rate(0, 1)))
+refused(8, "a rate and a CASE", with_reinitial(rate(0, 1), case(0, mode(), mode([(0, 1)]))))
+refused(8, "two CASEs", with_reinitial(case(0, mode([(0, 1)])), case(0, mode(), mode([(0, 2)]))))
+refused(8, "twice in one mode", with_reinitial(case(0, mode(), mode([(0, 1), (0, 1)]))))
+of_schedule("one variable in two modes", with_reinitial(case(0, mode([(0, 1)]), mode([(0, 2)]))), start([0], [1]), "p0",
     "read 0, 1 1 1; rules 0, 1 0 0: 201")
 
 # 9, 10, 11
@@ -775,10 +775,15 @@ AFTER = case(0, mode(), mode([(0, 1)]))
 for name, es, modes in [
     ("a rate", [rate(0, 1)], []),
     ("a rate of 0", [rate(0, 0)], []),
+    ("a rate of -1", [rate(0, -1)], []),
+    ("the lowest rate", [rate(0, LOWEST)], []),
     ("the initial mode", [case(0, mode([(0, 1)]), mode())], [1]),
     ("a mode that is not the initial one", [AFTER], [0]),
     ("the mode before the initial one", [case(1, mode([(0, 1)]), mode())], [1]),
     ("a rate of 0 in a mode that is not the initial one", [case(0, mode(), mode([(0, 0)]))], [0]),
+    ("a rate of -1 in the initial mode", [case(0, mode([(0, -1)]), mode())], [0]),
+    ("a rate of -1 in a mode that is not the initial one", [case(0, mode(), mode([(0, -1)]))], [0]),
+    ("rates of -1 and -2 in two modes", [case(0, mode([(0, -1)]), mode([(0, -2)]))], [1]),
     ("two modes of one CASE", [case(0, mode([(0, 1)]), mode([(0, 2)]))], [1]),
     ("the last of 8 modes", [case(0, *[mode()] * 7, mode([(0, 1)]))], [0]),
     ("the second CASE", [ONE_MODE, AFTER], [0, 0]),
@@ -787,7 +792,7 @@ for name, es, modes in [
 ]:
     begin = start([0], modes)
     refused(34, f"RESET of what is driven by {name}", plant(*es), begin)
-    of_schedule(f"REINITIAL of what is driven by {name}", driving(*es), begin, "p0",
+    of_schedule(f"REINITIAL of what is driven by {name}", with_reinitial(*es), begin, "p0",
         f"read 0, 1 {len(modes)} 1; size 0, 1 1; rules 0, 1 0 0: 201; by table 0, 1 0 0: 201")
 # what drives nothing
 for name, es, modes in [
@@ -797,16 +802,16 @@ for name, es, modes in [
     ("the truth of a switch in another mode", [case(0, mode(), mode([], [(0, eq(var(0), var(0)))]))], [0]),
 ]:
     begin = start([0], modes)
-    refused(34, f"REINITIAL of what stands in {name}", driving(*es), begin)
+    refused(34, f"REINITIAL of what stands in {name}", with_reinitial(*es), begin)
     of_schedule(f"RESET of what stands in {name}", plant(*es), begin, "p0",
         f"read 0, 1 {len(modes)} 1; size 0, 1 1; rules 0, 1 0 0: 201; by table 0, 1 0 0: 201")
 PAIR = variables(*[(0, 10, 0)] * 2)
 ZERO = le(const(0), var(0))
-refused(34, "REINITIAL of what stands in the truth of a CONTINUE alone", tree(sequence(until(ZERO), DRIVEN_LEAF)), es="p1")
-refused(34, "REINITIAL of what stands in the truths of a WHILE and an IF alone", tree(loop(ZERO, either_of(ZERO, DRIVEN_LEAF, STOP))))
+refused(34, "REINITIAL of what stands in the truth of a CONTINUE alone", tree(sequence(until(ZERO), REINITIAL_LEAF)), es="p1")
+refused(34, "REINITIAL of what stands in the truths of a WHILE and an IF alone", tree(loop(ZERO, either_of(ZERO, REINITIAL_LEAF, STOP))))
 refused(34, "REINITIAL of what stands in its own number alone", tree(reinitial(0, add(var(0), const(1)))))
 refused(34, "REINITIAL of what stands in the number of a driven one alone",
-    tree(sequence(reinitial(1, var(0)), DRIVEN_LEAF), equations(rate(1, 1)), PAIR), start([0, 0]), "p1")
+    tree(sequence(reinitial(1, var(0)), REINITIAL_LEAF), equations(rate(1, 1)), PAIR), start([0, 0]), "p1")
 # other variables, and which of them
 refused(34, "RESET of 0, 0 of 2 driven", tree(reset(0, var(1)), equations(rate(0, 1)), PAIR), start([0, 0]))
 refused(34, "RESET of 1, 1 of 2 driven", tree(reset(1, var(0)), equations(rate(1, 1)), PAIR), start([0, 0]))
@@ -814,7 +819,7 @@ refused(34, "REINITIAL of 0, 1 of 2 driven", tree(reinitial(0, var(1)), equation
 refused(34, "REINITIAL of 1, 0 of 2 driven", tree(reinitial(1, var(0)), equations(rate(0, 1)), PAIR), start([0, 0]))
 refused(34, "REINITIAL of 1, where mode 1 drives 0", tree(reinitial(1, const(1)), equations(AFTER), PAIR), start([0, 0], [1]))
 refused(34, "RESET of a mode's second rate", tree(reset(1, const(1)), equations(case(0, mode([(0, 1), (1, 1)]))), PAIR), start([0, 0], [0]))
-of_schedule("RESET of 1 and REINITIAL of 0, 0 of 2 driven", tree(sequence(reset(1, const(2)), DRIVEN_LEAF), equations(rate(0, 1)), PAIR),
+of_schedule("RESET of 1 and REINITIAL of 0, 0 of 2 driven", tree(sequence(reset(1, const(2)), REINITIAL_LEAF), equations(rate(0, 1)), PAIR),
     start([0, 0]), "p1 p2", "rules 0, 2 0 0: 200 201; by table 0, 2 0 0: 200 201; "
     "records = C8 0000000000000004 00000000 00000002 C9 0000000000000000 00000001 00000002")
 MANY_ZEROS = variables(*[(0, 10, 0)] * 32)
@@ -822,13 +827,35 @@ LAST_DRIVEN, LAST_FREE = case(0, mode(), mode([(31, 1)])), case(0, mode(), mode(
 ZEROS = start([0] * 32, [0])
 refused(34, "RESET of variable 31 of 32, it alone driven", tree(reset(31, const(1)), equations(LAST_DRIVEN), MANY_ZEROS), ZEROS)
 refused(34, "REINITIAL of variable 31 of 32, all others driven", tree(reinitial(31, const(1)), equations(LAST_FREE), MANY_ZEROS), ZEROS)
-of_schedule("REINITIAL of variable 31 of 32, it alone driven", tree(reinitial(31, const(1)), equations(LAST_DRIVEN), MANY_ZEROS), ZEROS, "p0",
-    "read 0, 32 1 1; rules 0, 1 0 0: 201; by table 0, 1 0 0: 201")
+of_schedule("REINITIAL of variable 31 of 32, it alone driven", tree(reinitial(31, const(1)), equations(LAST_DRIVEN), MANY_ZEROS), ZEROS,
+    "p0", "read 0, 32 1 1; rules 0, 1 0 0: 201; by table 0, 1 0 0: 201")
 of_schedule("RESET of variable 31 of 32, all others driven", tree(reset(31, const(1)), equations(LAST_FREE), MANY_ZEROS), ZEROS, "p0",
     "read 0, 32 1 1; rules 0, 1 0 0: 201; by table 0, 1 0 0: 201")
+# a variable that is missing though 32 are declared: 11, before and behind a node that breaks the rule
+for name, es, wrong in [("RESET", LAST_DRIVEN, reset(31, const(1))), ("REINITIAL", LAST_FREE, reinitial(31, const(1)))]:
+    for v in (32, 255):
+        for what, missing in [("RESET", reset(v, const(1))), ("REINITIAL", reinitial(v, const(1)))]:
+            for where, two in [("behind", [wrong, missing]), ("before", [missing, wrong])]:
+                refused(11, f"{what} of variable {v} of 32 {where} 34 of a {name}", tree(sequence(*two), equations(es), MANY_ZEROS), ZEROS)
+
+# two nodes that break the rule, of either direction and of both
+RESETS, REINITIALS = [reset(0, const(1)), reset(1, const(1))], [reinitial(0, const(1)), reinitial(1, const(1))]
+FIRST, SECOND, EACH = equations(rate(0, 1)), equations(rate(1, 1)), equations(rate(0, 1), rate(1, 1))
+for name, es, two in [
+    ("RESET of the driven one, then REINITIAL of the other", FIRST, [RESETS[0], REINITIALS[1]]),
+    ("REINITIAL of the one not driven, then RESET of the other", FIRST, [REINITIALS[1], RESETS[0]]),
+    ("RESET of 1 and REINITIAL of 0, 1 driven", SECOND, [RESETS[1], REINITIALS[0]]),
+    ("REINITIAL of 0 and RESET of 1, 1 driven", SECOND, [REINITIALS[0], RESETS[1]]),
+    ("two RESETs of one driven", FIRST, [RESETS[0]] * 2),
+    ("two RESETs, both variables driven", EACH, RESETS),
+    ("two REINITIALs of one not driven", FIRST, [REINITIALS[1]] * 2),
+    ("two REINITIALs, neither variable driven", NO_EQUATION, REINITIALS),
+]:
+    refused(34, f"{name}, in a SEQUENCE", tree(sequence(*two), es, PAIR), start([0, 0]), "p1")
+    refused(34, f"{name}, in a PARALLEL", tree(parallel(*two), es, PAIR), start([0, 0]), "p1")
 
 # 34 in either direction: the plant, the assignment that keeps the rule, and the kind that breaks it
-for name, es, good, bad in [("RESET", equations(rate(0, 1)), DRIVEN_LEAF, reset), ("REINITIAL", NO_EQUATION, LEAF, reinitial)]:
+for name, es, good, bad in [("RESET", equations(rate(0, 1)), REINITIAL_LEAF, reset), ("REINITIAL", NO_EQUATION, LEAF, reinitial)]:
     wrong = bad(0, const(1))
     # each node, reached or not
     for where, t in [
@@ -841,7 +868,7 @@ for name, es, good, bad in [("RESET", equations(rate(0, 1)), DRIVEN_LEAF, reset)
         ("at node 63", sequence(*[good] * 62, wrong)),
     ]:
         refused(34, f"{name} {where}", tree(t, es), es="p1")
-    # any 10 or 11 comes before it
+    # any 9, 10 or 11 comes before it
     refused(9, f"9 before 34 of a {name}", file_of(V, es, nodes(wrong + node(10))))
     refused(10, f"10 before 34 of a {name}", tree(wrong + STOP, es))
     for what, missing in [("RESET", reset(1, const(1))), ("REINITIAL", reinitial(1, const(1))), ("SWITCH", switch(0, 0))]:
@@ -856,6 +883,9 @@ for name, es, good, bad in [("RESET", equations(rate(0, 1)), DRIVEN_LEAF, reset)
         ("an earlier CONTINUE's", sequence(until(b""), wrong)),
         ("an earlier assignment's", sequence(node(good[0][0], b"\x00"), wrong)),
         ("a later IF's", sequence(wrong, either_of(const(1), STOP, STOP))),
+        ("a later CONTINUE's", sequence(wrong, good, until(b""))),
+        ("a later assignment's", sequence(wrong, node(good[0][0], b"\x00"))),
+        ("a later WHILE's, and its own", sequence(bad(0, TRUE), loop(var(0), STOP))),
         ("the WHILE's around it", loop(var(1), wrong)),
     ]:
         refused(34, f"{name} before 12, {what}", tree(t, es), es="p1")
@@ -865,10 +895,10 @@ for name, es, good, bad in [("RESET", equations(rate(0, 1)), DRIVEN_LEAF, reset)
         "read 34, 0 0 0; size 34, 0 0; compile 34, 0; rules 34, 0 0 0; " + unexamined(34), table_room=0, record_room=0)
 BROKEN = case(0, mode([], [(0, const(1))]), mode([(0, 1)], [(0, b"")]))
 refused(34, "RESET before 12, a switch's", plant(BROKEN), start([0], [0]))
-refused(34, "REINITIAL before 12, a switch's", driving(one(TRUE, TRUE + TRUE)), start([0], [0]))
-refused(12, "a switch's, where a REINITIAL keeps the rule", driving(BROKEN), start([0], [0]))
+refused(34, "REINITIAL before 12, a switch's", with_reinitial(one(TRUE, TRUE + TRUE)), start([0], [0]))
+refused(12, "a switch's, where a REINITIAL keeps the rule", with_reinitial(BROKEN), start([0], [0]))
 refused(8, "8 before 34: RESET of what two equations drive", plant(rate(0, 1), rate(0, 1)))
-refused(7, "7 before 34: REINITIAL, a rate of a missing variable", driving(rate(1, 1)))
+refused(7, "7 before 34: REINITIAL, a rate of a missing variable", with_reinitial(rate(1, 1)))
 refused(34, "K1 with a RESET at node 1", changed(K1, K1.index(b"\x0A\x07") + 1, 6), es="p1")
 refused(34, "K1 with a rate of a second variable in place of the first's",
     tree(sequence(reinitial(0, add(var(0), const(1))), until(le(const(3), var(0)))), equations(rate(1, 1)), PAIR), start([0, 0]), "p1")

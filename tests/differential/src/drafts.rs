@@ -324,9 +324,9 @@ pub fn sound(r: &mut Random) -> Draft {
 }
 
 /// A PARALLEL of assignments and STOPs, now and then behind others in a SEQUENCE: the largest tables, and 13.
-pub fn wide(r: &mut Random, resets: usize, stops: usize, before: usize) -> Draft {
+pub fn wide(r: &mut Random, assignments: usize, stops: usize, before: usize) -> Draft {
     let n = if r.one_in(2) { 1 } else { 1 + r.below(32) };
-    let reset = |r: &mut Random| {
+    let assign_first = |r: &mut Random| {
         let mut p = vec![6, 0];
         p.extend(if r.one_in(3) { forms::number(r, n, 198) } else { vec![0x01, 0, 0, 0, 1] });
         p
@@ -335,12 +335,12 @@ pub fn wide(r: &mut Random, resets: usize, stops: usize, before: usize) -> Draft
     if before > 0 {
         nodes.push(vec![1, 1 + before as u8]);
         for _ in 0..before {
-            nodes.push(reset(r));
+            nodes.push(assign_first(r));
         }
     }
-    nodes.push(vec![2, (resets + stops) as u8]);
-    for _ in 0..resets {
-        nodes.push(reset(r));
+    nodes.push(vec![2, (assignments + stops) as u8]);
+    for _ in 0..assignments {
+        nodes.push(assign_first(r));
     }
     for _ in 0..stops {
         nodes.push(vec![9]);
@@ -457,7 +457,7 @@ fn unnamed(r: &mut Random, d: &Draft) -> Vec<u8> {
     }
 }
 
-/// 34, and often 11 or 12 with it: in the same node, in one before or behind it, or in a switch.
+/// 34, and often another with it: 12 of the same node or of a switch, or 11, 12 or 34 of a node before or behind it.
 fn flaw_assignment(r: &mut Random, d: &mut Draft) {
     let leaves: Vec<usize> = (0..d.nodes.len()).filter(|k| matches!(d.nodes[*k].first(), Some(5..=9))).collect();
     if leaves.is_empty() {
@@ -472,6 +472,7 @@ fn flaw_assignment(r: &mut Random, d: &mut Draft) {
         4 | 5 => {
             break_switch(r, d);
         }
+        6 if other != k => d.nodes[other] = unfit_assignment(r, d),
         _ => {}
     }
 }

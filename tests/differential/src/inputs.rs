@@ -51,8 +51,8 @@ fn senseless(r: &mut Random) -> Vec<u8> {
 
 /// A schedule whose table has about 65,536 bytes: exactly that many, or up to six more or fewer.
 fn near_65536(r: &mut Random) -> Draft {
-    let (resets, stops) = r.of(&[(9, 18), (9, 20), (8, 42), (8, 45), (7, 55)]);
-    let mut d = drafts::wide(r, resets, stops, 0);
+    let (assignments, stops) = r.of(&[(9, 18), (9, 20), (8, 42), (8, 45), (7, 55)]);
+    let mut d = drafts::wide(r, assignments, stops, 0);
     d.equations.truncate(15);
     d.part_assignments();
     let wanted = 65_530 + r.below(13);
@@ -66,15 +66,15 @@ fn near_65536(r: &mut Random) -> Draft {
 
 /// Many locations: 1,023, 1,024, and more, with few nodes or with 64.
 fn many_locations(r: &mut Random) -> Draft {
-    let resets = r.of(&[6, 9, 10, 10, 10, 11]);
+    let assignments = r.of(&[6, 9, 10, 10, 10, 11]);
     let before = r.below(3);
-    let most = 64 - 2 - before - resets;
+    let most = 64 - 2 - before - assignments;
     let stops = match r.below(4) {
         0 => most,
         1 => r.below(most + 1),
         _ => 0,
     };
-    drafts::wide(r, resets, stops, before)
+    drafts::wide(r, assignments, stops, before)
 }
 
 /// A file of up to 65,535 bytes, or of a few more.

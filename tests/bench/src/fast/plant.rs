@@ -39,7 +39,7 @@ pub fn int4(s: &[u8], at: usize) -> i32 {
     i32::from_be_bytes([s[at], s[at + 1], s[at + 2], s[at + 3]])
 }
 
-/// What is noted while the equation section is read: 7 and 8 come after 6.
+/// What is noted while the equation section is read: 7 and 8, which come after 6, and the set of the driven variables, for 34.
 struct Noted {
     named: bool,
     once: bool,
@@ -48,7 +48,8 @@ struct Noted {
 }
 
 impl Noted {
-    fn driven(&mut self, v: u8, variables: usize, equation: u8, mine: &mut u32) {
+    /// A rate of v in this equation; `mine` are the variables of its mode up to here.
+    fn saw_rate(&mut self, v: u8, variables: usize, equation: u8, mine: &mut u32) {
         if v as usize >= variables {
             self.named = false;
             return;
@@ -72,7 +73,7 @@ fn mode(s: &[u8], at: usize, variables: usize, modes: u8, equation: u8, noted: &
     }
     let mut mine = 0;
     for _ in 0..n {
-        noted.driven(s[p], variables, equation, &mut mine);
+        noted.saw_rate(s[p], variables, equation, &mut mine);
         p += 5;
     }
     let k = *s.get(p)?;
@@ -125,7 +126,7 @@ impl Plant {
                     return None;
                 }
                 let v = t[b + 1];
-                noted.driven(v, self.variables, i, &mut 0);
+                noted.saw_rate(v, self.variables, i, &mut 0);
                 if (v as usize) < self.variables {
                     self.steady[v as usize] = int4(t, b + 2);
                 }
