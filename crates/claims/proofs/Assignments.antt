@@ -34,7 +34,6 @@ use Rattle.schedules.specs.Exchanged.{exchangedAt, exchanged, OneByte}
 use Rattle.schedules.specs.AssignmentExamples.{k1-reset-file, k1Plant, k1Nodes, planned, steadily, mode, rate, caseOf, switchOn, resets, reinitials, number0, truth0, told, Kinds, Around}
 use Rattle.schedules.proofs.ExchangedKinds as ExchangedKinds
 use Rattle.schedules.proofs.Number34 as Number34
-use Rattle.schedules.proofs.WritingPapers as Writing
 use Rattle.schedules.proofs.AcceptedKinds as Papers
 
 -- ---- "RESET belongs to variables that no equation drives, REINITIAL to driven ones."
@@ -131,8 +130,8 @@ K1-kind-7 = Papers.K1-kind-7
 pub K1-one-byte : OneByte 6 7 k1-reset-file k1-file
 K1-one-byte = Papers.K1-one-byte
 
-pub K1-exchanged : k1-reset-file ≡ writeFile edition1 k1Plant (exchangedAt 1 k1Nodes)
-K1-exchanged = Writing.k1-exchanged
+pub K1-exchanged : (k1-reset-file ≡ writeFile edition1 k1Plant (exchangedAt 1 k1Nodes)) × (k1-file ≡ writeFile edition1 k1Plant (exchangedAt 1 (exchangedAt 1 k1Nodes)))
+K1-exchanged = Papers.K1-exchanged
 
 -- a RESET alone and a REINITIAL alone: the variable is driven by an equation of kind 1, by none, another variable is, the last equation drives it
 -- Ruled out: a reader that looks at RESETs only; one that takes all variables for driven where there is an equation, or looks at the first equation only.

@@ -3,10 +3,12 @@ use mathlib.Core.Path.{_≡_, refl}
 use mathlib.Core.List.{List, [], _∷_}
 use Prim.Native.Nat.{ℕ}
 use lib.ListN.{take, drop}
+use Rattle.semantics.specs.Editions.{edition1}
 use Rattle.semantics.specs.K1.{k1-file}
 use Rattle.schedules.specs.Nodes.{Node, sequence, parallel, while-do, if-else, continue-until, reset, reinitial, stop-all}
-use Rattle.schedules.specs.Exchanged.{OneByte}
-use Rattle.schedules.specs.AssignmentExamples.{k1-reset-file, planned, steadily, mode, rate, caseOf, switchOn, resets, reinitials, number0, truth0, told, Kinds, Around}
+use Rattle.schedules.specs.Writing.{writeFile}
+use Rattle.schedules.specs.Exchanged.{exchangedAt, OneByte}
+use Rattle.schedules.specs.AssignmentExamples.{k1-reset-file, k1Plant, k1Nodes, planned, steadily, mode, rate, caseOf, switchOn, resets, reinitials, number0, truth0, told, Kinds, Around}
 use Rattle.schedules.proofs.Computes.{schedules}
 
 -- ---- "In K1 node 1 therefore becomes kind 7"
@@ -21,6 +23,11 @@ K1-kind-7 = refl
 pub K1-one-byte : OneByte 6 7 k1-reset-file k1-file
 unfolding k1-file k1-reset-file
 K1-one-byte = record { front = take 36 k1-file; behind = drop 37 k1-file; file-is = refl; other-is = refl }
+
+-- K1 as document 01 prints it is the same schedule with kinds 6 and 7 of node 1 exchanged, and the other way round
+pub K1-exchanged : (k1-reset-file ≡ writeFile edition1 k1Plant (exchangedAt 1 k1Nodes)) × (k1-file ≡ writeFile edition1 k1Plant (exchangedAt 1 (exchangedAt 1 k1Nodes)))
+unfolding schedules k1-file k1-reset-file
+K1-exchanged = (refl, refl)
 
 -- ---- "RESET belongs to variables that no equation drives, REINITIAL to driven ones."
 pub kind-1-drives : Kinds (steadily 0 1 ∷ []) 34 0

@@ -31,18 +31,23 @@ use Rattle.schedules.proofs.FirstNumber.{file-in-order, nodes-in-order,
 use Rattle.schedules.proofs.FileForms.{schedule-bytes}
 use Rattle.schedules.proofs.FilesProper.{schedule-accepted}
 
+-- what does not tell a RESET from a REINITIAL is the same of a node and of the other kind of it
+either-kind : {A : Type 0} (f : Node → A) → ((v : ℕ) (e : List ℕ) → f (reset v e) ≡ f (reinitial v e)) → (x : Node) → f (otherKind x) ≡ f x
+unfolding otherKind
+either-kind f h (sequence k) = refl
+either-kind f h (parallel k) = refl
+either-kind f h (while-do t) = refl
+either-kind f h (if-else t) = refl
+either-kind f h (continue-until t) = refl
+either-kind f h (reset v e) = sym (h v e)
+either-kind f h (reinitial v e) = h v e
+either-kind f h (switch-to s m) = refl
+either-kind f h stop-all = refl
+
 -- ---- the table: "Kinds 6 and 7 both assign."
 same-action : (x : Node) → actionOf (otherKind x) ≡ actionOf x
-unfolding actionOf otherKind
-same-action (sequence k) = refl
-same-action (parallel k) = refl
-same-action (while-do t) = refl
-same-action (if-else t) = refl
-same-action (continue-until t) = refl
-same-action (reset v e) = refl
-same-action (reinitial v e) = refl
-same-action (switch-to s m) = refl
-same-action stop-all = refl
+unfolding actionOf
+same-action = either-kind actionOf (λ v e. refl)
 
 same-actions : (k n : ℕ) (ns : List Node) → actionsFrom k (exchangedAt n ns) ≡ actionsFrom k ns
 unfolding actionsFrom exchangedAt
@@ -109,28 +114,12 @@ unchanged-shapes [] = no-shapes
 unchanged-shapes (x ∷ ns) = one-shape refl (λ n ts. refl) (unchanged-shapes ns)
 
 other-children : (x : Node) → children (otherKind x) ≡ children x
-unfolding children otherKind
-other-children (sequence k) = refl
-other-children (parallel k) = refl
-other-children (while-do t) = refl
-other-children (if-else t) = refl
-other-children (continue-until t) = refl
-other-children (reset v e) = refl
-other-children (reinitial v e) = refl
-other-children (switch-to s m) = refl
-other-children stop-all = refl
+unfolding children
+other-children = either-kind children (λ v e. refl)
 
 other-tree : (x : Node) (n : ℕ) (ts : Forest) → treeFrom n (otherKind x) ts ≡ treeFrom n x ts
-unfolding treeFrom otherKind
-other-tree (sequence k) n ts = refl
-other-tree (parallel k) n ts = refl
-other-tree (while-do t) n ts = refl
-other-tree (if-else t) n ts = refl
-other-tree (continue-until t) n ts = refl
-other-tree (reset v e) n ts = refl
-other-tree (reinitial v e) n ts = refl
-other-tree (switch-to s m) n ts = refl
-other-tree stop-all n ts = refl
+unfolding treeFrom
+other-tree x n ts = either-kind (λ x. treeFrom n x ts) (λ v e. refl) x
 
 same-shapes : (n : ℕ) (ns : List Node) → SameShapes (exchangedAt n ns) ns
 unfolding exchangedAt
@@ -251,16 +240,8 @@ limits-kept ed p n ns h o l =
 
 -- ---- 11 stays as it is
 other-named : (v : ℕ) (cs : List Selector) (x : Node) → nodeNamed v cs (otherKind x) ≡ nodeNamed v cs x
-unfolding nodeNamed otherKind
-other-named v cs (sequence k) = refl
-other-named v cs (parallel k) = refl
-other-named v cs (while-do t) = refl
-other-named v cs (if-else t) = refl
-other-named v cs (continue-until t) = refl
-other-named v cs (reset w e) = refl
-other-named v cs (reinitial w e) = refl
-other-named v cs (switch-to s m) = refl
-other-named v cs stop-all = refl
+unfolding nodeNamed
+other-named v cs = either-kind (nodeNamed v cs) (λ w e. refl)
 
 same-named : (v : ℕ) (cs : List Selector) (n : ℕ) (ns : List Node) → every (nodeNamed v cs) (exchangedAt n ns) ≡ every (nodeNamed v cs) ns
 unfolding every exchangedAt

@@ -16,20 +16,14 @@ use Rattle.semantics.specs.K1.{k1-file, k1-table}
 use Rattle.schedules.specs.Nodes.{sequence, if-else, continue-until, reinitial, switch-to, stop-all}
 use Rattle.schedules.specs.Calls.{readSchedule}
 use Rattle.schedules.specs.Writing.{writeFile}
-use Rattle.schedules.specs.Exchanged.{exchangedAt}
 use Rattle.schedules.specs.Examples.{case-file}
-use Rattle.schedules.specs.AssignmentExamples.{k1-reset-file, k1Plant, oneMore, threeReached, k1Nodes}
+use Rattle.schedules.specs.AssignmentExamples.{k1Plant, oneMore, threeReached, k1Nodes}
 use Rattle.schedules.proofs.Computes.{schedules}
 
 -- ---- K1
 pub k1-file-written : k1-file ≡ writeFile edition1 k1Plant k1Nodes
 unfolding schedules k1-file
 k1-file-written = refl
-
--- K1 as document 01 prints it: the same with kinds 6 and 7 of node 1 exchanged
-pub k1-exchanged : k1-reset-file ≡ writeFile edition1 k1Plant (exchangedAt 1 k1Nodes)
-unfolding schedules k1-reset-file
-k1-exchanged = refl
 
 pub k1-table-written : k1-table ≡ writeTable edition1 (record {
   plant = k1Plant;
