@@ -1,0 +1,3 @@
+-- What the contracts of a program's index cite.
+pub mod Rows
+pub mod Lent
