@@ -1,0 +1,29 @@
+-- The event that the code has for some bytes.
+use mathlib.Core.Path.{_≡_}
+use mathlib.Core.Bool.{Bool, true, false}
+use mathlib.Core.List.{List}
+use mathlib.Core.Option.{some}
+use Prim.Native.Nat.{ℕ}
+use Rattle.semantics.specs.Editions.{edition1}
+use Rattle.semantics.specs.Events as Events
+use Rattle.semantics.specs.Events.{tick, pick, take-switch, senseless, eventIn}
+use Rattle.event.specs.PaperNumbers.{paperEvent}
+use Rattle.event.specs.declared.Event.{Event}
+use Rattle.event.specs.declared.Event.the-variants.{Tick, Pick, Switch, Senseless}
+
+-- the event that a case stands for
+unfoldable pub eventOf : Event → Events.Event
+eventOf Tick = tick
+eventOf (Pick n) = pick n
+eventOf (Switch s k) = take-switch s k
+eventOf Senseless = senseless
+
+-- an event whose unused bytes are 0, or not
+abbrev pub whereZero : Bool → Event → Event
+whereZero true e = e
+whereZero false e = Senseless
+
+-- these bytes are that event, and 24 is told of it just where they are none
+pub record Decodes (s : List ℕ) (r : Event) : Type 0 where
+  pub is : eventOf r ≡ eventIn edition1 s
+  pub number : paperEvent r ≡ some 24 → eventIn edition1 s ≡ senseless
