@@ -6,3 +6,4 @@ pub mod OperandForms
 pub mod LocationIndex
 pub mod Promised
 pub mod TableIndex
+pub mod Lent
