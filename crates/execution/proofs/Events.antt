@@ -14,19 +14,20 @@ use Rattle.semantics.specs.Run as Run
 use Rattle.semantics.specs.Run.{Action, test, wait, assign, switch, stop, away, faulty, pass, _>>=_, _>>_, allow, valued, nobody, mover, Done, isWait, waitTruth, checkWaits, checkModes, assigned, act, judgeSwitch, switchCheck, judgeTick, judgePick, judge}
 use Rattle.semantics.proofs.Facts.{true-not-false}
 use Rattle.nodeset.specs.Sets.{mem, members}
-use Rattle.nodeset.proofs.Members.{among-members}
+use Rattle.nodeset.proofs.Members.{among-set}
 use Rattle.effects.specs.Verdicts.{doneVerdict, stepVerdict, goesOn, Left, orElse, Gives}
-use Rattle.effects.specs.Ranges.{rangesOf, rateIn}
+use Rattle.effects.specs.Ranges.{rateIn}
 use Rattle.effects.specs.ActionForms.{Performs, Does}
 use Rattle.effects.specs.declared.Verdict.{Verdict}
 use Rattle.effects.specs.declared.Verdict.the-variants.{Away, Stay}
 use Rattle.effects.proofs.PaperNumbers.{left-away, left-above, left-below, left-stay}
 use Rattle.effects.proofs.Steps.{then-on}
 use Rattle.modes.specs.Modes.{modesFrom, InForce, Switched}
-use Rattle.execution.specs.Operands.{KindsOf}
-use Rattle.execution.specs.Ready.{Lent, PlantLent, Ready, operandAt}
+use Rattle.program.specs.Lent.{Lent, PlantLent, operandAt}
+use Rattle.execution.specs.Operands.{Few, CutEach, KindsOf}
+use Rattle.execution.specs.Ready.{Ready}
 use Rattle.execution.proofs.Formed.{wait-operand, variable-known, selector-known, map-member}
-use Rattle.execution.proofs.Lending.{modes-current, declared-same, advance-is}
+use Rattle.execution.proofs.Lending.{modes-current, variablesOf, declared-same, advance-is}
 
 -- ---- what is left
 module _ (vs : List ℤ) (ms : List ℕ) where
@@ -51,16 +52,16 @@ module _ (vs : List ℤ) (ms : List ℕ) where
   left-ticked (fault below) g = rw (g .left) (left-below (g .answer) refl)
 
 -- ---- what a picked node does on the ranges that are lent
-module _ (p : Plant) (l : Lent) (q : PlantLent p l) (vs : List ℤ) where
-  assigned-same : (v : ℕ) (e : List ℕ) → assigned edition1 (p .variables) vs v e ≡ assigned edition1 (rangesOf (l .lows) (l .highs)) vs v e
+module _ (p : Plant) (l : Lent) (q : PlantLent p l) (vs : List ℤ) (many : length vs ≡ length (p .variables)) where
+  assigned-same : (v : ℕ) (e : List ℕ) → assigned edition1 (p .variables) vs v e ≡ assigned edition1 (variablesOf l (length vs)) vs v e
   unfolding assigned stored thenValue
   assigned-same v e = go (numberValue edition1 vs e)
     where
-      go : (u : Value ℤ) → thenValue u (stored (p .variables) vs v) ≡ thenValue u (stored (rangesOf (l .lows) (l .highs)) vs v)
-      go (ok z) = ap (λ u. thenValue u (λ y. ok (set vs v y))) (sym (declared-same p l q v z))
+      go : (u : Value ℤ) → thenValue u (stored (p .variables) vs v) ≡ thenValue u (stored (variablesOf l (length vs)) vs v)
+      go (ok z) = ap (λ u. thenValue u (λ y. ok (set vs v y))) (sym (declared-same p l q (length vs) many v z))
       go (fault s) = refl
 
-  act-same : (ms : List ℕ) (n : ℕ) (a : Action) → act edition1 (p .variables) vs ms n a ≡ act edition1 (rangesOf (l .lows) (l .highs)) vs ms n a
+  act-same : (ms : List ℕ) (n : ℕ) (a : Action) → act edition1 (p .variables) vs ms n a ≡ act edition1 (variablesOf l (length vs)) vs ms n a
   unfolding act
   act-same ms n (test t) = refl
   act-same ms n (wait t) = refl
@@ -71,13 +72,19 @@ module _ (p : Plant) (l : Lent) (q : PlantLent p l) (vs : List ℤ) where
 module _ (p : Plant) (f : ℕ → Action) (l : Lent) (ws : List ℕ) (vs : List ℤ) (ms : List ℕ) (q : Ready p f l ws vs ms) where
   -- the switch check of the code
   abbrev check : Run.Verdict (Unit {0})
-  check = checkModes edition1 (modesFrom (l .equations) (l .places) 0 ms) vs
+  check = checkModes edition1 (modesFrom (l .bytes) (l .places) 0 ms) vs
 
   check-is : switchCheck edition1 p vs ms ≡ check
   unfolding switchCheck
   check-is = ap (λ x. checkModes edition1 x vs) (sym (modes-current p l (q .plant) vs ms (q .fits)))
 
   -- ---- a tick
+  pub few-acting : Few ws
+  few-acting = record { words = q .words; below = λ n e. q .nodes n e .below }
+
+  pub cut-acting : CutEach (l .bytes) (l .starts) (l .ends) ws
+  cut-acting = record { cut = λ n e. q .nodes n e .cut }
+
   pub kinds-of : KindsOf f (l .kinds) ws
   kinds-of = record { each = λ n e. (operandAt l n, q .nodes n e .is) }
 
@@ -112,29 +119,29 @@ module _ (p : Plant) (f : ℕ → Action) (l : Lent) (ws : List ℕ) (vs : List 
       pub tick-31 : goesOn w ≡ false → Left tick vs ms w vs ms
       tick-31 k = left-eq vs ms on (left-out vs ms walked (ticked vs ms (advance (p .variables) (rateOf p ms) vs)) d k)
 
-      pub tick-end : goesOn w ≡ true → (rs : List ℤ) → InForce (l .equations) (l .places) ms (l .steady) rs → {x : Verdict} {ys : List ℤ} → Gives Stay vs (advance (rangesOf (l .lows) (l .highs)) (rateIn rs) vs) x ys → Left tick vs ms x ys ms
+      pub tick-end : goesOn w ≡ true → (rs : List ℤ) → InForce (l .bytes) (l .places) ms (l .steady) rs → {x : Verdict} {ys : List ℤ} → Gives Stay vs (advance (variablesOf l (length vs)) (rateIn rs) vs) x ys → Left tick vs ms x ys ms
       tick-end k rs i g =
           left-eq vs ms (on ∙ then-on walked (ticked vs ms (advance (p .variables) (rateOf p ms) vs)) w d k) (left-ticked vs ms (advance (p .variables) (rateOf p ms) vs) (rw (← advance-is p l (q .plant) vs ms (q .fits) rs i) g))
 
   -- ---- a pick
-  module _ (n : ℕ) (small : n < 256) where
+  module _ (n : ℕ) where
     abbrev pick : Run.Verdict Done
     pick = judge edition1 p f (members ws) vs ms (Events.pick n)
 
     pub pick-25 : mem ws n ≡ false → Left pick vs ms (Away 25) vs ms
     unfolding judge judgePick allow _>>_
-    pick-25 e = left-away refl (rw (among-members ws n small, e) refl)
+    pick-25 e = left-away refl (rw (among-set (q .words) n, e) refl)
 
     pick-is : mem ws n ≡ true → pick ≡ (check >> act edition1 (p .variables) vs ms n (f n))
     unfolding judge judgePick allow _>>_
-    pick-is e = rw (among-members ws n small, e) (ap (λ a. a >> act edition1 (p .variables) vs ms n (f n)) check-is)
+    pick-is e = rw (among-set (q .words) n, e) (ap (λ a. a >> act edition1 (p .variables) vs ms n (f n)) check-is)
 
     module _ (h : mem ws n ≡ true) (r : Verdict) (e : r ≡ stepVerdict check) where
       pub pick-28 : goesOn r ≡ false → Left pick vs ms r vs ms
       pick-28 g = left-eq vs ms (pick-is h) (left-out vs ms check (act edition1 (p .variables) vs ms n (f n)) e g)
 
-      pub pick-end : goesOn r ≡ true → {x : Verdict} {ys : List ℤ} {ns : List ℕ} → Does (getD (l .kinds) n 0) (operandAt l n) (rangesOf (l .lows) (l .highs)) n vs ms x ys ns → Left pick vs ms x ys ns
-      pick-end g x = left-eq vs ms (pick-is h ∙ then-on check (act edition1 (p .variables) vs ms n (f n)) r e g ∙ act-same p l (q .plant) vs ms n (f n)) (x .leaves (f n) (q .nodes n h .is))
+      pub pick-end : goesOn r ≡ true → {x : Verdict} {ys : List ℤ} {ns : List ℕ} → Does (getD (l .kinds) n 0) (operandAt l n) (variablesOf l (length vs)) n vs ms x ys ns → Left pick vs ms x ys ns
+      pick-end g x = left-eq vs ms (pick-is h ∙ then-on check (act edition1 (p .variables) vs ms n (f n)) r e g ∙ act-same p l (q .plant) vs (q .fits .values) ms n (f n)) (x .leaves (f n) (q .nodes n h .is))
 
     pub pick-performs : mem ws n ≡ true → Performs (getD (l .kinds) n 0) (operandAt l n) (length vs) (length ms)
     pick-performs e =
@@ -147,6 +154,6 @@ module _ (p : Plant) (f : ℕ → Action) (l : Lent) (ws : List ℕ) (vs : List 
         })
 
   -- ---- a switch event
-  pub switch-left : (s k : ℕ) {r : Verdict} {ns : List ℕ} → Switched (l .equations) (l .places) s k vs ms r ns → Left (judge edition1 p f (members ws) vs ms (Events.take-switch s k)) vs ms r vs ns
+  pub switch-left : (s k : ℕ) {r : Verdict} {ns : List ℕ} → Switched (l .bytes) (l .places) s k vs ms r ns → Left (judge edition1 p f (members ws) vs ms (Events.take-switch s k)) vs ms r vs ns
   unfolding judge
   switch-left s k x = left-eq vs ms (ap (λ z. judgeSwitch edition1 z vs ms s k) (sym (modes-current p l (q .plant) vs ms (q .fits)))) (x .leaves)

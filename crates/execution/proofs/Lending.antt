@@ -8,7 +8,7 @@ use native.Mathlib.Omega.{arith}
 use borrow.Author.Tests.{ltb-true, lt-ltb}
 use lib.Dec.{ltb}
 use lib.IntN.{ℤ, pos, _+ℤ_}
-use lib.ListN.{length, getD, getElem?, length-map}
+use lib.ListN.{length, getD, getElem?, take}
 use Rattle.semantics.specs.Bytes.{every}
 use Rattle.semantics.specs.Expressions.{thenValue, ok}
 use Rattle.semantics.specs.Sections.{Variable, Rate, Mode, Selector, Equation, steady, choice}
@@ -16,9 +16,10 @@ use Rattle.semantics.specs.Plant.{Plant, rateNamed, switchNamed, modeNamed, equ
 use Rattle.semantics.specs.Starts.{modesFit}
 use Rattle.semantics.proofs.Facts.{some-is, none-not-some, and-left, and-right, at-exists, All, all-nil, all-cons, every-all, all-every, all-map}
 use Rattle.plant.proofs.RateArrays.{rate-at}
-use Rattle.effects.specs.Ranges.{rangesOf, rateIn, Ranged, Sized}
-use Rattle.modes.specs.Modes.{modeAt, Stands, placeAt, modesFrom, Current, Driving, InForce}
-use Rattle.execution.specs.Ready.{Lent, ModeLent, PlantLent, Fits}
+use Rattle.effects.specs.Ranges.{rangesOf, rateIn, Sized}
+use Rattle.program.specs.Lent.{Stands, Lent, ModeLent, PlantLent}
+use Rattle.modes.specs.Modes.{modeAt, placeAt, modesFrom, Current, Driving, InForce}
+use Rattle.execution.specs.Ready.{Fits}
 
 -- ---- the mode at its place
 pub stands-mode : {es : List ℕ} {at : ℕ} {m : Mode} → Stands es at m → modeAt es at ≡ m
@@ -42,7 +43,7 @@ module _ where
 
 -- the selectors from j on, where they lie
 modes-are : (l : Lent) (cs : List Selector) (j : ℕ) (ms : List ℕ) → ((i : ℕ) (c : Selector) → getElem? cs i ≡ some c → (m : ℕ) → m < length (c .modes) → ModeLent l (j + i) c m) → modesFit cs ms ≡ true → length ms ≡ length cs
-    → modesFrom (l .equations) (l .places) j ms ≡ currentOf cs ms
+    → modesFrom (l .bytes) (l .places) j ms ≡ currentOf cs ms
 unfolding modesFrom currentOf
 modes-are l [] j [] f h k = refl
 modes-are l [] j (m ∷ ms) f h k = absurd (omega arith)
@@ -51,7 +52,7 @@ modes-are l (c ∷ cs) j (m ∷ ms) f h k =
     let q = fit-head c cs m ms h in
     let z : j ≡ j + 0 = omega arith in
     let x = f 0 c refl m (q .0) in
-    ap₂ _∷_ (ap (λ n. modeAt (l .equations) (getD (l .places) (8 * n + m) 0)) z ∙ stands-mode (x .stands)) (modes-are l cs (suc j) ms (λ i d e n o. let w : suc j + i ≡ j + suc i = omega arith in subst (λ (y : ℕ). ModeLent l y d n) (sym w) (f (suc i) d e n o)) (q .1) (omega arith))
+    ap₂ _∷_ (ap (λ n. modeAt (l .bytes) (getD (l .places) (8 * n + m) 0)) z ∙ stands-mode (x .stands)) (modes-are l cs (suc j) ms (λ i d e n o. let w : suc j + i ≡ j + suc i = omega arith in subst (λ (y : ℕ). ModeLent l y d n) (sym w) (f (suc i) d e n o)) (q .1) (omega arith))
 
 -- ---- conditions 7
 named-selector : (n : ℕ) (es : List Equation) (j : ℕ) {c : Selector} → every (equationNamed n) es ≡ true → getElem? (selectorsOf es) j ≡ some c → every (modeNamed n (length (c .modes))) (c .modes) ≡ true
@@ -100,34 +101,31 @@ module _ (p : Plant) (l : Lent) (q : PlantLent p l) (vs : List ℤ) (ms : List �
       let e = fit-at (selectors p) ms j (f .exist) (f .modes) (x .1) in
       record { selector = x .0; is = x .1; exists = e; lent = q .modes j (x .0) (x .1) (getD ms j 0) e }
 
-  pub modes-current : modesFrom (l .equations) (l .places) 0 ms ≡ currentModes p ms
+  pub modes-current : modesFrom (l .bytes) (l .places) 0 ms ≡ currentModes p ms
   unfolding currentModes
   modes-current = modes-are l (selectors p) 0 ms (λ i c e m h. let z : i ≡ 0 + i = omega arith in subst (λ (y : ℕ). ModeLent l y c m) z (q .modes i c e m h)) (f .exist) (f .modes)
 
-  pub is-current : Current (l .equations) (l .places) ms
+  pub is-current : Current (l .bytes) (l .places) ms
   is-current = record { row = λ j h. here j h .lent .row; stands = λ j h. stands-here (here j h .lent .stands) }
 
-  pub mode-named : (j : ℕ) (h : j < length ms) → modeNamed (length (p .variables)) (length (here j h .selector .modes)) (modeAt (l .equations) (placeAt (l .places) ms j)) ≡ true
+  pub mode-named : (j : ℕ) (h : j < length ms) → modeNamed (length (p .variables)) (length (here j h .selector .modes)) (modeAt (l .bytes) (placeAt (l .places) ms j)) ≡ true
   unfolding selectors
   mode-named j h =
       let x = here j h in
       ap (modeNamed (length (p .variables)) (length (x .selector .modes))) (stands-mode (x .lent .stands))
       ∙ named-mode (length (p .variables)) (length (x .selector .modes)) (x .selector .modes) (getD ms j 0) (named-selector (length (p .variables)) (p .equations) j (q .named) (x .is)) (x .exists)
 
-  pub is-driving : Driving (l .equations) (l .places) ms 32
-  is-driving = record { named = λ j h. more-named (length (p .variables)) 32 (modeAt (l .equations) (placeAt (l .places) ms j) .rates) (q .few) (mode-rates-named (length (p .variables)) _ _ (mode-named j h)) }
+  pub is-driving : Driving (l .bytes) (l .places) ms 32
+  is-driving = record { named = λ j h. more-named (length (p .variables)) 32 (modeAt (l .bytes) (placeAt (l .places) ms j) .rates) (q .few) (mode-rates-named (length (p .variables)) _ _ (mode-named j h)) }
 
-  low-count : length (l .lows) ≡ length vs
-  low-count = ap length (q .lows) ∙ length-map (p .variables) (λ (x : Variable). x .minimum) ∙ sym (f .values)
-
-  high-count : length (l .highs) ≡ length vs
-  high-count = ap length (q .highs) ∙ length-map (p .variables) (λ (x : Variable). x .maximum) ∙ sym (f .values)
-
-  pub is-ranged : Ranged (l .lows) (l .highs) vs
-  is-ranged = record { lows = low-count; highs = high-count }
+  pub few-values : length vs ≤ 32
+  few-values =
+      let i = q .few in
+      let k = f .values in
+      omega arith
 
   -- the rates that the code works out
-  module _ (rs : List ℤ) (x : InForce (l .equations) (l .places) ms (l .steady) rs) where
+  module _ (rs : List ℤ) (x : InForce (l .bytes) (l .places) ms (l .steady) rs) where
     many : length vs ≤ length rs
     many =
         let i = q .few in
@@ -140,8 +138,8 @@ module _ (p : Plant) (l : Lent) (q : PlantLent p l) (vs : List ℤ) (ms : List �
     unfolding rateOf currentModes selectors
     rate-is v h = let n = many in let r = ratesOf (p .equations) ms in sym (ap (λ z. getD z v (pos 0)) (x .rates (p .equations) (q .once) modes-current (q .steady) .are) ∙ rate-at r (length rs) v (omega arith))
 
-    pub is-sized : Sized (l .lows) (l .highs) rs vs
-    is-sized = record { lows = low-count; highs = high-count; rates = many }
+    pub is-sized : Sized rs vs
+    is-sized = record { few = few-values; rates = many }
 
 -- ---- the same ranges
 all-same : (xs : List Variable) (zs : List ℤ) → allDeclared (rangesOf (map (λ (x : Variable). x .minimum) xs) (map (λ (x : Variable). x .maximum) xs)) zs ≡ allDeclared xs zs
@@ -156,8 +154,12 @@ one-same [] v z = refl
 one-same (x ∷ xs) zero z = refl
 one-same (x ∷ xs) (suc v) z = one-same xs v z
 
-pub declared-same : (p : Plant) (l : Lent) → PlantLent p l → (v : ℕ) (z : ℤ) → declaredAt (rangesOf (l .lows) (l .highs)) v z ≡ declaredAt (p .variables) v z
-declared-same p l q v z = ap₂ (λ a b. declaredAt (rangesOf a b) v z) (q .lows) (q .highs) ∙ one-same (p .variables) v z
+-- the variables that the rows have for so many values
+abbrev pub variablesOf : Lent → ℕ → List Variable
+variablesOf l n = rangesOf (take n (l .lows)) (take n (l .highs))
+
+pub declared-same : (p : Plant) (l : Lent) → PlantLent p l → (n : ℕ) → n ≡ length (p .variables) → (v : ℕ) (z : ℤ) → declaredAt (variablesOf l n) v z ≡ declaredAt (p .variables) v z
+declared-same p l q n e v z = ap₂ (λ a b. declaredAt (rangesOf a b) v z) (ap (λ k. take k (l .lows)) e ∙ q .lows) (ap (λ k. take k (l .highs)) e ∙ q .highs) ∙ one-same (p .variables) v z
 
 -- ---- the same sums
 added-same : (f g : ℕ → ℤ) (k : ℕ) (vs : List ℤ) → ((i : ℕ) → i < length vs → f (k + i) ≡ g (k + i)) → added f k vs ≡ added g k vs
@@ -168,9 +170,9 @@ added-same f g k (v ∷ vs) h =
     ap₂ _∷_ (ap (λ (x : ℤ). v +ℤ x) (ap f (sym z) ∙ h 0 (omega arith) ∙ ap g z))
     (added-same f g (suc k) vs (λ i j. let w : k + suc i ≡ suc k + i = omega arith in ap f (sym w) ∙ h (suc i) (omega arith) ∙ ap g w))
 
-pub advance-is : (p : Plant) (l : Lent) (q : PlantLent p l) (vs : List ℤ) (ms : List ℕ) (f : Fits p vs ms) (rs : List ℤ) → InForce (l .equations) (l .places) ms (l .steady) rs
-    → advance (rangesOf (l .lows) (l .highs)) (rateIn rs) vs ≡ advance (p .variables) (rateOf p ms) vs
+pub advance-is : (p : Plant) (l : Lent) (q : PlantLent p l) (vs : List ℤ) (ms : List ℕ) (f : Fits p vs ms) (rs : List ℤ) → InForce (l .bytes) (l .places) ms (l .steady) rs
+    → advance (variablesOf l (length vs)) (rateIn rs) vs ≡ advance (p .variables) (rateOf p ms) vs
 unfolding advance
 advance-is p l q vs ms f rs x =
-    ap₂ (λ a b. allDeclared (rangesOf a b) (added (rateIn rs) 0 vs)) (q .lows) (q .highs) ∙ all-same (p .variables) (added (rateIn rs) 0 vs)
+    ap₂ (λ a b. allDeclared (rangesOf a b) (added (rateIn rs) 0 vs)) (ap (λ k. take k (l .lows)) (f .values) ∙ q .lows) (ap (λ k. take k (l .highs)) (f .values) ∙ q .highs) ∙ all-same (p .variables) (added (rateIn rs) 0 vs)
     ∙ ap (allDeclared (p .variables)) (added-same (rateIn rs) (rateOf p ms) 0 vs (λ i h. let z : 0 + i ≡ i = omega arith in ap (rateIn rs) z ∙ sym (rate-is p l q vs ms f rs x i h) ∙ ap (rateOf p ms) (sym z)))

@@ -1,4 +1,3 @@
 pub mod Operands
 pub mod Ready
 pub mod Runs
-pub mod Sense

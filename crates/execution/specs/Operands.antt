@@ -1,22 +1,24 @@
--- Where the operands of the nodes lie, and the kinds of what they do.
+-- The acting nodes, and the kinds of what they do.
 use mathlib.Core.Path.{_≡_}
 use mathlib.Core.Bool.{true}
 use mathlib.Core.List.{List}
 use mathlib.Core.Option.{some}
-use Prim.Native.Nat.{ℕ, _≤_, _<_}
-use lib.ListN.{length, getD}
+use Prim.Native.Nat.{ℕ, _<_}
+use lib.ListN.{getD}
 use Rattle.semantics.specs.Run.{Action}
 use Rattle.semantics.specs.TableFile.{actionKind, actionOfKind}
-use Rattle.nodeset.specs.Sets.{mem}
+use Rattle.nodeset.specs.Sets.{mem, Words}
+use Rattle.program.specs.Lent.{Cut}
 
--- ---- where operands lie
-pub record Cut (ops starts ends : List ℕ) (n : ℕ) : Type 0 where
-  pub start : n < length starts
-  pub end : n < length ends
-  pub low : getD starts n 0 ≤ getD ends n 0
-  pub high : getD ends n 0 ≤ length ops
+-- a set of nodes below 64
+pub record Few (ws : List ℕ) : Type 0 where
+  pub words : Words ws
+  pub below : (n : ℕ) → mem ws n ≡ true → n < 64
 
--- ---- what nodes do
+-- each of them has its operand
+pub record CutEach (s starts ends ws : List ℕ) : Type 0 where
+  pub cut : (n : ℕ) → mem ws n ≡ true → Cut s starts ends n
+
 -- each acting node has an action of the kind that the array has for it
 pub record KindsOf (action : ℕ → Action) (kinds acting : List ℕ) : Type 0 where
   pub each : (n : ℕ) → mem acting n ≡ true → (t : List ℕ) × (actionOfKind (actionKind (getD kinds n 0)) t ≡ some (action n))

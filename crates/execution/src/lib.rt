@@ -1,212 +1,137 @@
 // One event judged, for a run by the rules and for one by a table.
 use effects::Verdict;
-use nodeset::NodeSet;
+use event::Event;
 ghost use mathlib.Core.Path.{_≡_};
-ghost use mathlib.Core.Bool.{true};
 ghost use mathlib.Core.List.{[], _∷_, map};
 ghost use Prim.Native.Nat.{ℕ, _<_};
-ghost use lib.ListN.{length};
 ghost use Rattle.semantics.specs.Editions.{edition1};
 ghost use Rattle.semantics.specs.Bytes.{every};
-ghost use Rattle.semantics.specs.Events.{tick as ticked, pick as picked};
 ghost use Rattle.semantics.specs.Run.{Action, isWait, checkWaits};
-ghost use Rattle.nodeset.specs.Sets.{mem, members};
-ghost use Rattle.effects.specs.Verdicts.{stepVerdict};
+ghost use Rattle.nodeset.specs.Sets.{members};
 ghost use Rattle.codec.specs.Parts.{partAt};
-ghost use Rattle.execution.specs.Operands.{Cut, KindsOf};
-ghost use Rattle.execution.specs.Ready.{Promised, Judges, lent};
-ghost use Rattle.execution.specs.Sense.{Sense, eventOf};
+ghost use Rattle.program.specs.Rows.{kindRow, startRow, endRow};
+ghost use Rattle.program.specs.Lent.{Cut, lent};
+ghost use Rattle.event.specs.declared.Event.the-variants.{Tick, Pick};
+ghost use Rattle.effects.specs.Verdicts.{stepVerdict};
+ghost use Rattle.execution.specs.Operands.{Few, CutEach, KindsOf};
+ghost use Rattle.execution.specs.Ready.{Promised, Judges};
 
 // Are all acting nodes waits?
-fn all_wait(kinds: &[u8], acting: NodeSet) -> bool
-    requires stand { ⌜ ((n : ℕ) → mem (acting .words) n ≡ true → (n < 64) × (n < length (now kinds))) ⌝ }
-    requires known { ⌜ ((f : ℕ → Action) × KindsOf f (now kinds) (acting .words)) ⌝ }
-    ensures { λ b. ⌜ ((f : ℕ → Action) → KindsOf f (now (kinds .entry)) (acting .words) → b ≡ every (λ n. isWait (f n)) (members (acting .words))) ⌝ }
+fn all_wait(ix: &[usize; program::ENTRIES], acting: &[u64; 4]) -> bool
+    requires few { ⌜ Few (now acting) ⌝ }
+    requires known { ⌜ ((f : ℕ → Action) × KindsOf f (kindRow (now ix)) (now acting)) ⌝ }
+    ensures { λ b. ⌜ ((f : ℕ → Action) → KindsOf f (kindRow (now (ix .entry))) (now (acting .entry)) → b ≡ every (λ n. isWait (f n)) (members (now (acting .entry)))) ⌝ }
 {
-    let mut n = nodeset::next(acting, 0);
+    let mut n = nodeset::next(acting, 0, paper::NODES);
     while n < paper::NODES {
-        if kinds[n] != paper::actions::WAIT {
+        if program::kind(ix, n) != program::kinds::WAIT {
             return false;
         }
-        n = nodeset::next(acting, n + 1);
+        n = nodeset::next(acting, n + 1, paper::NODES);
     }
     true
 }
 
 // The truth of the wait n.
-fn still(ops: &[u8], starts: &[usize], ends: &[usize], values: &[i32], n: usize) -> Verdict
-    requires { ⌜ Cut (now ops) (now starts) (now ends) n ⌝ }
-    ensures { λ r. ⌜ r ≡ stepVerdict (checkWaits edition1 (now (values .entry)) (partAt (now (ops .entry)) (now (starts .entry)) (now (ends .entry)) n ∷ [])) ⌝ }
+fn still(t: &[u8], ix: &[usize; program::ENTRIES], values: &[i32], n: usize) -> Verdict
+    requires { ⌜ (n < 64) × Cut (now t) (startRow (now ix)) (endRow (now ix)) n ⌝ }
+    ensures { λ r. ⌜ r ≡ stepVerdict (checkWaits edition1 (now (values .entry)) (partAt (now (t .entry)) (startRow (now (ix .entry))) (endRow (now (ix .entry))) n ∷ [])) ⌝ }
 {
-    let b = starts[n];
-    let e = ends[n];
-    effects::ask(&ops[b..e], values, Verdict::Away(31), Verdict::Stay)
+    let b = program::start(ix, n);
+    let e = program::end(ix, n);
+    effects::ask(&t[b..e], values, Verdict::Away(31), Verdict::Stay)
 }
 
 // The truths of the acting nodes, up to the first that is true or faults.
-fn all_still(
-    ops: &[u8],
-    starts: &[usize],
-    ends: &[usize],
-    acting: NodeSet,
-    values: &[i32],
-) -> Verdict
-    requires { ⌜ ((n : ℕ) → mem (acting .words) n ≡ true → (n < 64) × Cut (now ops) (now starts) (now ends) n) ⌝ }
-    ensures { λ r. ⌜ r ≡ stepVerdict (checkWaits edition1 (now (values .entry)) (map (partAt (now (ops .entry)) (now (starts .entry)) (now (ends .entry))) (members (acting .words)))) ⌝ }
+fn all_still(t: &[u8], ix: &[usize; program::ENTRIES], acting: &[u64; 4], values: &[i32]) -> Verdict
+    requires few { ⌜ Few (now acting) ⌝ }
+    requires cut { ⌜ CutEach (now t) (startRow (now ix)) (endRow (now ix)) (now acting) ⌝ }
+    ensures { λ r. ⌜ r ≡ stepVerdict (checkWaits edition1 (now (values .entry))
+        (map (partAt (now (t .entry)) (startRow (now (ix .entry))) (endRow (now (ix .entry)))) (members (now (acting .entry))))) ⌝ }
 {
-    let mut n = nodeset::next(acting, 0);
+    let mut n = nodeset::next(acting, 0, paper::NODES);
     while n < paper::NODES {
-        let r = still(ops, starts, ends, values, n);
+        let r = still(t, ix, values, n);
         if !effects::goes_on(r) {
             return r;
         }
-        n = nodeset::next(acting, n + 1);
+        n = nodeset::next(acting, n + 1, paper::NODES);
     }
     Verdict::Stay
 }
 
 // A tick: all acting nodes are waits, no switch and no wait is true, then each value adds its rate.
 fn tick(
-    es: &[u8],
-    places: &[usize],
-    steady: [i32; paper::VARIABLES],
-    lows: &[i32],
-    highs: &[i32],
-    ops: &[u8],
-    kinds: &[u8],
-    starts: &[usize],
-    ends: &[usize],
-    acting: NodeSet,
+    t: &[u8],
+    ix: &[usize; program::ENTRIES],
+    ranges: &[i32; program::RANGES],
+    acting: &[u64; 4],
     values: &mut [i32],
     modes: &[u8],
 ) -> Verdict
-    requires { ⌜ Promised (lent (now es) (now places) steady (now lows) (now highs) (now ops) (now kinds) (now starts) (now ends)) (acting .words) (now values) (now modes) ⌝ }
-    ensures { λ r. ⌜ Judges
-        (lent (now (es .entry)) (now (places .entry)) steady (now (lows .entry)) (now (highs .entry)) (now (ops .entry)) (now (kinds .entry)) (now (starts .entry)) (now (ends .entry)))
-        (acting .words) ticked (now (values .entry)) (now (modes .entry)) r (now (values .exit)) (now (modes .entry)) ⌝ }
+    requires { ⌜ Promised (lent (now t) (now ix) (now ranges)) (now acting) (now values) (now modes) ⌝ }
+    ensures { λ r. ⌜ Judges (lent (now (t .entry)) (now (ix .entry)) (now (ranges .entry))) (now (acting .entry)) Tick
+        (now (values .entry)) (now (modes .entry)) r (now (values .exit)) (now (modes .entry)) ⌝ }
 {
-    if !all_wait(kinds, acting) {
+    if !all_wait(ix, acting) {
         return Verdict::Away(27);
     }
-    let check = modes::switch_check(es, places, values, modes);
+    let check = modes::switch_check(t, ix, values, modes);
     if !effects::goes_on(check) {
         return check;
     }
-    let walk = all_still(ops, starts, ends, acting, values);
+    let walk = all_still(t, ix, acting, values);
     if !effects::goes_on(walk) {
         return walk;
     }
-    let rates = modes::rates_now(es, places, steady, modes);
-    effects::advance(lows, highs, &rates, values)
+    let rates = modes::rates_now(t, ix, ranges, modes);
+    effects::advance(ranges, &rates, values)
 }
 
 // A pick of node n: it acts, no switch is true, then what it does.
 fn pick(
-    es: &[u8],
-    places: &[usize],
-    steady: [i32; paper::VARIABLES],
-    lows: &[i32],
-    highs: &[i32],
-    ops: &[u8],
-    kinds: &[u8],
-    starts: &[usize],
-    ends: &[usize],
-    acting: NodeSet,
+    t: &[u8],
+    ix: &[usize; program::ENTRIES],
+    ranges: &[i32; program::RANGES],
+    acting: &[u64; 4],
     n: usize,
     values: &mut [i32],
     modes: &mut [u8],
 ) -> Verdict
-    requires { ⌜ Promised (lent (now es) (now places) steady (now lows) (now highs) (now ops) (now kinds) (now starts) (now ends)) (acting .words) (now values) (now modes) × (n < 256) ⌝ }
-    ensures { λ r. ⌜ Judges
-        (lent (now (es .entry)) (now (places .entry)) steady (now (lows .entry)) (now (highs .entry)) (now (ops .entry)) (now (kinds .entry)) (now (starts .entry)) (now (ends .entry)))
-        (acting .words) (picked n) (now (values .entry)) (now (modes .entry)) r (now (values .exit)) (now (modes .exit)) ⌝ }
+    requires { ⌜ Promised (lent (now t) (now ix) (now ranges)) (now acting) (now values) (now modes) ⌝ }
+    ensures { λ r. ⌜ Judges (lent (now (t .entry)) (now (ix .entry)) (now (ranges .entry))) (now (acting .entry)) (Pick n)
+        (now (values .entry)) (now (modes .entry)) r (now (values .exit)) (now (modes .exit)) ⌝ }
 {
-    if !nodeset::contains(acting, n) {
+    if !nodeset::has(acting, n) {
         return Verdict::Away(25);
     }
-    let checked = modes::switch_check(es, places, values, modes);
+    let checked = modes::switch_check(t, ix, values, modes);
     if !effects::goes_on(checked) {
         return checked;
     }
-    let b = starts[n];
-    let e = ends[n];
-    effects::effect(kinds[n], &ops[b..e], lows, highs, n, values, modes)
+    let b = program::start(ix, n);
+    let e = program::end(ix, n);
+    effects::effect(program::kind(ix, n), &t[b..e], ranges, n, values, modes)
 }
 
-// Are the three bytes an event? A tick uses one of them, a pick two, a switch event all.
-fn sensible(a: u8, b: u8, c: u8) -> bool
-    ensures { λ r. ⌜ Sense a b c r ⌝ }
-{
-    if a == 0 {
-        if b != 0 {
-            return false;
-        }
-        return c == 0;
-    }
-    if a == 1 {
-        return c == 0;
-    }
-    a == 2
-}
-
-// One event, of the three bytes a, b, c. Values and modes are those that it leaves.
+// One event. Values and modes are those that it leaves.
 pub fn judge(
-    es: &[u8],
-    places: &[usize],
-    steady: [i32; paper::VARIABLES],
-    lows: &[i32],
-    highs: &[i32],
-    ops: &[u8],
-    kinds: &[u8],
-    starts: &[usize],
-    ends: &[usize],
-    acting: NodeSet,
-    a: u8,
-    b: u8,
-    c: u8,
+    t: &[u8],
+    ix: &[usize; program::ENTRIES],
+    ranges: &[i32; program::RANGES],
+    acting: &[u64; 4],
+    e: Event,
     values: &mut [i32],
     modes: &mut [u8],
 ) -> Verdict
-    requires { ⌜ Promised (lent (now es) (now places) steady (now lows) (now highs) (now ops) (now kinds) (now starts) (now ends)) (acting .words) (now values) (now modes) ⌝ }
-    ensures { λ r. ⌜ Judges
-        (lent (now (es .entry)) (now (places .entry)) steady (now (lows .entry)) (now (highs .entry)) (now (ops .entry)) (now (kinds .entry)) (now (starts .entry)) (now (ends .entry)))
-        (acting .words) (eventOf a b c) (now (values .entry)) (now (modes .entry)) r (now (values .exit)) (now (modes .exit)) ⌝ }
+    requires { ⌜ Promised (lent (now t) (now ix) (now ranges)) (now acting) (now values) (now modes) ⌝ }
+    ensures { λ r. ⌜ Judges (lent (now (t .entry)) (now (ix .entry)) (now (ranges .entry))) (now (acting .entry)) e
+        (now (values .entry)) (now (modes .entry)) r (now (values .exit)) (now (modes .exit)) ⌝ }
 {
-    if !sensible(a, b, c) {
-        return Verdict::Away(24);
+    match e {
+        Event::Tick => tick(t, ix, ranges, acting, values, modes),
+        Event::Pick(n) => pick(t, ix, ranges, acting, n, values, modes),
+        Event::Switch(s, k) => modes::take_switch(t, ix, s, k, values, modes),
+        Event::Senseless => Verdict::Away(24),
     }
-    if a == 0 {
-        return tick(
-            es,
-            places,
-            steady,
-            lows,
-            highs,
-            ops,
-            kinds,
-            starts,
-            ends,
-            acting,
-            values,
-            modes,
-        );
-    }
-    if a == 1 {
-        return pick(
-            es,
-            places,
-            steady,
-            lows,
-            highs,
-            ops,
-            kinds,
-            starts,
-            ends,
-            acting,
-            b as usize,
-            values,
-            modes,
-        );
-    }
-    modes::take_switch(es, places, b as usize, c as usize, values, modes)
 }

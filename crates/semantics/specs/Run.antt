@@ -235,13 +235,17 @@ module _ {S : Type 0} where
   settle c x s (pass d) = follow c x s (d .moved) (d .values) (d .modes)
 
   module _ (ed : Edition) (p : Plant) (c : Control S) where
-    -- one event, its bytes as they came
-    unfoldable pub step : Situation S → List ℕ → Answered S
-    step s e = elim (s .place) [
+    -- one event
+    abbrev pub stepOn : Situation S → Event → Answered S
+    stepOn s e = elim (s .place) [
       -- 23: "The run is over."
       | none ↦ turnedAway 23 s
-      | some x ↦ settle c x s (judge ed p (c .action) (c .acting x) (s .values) (s .modes) (eventIn ed e))
+      | some x ↦ settle c x s (judge ed p (c .action) (c .acting x) (s .values) (s .modes) e)
     ]
+
+    -- the same, its bytes as they came
+    unfoldable pub step : Situation S → List ℕ → Answered S
+    step s e = stepOn s (eventIn ed e)
 
     -- the whole list: "Each event is judged on the residual, values and modes that the one before it left"
     unfoldable pub answers : Situation S → List (List ℕ) → List (Answered S)
