@@ -1,5 +1,4 @@
 // The record of an event, and the counts of a run.
-use nodeset::NodeSet;
 ghost use mathlib.Core.Path.{_≡_};
 ghost use mathlib.Core.Bool.{true, cond};
 ghost use mathlib.Core.List.{List, [], _∷_, _++_, flatMap};
@@ -12,7 +11,7 @@ ghost use Rattle.semantics.specs.Refusals.{refused};
 ghost use Rattle.semantics.specs.Run.{setNumber, valueBytes, recordBytes, howMany, countsOf, noCounts};
 ghost use Rattle.semantics.specs.Calls.{recordLength, report};
 ghost use Rattle.codec.specs.Writing.{Wrote};
-ghost use Rattle.nodeset.specs.Sets.{mem, members};
+ghost use Rattle.nodeset.specs.Sets.{mem, members, Words};
 ghost use Rattle.records.specs.Booking.{Room};
 ghost use Rattle.records.specs.Reported.{told, ranWith};
 
@@ -114,12 +113,11 @@ pub fn record_length(variables: usize, selectors: usize) -> usize
 }
 
 // The eight bytes of a set of nodes below 64, at a place; the next place.
-fn put_set(d: &mut [u8], i: usize, acting: NodeSet) -> usize
-    requires { ⌜ (i + edition1 .set-bytes ≤ length (now d)) × ((n : ℕ) → mem (acting .words) n ≡ true → n < 64) ⌝ }
-    ensures { λ r. ⌜ (r ≡ i + edition1 .set-bytes) × Wrote (now (d .entry)) i (bigEndian (edition1 .set-bytes) (setNumber (members (acting .words)))) (now (d .exit)) ⌝ }
+fn put_set(d: &mut [u8], i: usize, acting: &[u64; 4]) -> usize
+    requires { ⌜ (i + edition1 .set-bytes ≤ length (now d)) × ((n : ℕ) → mem (now acting) n ≡ true → n < 64) × Words (now acting) ⌝ }
+    ensures { λ r. ⌜ (r ≡ i + edition1 .set-bytes) × Wrote (now (d .entry)) i (bigEndian (edition1 .set-bytes) (setNumber (members (now (acting .entry))))) (now (d .exit)) ⌝ }
 {
-    let ws = acting.words;
-    let w = ws[0] as usize;
+    let w = acting[0] as usize;
     let j = codec::put4(d, i, w / 4294967296);
     codec::put4(d, j, w % 4294967296)
 }
@@ -143,13 +141,13 @@ pub fn put_record(
     d: &mut [u8],
     i: usize,
     answer: u8,
-    acting: NodeSet,
+    acting: &[u64; 4],
     values: &[i32],
     modes: &[u8],
 ) -> usize
-    requires { ⌜ (i + recordLength edition1 (length (now values)) (length (now modes)) ≤ length (now d)) × ((n : ℕ) → mem (acting .words) n ≡ true → n < 64) ⌝ }
+    requires { ⌜ (i + recordLength edition1 (length (now values)) (length (now modes)) ≤ length (now d)) × ((n : ℕ) → mem (now acting) n ≡ true → n < 64) × Words (now acting) ⌝ }
     ensures { λ r. ⌜ (r ≡ i + recordLength edition1 (length (now (values .entry))) (length (now (modes .entry)))) ×
-        Wrote (now (d .entry)) i (recordBytes edition1 answer (setNumber (members (acting .words))) (now (values .entry)) (now (modes .entry))) (now (d .exit)) ⌝ }
+        Wrote (now (d .entry)) i (recordBytes edition1 answer (setNumber (members (now (acting .entry)))) (now (values .entry)) (now (modes .entry))) (now (d .exit)) ⌝ }
 {
     let j = codec::put1(d, i, answer);
     let k = put_set(d, j, acting);

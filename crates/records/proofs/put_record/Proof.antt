@@ -39,10 +39,10 @@ returns c = let t' = c .before .before in
     let q = q' .put-set in
     let r = r' .put-values in
     let t = t' .put-slice in
-    let S = bigEndian 8 (setNumber (members (a .acting .words))) in
+    let S = bigEndian 8 (setNumber (members (a .acting .now))) in
     let Q = flatMap valueBytes (a .values .now) in
     let h : a .i ≤ length (a .d .now) = omega (arith, s .pre .0) in
-    let e = set-length (setNumber (members (a .acting .words))) in
+    let e = set-length (setNumber (members (a .acting .now))) in
     let n = values-length (a .values .now) in
     let m = length-append (a .answer ∷ S) Q in
     let one = put-more (p .ensures .1) (q .ensures .1) h (p .ensures .0) in
