@@ -1,7 +1,6 @@
 mod Cases
-mod Codes
 mod Ends
-mod Leaves
+mod Forms
 mod PaperNumbers
 mod Steps
 mod TwoLeaves

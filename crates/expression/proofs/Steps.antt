@@ -13,8 +13,7 @@ use lib.Seq.{drop-cons, getD-drop, drop-drop}
 use borrow.Author.Tests.{lt-ltb, le-ltb}
 use Rattle.semantics.specs.Bytes.{be4, signed, Read, broken, read, Reader, _>>=_, andThen, give, fail, guard, from, byte, nat4, int4}
 use Rattle.semantics.specs.Editions.{edition1}
-use Rattle.semantics.specs.Expressions.{above, below, Value, ok, fault, result, Operation, Comparison, Connective, Number, constant, variable, operate, negation, Truth, compare, connect, opposite, valueOf, holds, Form, a-constant, a-variable, an-operation, a-negation, a-comparison, a-connective, an-opposite, a-true, unknown, formOf, operationCode, comparisonCode, connectiveCode, Expression, a-number, a-truth, toNumber, toTruth, readVariableNumber, readNumber, readTruth, readForm, readExpression}
-use Rattle.semantics.proofs.ExpressionBytes.{operation-form, comparison-form, connective-form}
+use Rattle.semantics.specs.Expressions.{above, below, Value, ok, fault, result, Operation, Comparison, Connective, Number, constant, variable, operate, negation, Truth, compare, connect, opposite, valueOf, holds, Form, a-constant, a-variable, an-operation, a-negation, a-comparison, a-connective, an-opposite, a-true, unknown, formOf, Expression, a-number, a-truth, toNumber, toTruth, readVariableNumber, readNumber, readTruth, readForm, readExpression}
 use Rattle.expression.specs.Evaluation.{numberAt, truthAt, foundIn, found, nextOf, formAt, ofNumber, ofTruth, operated, related, joined, negated, opposed}
 use Rattle.expression.specs.declared.Found.{Found}
 use Rattle.expression.specs.declared.Found.the-variants.{ATruth, Broken}
@@ -195,9 +194,9 @@ module _ (vs : List ℤ) (s : List ℕ) (at d : ℕ) (deep : d ≡ 0 → ⊥) wh
     unfolding foundIn readForm fail
     step-unknown e = by-form unknown e
 
-    pub step-true : getD s at 0 ≡ 0x2f → ATruth true (at + 1) ≡ found vs s at d
-    unfolding foundIn readForm give holds formOf
-    step-true e = ap (λ n. ATruth true n) (sym (after-at s (at + 1) (omega arith))) ∙ by-form a-true (ap formOf e)
+    pub step-true : formOf (getD s at 0) ≡ a-true → ATruth true (at + 1) ≡ found vs s at d
+    unfolding foundIn readForm give holds
+    step-true e = ap (λ n. ATruth true n) (sym (after-at s (at + 1) (omega arith))) ∙ by-form a-true e
 
     pub step-constant : formOf (getD s at 0) ≡ a-constant → formAt vs s a-constant (at + 1) ≡ found vs s at d
     unfolding readForm
@@ -208,35 +207,35 @@ module _ (vs : List ℤ) (s : List ℕ) (at d : ℕ) (deep : d ≡ 0 → ⊥) wh
     step-variable e = by-form a-variable e
 
     module _ (x l : Found) (l-is : l ≡ found vs s (at + 1) (d - 1)) where
-      pub step-negation : getD s at 0 ≡ 0x14 → x ≡ negated l → x ≡ found vs s at d
-      unfolding readForm readNumber _>>=_ formOf foundIn valueOf
-      step-negation e q = q ∙ ap negated l-is ∙ sym (one-number vs s _ (λ a. a-number (negation a)) (λ a t. refl) (R (drop (at + 1) s))) ∙ by-form a-negation (ap formOf e)
+      pub step-negation : formOf (getD s at 0) ≡ a-negation → x ≡ negated l → x ≡ found vs s at d
+      unfolding readForm readNumber _>>=_ foundIn valueOf
+      step-negation e q = q ∙ ap negated l-is ∙ sym (one-number vs s _ (λ a. a-number (negation a)) (λ a t. refl) (R (drop (at + 1) s))) ∙ by-form a-negation e
 
-      pub step-opposite : getD s at 0 ≡ 0x2a → x ≡ opposed l → x ≡ found vs s at d
-      unfolding readForm readTruth _>>=_ formOf foundIn holds
-      step-opposite e q = q ∙ ap opposed l-is ∙ sym (one-truth vs s _ (λ a. a-truth (opposite a)) (λ a t. refl) (R (drop (at + 1) s))) ∙ by-form an-opposite (ap formOf e)
+      pub step-opposite : formOf (getD s at 0) ≡ an-opposite → x ≡ opposed l → x ≡ found vs s at d
+      unfolding readForm readTruth _>>=_ foundIn holds
+      step-opposite e q = q ∙ ap opposed l-is ∙ sym (one-truth vs s _ (λ a. a-truth (opposite a)) (λ a t. refl) (R (drop (at + 1) s))) ∙ by-form an-opposite e
 
       module _ (n : ℕ) (r : Found) (n-is : n ≡ nextOf l) (r-is : r ≡ found vs s n (d - 1)) where
         right-is : r ≡ found vs s (nextOf (found vs s (at + 1) (d - 1))) (d - 1)
         right-is = r-is ∙ ap (λ m. found vs s m (d - 1)) (n-is ∙ ap nextOf l-is)
 
-        pub step-operation : (o : Operation) → getD s at 0 ≡ operationCode o → x ≡ operated o l r → x ≡ found vs s at d
+        pub step-operation : (o : Operation) → formOf (getD s at 0) ≡ an-operation o → x ≡ operated o l r → x ≡ found vs s at d
         unfolding readForm readNumber _>>=_ foundIn valueOf
         step-operation o e q =
             q ∙ ap₂ (operated o) l-is right-is
             ∙ sym (two-numbers vs s R _ (λ a b. a-number (operate o a b)) (λ a b t. refl) (R (drop (at + 1) s)) (ends edition1 (length vs) (d - 1) s (at + 1)))
-            ∙ by-form (an-operation o) (ap formOf e ∙ operation-form o)
+            ∙ by-form (an-operation o) e
 
-        pub step-comparison : (o : Comparison) → getD s at 0 ≡ comparisonCode o → x ≡ related o l r → x ≡ found vs s at d
+        pub step-comparison : (o : Comparison) → formOf (getD s at 0) ≡ a-comparison o → x ≡ related o l r → x ≡ found vs s at d
         unfolding readForm readNumber _>>=_ foundIn holds
         step-comparison o e q =
             q ∙ ap₂ (related o) l-is right-is
             ∙ sym (two-numbers vs s R _ (λ a b. a-truth (compare o a b)) (λ a b t. refl) (R (drop (at + 1) s)) (ends edition1 (length vs) (d - 1) s (at + 1)))
-            ∙ by-form (a-comparison o) (ap formOf e ∙ comparison-form o)
+            ∙ by-form (a-comparison o) e
 
-        pub step-connective : (o : Connective) → getD s at 0 ≡ connectiveCode o → x ≡ joined o l r → x ≡ found vs s at d
+        pub step-connective : (o : Connective) → formOf (getD s at 0) ≡ a-connective o → x ≡ joined o l r → x ≡ found vs s at d
         unfolding readForm readTruth _>>=_ foundIn holds
         step-connective o e q =
             q ∙ ap₂ (joined o) l-is right-is
             ∙ sym (two-truths vs s R _ (λ a b. a-truth (connect o a b)) (λ a b t. refl) (R (drop (at + 1) s)) (ends edition1 (length vs) (d - 1) s (at + 1)))
-            ∙ by-form (a-connective o) (ap formOf e ∙ connective-form o)
+            ∙ by-form (a-connective o) e

@@ -73,9 +73,9 @@ ofTruth Broken k = Broken
 abbrev pub formAt : List ℤ → List ℕ → Form → ℕ → Found
 formAt vs s f p = foundIn vs (length s) (readForm edition1 (length vs) fail f (drop p s))
 
--- a constant or a variable at the position of its code: a number of depth 1
-abbrev pub leafAt : List ℤ → List ℕ → ℕ → Found
-leafAt vs s p = ofNumber (found vs s p 1) (λ v n. numberAt n v)
+-- a leaf, if one is given, is found whatever depth is left
+pub record LeafSays (vs : List ℤ) (s : List ℕ) (at : ℕ) (r : Found) : Type 0 where
+  pub is : (depth : ℕ) → (depth ≡ 0 → ⊥) → (r ≡ Broken → ⊥) → r ≡ found vs s at depth
 
 -- ---- the forms, from what their operands gave
 abbrev pub operated : Operation → Found → Found → Found

@@ -1,3 +1,4 @@
 pub mod Answers
 pub mod Evaluation
+pub mod Forms
 pub mod PaperNumbers

@@ -12,6 +12,14 @@ use Rattle.expression.specs.declared.Number.{Number}
 use Rattle.expression.specs.declared.Number.the-variants as Numbers
 use Rattle.expression.specs.declared.Truth.{Truth}
 use Rattle.expression.specs.declared.Truth.the-variants as Truths
+use Rattle.expression.specs.declared.Operation.{Operation}
+use Rattle.expression.specs.declared.Operation.the-variants.{Sum, Difference, Product}
+use Rattle.expression.specs.declared.Comparison.{Comparison}
+use Rattle.expression.specs.declared.Comparison.the-variants.{AtMost, Less, Equal, Unequal}
+use Rattle.expression.specs.declared.Connective.{Connective}
+use Rattle.expression.specs.declared.Connective.the-variants.{Both, Either}
+use Rattle.expression.specs.declared.Form.{Form}
+use Rattle.expression.specs.declared.Form.the-variants as Forms
 use Rattle.expression.specs.declared.Found.{Found}
 use Rattle.expression.specs.declared.Found.the-variants.{ANumber, NumberFault, ATruth, TruthFault, Broken}
 
@@ -78,3 +86,30 @@ paperFound (NumberFault above n) = paperFault above
 paperFound (ATruth b n) = 0
 paperFound (TruthFault above n) = paperFault above
 paperFound Broken = 12
+
+-- the form that a first byte says, by its code; a byte that is no code has none, and 12 turns it away
+unfoldable pub paperOperation : Operation → ℕ
+paperOperation Sum = 0x10
+paperOperation Difference = 0x11
+paperOperation Product = 0x12
+
+unfoldable pub paperComparison : Comparison → ℕ
+paperComparison AtMost = 0x20
+paperComparison Less = 0x21
+paperComparison Equal = 0x22
+paperComparison Unequal = 0x23
+
+unfoldable pub paperConnective : Connective → ℕ
+paperConnective Both = 0x28
+paperConnective Either = 0x29
+
+unfoldable pub paperForm : Form → Option ℕ
+paperForm Forms.Constant = some 0x01
+paperForm Forms.Variable = some 0x02
+paperForm (Forms.Operation o) = some (paperOperation o)
+paperForm Forms.Negation = some 0x14
+paperForm (Forms.Comparison o) = some (paperComparison o)
+paperForm (Forms.Connective o) = some (paperConnective o)
+paperForm Forms.Opposite = some 0x2a
+paperForm Forms.True = some 0x2f
+paperForm Forms.Unknown = none

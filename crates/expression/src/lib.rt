@@ -6,12 +6,16 @@ ghost use lib.ListN.{length, drop};
 ghost use lib.IntN.{ℤ, negℤ};
 ghost use Rattle.semantics.specs.Bytes.{be4, signed as signedOf, isSome, read, nat4};
 ghost use Rattle.semantics.specs.Editions.{edition1};
-ghost use Rattle.semantics.specs.Expressions.{Operation, Comparison, Connective, ok, fault, applied, compared, connected, result};
-ghost use Rattle.semantics.specs.Expressions.{operationCode, comparisonCode, connectiveCode, a-constant, a-variable, depthLimit, readExpression, numberIn, truthIn};
+ghost use Rattle.semantics.specs.Expressions.{ok, fault, applied, compared, connected, result};
+ghost use Rattle.semantics.specs.Expressions.{a-constant, a-variable, depthLimit, readExpression, numberIn, truthIn};
 ghost use Rattle.semantics.specs.Sections.{variableLimit};
 ghost use Rattle.expression.specs.Answers.{numberOf, truthOf, truthAnswer, NumberSays, TruthSays};
-ghost use Rattle.expression.specs.Evaluation.{sideOf, found, FoundSays, numberAt, nextOf, formAt, leafAt};
+ghost use Rattle.expression.specs.Evaluation.{sideOf, found, FoundSays, LeafSays, numberAt, nextOf, formAt};
 ghost use Rattle.expression.specs.Evaluation.{operated, related, joined, negated, opposed};
+ghost use Rattle.expression.specs.Forms.{operationIs, comparisonIs, connectiveIs, FormSays};
+
+// the fewest bytes of a form of two leaves: its code and two variables
+const TWO_LEAVES: usize = 5;
 
 // A number's value, or the side on which a result lies outside its range; malformed where condition 12 turns the bytes away.
 pub enum Number {
@@ -36,6 +40,62 @@ enum Found {
     ATruth(bool, usize),
     TruthFault(bool, usize),
     Broken,
+}
+
+// The forms of two operands.
+enum Operation {
+    Sum,
+    Difference,
+    Product,
+}
+
+enum Comparison {
+    AtMost,
+    Less,
+    Equal,
+    Unequal,
+}
+
+enum Connective {
+    Both,
+    Either,
+}
+
+// What a first byte says: everything that follows it goes by this.
+enum Form {
+    Constant,
+    Variable,
+    Operation(Operation),
+    Negation,
+    Comparison(Comparison),
+    Connective(Connective),
+    Opposite,
+    True,
+    Unknown,
+}
+
+// The one match over the codes: numbers, truths, and the bytes that are no code.
+fn form_of(code: u8) -> Form
+    ensures { λ r. ⌜ FormSays code r ⌝ }
+{
+    match code {
+        0x01 => Form::Constant,
+        0x02 => Form::Variable,
+        0x10 => Form::Operation(Operation::Sum),
+        0x11 => Form::Operation(Operation::Difference),
+        0x12 => Form::Operation(Operation::Product),
+        0x14 => Form::Negation,
+        0x20 => Form::Comparison(Comparison::AtMost),
+        0x21 => Form::Comparison(Comparison::Less),
+        0x22 => Form::Comparison(Comparison::Equal),
+        0x23 => Form::Comparison(Comparison::Unequal),
+        0x28 => Form::Connective(Connective::Both),
+        0x29 => Form::Connective(Connective::Either),
+        0x2a => Form::Opposite,
+        0x2f => Form::True,
+        0x00 | 0x03..=0x0f | 0x13 | 0x15..=0x1f | 0x24..=0x27 | 0x2b..=0x2e | 0x30..=0xff =>
+            Form::Unknown,
+    }
 }
 
 // The value of the bytes, which are one whole number.
@@ -100,16 +160,12 @@ pub fn truth_reads(s: &[u8], variables: usize) -> bool
 fn comparing(s: &[u8], vars: &[i32]) -> Truth
     ensures { λ r. ⌜ ((r ≡ Truth.Malformed → ⊥) → r ≡ truthAnswer (now (vars .entry)) (truthIn edition1 (length (now (vars .entry))) (now (s .entry)))) ⌝ }
 {
-    if s.len() == 0 {
+    if s.len() < TWO_LEAVES {
         return Truth::Malformed;
     }
-    let code = s[0];
-    if code < 0x20 {
+    let Form::Comparison(o) = form_of(s[0]) else {
         return Truth::Malformed;
-    }
-    if 0x24 <= code {
-        return Truth::Malformed;
-    }
+    };
     let Found::ANumber(a, m) = leaf(s, vars, 1) else {
         return Truth::Malformed;
     };
@@ -119,7 +175,7 @@ fn comparing(s: &[u8], vars: &[i32]) -> Truth
     if n != s.len() {
         return Truth::Malformed;
     }
-    plain_truth(comparison(code, a, b))
+    plain_truth(compare(o, a, b))
 }
 
 // Two comparisons of leaves, joined; malformed for any other bytes.
@@ -129,13 +185,9 @@ fn joining(s: &[u8], vars: &[i32]) -> Truth
     if s.len() == 0 {
         return Truth::Malformed;
     }
-    let code = s[0];
-    if code < 0x28 {
+    let Form::Connective(o) = form_of(s[0]) else {
         return Truth::Malformed;
-    }
-    if 0x2a <= code {
-        return Truth::Malformed;
-    }
+    };
     let Found::ATruth(a, m) = compared_at(s, vars, 1) else {
         return Truth::Malformed;
     };
@@ -145,7 +197,7 @@ fn joining(s: &[u8], vars: &[i32]) -> Truth
     if n != s.len() {
         return Truth::Malformed;
     }
-    plain_truth(connective(code, a, b))
+    plain_truth(connect(o, a, b))
 }
 
 // A comparison of two leaves at a position; broken for any other bytes.
@@ -155,15 +207,11 @@ fn compared_at(s: &[u8], vars: &[i32], at: usize) -> Found
     if s.len() <= at {
         return Found::Broken;
     }
-    let code = s[at];
-    if code < 0x20 {
+    let Form::Comparison(o) = form_of(s[at]) else {
         return Found::Broken;
-    }
-    if 0x24 <= code {
-        return Found::Broken;
-    }
+    };
     let l = leaf(s, vars, at + 1);
-    relate(code, l, leaf(s, vars, next_of(l)))
+    relate(o, l, leaf(s, vars, next_of(l)))
 }
 
 // A truth of any form: where it is no comparison of two leaves, `truth_value` asks here.
@@ -198,41 +246,41 @@ fn no_comparison(s: &[u8], vars: &[i32]) -> Truth
     }
 }
 
-// What stands at the front of the bytes. An operation on two leaves takes no recursion.
+// What stands at the front of the bytes. A leaf and an operation on two leaves take no recursion.
 fn whole(s: &[u8], vars: &[i32]) -> Found
     ensures { λ r. ⌜ FoundSays (now (vars .entry)) (length (now (s .entry))) (readExpression edition1 (length (now (vars .entry))) depthLimit (now (s .entry))) r ⌝ }
 {
     if s.len() == 0 {
         return Found::Broken;
     }
-    let code = s[0];
-    let Found::ANumber(a, m) = leaf(s, vars, 1) else {
-        return eval(s, vars, 0, paper::DEPTH);
-    };
-    let Found::ANumber(b, n) = leaf(s, vars, m) else {
-        return eval(s, vars, 0, paper::DEPTH);
-    };
-    if 0x10 <= code && code < 0x13 {
-        return arithmetic(code, a, b, n);
+    match form_of(s[0]) {
+        Form::Constant => constant(s, 1),
+        Form::Variable => variable(s, vars, 1),
+        Form::Operation(o) => {
+            let Found::ANumber(a, m) = leaf(s, vars, 1) else {
+                return eval(s, vars, 0, paper::DEPTH);
+            };
+            let Found::ANumber(b, n) = leaf(s, vars, m) else {
+                return eval(s, vars, 0, paper::DEPTH);
+            };
+            arithmetic(o, a, b, n)
+        }
+        _ => eval(s, vars, 0, paper::DEPTH),
     }
-    eval(s, vars, 0, paper::DEPTH)
 }
 
-// A constant or a variable at a position.
+// A constant or a variable at a position; broken for any other bytes.
 fn leaf(s: &[u8], vars: &[i32], at: usize) -> Found
-    ensures { λ r. ⌜ r ≡ leafAt (now (vars .entry)) (now (s .entry)) at ⌝ }
+    ensures { λ r. ⌜ LeafSays (now (vars .entry)) (now (s .entry)) at r ⌝ }
 {
     if s.len() <= at {
         return Found::Broken;
     }
-    let code = s[at];
-    if code == 0x01 {
-        return constant(s, at + 1);
+    match form_of(s[at]) {
+        Form::Constant => constant(s, at + 1),
+        Form::Variable => variable(s, vars, at + 1),
+        _ => Found::Broken,
     }
-    if code == 0x02 {
-        return variable(s, vars, at + 1);
-    }
-    Found::Broken
 }
 
 // What stands at a position, of at most this depth. Both operands are evaluated, whatever the first one gives.
@@ -245,31 +293,30 @@ fn eval(s: &[u8], vars: &[i32], at: usize, depth: usize) -> Found
     if s.len() <= at {
         return Found::Broken;
     }
-    let code = s[at];
     let next = at + 1;
     let left = depth - 1;
-    match code {
-        0x01 => constant(s, next),
-        0x02 => variable(s, vars, next),
-        0x10..=0x12 => {
+    match form_of(s[at]) {
+        Form::Constant => constant(s, next),
+        Form::Variable => variable(s, vars, next),
+        Form::Operation(o) => {
             let l = eval(s, vars, next, left);
             let r = eval(s, vars, next_of(l), left);
-            operate(code, l, r)
+            operate(o, l, r)
         }
-        0x14 => negate(eval(s, vars, next, left)),
-        0x20..=0x23 => {
+        Form::Negation => negate(eval(s, vars, next, left)),
+        Form::Comparison(o) => {
             let l = eval(s, vars, next, left);
             let r = eval(s, vars, next_of(l), left);
-            relate(code, l, r)
+            relate(o, l, r)
         }
-        0x28..=0x29 => {
+        Form::Connective(o) => {
             let l = eval(s, vars, next, left);
             let r = eval(s, vars, next_of(l), left);
-            join(code, l, r)
+            join(o, l, r)
         }
-        0x2a => oppose(eval(s, vars, next, left)),
-        0x2f => Found::ATruth(true, next),
-        _ => Found::Broken,
+        Form::Opposite => oppose(eval(s, vars, next, left)),
+        Form::True => Found::ATruth(true, next),
+        Form::Unknown => Found::Broken,
     }
 }
 
@@ -287,13 +334,12 @@ fn next_of(f: Found) -> usize
 }
 
 // The forms, from what their operands gave.
-fn operate(code: u8, l: Found, r: Found) -> Found
-    requires { ⌜ ((o : Operation) × (code ≡ operationCode o)) ⌝ }
-    ensures { λ x. ⌜ ((o : Operation) → code ≡ operationCode o → x ≡ operated o l r) ⌝ }
+fn operate(o: Operation, l: Found, r: Found) -> Found
+    ensures { λ x. ⌜ x ≡ operated (operationIs o) l r ⌝ }
 {
     match l {
         Found::ANumber(a, _) => match r {
-            Found::ANumber(b, n) => arithmetic(code, a, b, n),
+            Found::ANumber(b, n) => arithmetic(o, a, b, n),
             Found::NumberFault(above, n) => Found::NumberFault(above, n),
             _ => Found::Broken,
         },
@@ -306,13 +352,12 @@ fn operate(code: u8, l: Found, r: Found) -> Found
     }
 }
 
-fn relate(code: u8, l: Found, r: Found) -> Found
-    requires { ⌜ ((o : Comparison) × (code ≡ comparisonCode o)) ⌝ }
-    ensures { λ x. ⌜ ((o : Comparison) → code ≡ comparisonCode o → x ≡ related o l r) ⌝ }
+fn relate(o: Comparison, l: Found, r: Found) -> Found
+    ensures { λ x. ⌜ x ≡ related (comparisonIs o) l r ⌝ }
 {
     match l {
         Found::ANumber(a, _) => match r {
-            Found::ANumber(b, n) => Found::ATruth(comparison(code, a, b), n),
+            Found::ANumber(b, n) => Found::ATruth(compare(o, a, b), n),
             Found::NumberFault(above, n) => Found::TruthFault(above, n),
             _ => Found::Broken,
         },
@@ -325,13 +370,12 @@ fn relate(code: u8, l: Found, r: Found) -> Found
     }
 }
 
-fn join(code: u8, l: Found, r: Found) -> Found
-    requires { ⌜ ((o : Connective) × (code ≡ connectiveCode o)) ⌝ }
-    ensures { λ x. ⌜ ((o : Connective) → code ≡ connectiveCode o → x ≡ joined o l r) ⌝ }
+fn join(o: Connective, l: Found, r: Found) -> Found
+    ensures { λ x. ⌜ x ≡ joined (connectiveIs o) l r ⌝ }
 {
     match l {
         Found::ATruth(a, _) => match r {
-            Found::ATruth(b, n) => Found::ATruth(connective(code, a, b), n),
+            Found::ATruth(b, n) => Found::ATruth(connect(o, a, b), n),
             Found::TruthFault(above, n) => Found::TruthFault(above, n),
             _ => Found::Broken,
         },
@@ -365,16 +409,15 @@ fn oppose(f: Found) -> Found
 }
 
 // The operations on values. A result is worked out in 64 bits and must lie in 32.
-fn arithmetic(code: u8, a: i32, b: i32, next: usize) -> Found
-    requires { ⌜ ((o : Operation) × (code ≡ operationCode o)) ⌝ }
-    ensures { λ r. ⌜ ((o : Operation) → code ≡ operationCode o → r ≡ numberAt next (result (applied o a b))) ⌝ }
+fn arithmetic(o: Operation, a: i32, b: i32, next: usize) -> Found
+    ensures { λ r. ⌜ r ≡ numberAt next (result (applied (operationIs o) a b)) ⌝ }
 {
     let x = a as i64;
     let y = b as i64;
-    match code {
-        0x10 => ranged(x + y, next),
-        0x11 => ranged(x - y, next),
-        _ => ranged(x * y, next),
+    match o {
+        Operation::Sum => ranged(x + y, next),
+        Operation::Difference => ranged(x - y, next),
+        Operation::Product => ranged(x * y, next),
     }
 }
 
@@ -396,25 +439,23 @@ fn ranged(x: i64, next: usize) -> Found
     Found::ANumber(x as i32, next)
 }
 
-fn comparison(code: u8, a: i32, b: i32) -> bool
-    requires { ⌜ ((o : Comparison) × (code ≡ comparisonCode o)) ⌝ }
-    ensures { λ r. ⌜ ((o : Comparison) → code ≡ comparisonCode o → r ≡ compared o a b) ⌝ }
+fn compare(o: Comparison, a: i32, b: i32) -> bool
+    ensures { λ r. ⌜ r ≡ compared (comparisonIs o) a b ⌝ }
 {
-    match code {
-        0x20 => a <= b,
-        0x21 => a < b,
-        0x22 => a == b,
-        _ => a != b,
+    match o {
+        Comparison::AtMost => a <= b,
+        Comparison::Less => a < b,
+        Comparison::Equal => a == b,
+        Comparison::Unequal => a != b,
     }
 }
 
-fn connective(code: u8, a: bool, b: bool) -> bool
-    requires { ⌜ ((o : Connective) × (code ≡ connectiveCode o)) ⌝ }
-    ensures { λ r. ⌜ ((o : Connective) → code ≡ connectiveCode o → r ≡ connected o a b) ⌝ }
+fn connect(o: Connective, a: bool, b: bool) -> bool
+    ensures { λ r. ⌜ r ≡ connected (connectiveIs o) a b ⌝ }
 {
-    match code {
-        0x28 => a & b,
-        _ => a | b,
+    match o {
+        Connective::Both => a & b,
+        Connective::Either => a | b,
     }
 }
 

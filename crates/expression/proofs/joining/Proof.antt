@@ -2,11 +2,10 @@
 use mathlib.Core.Path.{refl, sym, ap, _∙_}
 use mathlib.Core.Bool.{Bool}
 use native.Mathlib.Omega.{arith}
-use lib.ListN.{getD}
 use borrow.Author.Needs.{needs}
 use Rattle.semantics.specs.Expressions.{ok}
 use Rattle.expression.specs.Answers.{truthOf}
-use Rattle.expression.proofs.Codes.{a-connective-code}
+use Rattle.expression.specs.Forms.{connectiveIs, formIs}
 use Rattle.expression.proofs.TwoLeaves.{no-truth-broken, two-joined}
 use Rattle.expression.proofs.Wholes.{truth-whole}
 use Rattle.expression.proofs.joining.Statement.{statement}
@@ -15,60 +14,33 @@ use Rattle.expression.proofs.joining.Tie as tie
 returns : tie.Need-returns
 returns c = λ h. absurd (h refl)
 
-shared-slice-read-code : tie.Need-shared-slice-read-code
-shared-slice-read-code c = search needs
-
 returns-2 : tie.Need-returns-2
 returns-2 c = λ h. absurd (h refl)
 
 returns-3 : tie.Need-returns-3
 returns-3 c = λ h. absurd (h refl)
 
-compared-at-requires : tie.Need-compared-at-requires
-compared-at-requires c κs = search needs
-
-enum-known-a : tie.Need-enum-known-a
-enum-known-a c = search needs
-
 returns-4 : tie.Need-returns-4
 returns-4 c = λ h. absurd (h refl)
-
-compared-at-requires-2 : tie.Need-compared-at-requires-2
-compared-at-requires-2 c κs = search needs
-
-enum-known-b : tie.Need-enum-known-b
-enum-known-b c = search needs
 
 returns-5 : tie.Need-returns-5
 returns-5 c = λ h. absurd (h refl)
 
 returns-6 : tie.Need-returns-6
-returns-6 c = λ h. absurd (h refl)
-
-connective-requires : tie.Need-connective-requires
-connective-requires c κs =
-    let d = c .before .before .before .before .before .before in
-    a-connective-code _ (d .before .before .before .before .if2 .left) (d .before .before .before .if3 .left)
-
-plain-truth-requires : tie.Need-plain-truth-requires
-plain-truth-requires c κs = search needs
-
-returns-7 : tie.Need-returns-7
-returns-7 c =
-    let c7 = c .before .before .before .before .before .before .before in
-    let c14 = c7 .before .before .before .before .before .before .before in
-    let s = c14 .before .before .args in
-    let A = c7 .before .a .given in
+returns-6 c =
+    let s = c .before .before .before .before .before .before .before .before .before .before .before .before .before .before .before .before .before .before .args in
+    let O = c .before .before .before .before .before .before .before .before .before .before .before .before .o .given in
+    let A = c .before .before .before .before .before .before .before .before .a .given in
     let D = c .before .before .before .before .b .given in
-    let l = sym (A .1) ∙ c7 .before .before .before .compared-at .ensures (no-truth-broken (A .1)) in
+    let l = sym (A .1) ∙ c .before .before .before .before .before .before .before .before .before .before .compared-at .ensures (no-truth-broken (A .1)) in
     let r = sym (D .1) ∙ c .before .before .before .before .before .before .compared-at2 .ensures (no-truth-broken (D .1)) in
-    let k = a-connective-code (getD (s .s .now) 0 0) (c7 .before .before .before .before .before .if2 .left) (c7 .before .before .before .before .if3 .left) in
+    let f = sym (c .before .before .before .before .before .before .before .before .before .before .before .before .before .before .form-of .ensures .is) ∙ ap formIs (O .1) in
     λ h.
-    c .plain-truth .ensures ∙ ap (λ (b : Bool). truthOf (ok b)) (c .before .connective .ensures (k .0) (k .1))
-    ∙ truth-whole (s .vars .now) (s .s .now) _ (D .0 .1 .0) (c .before .before .if4 .left) (two-joined (s .vars .now) (s .s .now) (omega (arith, c14 .if1 .left)) (A .0 .0) (D .0 .0) (A .0 .1 .0) (D .0 .1 .0) l r (k .0) (k .1))
+    c .plain-truth .ensures ∙ ap (λ (b : Bool). truthOf (ok b)) (c .before .connect .ensures)
+    ∙ truth-whole (s .vars .now) (s .s .now) _ (D .0 .1 .0) (c .before .before .if2 .left) (two-joined (s .vars .now) (s .s .now) (omega (arith, c .before .before .before .before .before .before .before .before .before .before .before .before .before .before .before .before .if1 .left)) (A .0 .0) (D .0 .0) (A .0 .1 .0) (D .0 .1 .0) l r (connectiveIs (O .0 .0)) f)
 
 pub joining-spec : {M : Type 1} → statement M
 joining-spec =
     tie.close
-    (tie.spec returns shared-slice-read-code returns-2 returns-3 compared-at-requires enum-known-a returns-4 compared-at-requires-2 enum-known-b returns-5
-    returns-6 connective-requires plain-truth-requires returns-7)
+    (tie.spec returns (λ c. search needs) (λ c κs. search needs) (λ c. search needs) returns-2 (λ c κs. search needs) (λ c. search needs) returns-3
+    (λ c κs. search needs) (λ c. search needs) returns-4 returns-5 (λ c κs. search needs) (λ c κs. search needs) returns-6)

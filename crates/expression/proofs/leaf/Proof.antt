@@ -1,48 +1,31 @@
--- Four cases: past the end, a constant, a variable, any other code (Leaves).
-use mathlib.Core.Path.{sym, ap, _∙_}
+-- A constant and a variable are found whatever depth is left; other bytes promise nothing.
+use mathlib.Core.Path.{refl, sym, ap, _∙_}
 use borrow.Author.Needs.{needs}
-use Rattle.semantics.specs.Expressions.{formOf}
-use Rattle.expression.proofs.Codes.{no-constant, no-variable}
-use Rattle.expression.proofs.Leaves.{no-leaf-past, leaf-constant, leaf-variable, other-leaf}
+use Rattle.expression.specs.Forms.{formIs}
+use Rattle.expression.proofs.Steps.{step-constant, step-variable}
 use Rattle.expression.proofs.leaf.Statement.{statement}
 use Rattle.expression.proofs.leaf.Tie as tie
 
 returns : tie.Need-returns
-returns c = let a = c .before .before .args in sym (no-leaf-past (a .vars .now) (a .s .now) (a .at) (c .if1 .taken))
-
-shared-slice-read-code : tie.Need-shared-slice-read-code
-shared-slice-read-code c = search needs
-
-add-constant : tie.Need-add-constant
-add-constant c = search needs
-
-constant-requires : tie.Need-constant-requires
-constant-requires c κs = search needs
+returns c = record { is = λ d deep h. absurd (h refl) }
 
 returns-2 : tie.Need-returns-2
-unfolding formOf
 returns-2 c =
-    let a = c .before .before .before .before .before .args in
-    c .constant .ensures (a .vars .now) ∙ sym (leaf-constant (a .vars .now) (a .s .now) (a .at) (c .before .before .before .if1 .left) (ap formOf (c .before .if2 .taken)))
-
-add-variable : tie.Need-add-variable
-add-variable c = search needs
-
-variable-requires : tie.Need-variable-requires
-variable-requires c κs = search needs
+    let a = c .before .before .before .before .before .before .before .args in
+    let f = sym (c .before .before .before .form-of .ensures .is) ∙ ap formIs (c .before .enum-told .given .1) in
+    record { is = λ d deep h. c .constant .ensures (a .vars .now) ∙ step-constant (a .vars .now) (a .s .now) (a .at) d deep (c .before .before .before .before .before .if1 .left) f }
 
 returns-3 : tie.Need-returns-3
-unfolding formOf
 returns-3 c =
-    let a = c .before .before .before .before .before .before .args in
-    c .variable .ensures ∙ sym (leaf-variable (a .vars .now) (a .s .now) (a .at) (c .before .before .before .before .if1 .left) (ap formOf (c .before .if3 .taken)))
+    let a = c .before .before .before .before .before .before .before .args in
+    let f = sym (c .before .before .before .form-of .ensures .is) ∙ ap formIs (c .before .enum-told2 .given .1) in
+    record { is = λ d deep h. c .variable .ensures ∙ step-variable (a .vars .now) (a .s .now) (a .at) d deep (c .before .before .before .before .before .if1 .left) f }
 
 returns-4 : tie.Need-returns-4
-returns-4 c =
-    let a = c .before .before .before .before .before .args in
-    sym (other-leaf (a .vars .now) (a .s .now) (a .at) (c .before .before .before .if1 .left) (no-constant (c .before .if2 .left)) (no-variable (c .if3 .left)))
+returns-4 c = record { is = λ d deep h. absurd (h refl) }
 
 pub leaf-spec : {M : Type 1} → statement M
 leaf-spec =
     tie.close
-    (tie.spec returns shared-slice-read-code add-constant constant-requires returns-2 add-variable variable-requires returns-3 returns-4)
+    (tie.spec returns (λ c. search needs) (λ c κs. search needs) (λ c. search needs) (λ c. search needs) (λ c κs. search needs) (λ c. search needs)
+    (λ c. search needs) (λ c κs. search needs) returns-2 returns-3 returns-4)
