@@ -22,7 +22,7 @@ use Rattle.event.specs.declared.Event.the-variants.{Tick, Pick, Switch, 
 
 -- ---- the numbers
 number-of : (r : Event) → paperEvent r ≡ some 24 → eventOf r ≡ senseless
-unfolding paperEvent eventOf
+unfolding paperEvent
 number-of Tick h = none-not-some h
 number-of (Pick n) h = none-not-some h
 number-of (Switch s k) h = none-not-some h
@@ -36,7 +36,7 @@ abbrev made : Events.Event → Bool → Events.Event
 made e t = elim (just (cond {A = Read Events.Event} t (read e []) broken)) [ none ↦ senseless | some m ↦ m ]
 
 made-of : (t : Bool) (e : Event) → eventOf (whereZero t e) ≡ made (eventOf e) t
-unfolding just eventOf
+unfolding just
 made-of true e = refl
 made-of false e = refl
 
@@ -76,19 +76,15 @@ module _ (a b c : ℕ) where
 -- ---- what the code gives
 module _ {a b c : ℕ} {r : Event} where
   pub ticks : a ≡ 0 → r ≡ whereZero (eqb b 0 && eqb c 0) Tick → Decodes (a ∷ b ∷ c ∷ []) r
-  unfolding eventOf
   ticks e h = decodes (ap eventOf h ∙ made-of (eqb b 0 && eqb c 0) Tick ∙ ap (made tick) (sym (two-zeros b c)) ∙ sym (tick-in a b c e))
 
   pub picks : a ≡ 1 → r ≡ whereZero (eqb c 0) (Pick b) → Decodes (a ∷ b ∷ c ∷ []) r
-  unfolding eventOf
   picks e h = decodes (ap eventOf h ∙ made-of (eqb c 0) (Pick b) ∙ ap (made (pick b)) (sym (one-zero c)) ∙ sym (pick-in a b c e))
 
   pub switches : a ≡ 2 → r ≡ Switch b c → Decodes (a ∷ b ∷ c ∷ []) r
-  unfolding eventOf
   switches e h = decodes (ap eventOf h ∙ sym (switch-in a b c e))
 
   pub nothing : (a ≡ 0 → ⊥) → (a ≡ 1 → ⊥) → (a ≡ 2 → ⊥) → r ≡ Senseless → Decodes (a ∷ b ∷ c ∷ []) r
-  unfolding eventOf
   nothing e f g h = decodes (ap eventOf h ∙ sym (none-in a b c e f g))
 
 -- ---- the bytes of an event in a list

@@ -12,7 +12,7 @@ use Rattle.event.specs.declared.Event.{Event}
 use Rattle.event.specs.declared.Event.the-variants.{Tick, Pick, Switch, Senseless}
 
 -- the event that a case stands for
-unfoldable pub eventOf : Event → Events.Event
+abbrev pub eventOf : Event → Events.Event
 eventOf Tick = tick
 eventOf (Pick n) = pick n
 eventOf (Switch s k) = take-switch s k

@@ -15,6 +15,8 @@ use Rattle.semantics.specs.Run.{Action, test, wait, assign, switch, stop, away,
 use Rattle.semantics.proofs.Facts.{true-not-false}
 use Rattle.nodeset.specs.Sets.{mem, members}
 use Rattle.nodeset.proofs.Members.{among-set}
+use Rattle.event.specs.Decoded.{eventOf}
+use Rattle.event.specs.declared.Event as Decoded
 use Rattle.effects.specs.Verdicts.{doneVerdict, stepVerdict, goesOn, Left, orElse, Gives}
 use Rattle.effects.specs.Ranges.{rateIn}
 use Rattle.effects.specs.ActionForms.{Performs, Does}
@@ -157,3 +159,12 @@ module _ (p : Plant) (f : ℕ → Action) (l : Lent) (ws : List ℕ) (vs : List 
   pub switch-left : (s k : ℕ) {r : Verdict} {ns : List ℕ} → Switched (l .bytes) (l .places) s k vs ms r ns → Left (judge edition1 p f (members ws) vs ms (Events.take-switch s k)) vs ms r vs ns
   unfolding judge
   switch-left s k x = left-eq vs ms (ap (λ z. judgeSwitch edition1 z vs ms s k) (sym (modes-current p l (q .plant) vs ms (q .fits)))) (x .leaves)
+
+  -- ---- bytes that are no event
+  pub senseless-left : {r : Verdict} → r ≡ Away 24 → Left (judge edition1 p f (members ws) vs ms Events.senseless) vs ms r vs ms
+  unfolding judge
+  senseless-left e = left-away e refl
+
+  -- the event that the code has
+  pub event-left : {e d : Decoded.Event} {r : Verdict} {ys : List ℤ} {ns : List ℕ} → e ≡ d → Left (judge edition1 p f (members ws) vs ms (eventOf d)) vs ms r ys ns → Left (judge edition1 p f (members ws) vs ms (eventOf e)) vs ms r ys ns
+  event-left h x = left-eq vs ms (ap (λ (d : Decoded.Event). judge edition1 p f (members ws) vs ms (eventOf d)) h) x

@@ -23,7 +23,8 @@ use Rattle.semantics.proofs.Verdicts.{advance-length, assigned-is}
 use Rattle.nodeset.specs.Sets.{mem, members}
 use Rattle.nodeset.proofs.Members.{among-members, members-below}
 use Rattle.modes.specs.Modes.{modeAt, placeAt}
-use Rattle.execution.specs.Ready.{Lent, Ready, Fits}
+use Rattle.program.specs.Lent.{Lent}
+use Rattle.execution.specs.Ready.{Ready, Fits}
 use Rattle.modes.proofs.Taking.{modes-length, mode-now}
 use Rattle.execution.proofs.Lending.{here, fit-head, modes-current, mode-named, mode-targets-named}
 

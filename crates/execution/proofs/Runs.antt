@@ -8,21 +8,22 @@ use native.Mathlib.Nat.{zero-add, sub-zero, suc-mul, zero-mul, mul-le-mul-right}
 use native.Mathlib.Numerals.{add-one}
 use native.Mathlib.Omega.{arith}
 use lib.IntN.{ℤ}
-use lib.ListN.{length, getD, take, drop, length-append}
+use lib.ListN.{length, take, drop, length-append}
 use lib.Seq.{drop-drop}
 use Rattle.semantics.specs.Editions.{edition1}
 use Rattle.semantics.specs.Refusals.{accepted}
 use Rattle.semantics.specs.Plant.{Plant}
 use Rattle.semantics.specs.Starts.{Start}
-use Rattle.semantics.specs.Events.{eventsIn}
-use Rattle.semantics.specs.Run.{Control, Situation, Answered, at, step, answers, setNumber, actingSet, recordBytes, recordOf, answersIn, noCounts, countsOf}
+use Rattle.semantics.specs.Events.{eventIn, eventsIn}
+use Rattle.semantics.specs.Run.{Control, Situation, Answered, at, stepOn, step, answers, setNumber, actingSet, recordBytes, recordOf, answersIn, noCounts, countsOf}
 use Rattle.semantics.specs.Calls as Calls
 use Rattle.semantics.specs.Calls.{eventCount, recordLength, recordSize, roomForRecords, Program, runFrom, outcomeOf, report}
 use Rattle.semantics.proofs.RunCounts.{record-length}
 use Rattle.codec.specs.Writing.{Wrote}
-use Rattle.codec.proofs.Reading.{drop-some}
 use Rattle.codec.proofs.Writing.{put-front, wrote-none, put-more, wrote-as, wrote-length, wrote-front}
 use Rattle.nodeset.specs.Sets.{members}
+use Rattle.event.specs.Decoded.{eventOf, Decodes}
+use Rattle.event.specs.declared.Event.{Event}
 use Rattle.records.specs.Booking.{Room}
 use Rattle.records.specs.Reported.{told, ranWith}
 use Rattle.execution.specs.Ready.{Fits}
@@ -44,24 +45,13 @@ flat-snoc f [] x = append-nil (f x)
 flat-snoc f (y ∷ l) x = ap (λ t. f y ++ t) (flat-snoc f l x) ∙ sym (append-assoc (f y) (flatMap f l) (f x))
 
 -- ---- the next event
-abbrev pub eventAt : List ℕ → ℕ → List ℕ
-eventAt s q = getD s q 0 ∷ getD s (q + 1) 0 ∷ getD s (q + 2) 0 ∷ []
-
-three : (s : List ℕ) (q : ℕ) → q + 3 ≤ length s → take 3 (drop q s) ≡ eventAt s q
-three s q h =
-    let a : drop q s ≡ getD s q 0 ∷ drop (q + 1) s = drop-some q s (omega arith) in
-    let b : drop (q + 1) s ≡ getD s (q + 1) 0 ∷ drop (q + 1 + 1) s = drop-some (q + 1) s (omega arith) in
-    let e : q + 1 + 1 ≡ q + 2 = omega arith in
-    let d : drop (q + 1 + 1) s ≡ getD s (q + 2) 0 ∷ drop (q + 2 + 1) s = ap (λ k. drop k s) e ∙ drop-some (q + 2) s (omega arith) in
-    ap (take 3) (a ∙ ap (λ l. getD s q 0 ∷ l) (b ∙ ap (λ l. getD s (q + 1) 0 ∷ l) d))
-
-events-next : (s : List ℕ) (n k : ℕ) → k < n → 3 * n ≤ length s → eventsIn 3 (n - k) (drop (3 * k) s) ≡ eventAt s (3 * k) ∷ eventsIn 3 (n - (k + 1)) (drop (3 * (k + 1)) s)
+events-next : (s : List ℕ) (n k : ℕ) → k < n → eventsIn 3 (n - k) (drop (3 * k) s) ≡ take 3 (drop (3 * k) s) ∷ eventsIn 3 (n - (k + 1)) (drop (3 * (k + 1)) s)
 unfolding eventsIn
-events-next s n k h i =
+events-next s n k h =
     let e : n - k ≡ suc (n - (k + 1)) = omega arith in
     let q : 3 * k + 3 ≡ 3 * (k + 1) = omega arith in
     ap (λ j. eventsIn 3 j (drop (3 * k) s)) e
-    ∙ ap₂ (λ (x : List ℕ) (t : List ℕ). x ∷ eventsIn 3 (n - (k + 1)) t) (three s (3 * k) (omega arith)) (drop-drop 3 (3 * k) s ∙ ap (λ j. drop j s) q)
+    ∙ ap (λ (t : List ℕ). take 3 (drop (3 * k) s) ∷ eventsIn 3 (n - (k + 1)) t) (drop-drop 3 (3 * k) s ∙ ap (λ j. drop j s) q)
 
 -- ---- sizes
 size-fits : (p : Plant) {vs : List ℤ} {ms : List ℕ} → Fits p vs ms → recordLength edition1 (length vs) (length ms) ≡ recordSize edition1 p
@@ -71,13 +61,9 @@ size-fits p f = ap₂ (λ (a b : ℕ). recordLength edition1 a b) (f .values) (f
 one-more : (k r : ℕ) → (k + 1) * r ≡ k * r + r
 one-more k r = ap (λ j. j * r) (add-one k) ∙ suc-mul k r
 
-whole-events : (events : List ℕ) → 3 * eventCount edition1 events ≤ length events
-unfolding eventCount
-whole-events events = omega arith
-
 -- ---- answers
-answers-cons : {S : Type 0} (p : Plant) (c : Control S) (st : Situation S) (e : List ℕ) (es : List (List ℕ)) {o : Answered S} → step edition1 p c st e ≡ o → answers edition1 p c st (e ∷ es) ≡ o ∷ answers edition1 p c (o .left) es
-unfolding answers
+answers-cons : {S : Type 0} (p : Plant) (c : Control S) (st : Situation S) (e : List ℕ) (es : List (List ℕ)) {o : Answered S} → stepOn edition1 p c st (eventIn edition1 e) ≡ o → answers edition1 p c st (e ∷ es) ≡ o ∷ answers edition1 p c (o .left) es
+unfolding answers step
 answers-cons p c st e es h = ap (λ (o : Answered _). o ∷ answers edition1 p c (o .left) es) h
 
 no-events : {S : Type 0} (p : Plant) (c : Control S) (st : Situation S) (s : List ℕ) {j : ℕ} → j ≡ 0 → answers edition1 p c st (eventsIn 3 j s) ≡ []
@@ -142,9 +128,9 @@ module _ {S : Type 0} (g : Program S) (st₀ : Start) (events d₀ : List ℕ) w
           omega (arith, size-fits (g .plant) f, x .place, run-length)
 
     -- an event more: its step, its record and its count
-    pub run-next : k < length events / 3 → (answer : ℕ) (place : Option S) (vs : List ℤ) (ms ws : List ℕ) {e : List ℕ} {i' : ℕ} {cs' : Counts} {d' : List ℕ}
-        → e ≡ eventAt events (3 * k)
-        → step edition1 (g .plant) (g .control) st e ≡ leaves answer place vs ms
+    pub run-next : k < length events / 3 → (answer : ℕ) (place : Option S) (vs : List ℤ) (ms ws : List ℕ) {e : Event} {i' : ℕ} {cs' : Counts} {d' : List ℕ}
+        → Decodes (take 3 (drop (3 * k) events)) e
+        → stepOn edition1 (g .plant) (g .control) st (eventOf e) ≡ leaves answer place vs ms
         → actingSet (g .control) place ≡ setNumber (members ws)
         → Fits (g .plant) vs ms
         → Wrote d i (recordBytes edition1 answer (setNumber (members ws)) vs ms) d'
@@ -159,7 +145,7 @@ module _ {S : Type 0} (g : Program S) (st₀ : Start) (events d₀ : List ℕ) w
         let more = flat-snoc (recordOf edition1 (g .control)) (x .said) o in
         record {
           said = x .said ++ (o ∷ []);
-          rest = x .rest ∙ ap (λ l. x .said ++ l) (answered o (ap (step edition1 (g .plant) (g .control) st) (sym is) ∙ e)) ∙ sym (append-assoc (x .said) (o ∷ []) _);
+          rest = x .rest ∙ ap (λ l. x .said ++ l) (answered o (ap (stepOn edition1 (g .plant) (g .control) st) (sym (is .is)) ∙ e)) ∙ sym (append-assoc (x .said) (o ∷ []) _);
           many = length-append (x .said) (o ∷ []) ∙ ap (λ j. j + 1) (x .many);
           few = omega arith;
           reports =
@@ -171,10 +157,10 @@ module _ {S : Type 0} (g : Program S) (st₀ : Start) (events d₀ : List ℕ) w
           fits = f;
         }
       where
-        answered : (o : Answered S) → step edition1 (g .plant) (g .control) st (eventAt events (3 * k)) ≡ o →
+        answered : (o : Answered S) → stepOn edition1 (g .plant) (g .control) st (eventIn edition1 (take 3 (drop (3 * k) events))) ≡ o →
             answers edition1 (g .plant) (g .control) st (eventsIn 3 (eventCount edition1 events - k) (drop (3 * k) events)) ≡
             o ∷ answers edition1 (g .plant) (g .control) (o .left) (eventsIn 3 (eventCount edition1 events - (k + 1)) (drop (3 * (k + 1)) events))
-        answered o e = ap (answers edition1 (g .plant) (g .control) st) (events-next events (eventCount edition1 events) k h (whole-events events)) ∙ answers-cons (g .plant) (g .control) st (eventAt events (3 * k)) _ e
+        answered o e = ap (answers edition1 (g .plant) (g .control) st) (events-next events (eventCount edition1 events) k h) ∙ answers-cons (g .plant) (g .control) st (take 3 (drop (3 * k) events)) _ e
 
     -- what the call reports once all events are answered
     pub run-end : k ≡ length events / 3 → Reports (g .control) (runFrom edition1 g st₀ events) d₀ cs d

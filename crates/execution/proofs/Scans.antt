@@ -13,26 +13,36 @@ use Rattle.semantics.specs.Expressions.{Value, ok, fault, above, below, truthVa
 use Rattle.semantics.specs.Run as Run
 use Rattle.semantics.specs.Run.{Action, _>>=_, _>>_, allow, valued, isWait, walk, checkWaits}
 use Rattle.semantics.specs.TableFile.{WAIT}
-use Rattle.nodeset.specs.Sets.{mem, members, firstFrom}
+use Rattle.nodeset.specs.Sets.{mem, members, NextIn}
 use Rattle.nodeset.proofs.Members.{no-more}
-use Rattle.nodeset.proofs.Firsts.{membersOn, on-start, on-first, on-member, first-in}
+use Rattle.nodeset.proofs.Firsts.{membersOn, on-start, on-next, on-member}
 use Rattle.effects.specs.Verdicts.{doneVerdict, stepVerdict, goesOn, truthVerdict}
-use Rattle.execution.specs.Operands.{KindsOf}
+use Rattle.execution.specs.Operands.{Few, KindsOf}
 use Rattle.effects.specs.declared.Verdict.{Verdict}
 use Rattle.effects.specs.declared.Verdict.the-variants.{Away, Stay}
 use Rattle.effects.proofs.Steps.{walk-out, walk-on}
 use Rattle.execution.proofs.Formed.{wait-kind, every-member}
 
--- a walk stands at n: a member, or beyond all
+-- a walk over the acting nodes stands at n: one of them, or beyond all
 pub record At (ws : List ℕ) (n : ℕ) : Type 0 where
-  pub few : n ≤ 256
-  pub member : n < 256 → mem ws n ≡ true
+  pub member : n < 64 → mem ws n ≡ true
 
-pub at-next : (ws : List ℕ) (n : ℕ) {m : ℕ} → n ≤ 256 → m ≡ firstFrom ws n (256 - n) → At ws m
-at-next ws n h e = let f = first-in ws n h e in record { few = f .0; member = f .1 }
+pub at-next : {ws : List ℕ} {n m : ℕ} → NextIn ws n 64 m → At ws m
+at-next x = record { member = x .member }
 
-on-end : (ws : List ℕ) (n : ℕ) → 64 ≤ n → ((m : ℕ) → mem ws m ≡ true → m < 64) → membersOn ws n ≡ []
-on-end ws n e f = no-more ws n (256 - n) (λ m q. let h = f m q in omega arith)
+module _ {ws : List ℕ} (few : Few ws) where
+  on-first : {m : ℕ} → NextIn ws 0 64 m → members ws ≡ membersOn ws m
+  on-first x = on-start ws ∙ on-next ws 0 64 (few .below) x
+
+  on-end : (n : ℕ) → 64 ≤ n → membersOn ws n ≡ []
+  on-end n e = no-more ws n (256 - n) (λ m q. let h = few .below m q in omega arith)
+
+  -- node n, and those behind it
+  on-here : (n : ℕ) → n < 64 → At ws n → membersOn ws n ≡ n ∷ membersOn ws (n + 1)
+  on-here n h x = on-member ws n (omega arith) (x .member h)
+
+  on-behind : {n m : ℕ} → NextIn ws (n + 1) 64 m → membersOn ws (n + 1) ≡ membersOn ws m
+  on-behind {n} x = on-next ws (n + 1) 64 (few .below) x
 
 -- ---- all of them are waits
 -- is node n a wait, by its kind?
@@ -42,25 +52,25 @@ isWaitKind kinds n = eqb (getD kinds n 0) WAIT
 pub kinds-wait : (f : ℕ → Action) (ks ws : List ℕ) → KindsOf f ks ws → every (isWaitKind ks) (members ws) ≡ every (λ n. isWait (f n)) (members ws)
 kinds-wait f ks ws k = sym (every-member ws (λ n. isWait (f n)) (isWaitKind ks) (λ n e. wait-kind (getD ks n 0) (k .each n e .0) (k .each n e .1)))
 
-module _ (ks ws : List ℕ) where
+module _ (ks ws : List ℕ) (few : Few ws) where
   abbrev pub all : ℕ → Bool
   all n = every (isWaitKind ks) (membersOn ws n)
 
-  pub all-start : {m : ℕ} → m ≡ firstFrom ws 0 256 → every (isWaitKind ks) (members ws) ≡ all m
-  all-start e = ap (every (isWaitKind ks)) (on-start ws ∙ on-first ws 0 (omega arith) e)
+  pub all-start : {m : ℕ} → NextIn ws 0 64 m → every (isWaitKind ks) (members ws) ≡ all m
+  all-start x = ap (every (isWaitKind ks)) (on-first few x)
 
   module _ (n : ℕ) (h : n < 64) (x : At ws n) where
     pub all-out : isWaitKind ks n ≡ false → all n ≡ false
     unfolding every
-    all-out e = ap (every (isWaitKind ks)) (on-member ws n (omega arith) (x .member (omega arith))) ∙ rw (e, every) refl
+    all-out e = ap (every (isWaitKind ks)) (on-here few n h x) ∙ rw (e, every) refl
 
-    pub all-on : {m : ℕ} → m ≡ firstFrom ws (n + 1) (256 - (n + 1)) → isWaitKind ks n ≡ true → all n ≡ all m
+    pub all-on : {m : ℕ} → NextIn ws (n + 1) 64 m → isWaitKind ks n ≡ true → all n ≡ all m
     unfolding every
-    all-on g e = ap (every (isWaitKind ks)) (on-member ws n (omega arith) (x .member (omega arith))) ∙ rw (e, every) (ap (every (isWaitKind ks)) (on-first ws (n + 1) (omega arith) g))
+    all-on g e = ap (every (isWaitKind ks)) (on-here few n h x) ∙ rw (e, every) (ap (every (isWaitKind ks)) (on-behind few g))
 
-  pub all-end : (n : ℕ) → 64 ≤ n → ((m : ℕ) → mem ws m ≡ true → m < 64) → all n ≡ true
+  pub all-end : (n : ℕ) → 64 ≤ n → all n ≡ true
   unfolding every
-  all-end n e f = ap (every (isWaitKind ks)) (on-end ws n e f)
+  all-end n e = ap (every (isWaitKind ks)) (on-end few n e)
 
 -- ---- none of their truths is true
 -- the truth of one wait, as it is asked
@@ -74,23 +84,23 @@ still-one vs t = go (truthValue edition1 vs t)
     go (fault above) = refl
     go (fault below) = refl
 
-module _ (vs : List ℤ) (cut : ℕ → List ℕ) (ws : List ℕ) where
+module _ (vs : List ℤ) (cut : ℕ → List ℕ) (ws : List ℕ) (few : Few ws) where
   abbrev pub stillFrom : ℕ → Run.Verdict (Unit {0})
   stillFrom n = checkWaits edition1 vs (map cut (membersOn ws n))
 
   abbrev asks : List ℕ → Run.Verdict (Unit {0})
   asks l = checkWaits edition1 vs (map cut l)
 
-  pub still-start : {m : ℕ} → m ≡ firstFrom ws 0 256 → checkWaits edition1 vs (map cut (members ws)) ≡ stillFrom m
-  still-start e = ap asks (on-start ws ∙ on-first ws 0 (omega arith) e)
+  pub still-start : {m : ℕ} → NextIn ws 0 64 m → checkWaits edition1 vs (map cut (members ws)) ≡ stillFrom m
+  still-start x = ap asks (on-first few x)
 
   module _ (n : ℕ) (h : n < 64) (x : At ws n) (r : Verdict) (e : r ≡ stepVerdict (checkWaits edition1 vs (cut n ∷ []))) where
     pub still-out : goesOn r ≡ false → r ≡ stepVerdict (stillFrom n)
-    still-out f = walk-out 31 vs (cut n) (map cut (membersOn ws (n + 1))) r (e ∙ sym (still-one vs (cut n))) f ∙ sym (ap (λ l. stepVerdict (asks l)) (on-member ws n (omega arith) (x .member (omega arith))))
+    still-out f = walk-out 31 vs (cut n) (map cut (membersOn ws (n + 1))) r (e ∙ sym (still-one vs (cut n))) f ∙ sym (ap (λ l. stepVerdict (asks l)) (on-here few n h x))
 
-    pub still-on : {m : ℕ} → m ≡ firstFrom ws (n + 1) (256 - (n + 1)) → goesOn r ≡ true → stillFrom n ≡ stillFrom m
-    still-on g f = ap asks (on-member ws n (omega arith) (x .member (omega arith))) ∙ walk-on 31 vs (cut n) (map cut (membersOn ws (n + 1))) r (e ∙ sym (still-one vs (cut n))) f ∙ ap asks (on-first ws (n + 1) (omega arith) g)
+    pub still-on : {m : ℕ} → NextIn ws (n + 1) 64 m → goesOn r ≡ true → stillFrom n ≡ stillFrom m
+    still-on g f = ap asks (on-here few n h x) ∙ walk-on 31 vs (cut n) (map cut (membersOn ws (n + 1))) r (e ∙ sym (still-one vs (cut n))) f ∙ ap asks (on-behind few g)
 
-  pub still-end : (n : ℕ) → 64 ≤ n → ((m : ℕ) → mem ws m ≡ true → m < 64) → Stay ≡ stepVerdict (stillFrom n)
+  pub still-end : (n : ℕ) → 64 ≤ n → Stay ≡ stepVerdict (stillFrom n)
   unfolding walk doneVerdict
-  still-end n e f = sym (ap (λ l. stepVerdict (asks l)) (on-end ws n e f))
+  still-end n e = sym (ap (λ l. stepVerdict (asks l)) (on-end few n e))

@@ -1,7 +1,8 @@
--- A run's loop over its events, for any control.
+-- A run, event by event and as a loop, for any control.
 use mathlib.Core.Path.{_≡_}
-use mathlib.Core.List.{List, _++_}
-use mathlib.Core.Option.{Option}
+use mathlib.Core.Bool.{true}
+use mathlib.Core.List.{List, [], _++_}
+use mathlib.Core.Option.{Option, none, some}
 use Prim.Native.Nat.{ℕ, _-_, _*_, _≤_}
 use lib.IntN.{ℤ}
 use lib.ListN.{length, drop}
@@ -9,8 +10,12 @@ use Rattle.semantics.specs.Editions.{edition1}
 use Rattle.semantics.specs.Refusals.{accepted}
 use Rattle.semantics.specs.Events.{eventsIn}
 use Rattle.semantics.specs.Starts.{Start}
-use Rattle.semantics.specs.Run.{Control, Situation, Answered, answers}
-use Rattle.semantics.specs.Calls.{eventCount, recordSize, Program, runFrom, outcomeOf, report}
+use Rattle.semantics.specs.Plant.{Plant}
+use Rattle.semantics.specs.Run.{Next, Control, Situation, Answered, arrive, stepOn, answers}
+use Rattle.semantics.specs.Calls.{eventCount, recordSize, roomForRecords, Program, runFrom, outcomeOf, report}
+use Rattle.nodeset.specs.Sets.{members, Words}
+use Rattle.event.specs.Decoded.{eventOf}
+use Rattle.event.specs.declared.Event.{Event}
 use Rattle.records.specs.Reported.{ranWith}
 use Rattle.records.specs.declared.Counts.{Counts}
 use Rattle.execution.specs.Ready.{Fits}
@@ -18,6 +23,31 @@ use Rattle.execution.specs.Ready.{Fits}
 -- an event is answered so, and leaves the run there
 abbrev pub leaves : {S : Type 0} → ℕ → Option S → List ℤ → List ℕ → Answered S
 leaves n o vs ms = record { answer = n; left = record { place = o; values = vs; modes = ms } }
+
+-- ---- where a run stands
+-- by the set of acting nodes: those of the place, or none once the run is over; here says what places there are
+pub data Shows {S : Type 0} (c : Control S) (here : S → Type 0) (ws : List ℕ) : Option S → Type 0 where
+  at-place : {x : S} → here x → members ws ≡ c .acting x → Words ws → Shows c here ws (some x)
+  at-end : members ws ≡ [] → Words ws → Shows c here ws none
+
+-- ---- one event
+-- a move that leads there is answered n, and the run then stands so
+pub record Arrives {S : Type 0} (stands : Option S → Type 0) (x : Next S) (n : ℕ) : Type 0 where
+  pub place : Option S
+  pub is : (s : Situation S) (vs : List ℤ) (ms : List ℕ) → arrive s x vs ms ≡ leaves n place vs ms
+  pub stands : stands place
+
+-- the event e at place o, with these values and modes, is answered n and leaves that; the run then stands so
+pub record Steps {S : Type 0} (g : Program S) (stands : Option S → Type 0) (o : Option S) (vs : List ℤ) (ms : List ℕ) (e : Event) (n : ℕ) (vs' : List ℤ) (ms' : List ℕ) : Type 0 where
+  pub place : Option S
+  pub is : stepOn edition1 (g .plant) (g .control) (record { place = o; values = vs; modes = ms }) (eventOf e) ≡ leaves n place vs' ms'
+  pub stands : stands place
+
+-- ---- the loop
+-- a run may start with these values and modes, and d has room for its records
+pub record MayRun (p : Plant) (vs : List ℤ) (ms events d : List ℕ) : Type 0 where
+  pub fits : Fits p vs ms
+  pub room : roomForRecords edition1 p events d ≡ true
 
 -- the counts and d, which was d₀, are those of a run with these answers
 pub record Reports {S : Type 0} (c : Control S) (l : List (Answered S)) (d₀ : List ℕ) (cs : Counts) (d : List ℕ) : Type 0 where
@@ -34,3 +64,9 @@ pub record RunSoFar {S : Type 0} (g : Program S) (st₀ : Start) (events d₀ : 
   pub size : length (outcomeOf edition1 (g .control) said .written) ≡ k * recordSize edition1 (g .plant)
   pub place : i ≡ k * recordSize edition1 (g .plant)
   pub fits : Fits (g .plant) (st .values) (st .modes)
+
+-- the same, and where the run stands
+pub record Going {S : Type 0} (g : Program S) (stands : Option S → Type 0) (st₀ : Start) (events d₀ : List ℕ) (k i : ℕ) (cs : Counts) (vs : List ℤ) (ms d : List ℕ) : Type 0 where
+  pub place : Option S
+  pub stands : stands place
+  pub so-far : RunSoFar g st₀ events d₀ k i (record { place = place; values = vs; modes = ms }) cs d

@@ -1,39 +1,37 @@
 // The entries of a location: its acting nodes, and where their moves lead.
-use nodeset::NodeSet;
 ghost use Prim.Native.Nat.{_+_, _<_};
 ghost use Rattle.table_step.specs.Entries.{Located, Gathered, Found};
 
 // the nodes of the location at a place
-pub fn acting(locs: &[u8], at: usize) -> NodeSet
-    requires { ⌜ Located (now locs) at ⌝ }
-    ensures { λ r. ⌜ Gathered (now (locs .entry)) at (r .words) ⌝ }
+pub fn acting(t: &[u8], at: usize, set: &mut [u64; 4])
+    requires { ⌜ Located (now t) at ⌝ }
+    ensures { λ _. ⌜ Gathered (now (t .entry)) at (now (set .exit)) ⌝ }
 {
-    let count = codec::wide(locs[at]);
-    let mut set = nodeset::empty();
+    nodeset::clear(set);
+    let count = codec::wide(t[at]);
     let mut p = at + 1;
     let mut j = 0;
     while j < count {
-        set = nodeset::with(set, codec::wide(locs[p]));
+        nodeset::put(set, codec::wide(t[p]));
         p += 5;
         j += 1;
     }
-    set
 }
 
 // where node n of the location at a place goes, on done or true, or on false; FFFF where it has no entry
-pub fn target(locs: &[u8], at: usize, n: usize, truth: bool) -> usize
-    requires { ⌜ Located (now locs) at ⌝ }
-    ensures { λ r. ⌜ Found (now (locs .entry)) at n truth r ⌝ }
+pub fn target(t: &[u8], at: usize, n: usize, truth: bool) -> usize
+    requires { ⌜ Located (now t) at ⌝ }
+    ensures { λ r. ⌜ Found (now (t .entry)) at n truth r ⌝ }
 {
-    let count = codec::wide(locs[at]);
+    let count = codec::wide(t[at]);
     let mut p = at + 1;
     let mut j = 0;
     while j < count {
-        if codec::wide(locs[p]) == n {
+        if codec::wide(t[p]) == n {
             if truth {
-                return codec::nat2(locs, p + 1);
+                return codec::nat2(t, p + 1);
             }
-            return codec::nat2(locs, p + 1 + 2);
+            return codec::nat2(t, p + 1 + 2);
         }
         p += 5;
         j += 1;

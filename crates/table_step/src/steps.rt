@@ -1,137 +1,98 @@
 // One event of a run of a table.
 use super::entries;
 use effects::Verdict;
-use nodeset::NodeSet;
+use event::Event;
 ghost use mathlib.Core.Path.{_≡_};
-ghost use mathlib.Core.List.{[], _∷_};
-ghost use Rattle.semantics.specs.Tables.{Table, tableControl};
-ghost use Rattle.execution.specs.Ready.{lent};
+ghost use Rattle.nodeset.specs.Sets.{emptySet};
+ghost use Rattle.program.specs.Lent.{lent};
 ghost use Rattle.effects.specs.declared.Verdict.the-variants.{Move};
-ghost use Rattle.table_step.specs.Situations.{goingOn, ended, Movable, Moving, Arrives, Settled, Promised, Stepped};
+ghost use Rattle.table_step.specs.Situations.{Moving, Moved, Settled, Promised, StepsOn};
 
-// Where a run stands: its location and the nodes that act, or it is over and none do.
-pub struct Situation {
-    pub over: bool,
-    pub place: usize,
-    pub acting: NodeSet,
-}
-
-// The answer to an event, and where the run stands after it.
-pub struct Answered {
+// The answer to an event, and the location at which the run then stands: FFFF once it is over.
+pub struct Stepped {
     pub answer: u8,
-    pub situation: Situation,
+    pub place: usize,
 }
 
-fn go_on(n: u8, place: usize, acting: NodeSet) -> Answered
-    ensures { λ r. ⌜ r ≡ goingOn n place acting ⌝ }
+// The run is over, and no node acts.
+fn end(n: u8, acting: &mut [u64; 4]) -> Stepped
+    ensures answer { λ r. ⌜ r ≡ record { answer = n; place = 65535 } ⌝ }
+    ensures none { λ _. ⌜ now (acting .exit) ≡ emptySet ⌝ }
 {
-    let situation = Situation {
-        over: false,
-        place,
-        acting,
-    };
-    Answered {
+    nodeset::clear(acting);
+    Stepped {
         answer: n,
-        situation,
-    }
-}
-
-fn end(n: u8) -> Answered
-    ensures { λ r. ⌜ r ≡ ended n ⌝ }
-{
-    let acting = nodeset::empty();
-    let situation = Situation {
-        over: true,
-        place: 0,
-        acting,
-    };
-    Answered {
-        answer: n,
-        situation,
+        place: paper::targets::NONE,
     }
 }
 
 // A taken event with the move of node n at location x.
-fn moved(locs: &[u8], places: &[usize], x: usize, n: usize, truth: bool) -> Answered
-    requires { ⌜ Moving (now locs) (now places) x (Move n truth) ⌝ }
-    ensures { λ r. ⌜ ((t : Table) → Movable t (now (locs .entry)) (now (places .entry)) x (Move n truth) → Arrives t (tableControl t .next x n truth) r) ⌝ }
+fn moved(
+    t: &[u8],
+    ix: &[usize; program::ENTRIES],
+    x: usize,
+    n: usize,
+    truth: bool,
+    acting: &mut [u64; 4],
+) -> Stepped
+    requires { ⌜ Moving (now t) (now ix) x (Move n truth) (now acting) ⌝ }
+    ensures { λ r. ⌜ Moved (now (t .entry)) (now (ix .entry)) x n truth r (now (acting .exit)) ⌝ }
 {
-    let from = places[x];
-    let to = entries::target(locs, from, n, truth);
+    let to = entries::target(t, program::location(ix, x), n, truth);
     if to == paper::targets::FINISHED {
-        return end(paper::answers::FINISHED);
+        return end(paper::answers::FINISHED, acting);
     }
     if to == paper::targets::HALTED {
-        return end(paper::answers::HALTED);
+        return end(paper::answers::HALTED, acting);
     }
-    let at = places[to];
-    let acting = entries::acting(locs, at);
-    go_on(paper::answers::TAKEN, to, acting)
+    entries::acting(t, program::location(ix, to), acting);
+    Stepped {
+        answer: paper::answers::TAKEN,
+        place: to,
+    }
 }
 
 // What a judged event makes of location x and its acting nodes.
-fn settled(locs: &[u8], places: &[usize], x: usize, acting: NodeSet, v: Verdict) -> Answered
-    requires { ⌜ Moving (now locs) (now places) x v ⌝ }
-    ensures { λ r. ⌜ Settled (now (locs .entry)) (now (places .entry)) x acting v r ⌝ }
+fn settled(t: &[u8], ix: &[usize; program::ENTRIES], x: usize, v: Verdict, acting: &mut [u64; 4]) -> Stepped
+    requires { ⌜ Moving (now t) (now ix) x v (now acting) ⌝ }
+    ensures { λ r. ⌜ Settled (now (t .entry)) (now (ix .entry)) x v (now (acting .entry)) r (now (acting .exit)) ⌝ }
 {
     match v {
-        Verdict::Away(n) => go_on(n, x, acting),
-        Verdict::Above => end(paper::answers::ABOVE),
-        Verdict::Below => end(paper::answers::BELOW),
-        Verdict::Stay => go_on(paper::answers::TAKEN, x, acting),
-        Verdict::Move(n, truth) => moved(locs, places, x, n, truth),
+        Verdict::Away(n) => Stepped {
+            answer: n,
+            place: x,
+        },
+        Verdict::Above => end(paper::answers::ABOVE, acting),
+        Verdict::Below => end(paper::answers::BELOW, acting),
+        Verdict::Stay => Stepped {
+            answer: paper::answers::TAKEN,
+            place: x,
+        },
+        Verdict::Move(n, truth) => moved(t, ix, x, n, truth, acting),
     }
 }
 
-// The event of the three bytes a, b, c. Values and modes are those that it leaves.
+// The event e at location x. Acting nodes, values and modes are those that it leaves.
 pub fn step(
-    es: &[u8],
-    rows: &[usize],
-    steady: [i32; paper::VARIABLES],
-    lows: &[i32],
-    highs: &[i32],
-    ops: &[u8],
-    kinds: &[u8],
-    starts: &[usize],
-    ends: &[usize],
-    locs: &[u8],
-    places: &[usize],
-    at: Situation,
-    a: u8,
-    b: u8,
-    c: u8,
+    t: &[u8],
+    ix: &[usize; program::ENTRIES],
+    ranges: &[i32; program::RANGES],
+    e: Event,
+    x: usize,
+    acting: &mut [u64; 4],
     values: &mut [i32],
     modes: &mut [u8],
-) -> Answered
-    requires { ⌜ Promised (lent (now es) (now rows) steady (now lows) (now highs) (now ops) (now kinds) (now starts) (now ends)) (now locs) (now places) at (now values) (now modes) ⌝ }
-    ensures { λ r. ⌜ Stepped
-        (lent (now (es .entry)) (now (rows .entry)) steady (now (lows .entry)) (now (highs .entry)) (now (ops .entry)) (now (kinds .entry)) (now (starts .entry)) (now (ends .entry)))
-        (now (locs .entry)) (now (places .entry)) at (now (values .entry)) (now (modes .entry)) (a ∷ b ∷ c ∷ []) r (now (values .exit)) (now (modes .exit)) ⌝ }
+) -> Stepped
+    requires { ⌜ Promised (lent (now t) (now ix) (now ranges)) x (now acting) (now values) (now modes) ⌝ }
+    ensures { λ r. ⌜ StepsOn (lent (now (t .entry)) (now (ix .entry)) (now (ranges .entry))) x (now (acting .entry)) (now (values .entry)) (now (modes .entry)) e
+        r (now (acting .exit)) (now (values .exit)) (now (modes .exit)) ⌝ }
 {
-    if at.over {
-        return Answered {
+    if x == paper::targets::NONE {
+        return Stepped {
             answer: 23,
-            situation: at,
+            place: x,
         };
     }
-    let x = at.place;
-    let acting = at.acting;
-    let v = execution::judge(
-        es,
-        rows,
-        steady,
-        lows,
-        highs,
-        ops,
-        kinds,
-        starts,
-        ends,
-        acting,
-        a,
-        b,
-        c,
-        values,
-        modes,
-    );
-    settled(locs, places, x, acting, v)
+    let v = execution::judge(t, ix, ranges, acting, e, values, modes);
+    settled(t, ix, x, v, acting)
 }
