@@ -24,11 +24,10 @@ use Rattle.expression.specs.declared.Number.the-variants as Numbers
 use Rattle.expression.proofs.Values.{numberTold, number-valued, number-malformed}
 use Rattle.effects.specs.Verdicts.{doneVerdict, stepVerdict, goesOn, truthVerdict, Left, orElse, Gives}
 use Rattle.effects.proofs.PaperNumbers.{left-away, left-above, left-below, left-move}
-use Rattle.effects.specs.Ranges.{rangesOf}
 use Rattle.effects.specs.ActionForms.{Performs, Assigns, Does}
 use Rattle.effects.specs.declared.Verdict.{Verdict}
 use Rattle.effects.specs.declared.Verdict.the-variants.{Away, Above, Below, Move}
-use Rattle.effects.proofs.Adds.{declared-at, inside}
+use Rattle.effects.proofs.Adds.{inside}
 
 -- ---- a variable that is set
 gives-ok : {A : Type 0} (d : Verdict) (a : A) {v : Value A} {b : A} → v ≡ ok b → Gives d a v d b
@@ -42,15 +41,15 @@ gives-fault d a (ok b) f r e h = true-not-false (sym (ap goesOn e) ∙ h)
 gives-fault d a (fault above) f r e h = record { answer = e; left = refl }
 gives-fault d a (fault below) f r e h = record { answer = e; left = refl }
 
-module _ (ls hs vs : List ℤ) (v : ℕ) (d : Verdict) where
-  module _ (z : ℤ) (same : length ls ≡ length hs) (h : v < length ls) (r : Verdict) (e : r ≡ stepVerdict (valued (ranged (getD ls v (pos 0)) (getD hs v (pos 0)) z))) where
-    pub stored-in : goesOn r ≡ true → Gives d vs (stored (rangesOf ls hs) vs v z) d (set vs v z)
+module _ (xs : List Variable) (vs : List ℤ) (v : ℕ) (d : Verdict) where
+  module _ (l h z : ℤ) (is : declaredAt xs v z ≡ ranged l h z) (r : Verdict) (e : r ≡ stepVerdict (valued (ranged l h z))) where
+    pub stored-in : goesOn r ≡ true → Gives d vs (stored xs vs v z) d (set vs v z)
     unfolding stored thenValue
-    stored-in f = gives-ok d vs (rw (declared-at ls hs v z same h, inside (getD ls v (pos 0)) (getD hs v (pos 0)) z (ap goesOn (sym e) ∙ f) .same) refl)
+    stored-in f = gives-ok d vs (rw (is, inside l h z (ap goesOn (sym e) ∙ f) .same) refl)
 
-    pub stored-out : goesOn r ≡ false → Gives d vs (stored (rangesOf ls hs) vs v z) r vs
+    pub stored-out : goesOn r ≡ false → Gives d vs (stored xs vs v z) r vs
     unfolding stored
-    stored-out f = gives-fault d vs (declaredAt (rangesOf ls hs) v z) _ r (e ∙ ap (λ x. stepVerdict (valued x)) (sym (declared-at ls hs v z same h))) f
+    stored-out f = gives-fault d vs (declaredAt xs v z) _ r (e ∙ ap (λ x. stepVerdict (valued x)) (sym is)) f
 
   -- ---- a number that is assigned
   module _ (e : List ℕ) (n : Number) (told : n ≡ numberAnswer vs (numberIn edition1 (length vs) e)) where
@@ -61,29 +60,29 @@ module _ (ls hs vs : List ℤ) (v : ℕ) (d : Verdict) where
     unfolding numberValue
     malformed-is h = rw (number-malformed vs e told h, numberValue) refl
 
-    pub assigned-number : (z : ℤ) (r : Verdict) (ys : List ℤ) → n ≡ Numbers.Is z → Gives d vs (stored (rangesOf ls hs) vs v z) r ys → Gives d vs (assigned edition1 (rangesOf ls hs) vs v e) r ys
+    pub assigned-number : (z : ℤ) (r : Verdict) (ys : List ℤ) → n ≡ Numbers.Is z → Gives d vs (stored xs vs v z) r ys → Gives d vs (assigned edition1 xs vs v e) r ys
     unfolding assigned thenValue
     assigned-number z r ys h g = rw (number-is (ok z) (ap numberTold h)) g
 
-    faults : (s : Side) (r : Verdict) → numberValue edition1 vs e ≡ fault s → r ≡ stepVerdict (valued {A = ℤ} (fault s)) → goesOn r ≡ false → Gives d vs (assigned edition1 (rangesOf ls hs) vs v e) r vs
+    faults : (s : Side) (r : Verdict) → numberValue edition1 vs e ≡ fault s → r ≡ stepVerdict (valued {A = ℤ} (fault s)) → goesOn r ≡ false → Gives d vs (assigned edition1 xs vs v e) r vs
     unfolding assigned
     faults s r h k f = gives-fault d vs (numberValue edition1 vs e) _ r (k ∙ sym (ap (λ x. stepVerdict (valued x)) h)) f
 
-    pub assigned-above : n ≡ Numbers.Above → Gives d vs (assigned edition1 (rangesOf ls hs) vs v e) Above vs
+    pub assigned-above : n ≡ Numbers.Above → Gives d vs (assigned edition1 xs vs v e) Above vs
     unfolding doneVerdict valued goesOn
     assigned-above h = faults above Above (number-is (fault above) (ap numberTold h)) refl refl
 
-    pub assigned-below : n ≡ Numbers.Below → Gives d vs (assigned edition1 (rangesOf ls hs) vs v e) Below vs
+    pub assigned-below : n ≡ Numbers.Below → Gives d vs (assigned edition1 xs vs v e) Below vs
     unfolding doneVerdict valued goesOn
     assigned-below h = faults below Below (number-is (fault below) (ap numberTold h)) refl refl
 
-    pub assigned-malformed : n ≡ Numbers.Malformed → Gives d vs (assigned edition1 (rangesOf ls hs) vs v e) Above vs
+    pub assigned-malformed : n ≡ Numbers.Malformed → Gives d vs (assigned edition1 xs vs v e) Above vs
     unfolding doneVerdict valued goesOn
     assigned-malformed h = faults above Above (malformed-is h) refl refl
 
 -- the same variable and number, said in another way
-pub stored-as : (ls hs vs : List ℤ) (d : Verdict) {v w : ℕ} {z y : ℤ} {r : Verdict} {ys : List ℤ} → v ≡ w → z ≡ y → Gives d vs (stored (rangesOf ls hs) vs v z) r ys → Gives d vs (stored (rangesOf ls hs) vs w y) r ys
-stored-as ls hs vs d e f g = rw (← e, ← f) g
+pub stored-as : (xs : List Variable) (vs : List ℤ) (d : Verdict) {v w : ℕ} {z y : ℤ} {r : Verdict} {ys : List ℤ} → v ≡ w → z ≡ y → Gives d vs (stored xs vs v z) r ys → Gives d vs (stored xs vs w y) r ys
+stored-as xs vs d e f g = rw (← e, ← f) g
 
 -- an operand of an assignment: its variable, and its number from the second byte on
 pub operand-is : (t : List ℕ) {v : ℕ} {e : List ℕ} → actionOfKind an-assignment t ≡ some (assign v e) → (getD t 0 0 ≡ v) × (take (length t - 1) (drop 1 t) ≡ e)

@@ -2,25 +2,26 @@
 use mathlib.Core.Path.{_≡_, refl, sym, ap, ap₂, _∙_}
 use mathlib.Core.Bool.{Bool, true, false, cond}
 use mathlib.Core.List.{List, [], _∷_, _++_, append-assoc, append-nil}
-use Prim.Native.Nat.{ℕ, zero, suc, _+_, _≤_, _<_}
+use Prim.Native.Nat.{ℕ, zero, suc, _+_, _*_, _≤_, _<_}
 use native.Mathlib.Numerals.{add-one}
 use native.Mathlib.Omega.{arith}
 use native.Mathlib.Decide.{decLt}
 use borrow.Author.Tests.{ltb-false}
 use lib.IntN.{ℤ, pos, negsuc, _+ℤ_}
 use lib.Signed.{ltZ}
-use lib.ListN.{length, getD, set, take, drop, drop-of-length-le}
-use lib.Seq.{drop-cons, take-suc, length-take-le, getD-at, set-at, take-length}
+use lib.ListN.{length, getD, set, take, drop, length-drop, drop-of-length-le}
+use lib.Seq.{drop-cons, take-suc, length-take-le, getD-at, getD-take, set-at, take-length}
 use mir.Syntax.{w32}
 use mir.Val.{SFits, toZ, ofZ}
 use mir.ValLaws.{toZ-ofZ}
 use Rattle.semantics.specs.Expressions.{Value, ok, fault, above, below, ranged, thenValue}
-use Rattle.semantics.specs.Sections.{Variable}
+use Rattle.semantics.specs.Sections.{Variable, variableLimit}
 use Rattle.semantics.specs.Plant.{declared, declaredAt, allDeclared, added, advance}
 use Rattle.semantics.specs.Run.{valued}
 use Rattle.semantics.proofs.Facts.{true-not-false}
+use Rattle.program.specs.Rows.{highRow}
 use Rattle.effects.specs.Verdicts.{doneVerdict, stepVerdict, goesOn, orElse, Gives}
-use Rattle.effects.specs.Ranges.{rangesOf, rateIn, Sized, firstSums, sumTold, staysIn, FirstStay, Until}
+use Rattle.effects.specs.Ranges.{rangesOf, variablesIn, rateIn, firstSums, sumTold, staysIn, FirstStay, Until}
 use Rattle.effects.specs.declared.Verdict.{Verdict}
 use Rattle.effects.specs.declared.Verdict.the-variants.{Stay}
 
@@ -58,17 +59,41 @@ pub sums-at : (rs vs : List ℤ) (i : ℕ) → i < length vs → getD (added (ra
 sums-at rs vs i h = let e : 0 + i ≡ i = omega arith in added-at (rateIn rs) 0 vs i h ∙ ap (λ (n : ℕ). getD vs i (pos 0) +ℤ rateIn rs n) e
 
 -- ---- a variable by its range
-pub declared-at : (ls hs : List ℤ) (v : ℕ) (z : ℤ) → length ls ≡ length hs → v < length ls → declaredAt (rangesOf ls hs) v z ≡ ranged (getD ls v (pos 0)) (getD hs v (pos 0)) z
+length-ranges : (ls hs : List ℤ) → length ls ≡ length hs → length (rangesOf ls hs) ≡ length ls
+unfolding rangesOf
+length-ranges [] hs e = refl
+length-ranges (l ∷ ls) [] e = absurd (omega arith)
+length-ranges (l ∷ ls) (h ∷ hs) e = ap suc (length-ranges ls hs (omega arith))
+
+declared-at : (ls hs : List ℤ) (v : ℕ) (z : ℤ) → length ls ≡ length hs → v < length ls → declaredAt (rangesOf ls hs) v z ≡ ranged (getD ls v (pos 0)) (getD hs v (pos 0)) z
 unfolding declaredAt rangesOf declared
 declared-at [] hs v z e h = absurd (omega arith)
 declared-at (l ∷ ls) [] v z e h = absurd (omega arith)
 declared-at (l ∷ ls) (k ∷ hs) zero z e h = refl
 declared-at (l ∷ ls) (k ∷ hs) (suc v) z e h = declared-at ls hs v z (omega arith) (omega arith)
 
+-- the rows of a program, for n variables
+module _ (rs : List ℤ) (n : ℕ) (few : n ≤ variableLimit) (all : length rs ≡ 3 * variableLimit) where
+  lows-long : length (take n rs) ≡ n
+  lows-long = length-take-le n rs (omega arith)
+
+  highs-long : length (take n (highRow rs)) ≡ n
+  highs-long = length-take-le n (highRow rs) (omega (arith, length-drop 32 rs))
+
+  pub declared-in : (v : ℕ) (z : ℤ) → v < n → declaredAt (variablesIn rs n) v z ≡ ranged (getD rs v (pos 0)) (getD (highRow rs) v (pos 0)) z
+  declared-in v z h =
+      declared-at (take n rs) (take n (highRow rs)) v z (lows-long ∙ sym highs-long) (omega (arith, lows-long))
+      ∙ ap₂ (λ (x y : ℤ). ranged x y z) (getD-take n rs v (pos 0) h) (getD-take n (highRow rs) v (pos 0) h)
+
+  pub variables-long : length (variablesIn rs n) ≡ n
+  variables-long = length-ranges (take n rs) (take n (highRow rs)) (lows-long ∙ sym highs-long) ∙ lows-long
+
 -- variable v with its rate added, by its numbers
-pub sum-told : (ls hs rs vs : List ℤ) (v : ℕ) → Sized ls hs rs vs → v < length vs → sumTold ls hs rs vs v ≡ stepVerdict (valued (ranged (getD ls v (pos 0)) (getD hs v (pos 0)) (getD vs v (pos 0) +ℤ getD rs v (pos 0))))
-sum-told ls hs rs vs v z h =
-    ap (λ x. stepVerdict (valued x)) (ap (declaredAt (rangesOf ls hs) v) (sums-at rs vs v h) ∙ declared-at ls hs v (getD vs v (pos 0) +ℤ getD rs v (pos 0)) (z .lows ∙ sym (z .highs)) (omega (arith, z .lows)))
+pub sum-told : (rs rates vs : List ℤ) (v : ℕ) → length vs ≤ variableLimit → length rs ≡ 3 * variableLimit → v < length vs
+    → sumTold (variablesIn rs (length vs)) rates vs v ≡ stepVerdict (valued (ranged (getD rs v (pos 0)) (getD (highRow rs) v (pos 0)) (getD vs v (pos 0) +ℤ getD rates v (pos 0))))
+sum-told rs rates vs v few all h =
+    let z = getD vs v (pos 0) +ℤ getD rates v (pos 0) in
+    ap (λ x. stepVerdict (valued x)) (ap (declaredAt (variablesIn rs (length vs)) v) (sums-at rates vs v h) ∙ declared-in rs (length vs) few all v z h)
 
 -- ---- what passes is what it was
 abbrev pub Passes : {A : Type 0} → Value A → Type 0
@@ -100,8 +125,8 @@ pub ranged-fits : (l h z : ℤ) → SFits w32 l → SFits w32 h → Passes (rang
 ranged-fits l h z fl fh e = let k = inside l h z e in fits-between l h z fl fh (k .low) (k .high)
 
 -- ---- the values from the i-th on
-abbrev from : List ℤ → List ℤ → List ℤ → List ℤ → ℕ → Value (List ℤ)
-from ls hs rs vs i = allDeclared (rangesOf (drop i ls) (drop i hs)) (added (rateIn rs) i (drop i vs))
+abbrev from : List Variable → List ℤ → List ℤ → ℕ → Value (List ℤ)
+from xs rs vs i = allDeclared (drop i xs) (added (rateIn rs) i (drop i vs))
 
 first-in : (x : Variable) (xs : List Variable) (z : ℤ) (zs : List ℤ) → Passes (declared x z) → stepVerdict (valued (allDeclared (x ∷ xs) (z ∷ zs))) ≡ stepVerdict (valued (allDeclared xs zs))
 unfolding allDeclared thenValue valued doneVerdict goesOn
@@ -123,35 +148,36 @@ first-out x xs z zs e = go (declared x z) (allDeclared xs zs) e
     go (fault above) w e = refl
     go (fault below) w e = refl
 
-module _ (ls hs rs vs : List ℤ) (i : ℕ) (z : Sized ls hs rs vs) where
+declared-here : (xs : List Variable) (v : ℕ) (z : ℤ) (d : Variable) → v < length xs → declaredAt xs v z ≡ declared (getD xs v d) z
+unfolding declaredAt
+declared-here [] v z d h = absurd (omega arith)
+declared-here (x ∷ xs) zero z d h = refl
+declared-here (x ∷ xs) (suc v) z d h = declared-here xs v z d (omega arith)
+
+module _ (xs : List Variable) (rs vs : List ℤ) (i : ℕ) (z : length xs ≡ length vs) where
   abbrev x : Variable
-  x = record { minimum = getD ls i (pos 0); maximum = getD hs i (pos 0); initial = getD ls i (pos 0) }
+  x = getD xs i (record { minimum = pos 0; maximum = pos 0; initial = pos 0 })
 
   abbrev s : ℤ
   s = getD vs i (pos 0) +ℤ getD rs i (pos 0)
 
-  abbrev later : ℕ → List Variable
-  later k = rangesOf (drop k ls) (drop k hs)
-
   -- the first of them, and the others
-  step : i < length vs → from ls hs rs vs i ≡ allDeclared (x ∷ later (i + 1)) (s ∷ added (rateIn rs) (i + 1) (drop (i + 1) vs))
-  unfolding rangesOf added
-  step h =
-      let a = z .lows in
-      let b = z .highs in
-      rw (drop-cons ls i (pos 0) (omega arith), drop-cons hs i (pos 0) (omega arith), drop-cons vs i (pos 0) h, add-one i) refl
+  step : i < length vs → from xs rs vs i ≡ allDeclared (x ∷ drop (i + 1) xs) (s ∷ added (rateIn rs) (i + 1) (drop (i + 1) vs))
+  unfolding added
+  step h = rw (drop-cons xs i (record { minimum = pos 0; maximum = pos 0; initial = pos 0 }) (omega arith), drop-cons vs i (pos 0) h, add-one i) refl
 
-  out : i < length vs → (r : Verdict) → r ≡ sumTold ls hs rs vs i → goesOn r ≡ false → r ≡ stepVerdict (valued (from ls hs rs vs i))
-  unfolding declared
-  out h r e f = e ∙ sum-told ls hs rs vs i z h ∙ sym (ap (λ v. stepVerdict (valued v)) (step h) ∙ first-out x (later (i + 1)) s (added (rateIn rs) (i + 1) (drop (i + 1) vs)) (ap goesOn (sym (e ∙ sum-told ls hs rs vs i z h)) ∙ f))
+  told : i < length vs → sumTold xs rs vs i ≡ stepVerdict (valued (declared x s))
+  told h = ap (λ v. stepVerdict (valued v)) (ap (declaredAt xs i) (sums-at rs vs i h) ∙ declared-here xs i s _ (omega arith))
 
-  on : i < length vs → (r : Verdict) → r ≡ sumTold ls hs rs vs i → goesOn r ≡ true → stepVerdict (valued (from ls hs rs vs i)) ≡ stepVerdict (valued (from ls hs rs vs (i + 1)))
-  unfolding declared
-  on h r e f = ap (λ v. stepVerdict (valued v)) (step h) ∙ first-in x (later (i + 1)) s (added (rateIn rs) (i + 1) (drop (i + 1) vs)) (ap goesOn (sym (e ∙ sum-told ls hs rs vs i z h)) ∙ f)
+  out : i < length vs → (r : Verdict) → r ≡ sumTold xs rs vs i → goesOn r ≡ false → r ≡ stepVerdict (valued (from xs rs vs i))
+  out h r e f = e ∙ told h ∙ sym (ap (λ v. stepVerdict (valued v)) (step h) ∙ first-out x (drop (i + 1) xs) s (added (rateIn rs) (i + 1) (drop (i + 1) vs)) (ap goesOn (sym (e ∙ told h)) ∙ f))
 
-  end : length vs ≤ i → Stay ≡ stepVerdict (valued (from ls hs rs vs i))
-  unfolding allDeclared rangesOf valued doneVerdict
-  end h = rw (drop-of-length-le ls {i = i} (omega (arith, z .lows))) refl
+  on : i < length vs → (r : Verdict) → r ≡ sumTold xs rs vs i → goesOn r ≡ true → stepVerdict (valued (from xs rs vs i)) ≡ stepVerdict (valued (from xs rs vs (i + 1)))
+  on h r e f = ap (λ v. stepVerdict (valued v)) (step h) ∙ first-in x (drop (i + 1) xs) s (added (rateIn rs) (i + 1) (drop (i + 1) vs)) (ap goesOn (sym (e ∙ told h)) ∙ f)
+
+  end : length vs ≤ i → Stay ≡ stepVerdict (valued (from xs rs vs i))
+  unfolding allDeclared valued doneVerdict
+  end h = rw (drop-of-length-le xs {i = i} (omega arith)) refl
 
 -- ---- all of them
 all-same : (xs : List Variable) (zs : List ℤ) → Passes (allDeclared xs zs) → allDeclared xs zs ≡ ok zs
@@ -170,45 +196,45 @@ advanced-out a (ok b) e = true-not-false e
 advanced-out a (fault s) e = refl
 
 -- ---- the first k of them
-module _ (ls hs rs vs : List ℤ) where
-  pub none-yet : FirstStay ls hs rs vs 0
+module _ (xs : List Variable) (rs vs : List ℤ) where
+  pub none-yet : FirstStay xs rs vs 0
   none-yet = record { count = omega arith; each = λ v h. absurd (omega arith) }
 
-  fewer : (k : ℕ) → FirstStay ls hs rs vs (suc k) → FirstStay ls hs rs vs k
+  fewer : (k : ℕ) → FirstStay xs rs vs (suc k) → FirstStay xs rs vs k
   fewer k f = let c = f .count in record { count = omega arith; each = λ v h. f .each v (omega arith) }
 
-  pub one-more : (k : ℕ) → k < length vs → FirstStay ls hs rs vs k → staysIn ls hs rs vs k ≡ true → FirstStay ls hs rs vs (k + 1)
+  pub one-more : (k : ℕ) → k < length vs → FirstStay xs rs vs k → staysIn xs rs vs k ≡ true → FirstStay xs rs vs (k + 1)
   one-more k h f e = record { count = omega arith; each = λ v p. go v p (decLt v k) }
     where
-      go : (v : ℕ) → v < k + 1 → Dec (v < k) → staysIn ls hs rs vs v ≡ true
+      go : (v : ℕ) → v < k + 1 → Dec (v < k) → staysIn xs rs vs v ≡ true
       go v p (yes q) = f .each v q
-      go v p (no q) = let same : v ≡ k = omega arith in ap (staysIn ls hs rs vs) same ∙ e
+      go v p (no q) = let same : v ≡ k = omega arith in ap (staysIn xs rs vs) same ∙ e
 
-module _ (ls hs rs vs : List ℤ) (z : Sized ls hs rs vs) where
+module _ (xs : List Variable) (rs vs : List ℤ) (z : length xs ≡ length vs) where
   abbrev ticked : Value (List ℤ)
-  ticked = advance (rangesOf ls hs) (rateIn rs) vs
+  ticked = advance xs (rateIn rs) vs
 
-  told-from : (k : ℕ) → FirstStay ls hs rs vs k → stepVerdict (valued ticked) ≡ stepVerdict (valued (from ls hs rs vs k))
+  told-from : (k : ℕ) → FirstStay xs rs vs k → stepVerdict (valued ticked) ≡ stepVerdict (valued (from xs rs vs k))
   unfolding advance
   told-from zero f = refl
   told-from (suc k) f =
       let c = f .count in
       let e : k + 1 ≡ suc k = add-one k in
-      told-from k (fewer ls hs rs vs k f) ∙ on ls hs rs vs k z (omega arith) _ refl (f .each k (omega arith)) ∙ ap (λ (n : ℕ). stepVerdict (valued (from ls hs rs vs n))) e
+      told-from k (fewer xs rs vs k f) ∙ on xs rs vs k z (omega arith) _ refl (f .each k (omega arith)) ∙ ap (λ (n : ℕ). stepVerdict (valued (from xs rs vs n))) e
 
   -- variable k leaves its range: its side is the answer, and nothing is added
-  pub one-leaves : (k : ℕ) → Until ls hs rs vs k → k < length vs → {r : Verdict} → r ≡ sumTold ls hs rs vs k → Gives Stay vs ticked r vs
+  pub one-leaves : (k : ℕ) → Until xs rs vs k → k < length vs → {r : Verdict} → r ≡ sumTold xs rs vs k → Gives Stay vs ticked r vs
   one-leaves k u h {r} e =
-      let told : r ≡ stepVerdict (valued ticked) = out ls hs rs vs k z h r e (ap goesOn e ∙ u .leaves h) ∙ sym (told-from k (u .first)) in
+      let told : r ≡ stepVerdict (valued ticked) = out xs rs vs k z h r e (ap goesOn e ∙ u .leaves h) ∙ sym (told-from k (u .first)) in
       record { answer = told; left = advanced-out vs ticked (sym (ap goesOn told) ∙ ap goesOn e ∙ u .leaves h) }
 
   -- all stay in their ranges: all add
-  pub all-stay : (k : ℕ) → FirstStay ls hs rs vs k → length vs ≤ k → {ys : List ℤ} → ys ≡ firstSums rs vs k → Gives Stay vs ticked Stay ys
+  pub all-stay : (k : ℕ) → FirstStay xs rs vs k → length vs ≤ k → {ys : List ℤ} → ys ≡ firstSums rs vs k → Gives Stay vs ticked Stay ys
   unfolding goesOn advance orElse
   all-stay k f h e =
       let c = f .count in
-      let told : Stay ≡ stepVerdict (valued ticked) = end ls hs rs vs k z h ∙ sym (told-from k f) in
-      let same = all-same (rangesOf ls hs) (added (rateIn rs) 0 vs) (sym (ap goesOn told)) in
+      let told : Stay ≡ stepVerdict (valued ticked) = end xs rs vs k z h ∙ sym (told-from k f) in
+      let same = all-same xs (added (rateIn rs) 0 vs) (sym (ap goesOn told)) in
       record { answer = told; left = e ∙ fill-all (added (rateIn rs) 0 vs) vs k (length-sums rs vs) (omega arith) ∙ sym (ap (orElse vs) same) }
 
 -- ---- numbers as they are read back from their bits
@@ -221,9 +247,10 @@ held z h = toZ-ofZ w32 z (record { sfits = h })
 pub held-sum : (v r : ℤ) → lib.Signed.mag v < 2147483648 → lib.Signed.mag r < 2147483648 → Held v +ℤ Held r ≡ v +ℤ r
 held-sum v r c d = ap₂ (λ (x y : ℤ). x +ℤ y) (held v c) (held r d)
 
-pub held-ranged : (l h v r : ℤ) → lib.Signed.mag l < 2147483648 → lib.Signed.mag h < 2147483648 → lib.Signed.mag v < 2147483648 → lib.Signed.mag r < 2147483648
-    → ranged (Held l) (Held h) (Held v +ℤ Held r) ≡ ranged l h (v +ℤ r)
-held-ranged l h v r a b c d = ap₂ (λ (x y : ℤ). ranged x y (Held v +ℤ Held r)) (held l a) (held h b) ∙ ap (ranged l h) (held-sum v r c d)
+-- by numbers that are known to be others
+pub held-bounds : {a b : ℤ} (l h z : ℤ) → a ≡ l → b ≡ h → SFits w32 a → SFits w32 b → ranged (Held a) (Held b) z ≡ ranged l h z
+held-bounds {a} {b} l h z e f i j = ap₂ (λ (x y : ℤ). ranged x y z) (toZ-ofZ w32 a i ∙ e) (toZ-ofZ w32 b j ∙ f)
 
-pub held-bounds : (l h z : ℤ) → SFits w32 l → SFits w32 h → ranged (Held l) (Held h) z ≡ ranged l h z
-held-bounds l h z a b = ap₂ (λ (x y : ℤ). ranged x y z) (toZ-ofZ w32 l a) (toZ-ofZ w32 h b)
+pub held-ranged : {a b : ℤ} (l h v r : ℤ) → a ≡ l → b ≡ h → SFits w32 a → SFits w32 b → lib.Signed.mag v < 2147483648 → lib.Signed.mag r < 2147483648
+    → ranged (Held a) (Held b) (Held v +ℤ Held r) ≡ ranged l h (v +ℤ r)
+held-ranged l h v r e f i j c d = held-bounds l h (Held v +ℤ Held r) e f i j ∙ ap (ranged l h) (held-sum v r c d)

@@ -3,16 +3,17 @@ use expression::Number;
 use expression::Truth;
 ghost use mathlib.Core.Path.{_≡_};
 ghost use mathlib.Core.Bool.{true};
-ghost use Prim.Native.Nat.{_≤_, _<_};
+ghost use Prim.Native.Nat.{_*_, _≤_, _<_};
 ghost use lib.ListN.{length, getD};
 ghost use lib.IntN.{_+ℤ_};
 ghost use Rattle.semantics.specs.Editions.{edition1};
 ghost use Rattle.semantics.specs.Expressions.{ranged as rangedOf, truthValue};
+ghost use Rattle.semantics.specs.Sections.{variableLimit};
 ghost use Rattle.semantics.specs.Plant.{stored, advance as advanced};
 ghost use Rattle.semantics.specs.Run.{valued};
 ghost use Rattle.effects.specs.declared.Verdict.the-variants.{Stay};
 ghost use Rattle.effects.specs.Verdicts.{stepVerdict, goesOn, truthVerdict, Gives};
-ghost use Rattle.effects.specs.Ranges.{rangesOf, rateIn, Ranged, Sized, Side, Until, FirstStay, firstSums};
+ghost use Rattle.effects.specs.Ranges.{variablesIn, rateIn, Sized, Side, Until, FirstStay, firstSums};
 ghost use Rattle.effects.specs.ActionForms.{Performs, Does, Assigns};
 
 // How an event is answered: turned away with a number, a fault on a side of its range, or taken, with nobody's move or with
@@ -76,24 +77,29 @@ fn sum(low: i32, high: i32, x: i32, rate: i32) -> i32
 }
 
 // The side on which variable v, with its rate added, leaves its range; Stay where it stays or there is no such variable.
-fn side(lows: &[i32], highs: &[i32], rates: &[i32], values: &[i32], v: usize) -> Verdict
-    requires { ⌜ Sized (now lows) (now highs) (now rates) (now values) ⌝ }
-    ensures { λ r. ⌜ Side (now (lows .entry)) (now (highs .entry)) (now (rates .entry)) (now (values .entry)) v r ⌝ }
+fn side(ranges: &[i32; program::RANGES], rates: &[i32], values: &[i32], v: usize) -> Verdict
+    requires { ⌜ Sized (now rates) (now values) × (length (now ranges) ≡ 3 * variableLimit) ⌝ }
+    ensures { λ r. ⌜ Side (variablesIn (now (ranges .entry)) (length (now (values .entry)))) (now (rates .entry)) (now (values .entry)) v r ⌝ }
 {
     if v < values.len() {
-        return stays(lows[v], highs[v], values[v], rates[v]);
+        return stays(
+            program::low(ranges, v),
+            program::high(ranges, v),
+            values[v],
+            rates[v],
+        );
     }
     Verdict::Stay
 }
 
 // How many variables, from the first on, stay in their ranges before one leaves its range.
-fn staying(lows: &[i32], highs: &[i32], rates: &[i32], values: &[i32]) -> usize
-    requires { ⌜ Sized (now lows) (now highs) (now rates) (now values) ⌝ }
-    ensures { λ k. ⌜ Until (now (lows .entry)) (now (highs .entry)) (now (rates .entry)) (now (values .entry)) k ⌝ }
+fn staying(ranges: &[i32; program::RANGES], rates: &[i32], values: &[i32]) -> usize
+    requires { ⌜ Sized (now rates) (now values) × (length (now ranges) ≡ 3 * variableLimit) ⌝ }
+    ensures { λ k. ⌜ Until (variablesIn (now (ranges .entry)) (length (now (values .entry)))) (now (rates .entry)) (now (values .entry)) k ⌝ }
 {
     let mut i = 0;
     while i < values.len() {
-        if !goes_on(side(lows, highs, rates, values, i)) {
+        if !goes_on(side(ranges, rates, values, i)) {
             return i;
         }
         i += 1;
@@ -102,26 +108,34 @@ fn staying(lows: &[i32], highs: &[i32], rates: &[i32], values: &[i32]) -> usize
 }
 
 // Each of the first k values adds its rate.
-fn add_first(lows: &[i32], highs: &[i32], rates: &[i32], values: &mut [i32], k: usize)
-    requires { ⌜ Sized (now lows) (now highs) (now rates) (now values) × FirstStay (now lows) (now highs) (now rates) (now values) k ⌝ }
+fn add_first(ranges: &[i32; program::RANGES], rates: &[i32], values: &mut [i32], k: usize)
+    requires { ⌜ Sized (now rates) (now values) × (length (now ranges) ≡ 3 * variableLimit) × FirstStay (variablesIn (now ranges) (length (now values))) (now rates) (now values) k ⌝ }
     ensures { λ _. ⌜ now (values .exit) ≡ firstSums (now (rates .entry)) (now (values .entry)) k ⌝ }
 {
     let mut v = 0;
     while v < k {
-        values[v] = sum(lows[v], highs[v], values[v], rates[v]);
+        values[v] = sum(
+            program::low(ranges, v),
+            program::high(ranges, v),
+            values[v],
+            rates[v],
+        );
         v += 1;
     }
 }
 
 // Each value adds its rate, or none does.
-pub fn advance(lows: &[i32], highs: &[i32], rates: &[i32], values: &mut [i32]) -> Verdict
-    requires { ⌜ Sized (now lows) (now highs) (now rates) (now values) ⌝ }
-    ensures { λ r. ⌜ Gives Stay (now (values .entry)) (advanced (rangesOf (now (lows .entry)) (now (highs .entry))) (rateIn (now (rates .entry))) (now (values .entry))) r (now (values .exit)) ⌝ }
+pub fn advance(ranges: &[i32; program::RANGES], rates: &[i32], values: &mut [i32]) -> Verdict
+    requires { ⌜ Sized (now rates) (now values) ⌝ }
+    ensures { λ r. ⌜ Gives Stay (now (values .entry))
+        (advanced (variablesIn (now (ranges .entry)) (length (now (values .entry)))) (rateIn (now (rates .entry))) (now (values .entry))) r (now (values .exit)) ⌝ }
 {
-    let k = staying(lows, highs, rates, values);
-    let fit = side(lows, highs, rates, values, k);
+    // for the proof: as a slice its length is known
+    let all: &[i32] = ranges;
+    let k = staying(ranges, rates, values);
+    let fit = side(ranges, rates, values, k);
     if k == values.len() {
-        add_first(lows, highs, rates, values, k);
+        add_first(ranges, rates, values, k);
         return Verdict::Stay;
     }
     fit
@@ -131,15 +145,16 @@ pub fn advance(lows: &[i32], highs: &[i32], rates: &[i32], values: &mut [i32]) -
 fn store(
     z: i32,
     v: usize,
-    lows: &[i32],
-    highs: &[i32],
+    ranges: &[i32; program::RANGES],
     values: &mut [i32],
     done: Verdict,
 ) -> Verdict
-    requires { ⌜ (v < length (now values)) × Ranged (now lows) (now highs) (now values) ⌝ }
-    ensures { λ r. ⌜ Gives done (now (values .entry)) (stored (rangesOf (now (lows .entry)) (now (highs .entry))) (now (values .entry)) v z) r (now (values .exit)) ⌝ }
+    requires { ⌜ (v < length (now values)) × (length (now values) ≤ variableLimit) ⌝ }
+    ensures { λ r. ⌜ Gives done (now (values .entry)) (stored (variablesIn (now (ranges .entry)) (length (now (values .entry)))) (now (values .entry)) v z) r (now (values .exit)) ⌝ }
 {
-    let r = ranged(lows[v], highs[v], z as i64);
+    // for the proof: as a slice its length is known
+    let all: &[i32] = ranges;
+    let r = ranged(program::low(ranges, v), program::high(ranges, v), z as i64);
     if goes_on(r) {
         values[v] = z;
         return done;
@@ -148,13 +163,13 @@ fn store(
 }
 
 // An assignment: its operand is the variable, then the number.
-fn assign(t: &[u8], lows: &[i32], highs: &[i32], values: &mut [i32], done: Verdict) -> Verdict
-    requires { ⌜ (1 ≤ length (now t)) × (getD (now t) 0 0 < length (now values)) × Ranged (now lows) (now highs) (now values) ⌝ }
-    ensures { λ r. ⌜ Assigns (now (t .entry)) (rangesOf (now (lows .entry)) (now (highs .entry))) done (now (values .entry)) r (now (values .exit)) ⌝ }
+fn assign(t: &[u8], ranges: &[i32; program::RANGES], values: &mut [i32], done: Verdict) -> Verdict
+    requires { ⌜ (1 ≤ length (now t)) × (getD (now t) 0 0 < length (now values)) × (length (now values) ≤ variableLimit) ⌝ }
+    ensures { λ r. ⌜ Assigns (now (t .entry)) (variablesIn (now (ranges .entry)) (length (now (values .entry)))) done (now (values .entry)) r (now (values .exit)) ⌝ }
 {
     let v = t[0] as usize;
     match expression::number_value(&t[1..], values) {
-        Number::Is(z) => store(z, v, lows, highs, values, done),
+        Number::Is(z) => store(z, v, ranges, values, done),
         Number::Above => Verdict::Above,
         Number::Below => Verdict::Below,
         Number::Malformed => Verdict::Above,
@@ -163,22 +178,22 @@ fn assign(t: &[u8], lows: &[i32], highs: &[i32], values: &mut [i32], done: Verdi
 
 // What the picked node n does, by its kind and its operand.
 pub fn effect(
-    kind: u8,
+    kind: usize,
     t: &[u8],
-    lows: &[i32],
-    highs: &[i32],
+    ranges: &[i32; program::RANGES],
     n: usize,
     values: &mut [i32],
     modes: &mut [u8],
 ) -> Verdict
-    requires { ⌜ Performs kind (now t) (length (now values)) (length (now modes)) × Ranged (now lows) (now highs) (now values) ⌝ }
-    ensures { λ r. ⌜ Does kind (now (t .entry)) (rangesOf (now (lows .entry)) (now (highs .entry))) n (now (values .entry)) (now (modes .entry)) r (now (values .exit)) (now (modes .exit)) ⌝ }
+    requires { ⌜ Performs kind (now t) (length (now values)) (length (now modes)) × (length (now values) ≤ variableLimit) ⌝ }
+    ensures { λ r. ⌜ Does kind (now (t .entry)) (variablesIn (now (ranges .entry)) (length (now (values .entry))))
+        n (now (values .entry)) (now (modes .entry)) r (now (values .exit)) (now (modes .exit)) ⌝ }
 {
     match kind {
-        paper::actions::TEST => ask(t, values, Verdict::Move(n, true), Verdict::Move(n, false)),
-        paper::actions::WAIT => ask(t, values, Verdict::Move(n, true), Verdict::Away(29)),
-        paper::actions::ASSIGN => assign(t, lows, highs, values, Verdict::Move(n, true)),
-        paper::actions::SWITCH => {
+        program::kinds::TEST => ask(t, values, Verdict::Move(n, true), Verdict::Move(n, false)),
+        program::kinds::WAIT => ask(t, values, Verdict::Move(n, true), Verdict::Away(29)),
+        program::kinds::ASSIGN => assign(t, ranges, values, Verdict::Move(n, true)),
+        program::kinds::SWITCH => {
             let s = t[0] as usize;
             modes[s] = t[1];
             Verdict::Move(n, true)

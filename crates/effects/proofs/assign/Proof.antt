@@ -62,25 +62,25 @@ returns : tie.Need-returns
 returns c = let n = c .before .before .before .before .before .before in
     let F = c .before .before .before .before .z .given in
     let z = F .0 .0 in
-    record { gives = λ v e h. assigned-number _ _ _ _ _ e _ (asked n h) z _ _ (F .1) (stored-as _ _ _ _ (operand-is (n .before .before .before .before .before .args .t .now) h .0) (held z (c .before .before .before .known-told .given .0 .1)) (c .before .store .ensures)) }
+    record { gives = λ v e h. assigned-number _ _ _ _ e _ (asked n h) z _ _ (F .1) (stored-as _ _ _ (operand-is (n .before .before .before .before .before .args .t .now) h .0) (held z (c .before .before .before .known-told .given .0 .1)) (c .before .store .ensures)) }
 
 same-length-2 : tie.Need-same-length-2
 same-length-2 c = search needs
 
 returns-2 : tie.Need-returns-2
-returns-2 c = record { gives = λ v e h. assigned-above _ _ _ _ _ e _ (asked (c .before .before) h) (c .enum-told .given .1) }
+returns-2 c = record { gives = λ v e h. assigned-above _ _ _ _ e _ (asked (c .before .before) h) (c .enum-told .given .1) }
 
 same-length-3 : tie.Need-same-length-3
 same-length-3 c = search needs
 
 returns-3 : tie.Need-returns-3
-returns-3 c = record { gives = λ v e h. assigned-below _ _ _ _ _ e _ (asked (c .before .before) h) (c .enum-told2 .given .1) }
+returns-3 c = record { gives = λ v e h. assigned-below _ _ _ _ e _ (asked (c .before .before) h) (c .enum-told2 .given .1) }
 
 same-length-4 : tie.Need-same-length-4
 same-length-4 c = search needs
 
 returns-4 : tie.Need-returns-4
-returns-4 c = record { gives = λ v e h. assigned-malformed _ _ _ _ _ e _ (asked (c .before .before) h) (c .enum-told3 .given .1) }
+returns-4 c = record { gives = λ v e h. assigned-malformed _ _ _ _ e _ (asked (c .before .before) h) (c .enum-told3 .given .1) }
 
 pub assign-spec : {M : Type 1} → statement M
 assign-spec =

@@ -4,7 +4,7 @@ use Prim.Native.Nat.{_<_, _-_}
 use lib.ListN.{length}
 use borrow.Author.Tests.{not-true, not-false}
 use Rattle.effects.specs.Verdicts.{goesOn}
-use Rattle.effects.specs.Ranges.{FirstStay}
+use Rattle.effects.specs.Ranges.{variablesIn, FirstStay}
 use Rattle.effects.proofs.Adds.{none-yet, one-more}
 use borrow.Author.Needs.{needs}
 use native.Mathlib.Omega.{arith}
@@ -12,13 +12,13 @@ use Rattle.effects.proofs.staying.Statement.{statement}
 use Rattle.effects.proofs.staying.Tie as tie
 
 abbrev Inv-loop : tie.InvT-loop
-Inv-loop lows highs rates values i₀ i = FirstStay lows highs rates values i
+Inv-loop ranges rates values i₀ i = FirstStay (variablesIn ranges (length values)) rates values i
 
 abbrev μ-loop : tie.MeasureT-loop
-μ-loop lows highs rates values i₀ i = length values - i
+μ-loop ranges rates values i₀ i = length values - i
 
 loop-holds : tie.Need-loop-holds Inv-loop μ-loop
-loop-holds c = none-yet _ _ _ _
+loop-holds c = none-yet _ _ _
 
 side-requires : tie.Need-side-requires Inv-loop μ-loop
 side-requires c κs = search needs
@@ -41,7 +41,7 @@ loop-again : tie.Need-loop-again Inv-loop μ-loop
 loop-again c = let a = c .before .before in
     let l = a .before .before in
     let h : l .loop .i < length (l .before .args .values .now) = omega arith in
-    one-more _ _ _ _ (l .loop .i) h (l .loop .inv) (sym (ap goesOn (a .side .ensures .here h)) ∙ sym (c .before .goes-on .ensures) ∙ not-false _ (c .if1 .left))
+    one-more _ _ _ (l .loop .i) h (l .loop .inv) (sym (ap goesOn (a .side .ensures .here h)) ∙ sym (c .before .goes-on .ensures) ∙ not-false _ (c .if1 .left))
 
 returns-2 : tie.Need-returns-2 Inv-loop μ-loop
 returns-2 c = record { first = c .before .loop .inv; leaves = λ h. absurd (omega arith) }

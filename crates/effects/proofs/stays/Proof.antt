@@ -1,5 +1,5 @@
 -- The sum is made in 64 bits, where it fits (`wide-fits`), and then ranged.
-use mathlib.Core.Path.{ap, _∙_}
+use mathlib.Core.Path.{refl, ap, _∙_}
 use borrow.Author.Needs.{needs}
 use Rattle.semantics.specs.Expressions.{ranged, sum, applied}
 use Rattle.semantics.specs.Run.{valued}
@@ -24,7 +24,7 @@ ranged-requires c κs = search needs
 
 returns : tie.Need-returns
 unfolding applied
-returns c = let s = c .before in c .ranged .ensures ∙ ap (λ r. stepVerdict (valued r)) (held-bounds _ _ _ (s .fits .low) (s .fits .high) ∙ ap (ranged (s .args .low) (s .args .high)) (wide-is sum _ _ (s .fits .x) (s .fits .rate)))
+returns c = let s = c .before in c .ranged .ensures ∙ ap (λ r. stepVerdict (valued r)) (held-bounds _ _ _ refl refl (s .fits .low) (s .fits .high) ∙ ap (ranged (s .args .low) (s .args .high)) (wide-is sum _ _ (s .fits .x) (s .fits .rate)))
 
 pub stays-spec : {M : Type 1} → statement M
 stays-spec = tie.close (tie.spec cast-ranged cast-ranged-2 add-ranged ranged-requires returns)
