@@ -119,13 +119,13 @@ force-parts (choice c ∷ es) (n ∷ ms) {r} m = go (List·Memᴰ·append-cases 
     go (inr i) f = more (f i)
 
 -- ---- the array
-pub laid-in-force : {es places ms : List ℕ} {old new : List ℤ} → Laid old (flatMap (λ (m : Mode). m .rates) (modesFrom es places 0 ms)) new → InForce es places ms old new
-laid-in-force {es} {places} {ms} {new = new} x = record {
+pub laid-in-force : {es places ms : List ℕ} {first old new : List ℤ} → old ≡ first → Laid old (flatMap (λ (m : Mode). m .rates) (modesFrom es places 0 ms)) new → InForce es places ms first new
+laid-in-force {es} {places} {ms} {new = new} f x = rw (← f) (record {
   long = x .long;
   rates = λ eqs once e s. record {
     are = x .holds (ratesOf eqs []) s .are ∙ ap (λ (l : List Mode). ratesFrom (before (flatMap (λ (m : Mode). m .rates) l) (ratesOf eqs [])) 0 (length new)) e ∙ rates-same _ _ (same eqs once) 0 (length new);
   };
-}
+})
   where
     same : (eqs : List Equation) → drivenOnce [] eqs ≡ true → (v : ℕ) → rateAmong (before (current eqs ms) (ratesOf eqs [])) v ≡ rateAmong (ratesOf eqs ms) v
     same eqs once = same-rate _ (ratesOf eqs ms) (λ r m. in-force eqs ms (before-parts (current eqs ms) (ratesOf eqs []) m)) (λ r m. before-in (current eqs ms) (ratesOf eqs []) (force-parts eqs ms m)) (λ r q i j d. one-of [] eqs once ms i j d)

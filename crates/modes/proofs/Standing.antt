@@ -13,7 +13,8 @@ use Rattle.semantics.specs.Sections.{Rate, Switch, Mode, readRate, readSwitch, 
 use Rattle.semantics.proofs.Readers.{split, given, given-rest, guarded}
 use Rattle.codec.proofs.Reading.{nat4At, either}
 use Rattle.codec.proofs.Known.{after-byte, not-past, after-int4, not-int4, after-bytes, not-short, last, cons, Cons}
-use Rattle.modes.specs.Modes.{Stands, SwitchAt}
+use Rattle.program.specs.Lent.{Stands}
+use Rattle.modes.specs.Modes.{SwitchAt}
 
 -- ---- k values to be read from a place on
 pub record Ahead {A : Type 0} (r : Reader A) (es : List ℕ) (k p : ℕ) (l : List A) : Type 0 where

@@ -15,7 +15,8 @@ use Rattle.semantics.proofs.Facts.{true-not-false, at-exists}
 use Rattle.codec.proofs.Known.{times-length, past-end}
 use Rattle.effects.specs.Verdicts.{goesOn, truthVerdict, Left}
 use Rattle.effects.proofs.PaperNumbers.{left-away, left-above, left-below, left-stay}
-use Rattle.modes.specs.Modes.{modeAt, Stands, Asked, modesFrom, placeAt}
+use Rattle.program.specs.Lent.{Stands}
+use Rattle.modes.specs.Modes.{modeAt, Asked, modesFrom, placeAt}
 use Rattle.effects.specs.declared.Verdict.{Verdict}
 use Rattle.effects.specs.declared.Verdict.the-variants.{Away, Stay}
 use Rattle.modes.proofs.Standing.{parts, switch-bytes}

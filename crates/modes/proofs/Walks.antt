@@ -23,7 +23,8 @@ use Rattle.codec.proofs.Reading.{nat4At}
 use Rattle.plant.specs.Equations.{ratesFrom}
 use Rattle.plant.proofs.RateArrays.{rate-put}
 use Rattle.effects.specs.Verdicts.{doneVerdict, stepVerdict, goesOn, truthVerdict}
-use Rattle.modes.specs.Modes.{modeAt, Stands, SwitchAt, SwitchHere, Asked, modesFrom, placeAt, Driving, RatesIn, before, Laid}
+use Rattle.program.specs.Lent.{Stands, RatesIn}
+use Rattle.modes.specs.Modes.{modeAt, SwitchAt, SwitchHere, Asked, modesFrom, placeAt, Driving, before, Laid}
 use Rattle.effects.specs.declared.Verdict.{Verdict}
 use Rattle.effects.specs.declared.Verdict.the-variants.{Away, Stay}
 use Rattle.effects.proofs.Steps.{walk-out, walk-on, walk-then, then-out, then-on}

@@ -1,26 +1,21 @@
--- The current modes, from the places at which the modes stand in the equation section.
+-- The current modes, from the places at which the modes stand in the file.
 use mathlib.Core.Path.{_≡_}
 use mathlib.Core.Bool.{true}
 use mathlib.Core.List.{List, [], _∷_}
-use Prim.Native.Nat.{ℕ, suc, _+_, _*_, _≤_, _<_}
+use Prim.Native.Nat.{ℕ, suc, _+_, _*_, _<_}
 use lib.IntN.{ℤ}
 use lib.ListN.{length, getD, drop}
 use Rattle.semantics.specs.Bytes.{every, read}
 use Rattle.semantics.specs.Editions.{edition1}
 use Rattle.semantics.specs.Expressions.{truthValue}
-use Rattle.semantics.specs.Sections.{Rate, Switch, Mode, Equation, modeLimit, readSwitch, readMode}
+use Rattle.semantics.specs.Sections.{Rate, Switch, Mode, Equation, modeLimit, readSwitch}
 use Rattle.semantics.specs.Plant.{rateNamed, drivenOnce, selectorsOf, currentOf, ratesOf}
 use Rattle.semantics.specs.Run.{judgeSwitch}
+use Rattle.program.specs.Lent.{Stands, RatesIn}
 use Rattle.effects.specs.Verdicts.{truthVerdict, Left}
 use Rattle.effects.specs.declared.Verdict.{Verdict}
-use Rattle.plant.specs.Equations.{ratesFrom}
 -- the mode that is read at a place
 unfoldable pub use Rattle.plant.specs.Equations.{modeAt}
-
-pub record Stands (es : List ℕ) (at : ℕ) (m : Mode) : Type 0 where
-  pub inside : at ≤ length es
-  pub rest : List ℕ
-  pub reads : readMode (drop at es) ≡ read m rest
 
 -- the switch that is read at a place
 pub record SwitchAt (es : List ℕ) (at : ℕ) (w : Switch) : Type 0 where
@@ -54,10 +49,7 @@ pub record Current (es places ms : List ℕ) : Type 0 where
 pub record Driving (es places ms : List ℕ) (n : ℕ) : Type 0 where
   pub named : (j : ℕ) → j < length ms → every (rateNamed n) (modeAt es (placeAt places ms j) .rates) ≡ true
 
--- ---- an array with a rate for each variable
-pub record RatesIn (zs : List ℤ) (rs : List Rate) : Type 0 where
-  pub are : zs ≡ ratesFrom rs 0 (length zs)
-
+-- ---- rates in an array with one for each variable
 -- rates put before others one after the other: the last stands first
 unfoldable pub before : List Rate → List Rate → List Rate
 before [] l = l

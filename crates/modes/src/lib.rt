@@ -11,8 +11,10 @@ ghost use Rattle.semantics.specs.Bytes.{every};
 ghost use Rattle.semantics.specs.Sections.{Mode, Switch, variableLimit, modeLimit};
 ghost use Rattle.semantics.specs.Plant.{rateNamed};
 ghost use Rattle.semantics.specs.Run.{checkModes};
+ghost use Rattle.program.specs.Rows.{steadyRow};
+ghost use Rattle.program.specs.Lent.{Stands};
 ghost use Rattle.effects.specs.Verdicts.{stepVerdict};
-ghost use Rattle.modes.specs.Modes.{modeAt, Stands, SwitchAt, SwitchHere, Asked, placeAt, modesFrom, Current, Driving, Laid, InForce, Switched};
+ghost use Rattle.modes.specs.Modes.{modeAt, SwitchAt, SwitchHere, Asked, placeAt, modesFrom, Current, Driving, Laid, InForce, Switched};
 
 // The place of a mode's switch count: past its rates, of 5 bytes each.
 fn switches_at(es: &[u8], at: usize) -> usize
@@ -52,16 +54,23 @@ fn mode_check(es: &[u8], at: usize, values: &[i32]) -> Verdict
 }
 
 // The place of selector j's current mode.
-fn place(places: &[usize], modes: &[u8], j: usize) -> usize
+fn place(places: &[usize; program::ENTRIES], modes: &[u8], j: usize) -> usize
     requires { ⌜ (j < length (now modes)) × (modeLimit * j + getD (now modes) j 0 < length (now places)) ⌝ }
     ensures { λ r. ⌜ r ≡ placeAt (now (places .entry)) (now (modes .entry)) j ⌝ }
 {
+    // for the proof: as a slice its length is known
+    let all: &[usize] = places;
     let row = paper::MODES * j + (modes[j] as usize);
-    places[row]
+    program::mode_place(places, row)
 }
 
 // The switches of all current modes, selectors rising.
-pub fn switch_check(es: &[u8], places: &[usize], values: &[i32], modes: &[u8]) -> Verdict
+pub fn switch_check(
+    es: &[u8],
+    places: &[usize; program::ENTRIES],
+    values: &[i32],
+    modes: &[u8],
+) -> Verdict
     requires { ⌜ Current (now es) (now places) (now modes) ⌝ }
     ensures { λ r. ⌜ r ≡ stepVerdict (checkModes edition1 (modesFrom (now (es .entry)) (now (places .entry)) 0 (now (modes .entry))) (now (values .entry))) ⌝ }
 {
@@ -92,7 +101,7 @@ fn lay_rates(es: &[u8], at: usize, rates: &mut [i32])
 }
 
 // The rates of all current modes.
-fn lay_all(es: &[u8], places: &[usize], modes: &[u8], rates: &mut [i32])
+fn lay_all(es: &[u8], places: &[usize; program::ENTRIES], modes: &[u8], rates: &mut [i32])
     requires { ⌜ Current (now es) (now places) (now modes) × Driving (now es) (now places) (now modes) (length (now rates)) ⌝ }
     ensures { λ _. ⌜ Laid (now (rates .entry)) (flatMap (λ (m : Mode). m .rates) (modesFrom (now (es .entry)) (now (places .entry)) 0 (now (modes .entry)))) (now (rates .exit)) ⌝ }
 {
@@ -103,17 +112,32 @@ fn lay_all(es: &[u8], places: &[usize], modes: &[u8], rates: &mut [i32])
     }
 }
 
+// The rates of kind 1.
+fn steady(ranges: &[i32; program::RANGES]) -> [i32; paper::VARIABLES]
+    ensures { λ r. ⌜ r ≡ steadyRow (now (ranges .entry)) ⌝ }
+{
+    // for the proof: as a slice its length is known
+    let all: &[i32] = ranges;
+    let mut rates = [0; paper::VARIABLES];
+    let mut v = 0;
+    while v < paper::VARIABLES {
+        rates[v] = program::steady(ranges, v);
+        v += 1;
+    }
+    rates
+}
+
 // The rates in force: those of kind 1, and the current modes' over them.
 pub fn rates_now(
     es: &[u8],
-    places: &[usize],
-    steady: [i32; paper::VARIABLES],
+    places: &[usize; program::ENTRIES],
+    ranges: &[i32; program::RANGES],
     modes: &[u8],
 ) -> [i32; paper::VARIABLES]
     requires { ⌜ Current (now es) (now places) (now modes) × Driving (now es) (now places) (now modes) variableLimit ⌝ }
-    ensures { λ r. ⌜ InForce (now (es .entry)) (now (places .entry)) (now (modes .entry)) steady r ⌝ }
+    ensures { λ r. ⌜ InForce (now (es .entry)) (now (places .entry)) (now (modes .entry)) (steadyRow (now (ranges .entry))) r ⌝ }
 {
-    let mut rates = steady;
+    let mut rates = steady(ranges);
     lay_all(es, places, modes, &mut rates);
     rates
 }
@@ -135,7 +159,7 @@ fn switch_at(es: &[u8], at: usize, count: usize, k: usize) -> usize
 // Switch k of selector s's current mode is taken.
 pub fn take_switch(
     es: &[u8],
-    places: &[usize],
+    places: &[usize; program::ENTRIES],
     s: usize,
     k: usize,
     values: &[i32],

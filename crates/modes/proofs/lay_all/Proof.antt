@@ -16,13 +16,13 @@ loop-holds : tie.Need-loop-holds Inv-loop μ-loop
 loop-holds c = all-start
 
 place-requires : tie.Need-place-requires Inv-loop μ-loop
-place-requires c κs = (c .loop-test .taken, c .before .before .before .before .before .pre .0 .row (c .before .loop .j) (c .loop-test .taken))
+place-requires c κs = (c .loop-test .taken, c .before .before .before .before .pre .0 .row (c .before .loop .j) (c .loop-test .taken))
 
 lay-rates-requires : tie.Need-lay-rates-requires Inv-loop μ-loop
 lay-rates-requires c κs = let l = c .before .before .before in
-    let p = l .before .before .before .before .pre in
+    let p = l .before .before .before .pre in
     let h = c .before .before .loop-test .taken in
-    (stands-at (c .before .place .ensures) (p .0 .stands (l .loop .j) h), named-at (l .before .before .before .before .args .es .now) (c .before .place .ensures) (l .loop .inv .long) (p .1 .named (l .loop .j) h))
+    (stands-at (c .before .place .ensures) (p .0 .stands (l .loop .j) h), named-at (l .before .before .before .args .es .now) (c .before .place .ensures) (l .loop .inv .long) (p .1 .named (l .loop .j) h))
 
 add-j : tie.Need-add-j Inv-loop μ-loop
 add-j c = omega (arith, c .before .before .before .before .before .loop .inv .few)

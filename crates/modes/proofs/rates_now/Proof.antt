@@ -11,7 +11,7 @@ lay-all-requires : tie.Need-lay-all-requires
 lay-all-requires c κs = (c .before .before .before .before .pre .0, driving-as (slice-aggregate-lay-all c) (c .before .before .before .before .pre .1))
 
 returns : tie.Need-returns
-returns c = laid-in-force (c .before .lay-all .ensures)
+returns c = laid-in-force (c .before .before .before .steady .ensures) (c .before .lay-all .ensures)
 
 pub rates-now-spec : {M : Type 1} → statement M
-rates-now-spec = tie.close (tie.spec slice-aggregate-lay-all lay-all-requires returns)
+rates-now-spec = tie.close (tie.spec (λ c κs. search needs) slice-aggregate-lay-all lay-all-requires returns)

@@ -20,10 +20,10 @@ loop-holds : tie.Need-loop-holds Inv-loop μ-loop
 loop-holds c = (omega arith, refl)
 
 place-requires : tie.Need-place-requires Inv-loop μ-loop
-place-requires c κs = (c .loop-test .taken, c .before .before .before .before .before .pre .row (c .before .loop .j) (c .loop-test .taken))
+place-requires c κs = (c .loop-test .taken, c .before .before .before .before .pre .row (c .before .loop .j) (c .loop-test .taken))
 
 mode-check-requires : tie.Need-mode-check-requires Inv-loop μ-loop
-mode-check-requires c κs = let l = c .before .before in stands-at (c .place .ensures) (l .before .before .before .before .pre .stands (l .loop .j) (c .before .loop-test .taken))
+mode-check-requires c κs = let l = c .before .before in stands-at (c .place .ensures) (l .before .before .before .pre .stands (l .loop .j) (c .before .loop-test .taken))
 
 goes-on-requires : tie.Need-goes-on-requires Inv-loop μ-loop
 goes-on-requires c κs = search needs

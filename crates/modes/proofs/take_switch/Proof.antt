@@ -5,7 +5,8 @@ use Prim.Native.Nat.{ℕ}
 use native.Mathlib.Omega.{arith}
 use lib.ListN.{getElem?}
 use Rattle.semantics.specs.Sections.{Switch}
-use Rattle.modes.specs.Modes.{modeAt, Stands, SwitchAt, modesFrom}
+use Rattle.program.specs.Lent.{Stands}
+use Rattle.modes.specs.Modes.{modeAt, SwitchAt, modesFrom}
 use Rattle.modes.proofs.Standing.{parts, switch-bytes}
 use Rattle.modes.proofs.Walks.{stands-at}
 use Rattle.modes.proofs.Taking.{switch-there, no-switch, mode-now, no-mode, no-selector-left, no-switch-left, not-taken-left, taken-left}
@@ -14,27 +15,27 @@ use Rattle.modes.proofs.take_switch.Statement.{statement}
 use Rattle.modes.proofs.take_switch.Tie as tie
 
 -- the mode at the place that was worked out
-mode : (c : tie.After-place) → let a = c .before .before .before .before .before .before .args in Stands (a .es .now) (c .place .result) (modeAt (a .es .now) (c .place .result))
-mode c = let s = c .before .before .before .before .before .before in stands-at (c .place .ensures) (s .pre .stands (s .args .s) (c .before .before .if1 .left))
+mode : (c : tie.After-place) → let a = c .before .before .before .before .before .args in Stands (a .es .now) (c .place .result) (modeAt (a .es .now) (c .place .result))
+mode c = let s = c .before .before .before .before .before in stands-at (c .place .ensures) (s .pre .stands (s .args .s) (c .before .before .if1 .left))
 
-current : (c : tie.After-place) → let a = c .before .before .before .before .before .before .args in getElem? (modesFrom (a .es .now) (a .places .now) 0 (a .modes .now)) (a .s) ≡ some (modeAt (a .es .now) (c .place .result))
+current : (c : tie.After-place) → let a = c .before .before .before .before .before .args in getElem? (modesFrom (a .es .now) (a .places .now) 0 (a .modes .now)) (a .s) ≡ some (modeAt (a .es .now) (c .place .result))
 current c =
-    let a = c .before .before .before .before .before .before .args in
+    let a = c .before .before .before .before .before .args in
     mode-now (a .es .now) (a .places .now) (a .modes .now) (a .s) (c .before .before .if1 .left) ∙ ap (λ (i : ℕ). some (modeAt (a .es .now) i)) (sym (c .place .ensures))
 
 -- its switch
-there : (c : tie.After-switch-at) → let p = c .before .before .before .before in let a = p .before .before .before .before .before .before .args in (w : Switch) × (getElem? (modeAt (a .es .now) (p .place .result) .switches) (a .k) ≡ some w)
+there : (c : tie.After-switch-at) → let p = c .before .before .before .before in let a = p .before .before .before .before .before .args in (w : Switch) × (getElem? (modeAt (a .es .now) (p .place .result) .switches) (a .k) ≡ some w)
 there c = let p = c .before .before .before .before in
-    switch-there (mode p) (c .before .before .before .switches-at .result) (p .before .before .before .before .before .before .args .k) (c .before .before .before .switches-at .ensures) (c .before .if2 .left)
+    switch-there (mode p) (c .before .before .before .switches-at .result) (p .before .before .before .before .before .args .k) (c .before .before .before .switches-at .ensures) (c .before .if2 .left)
 
-here : (c : tie.After-switch-at) → let p = c .before .before .before .before in SwitchAt (p .before .before .before .before .before .before .args .es .now) (c .switch-at .result) (there c .0)
+here : (c : tie.After-switch-at) → let p = c .before .before .before .before in SwitchAt (p .before .before .before .before .before .args .es .now) (c .switch-at .result) (there c .0)
 here c = c .switch-at .ensures (there c .0) (there c .1)
 
 returns : tie.Need-returns
-returns c = let a = c .before .before .before .before .args in record { leaves = no-selector-left _ _ _ _ _ (no-mode (a .es .now) (a .places .now) (a .modes .now) (a .s) (c .if1 .taken)) }
+returns c = let a = c .before .before .before .args in record { leaves = no-selector-left _ _ _ _ _ (no-mode (a .es .now) (a .places .now) (a .modes .now) (a .s) (c .if1 .taken)) }
 
 place-requires : tie.Need-place-requires
-place-requires c κs = let s = c .before .before .before .before .before in (c .before .if1 .left, s .pre .row (s .args .s) (c .before .if1 .left))
+place-requires c κs = let s = c .before .before .before .before in (c .before .if1 .left, s .pre .row (s .args .s) (c .before .if1 .left))
 
 switches-at-requires : tie.Need-switches-at-requires
 switches-at-requires c κs = mode c
@@ -43,13 +44,13 @@ shared-slice-read-if2 : tie.Need-shared-slice-read-if2
 shared-slice-read-if2 c = omega (arith, parts (mode (c .before .before)) .room, c .before .switches-at .ensures)
 
 cast-if2 : tie.Need-cast-if2
-cast-if2 c = omega (arith, c .shared-slice-known3 .given (c .before .switches-at .result))
+cast-if2 c = omega (arith, c .shared-slice-known2 .given (c .before .switches-at .result))
 
 same-length : tie.Need-same-length
 same-length c = search needs
 
 returns-2 : tie.Need-returns-2
-returns-2 c = let p = c .before .before .before in record { leaves = no-switch-left _ _ _ _ _ _ (current p) (no-switch (mode p) (c .before .before .switches-at .result) (p .before .before .before .before .before .before .args .k) (c .before .before .switches-at .ensures) (c .if2 .taken)) }
+returns-2 c = let p = c .before .before .before in record { leaves = no-switch-left _ _ _ _ _ _ (current p) (no-switch (mode p) (c .before .before .switches-at .result) (p .before .before .before .before .before .args .k) (c .before .before .switches-at .ensures) (c .if2 .taken)) }
 
 switch-at-requires : tie.Need-switch-at-requires
 switch-at-requires c κs = (mode (c .before .before .before), c .before .before .switches-at .ensures, c .if2 .left)
