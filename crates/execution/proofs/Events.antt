@@ -13,6 +13,7 @@ use Rattle.semantics.specs.Events as Events
 use Rattle.semantics.specs.Run as Run
 use Rattle.semantics.specs.Run.{Action, test, wait, assign, switch, stop, away, faulty, pass, _>>=_, _>>_, allow, valued, nobody, mover, Done, isWait, waitTruth, checkWaits, checkModes, assigned, act, judgeSwitch, switchCheck, judgeTick, judgePick, judge}
 use Rattle.semantics.proofs.Facts.{true-not-false}
+use Rattle.codec.specs.Parts.{between}
 use Rattle.nodeset.specs.Sets.{mem, members}
 use Rattle.nodeset.proofs.Members.{among-set}
 use Rattle.event.specs.Decoded.{eventOf}
@@ -127,6 +128,12 @@ module _ (p : Plant) (f : ℕ → Action) (l : Lent) (ws : List ℕ) (vs : List 
 
   -- ---- a pick
   module _ (n : ℕ) where
+    -- what the index has of node n
+    pub record Looked (k b d : ℕ) : Type 0 where
+      pub kind : k ≡ getD (l .kinds) n 0
+      pub start : b ≡ getD (l .starts) n 0
+      pub end : d ≡ getD (l .ends) n 0
+
     abbrev pick : Run.Verdict Done
     pick = judge edition1 p f (members ws) vs ms (Events.pick n)
 
@@ -142,13 +149,13 @@ module _ (p : Plant) (f : ℕ → Action) (l : Lent) (ws : List ℕ) (vs : List 
       pub pick-28 : goesOn r ≡ false → Left pick vs ms r vs ms
       pick-28 g = left-eq vs ms (pick-is h) (left-out vs ms check (act edition1 (p .variables) vs ms n (f n)) e g)
 
-      pub pick-end : goesOn r ≡ true → {x : Verdict} {ys : List ℤ} {ns : List ℕ} → Does (getD (l .kinds) n 0) (operandAt l n) (variablesOf l (length vs)) n vs ms x ys ns → Left pick vs ms x ys ns
-      pick-end g x = left-eq vs ms (pick-is h ∙ then-on check (act edition1 (p .variables) vs ms n (f n)) r e g ∙ act-same p l (q .plant) vs (q .fits .values) ms n (f n)) (x .leaves (f n) (q .nodes n h .is))
+      pub pick-end : goesOn r ≡ true → {k b d : ℕ} → Looked k b d → {x : Verdict} {ys : List ℤ} {ns : List ℕ} → Does k (between b d (l .bytes)) (variablesOf l (length vs)) n vs ms x ys ns → Left pick vs ms x ys ns
+      pick-end g o {x} {ys} {ns} y = let w : Does (getD (l .kinds) n 0) (operandAt l n) (variablesOf l (length vs)) n vs ms x ys ns = rw (← o .kind, ← o .start, ← o .end) y in left-eq vs ms (pick-is h ∙ then-on check (act edition1 (p .variables) vs ms n (f n)) r e g ∙ act-same p l (q .plant) vs (q .fits .values) ms n (f n)) (w .leaves (f n) (q .nodes n h .is))
 
-    pub pick-performs : mem ws n ≡ true → Performs (getD (l .kinds) n 0) (operandAt l n) (length vs) (length ms)
-    pick-performs e =
+    pub pick-performs : mem ws n ≡ true → {k b d : ℕ} → Looked k b d → Performs k (between b d (l .bytes)) (length vs) (length ms)
+    pick-performs e o =
         let x = q .nodes n e in
-        rw (q .fits .values, q .fits .modes) (record {
+        rw (o .kind, o .start, o .end, q .fits .values, q .fits .modes) (record {
           action = f n;
           is = x .is;
           assigns = variable-known (length (p .variables)) (selectors p) (x .fits);

@@ -132,13 +132,13 @@ module _ (p : Plant) (action : ℕ → Action) (l : Lent) (ws : List ℕ) (vs : 
       let eqn = modes-current p l (q .plant) vs ms f in
       let i = inside-modes s (at-below (currentModes p ms) s e) in
       let x = here p l (q .plant) vs ms f s i in
-      let mode-is : modeAt (l .equations) (placeAt (l .places) ms s) ≡ m = some-is (sym (mode-now (l .equations) (l .places) ms s i) ∙ ap (λ z. getElem? z s) eqn ∙ e) in
+      let mode-is : modeAt (l .bytes) (placeAt (l .places) ms s) ≡ m = some-is (sym (mode-now (l .bytes) (l .places) ms s i) ∙ ap (λ z. getElem? z s) eqn ∙ e) in
       let n = mode-targets-named _ _ _ (mode-named p l (q .plant) vs ms f s i) in
-      let targets = every-all (switchNamed (length (x .selector .modes))) (modeAt (l .equations) (placeAt (l .places) ms s) .switches) n in
-      record { selector = x .selector; is = x .is; small = ltb-true (w .target) (length (x .selector .modes)) (all-mem targets (at-mem (modeAt (l .equations) (placeAt (l .places) ms s) .switches) k (ap (λ (z : Mode). getElem? (z .switches) k) mode-is ∙ g))) }
+      let targets = every-all (switchNamed (length (x .selector .modes))) (modeAt (l .bytes) (placeAt (l .places) ms s) .switches) n in
+      record { selector = x .selector; is = x .is; small = ltb-true (w .target) (length (x .selector .modes)) (all-mem targets (at-mem (modeAt (l .bytes) (placeAt (l .places) ms s) .switches) k (ap (λ (z : Mode). getElem? (z .switches) k) mode-is ∙ g))) }
     where
       inside-modes : (s : ℕ) → s < length (currentModes p ms) → s < length ms
-      inside-modes s h = let j = ap length (sym (modes-current p l (q .plant) vs ms (q .fits))) in omega (arith, modes-length (l .equations) (l .places) 0 ms)
+      inside-modes s h = let j = ap length (sym (modes-current p l (q .plant) vs ms (q .fits))) in omega (arith, modes-length (l .bytes) (l .places) 0 ms)
 
   switch-keeps : (s k : ℕ) → Keeps p (judgeSwitch edition1 (currentModes p ms) vs ms s k)
   unfolding judgeSwitch

@@ -1,5 +1,5 @@
 -- The code's walks over the acting nodes, from one to the next.
-use mathlib.Core.Path.{_≡_, refl, sym, ap, _∙_}
+use mathlib.Core.Path.{_≡_, refl, sym, ap, ap₂, _∙_}
 use mathlib.Core.Bool.{Bool, true, false, not}
 use mathlib.Core.List.{List, [], _∷_, map}
 use Prim.Native.Nat.{ℕ, _+_, _-_, _≤_, _<_}
@@ -13,6 +13,7 @@ use Rattle.semantics.specs.Expressions.{Value, ok, fault, above, below, truthVa
 use Rattle.semantics.specs.Run as Run
 use Rattle.semantics.specs.Run.{Action, _>>=_, _>>_, allow, valued, isWait, walk, checkWaits}
 use Rattle.semantics.specs.TableFile.{WAIT}
+use Rattle.codec.specs.Parts.{between, partAt}
 use Rattle.nodeset.specs.Sets.{mem, members, NextIn}
 use Rattle.nodeset.proofs.Members.{no-more}
 use Rattle.nodeset.proofs.Firsts.{membersOn, on-start, on-next, on-member}
@@ -41,8 +42,8 @@ module _ {ws : List ℕ} (few : Few ws) where
   on-here : (n : ℕ) → n < 64 → At ws n → membersOn ws n ≡ n ∷ membersOn ws (n + 1)
   on-here n h x = on-member ws n (omega arith) (x .member h)
 
-  on-behind : {n m : ℕ} → NextIn ws (n + 1) 64 m → membersOn ws (n + 1) ≡ membersOn ws m
-  on-behind {n} x = on-next ws (n + 1) 64 (few .below) x
+  on-behind : (n : ℕ) {m : ℕ} → NextIn ws (n + 1) 64 m → membersOn ws (n + 1) ≡ membersOn ws m
+  on-behind n x = on-next ws (n + 1) 64 (few .below) x
 
 -- ---- all of them are waits
 -- is node n a wait, by its kind?
@@ -52,23 +53,24 @@ isWaitKind kinds n = eqb (getD kinds n 0) WAIT
 pub kinds-wait : (f : ℕ → Action) (ks ws : List ℕ) → KindsOf f ks ws → every (isWaitKind ks) (members ws) ≡ every (λ n. isWait (f n)) (members ws)
 kinds-wait f ks ws k = sym (every-member ws (λ n. isWait (f n)) (isWaitKind ks) (λ n e. wait-kind (getD ks n 0) (k .each n e .0) (k .each n e .1)))
 
-module _ (ks ws : List ℕ) (few : Few ws) where
-  abbrev pub all : ℕ → Bool
-  all n = every (isWaitKind ks) (membersOn ws n)
+-- those from n on
+abbrev pub all : List ℕ → List ℕ → ℕ → Bool
+all ks ws n = every (isWaitKind ks) (membersOn ws n)
 
-  pub all-start : {m : ℕ} → NextIn ws 0 64 m → every (isWaitKind ks) (members ws) ≡ all m
+module _ (ks ws : List ℕ) (few : Few ws) where
+  pub all-start : {m : ℕ} → NextIn ws 0 64 m → every (isWaitKind ks) (members ws) ≡ all ks ws m
   all-start x = ap (every (isWaitKind ks)) (on-first few x)
 
   module _ (n : ℕ) (h : n < 64) (x : At ws n) where
-    pub all-out : isWaitKind ks n ≡ false → all n ≡ false
+    pub all-out : isWaitKind ks n ≡ false → all ks ws n ≡ false
     unfolding every
     all-out e = ap (every (isWaitKind ks)) (on-here few n h x) ∙ rw (e, every) refl
 
-    pub all-on : {m : ℕ} → NextIn ws (n + 1) 64 m → isWaitKind ks n ≡ true → all n ≡ all m
+    pub all-on : {m : ℕ} → NextIn ws (n + 1) 64 m → isWaitKind ks n ≡ true → all ks ws n ≡ all ks ws m
     unfolding every
-    all-on g e = ap (every (isWaitKind ks)) (on-here few n h x) ∙ rw (e, every) (ap (every (isWaitKind ks)) (on-behind few g))
+    all-on g e = ap (every (isWaitKind ks)) (on-here few n h x) ∙ rw (e, every) (ap (every (isWaitKind ks)) (on-behind few n g))
 
-  pub all-end : (n : ℕ) → 64 ≤ n → all n ≡ true
+  pub all-end : (n : ℕ) → 64 ≤ n → all ks ws n ≡ true
   unfolding every
   all-end n e = ap (every (isWaitKind ks)) (on-end few n e)
 
@@ -84,23 +86,29 @@ still-one vs t = go (truthValue edition1 vs t)
     go (fault above) = refl
     go (fault below) = refl
 
-module _ (vs : List ℤ) (cut : ℕ → List ℕ) (ws : List ℕ) (few : Few ws) where
-  abbrev pub stillFrom : ℕ → Run.Verdict (Unit {0})
-  stillFrom n = checkWaits edition1 vs (map cut (membersOn ws n))
+-- its operand lies where the index has it
+pub still-asked : (vs : List ℤ) (t starts ends : List ℕ) (n : ℕ) {b e : ℕ} {r : Verdict} → b ≡ getD starts n 0 → e ≡ getD ends n 0 → r ≡ truthVerdict (Away 31) Stay (truthValue edition1 vs (between b e t))
+    → r ≡ stepVerdict (checkWaits edition1 vs (partAt t starts ends n ∷ []))
+still-asked vs t starts ends n p q h = h ∙ ap₂ (λ (b e : ℕ). truthVerdict (Away 31) Stay (truthValue edition1 vs (between b e t))) p q ∙ still-one vs (partAt t starts ends n)
 
+-- those from n on
+abbrev pub stillFrom : List ℤ → (ℕ → List ℕ) → List ℕ → ℕ → Run.Verdict (Unit {0})
+stillFrom vs cut ws n = checkWaits edition1 vs (map cut (membersOn ws n))
+
+module _ (vs : List ℤ) (cut : ℕ → List ℕ) (ws : List ℕ) (few : Few ws) where
   abbrev asks : List ℕ → Run.Verdict (Unit {0})
   asks l = checkWaits edition1 vs (map cut l)
 
-  pub still-start : {m : ℕ} → NextIn ws 0 64 m → checkWaits edition1 vs (map cut (members ws)) ≡ stillFrom m
+  pub still-start : {m : ℕ} → NextIn ws 0 64 m → checkWaits edition1 vs (map cut (members ws)) ≡ stillFrom vs cut ws m
   still-start x = ap asks (on-first few x)
 
   module _ (n : ℕ) (h : n < 64) (x : At ws n) (r : Verdict) (e : r ≡ stepVerdict (checkWaits edition1 vs (cut n ∷ []))) where
-    pub still-out : goesOn r ≡ false → r ≡ stepVerdict (stillFrom n)
+    pub still-out : goesOn r ≡ false → r ≡ stepVerdict (stillFrom vs cut ws n)
     still-out f = walk-out 31 vs (cut n) (map cut (membersOn ws (n + 1))) r (e ∙ sym (still-one vs (cut n))) f ∙ sym (ap (λ l. stepVerdict (asks l)) (on-here few n h x))
 
-    pub still-on : {m : ℕ} → NextIn ws (n + 1) 64 m → goesOn r ≡ true → stillFrom n ≡ stillFrom m
-    still-on g f = ap asks (on-here few n h x) ∙ walk-on 31 vs (cut n) (map cut (membersOn ws (n + 1))) r (e ∙ sym (still-one vs (cut n))) f ∙ ap asks (on-behind few g)
+    pub still-on : {m : ℕ} → NextIn ws (n + 1) 64 m → goesOn r ≡ true → stillFrom vs cut ws n ≡ stillFrom vs cut ws m
+    still-on g f = ap asks (on-here few n h x) ∙ walk-on 31 vs (cut n) (map cut (membersOn ws (n + 1))) r (e ∙ sym (still-one vs (cut n))) f ∙ ap asks (on-behind few n g)
 
-  pub still-end : (n : ℕ) → 64 ≤ n → Stay ≡ stepVerdict (stillFrom n)
+  pub still-end : (n : ℕ) → 64 ≤ n → Stay ≡ stepVerdict (stillFrom vs cut ws n)
   unfolding walk doneVerdict
   still-end n e = sym (ap (λ l. stepVerdict (asks l)) (on-end few n e))

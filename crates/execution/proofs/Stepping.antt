@@ -115,7 +115,7 @@ module _ {S : Type 0} {c : Control S} {Place : S → Type 0} {ws : List ℕ} whe
   -- every member acts at a place
   pub shown-member : {o : Option S} → Shows c Place ws o → (n : ℕ) → mem ws n ≡ true → (x : S) × ((o ≡ some x) × Place x × (among n (c .acting x) ≡ true))
   unfolding among
-  shown-member (at-place {x = x} h e w) n m = (x, refl, h, ap (among n) (sym e) ∙ among-set w n ∙ m)
+  shown-member (at-place {x = x} h e w) n m = (x, (refl, h, ap (among n) (sym e) ∙ among-set w n ∙ m))
   shown-member (at-end e w) n m = true-not-false (sym m ∙ sym (among-set w n) ∙ ap (among n) e)
 
 -- the place, where the run is not over

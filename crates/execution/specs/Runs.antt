@@ -32,16 +32,16 @@ pub data Shows {S : Type 0} (c : Control S) (here : S → Type 0) (ws : List ℕ
 
 -- ---- one event
 -- a move that leads there is answered n, and the run then stands so
-pub record Arrives {S : Type 0} (stands : Option S → Type 0) (x : Next S) (n : ℕ) : Type 0 where
+pub record Arrives {S : Type 0} (Stood : Option S → Type 0) (x : Next S) (n : ℕ) : Type 0 where
   pub place : Option S
   pub is : (s : Situation S) (vs : List ℤ) (ms : List ℕ) → arrive s x vs ms ≡ leaves n place vs ms
-  pub stands : stands place
+  pub stands : Stood place
 
 -- the event e at place o, with these values and modes, is answered n and leaves that; the run then stands so
-pub record Steps {S : Type 0} (g : Program S) (stands : Option S → Type 0) (o : Option S) (vs : List ℤ) (ms : List ℕ) (e : Event) (n : ℕ) (vs' : List ℤ) (ms' : List ℕ) : Type 0 where
+pub record Steps {S : Type 0} (g : Program S) (Stood : Option S → Type 0) (o : Option S) (vs : List ℤ) (ms : List ℕ) (e : Event) (n : ℕ) (vs' : List ℤ) (ms' : List ℕ) : Type 0 where
   pub place : Option S
   pub is : stepOn edition1 (g .plant) (g .control) (record { place = o; values = vs; modes = ms }) (eventOf e) ≡ leaves n place vs' ms'
-  pub stands : stands place
+  pub stands : Stood place
 
 -- ---- the loop
 -- a run may start with these values and modes, and d has room for its records
@@ -66,7 +66,7 @@ pub record RunSoFar {S : Type 0} (g : Program S) (st₀ : Start) (events d₀ : 
   pub fits : Fits (g .plant) (st .values) (st .modes)
 
 -- the same, and where the run stands
-pub record Going {S : Type 0} (g : Program S) (stands : Option S → Type 0) (st₀ : Start) (events d₀ : List ℕ) (k i : ℕ) (cs : Counts) (vs : List ℤ) (ms d : List ℕ) : Type 0 where
+pub record Going {S : Type 0} (g : Program S) (Stood : Option S → Type 0) (st₀ : Start) (events d₀ : List ℕ) (k i : ℕ) (cs : Counts) (vs : List ℤ) (ms d : List ℕ) : Type 0 where
   pub place : Option S
-  pub stands : stands place
+  pub stands : Stood place
   pub so-far : RunSoFar g st₀ events d₀ k i (record { place = place; values = vs; modes = ms }) cs d

@@ -114,6 +114,7 @@ module _ {l : Lent} {ls fs ws : List ℕ} {vs : List ℤ} {ms : List ℕ} where
     step-at {v} {vs'} {ms'} {a} {ws'} h k m =
         let q = here-at s i g h in
         let r = ready s d (q .2) f in
-        let left = k (s .plant) (ruleControl s .action) r in
-        (subst (λ (o : Option Residual). Steps (programOf s) (StandsFor s ws') o vs ms e a vs' ms') (sym (q .1)) (m s (q .0) (q .2) vs ms e vs' ms' left),
-         fits-left (s .plant) (ruleControl s .action) l ws vs ms r (eventOf e) left)
+        let left = k (s .plant) (ruleControl s .action) r in (
+          subst (λ (o : Option Residual). Steps (programOf s) (StandsFor s ws') o vs ms e a vs' ms') (sym (q .1)) (m s (q .0) (q .2) vs ms e vs' ms' left),
+          fits-left (s .plant) (ruleControl s .action) l ws vs ms r (eventOf e) left,
+        )

@@ -180,6 +180,7 @@ module _ {s ix : List ℕ} {rs : List ℤ} {x : ℕ} {ws : List ℕ} {vs : List 
     step-at {v} {vs'} {ms'} {a} {ws'} h k m =
         let q = here-at t d g h in
         let r = ready t d (q .1) f in
-        let left = k (t .plant) (tableControl t .action) r in
-        (subst (λ (o : Option ℕ). Steps (programOfTable t) (StandsFor t (a .place) ws') o vs ms e (a .answer) vs' ms') (sym (q .0)) (m rs t (movable-here t e d (q .1) f k) (q .1) vs ms e vs' ms' left),
-         fits-left (t .plant) (tableControl t .action) (lent s ix rs) ws vs ms r (eventOf e) left)
+        let left = k (t .plant) (tableControl t .action) r in (
+          subst (λ (o : Option ℕ). Steps (programOfTable t) (StandsFor t (a .place) ws') o vs ms e (a .answer) vs' ms') (sym (q .0)) (m rs t (movable-here t e d (q .1) f k) (q .1) vs ms e vs' ms' left),
+          fits-left (t .plant) (tableControl t .action) (lent s ix rs) ws vs ms r (eventOf e) left,
+        )

@@ -53,7 +53,13 @@ fn moved(
 }
 
 // What a judged event makes of location x and its acting nodes.
-fn settled(t: &[u8], ix: &[usize; program::ENTRIES], x: usize, v: Verdict, acting: &mut [u64; 4]) -> Stepped
+fn settled(
+    t: &[u8],
+    ix: &[usize; program::ENTRIES],
+    x: usize,
+    v: Verdict,
+    acting: &mut [u64; 4],
+) -> Stepped
     requires { ⌜ Moving (now t) (now ix) x v (now acting) ⌝ }
     ensures { λ r. ⌜ Settled (now (t .entry)) (now (ix .entry)) x v (now (acting .entry)) r (now (acting .exit)) ⌝ }
 {

@@ -1,29 +1,28 @@
 -- The stages of a tick, each by its law of Events.
 use mathlib.Core.Path.{_≡_, sym, _∙_}
 use mathlib.Core.Bool.{true}
-use borrow.Author.Tests.{not-true, not-false}
 use Prim.Native.Nat.{ℕ}
+use borrow.Author.Needs.{needs}
+use borrow.Author.Tests.{not-true, not-false}
 use Rattle.semantics.specs.Bytes.{every}
 use Rattle.semantics.specs.Run.{Action, isWait}
 use Rattle.nodeset.specs.Sets.{members}
+use Rattle.program.specs.Rows.{kindRow}
 use Rattle.execution.specs.Operands.{KindsOf}
 use Rattle.execution.proofs.Lending.{is-current, is-driving, is-sized}
-use Rattle.execution.proofs.Events.{kinds-of, tick-27, tick-28, tick-31, tick-end}
-use borrow.Author.Needs.{needs}
+use Rattle.execution.proofs.Events.{few-acting, cut-acting, kinds-of, tick-27, tick-28, tick-31, tick-end}
 use Rattle.execution.proofs.tick.Statement.{statement}
 use Rattle.execution.proofs.tick.Tie as tie
 
 -- where the function starts
 abbrev start : tie.Else1 → tie.Start
-start c = let k = c .before .before .before .before in k .before .before .before .before .before
+start c = c .before .before .before .before
 
-all : (c : tie.Else1) (f : ℕ → Action) → KindsOf f (start c .args .kinds .now) (start c .args .acting .words) → every (λ n. isWait (f n)) (members (start c .args .acting .words)) ≡ true
+all : (c : tie.Else1) (f : ℕ → Action) → KindsOf f (kindRow (start c .args .ix .now)) (start c .args .acting .now) → every (λ n. isWait (f n)) (members (start c .args .acting .now)) ≡ true
 all c f k = sym (c .before .all-wait .ensures f k) ∙ not-false _ (c .if1 .left)
 
 all-wait-requires : tie.Need-all-wait-requires
-all-wait-requires c κs =
-    let p = c .before .before .before .before .before .before .before .pre in
-    (λ n e. (let x = p .ready .nodes n e in (x .below, x .kind)), (p .action, kinds-of _ _ _ _ _ _ (p .ready)))
+all-wait-requires c κs = let p = c .before .before .pre in (few-acting _ _ _ _ _ _ (p .ready), (p .action, kinds-of _ _ _ _ _ _ (p .ready)))
 
 returns : tie.Need-returns
 returns c = λ p f q. tick-27 _ _ _ _ _ _ q (sym (c .before .all-wait .ensures f (kinds-of _ _ _ _ _ _ q)) ∙ not-true _ (c .if1 .taken))
@@ -31,23 +30,11 @@ returns c = λ p f q. tick-27 _ _ _ _ _ _ q (sym (c .before .all-wait .ensures f
 switch-check-requires : tie.Need-switch-check-requires
 switch-check-requires c κs = let r = start (c .before) .pre .ready in is-current _ _ (r .plant) _ _ (r .fits)
 
-goes-on-requires : tie.Need-goes-on-requires
-goes-on-requires c κs = search needs
-
-same-length : tie.Need-same-length
-same-length c = search needs
-
 returns-2 : tie.Need-returns-2
 returns-2 c = λ p f q. tick-28 _ _ _ _ _ _ q (all (c .before .before .before .before) f (kinds-of _ _ _ _ _ _ q)) _ (c .before .before .switch-check .ensures) (sym (c .before .goes-on .ensures) ∙ not-true _ (c .if2 .taken))
 
 all-still-requires : tie.Need-all-still-requires
-all-still-requires c κs = λ n e. let x = start (c .before .before .before .before .before) .pre .ready .nodes n e in (x .below, x .cut)
-
-goes-on-requires-2 : tie.Need-goes-on-requires-2
-goes-on-requires-2 c κs = search needs
-
-same-length-2 : tie.Need-same-length-2
-same-length-2 c = search needs
+all-still-requires c κs = let r = start (c .before .before .before .before .before) .pre .ready in (few-acting _ _ _ _ _ _ r, cut-acting _ _ _ _ _ _ r)
 
 returns-3 : tie.Need-returns-3
 returns-3 c = let i = c .before .before .before .before in
@@ -56,16 +43,10 @@ returns-3 c = let i = c .before .before .before .before in
 rates-now-requires : tie.Need-rates-now-requires
 rates-now-requires c κs = let k = c .before .before .before .before in let r = start (k .before .before .before .before) .pre .ready in (is-current _ _ (r .plant) _ _ (r .fits), is-driving _ _ (r .plant) _ _ (r .fits))
 
-slice-aggregate-advance : tie.Need-slice-aggregate-advance
-slice-aggregate-advance c = search needs
-
 advance-requires : tie.Need-advance-requires
-advance-requires c κs = let k = c .before .before .before .before .before in
-    let r = start (k .before .before .before .before .before .before) .pre .ready in
+advance-requires c κs = let k = c .before .before .before in
+    let r = start (k .before .before .before .before .before .before .before .before) .pre .ready in
     is-sized _ _ (r .plant) _ _ (r .fits) _ (c .before .before .rates-now .ensures)
-
-same-length-3 : tie.Need-same-length-3
-same-length-3 c = search needs
 
 returns-4 : tie.Need-returns-4
 returns-4 c = let j = c .before .before .before .before .before in
@@ -75,5 +56,5 @@ returns-4 c = let j = c .before .before .before .before .before in
 pub tick-spec : {M : Type 1} → statement M
 tick-spec =
     tie.close
-    (tie.spec all-wait-requires returns switch-check-requires goes-on-requires same-length returns-2 all-still-requires goes-on-requires-2 same-length-2
-    returns-3 rates-now-requires slice-aggregate-advance advance-requires same-length-3 returns-4)
+    (tie.spec all-wait-requires returns switch-check-requires (λ c κs. search needs) (λ c. search needs) returns-2 all-still-requires (λ c κs. search needs) (λ c. search needs)
+    returns-3 rates-now-requires (λ c. search needs) advance-requires (λ c. search needs) returns-4)
