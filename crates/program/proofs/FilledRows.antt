@@ -5,11 +5,12 @@ use Prim.Native.Nat.{ℕ, _+_, _-_, _≤_, _<_}
 use native.Mathlib.Nat.{zero-add}
 use native.Mathlib.Omega.{arith}
 use lib.IntN.{ℤ, pos}
-use lib.ListN.{length, getD, replicate, length-map, length-append}
+use lib.ListN.{length, getD, drop, replicate, length-map, length-append}
 use lib.Seq.{sets, length-sets}
 use Rattle.codec.specs.Padding.{pad}
 use Rattle.codec.proofs.Padding.{pad-none, sets-pad}
 use Rattle.plant.specs.declared.sections.PlantRead.{PlantRead}
+use Rattle.program.specs.Rows.{locationRow}
 use Rattle.program.specs.Filled.{shiftedBy, Filled}
 use Rattle.program.proofs.Rows.{row-at}
 use Rattle.program.proofs.Stores.{before-row, in-row, map-at}
@@ -55,6 +56,30 @@ module _ (p : PlantRead) (ks ss es : List ℕ) (e o : ℕ) (ix₀ : List ℕ) {i
     kinds = λ n h. sym (row-at 256 ix n 0) ∙ left₂ (256 + n) (omega arith) ∙ ap (λ z. getD z (256 + n) 0) b ∙ in-row 0 ks ix₁ 256 n (omega (arith, long₁)) (omega arith);
     starts = λ n h. sym (row-at 512 ix n 0) ∙ left₃ (512 + n) (omega arith) ∙ ap (λ z. getD z (512 + n) 0) c ∙ place-in ix₂ ss 512 o (omega arith) long₂ n (omega arith);
     ends = λ n h. sym (row-at 768 ix n 0) ∙ ap (λ z. getD z (768 + n) 0) d ∙ place-in ix₃ es 768 o (omega arith) long₃ n (omega arith);
+  }
+
+-- the row of locations, which `put_locations` fills
+module _ (ix ps : List ℕ) (by : ℕ) where
+  abbrev located : List ℕ
+  located = sets ix 1024 (map (shiftedBy by) ps)
+
+  pub location-in : length ix ≡ 2048 → length ps ≤ 1024 → (k : ℕ) → k < length ps → getD (locationRow located) k 0 ≡ shiftedBy by (getD ps k 0)
+  location-in l h k b = sym (row-at 1024 located k 0) ∙ place-in ix ps 1024 by (omega arith) l k b
+
+  left : (k : ℕ) → k < 1024 → getD located k 0 ≡ getD ix k 0
+  left k h = before-row 0 (map (shiftedBy by) ps) ix 1024 k h
+
+  left-row : (i n : ℕ) → i + n < 1024 → getD (drop i located) n 0 ≡ getD (drop i ix) n 0
+  left-row i n h = sym (row-at i located n 0) ∙ left (i + n) h ∙ row-at i ix n 0
+
+  -- the others stay
+  pub filled-still : {p : PlantRead} {ks ss es : List ℕ} {e o : ℕ} → Filled p ks ss es e o ix → length (p .«mode_offsets») ≤ 256 → length ks ≤ 256 → length ss ≤ 256 → length es ≤ 256 → Filled p ks ss es e o located
+  filled-still x a b c d = record {
+    long = length-sets ix 1024 (map (shiftedBy by) ps) ∙ x .long;
+    modes = λ k h. left k (omega arith) ∙ x .modes k h;
+    kinds = λ n h. left-row 256 n (omega arith) ∙ x .kinds n h;
+    starts = λ n h. left-row 512 n (omega arith) ∙ x .starts n h;
+    ends = λ n h. left-row 768 n (omega arith) ∙ x .ends n h;
   }
 
 -- the three rows that `ranges` fills
