@@ -7,3 +7,4 @@ pub mod FoundNodes
 pub mod Stages
 pub mod Promises
 pub mod NodeActions
+pub mod LentSchedule

@@ -134,13 +134,17 @@ module _ (kinds : List ℕ) where
 
 -- what stands at a node that is there, and at any other number
 module _ {s kinds starts ends : List ℕ} {count : ℕ} {ns : List Node} (d : NodesAt s kinds starts ends count ns) where
-  pub action-is : {acts : List ℕ} → ActionKinds kinds count acts → (n : ℕ) → n < count →
-      TableFile.actionOfKind (actionKind (getD acts n 0)) (take (getD ends n 0 - getD starts n 0) (drop (getD starts n 0) s)) ≡ actionAt (actionsOf ns) n
+  pub action-by : (n : ℕ) {k : ℕ} → n < count → ActsAs (getD kinds n 0) k →
+      TableFile.actionOfKind (actionKind k) (take (getD ends n 0 - getD starts n 0) (drop (getD starts n 0) s)) ≡ actionAt (actionsOf ns) n
   unfolding bind
-  action-is a n h =
+  action-by n h a =
       let x = at-exists ns n (omega (arith, d .counted)) in
       let e = d .entries n h .node ∙ x .1 in
-      rw (a .each n h .made _ .of (x .0) e) (action-made _ _ e) ∙ sym (action-of-node ns n ∙ ap (λ o. bind o actionOf) (x .1))
+      rw (a .made _ .of (x .0) e) (action-made _ _ e) ∙ sym (action-of-node ns n ∙ ap (λ o. bind o actionOf) (x .1))
+
+  pub action-is : {acts : List ℕ} → ActionKinds kinds count acts → (n : ℕ) → n < count →
+      TableFile.actionOfKind (actionKind (getD acts n 0)) (take (getD ends n 0 - getD starts n 0) (drop (getD starts n 0) s)) ≡ actionAt (actionsOf ns) n
+  action-is a n h = action-by n h (a .each n h)
 
   pub action-beyond : (n : ℕ) → count ≤ n → actionAt (actionsOf ns) n ≡ none
   unfolding bind

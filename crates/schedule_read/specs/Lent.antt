@@ -1,15 +1,26 @@
 -- A schedule that is lent to a run: what the reader promises of its file's bytes, index and ranges.
 use mathlib.Core.Path.{_≡_}
 use mathlib.Core.Bool.{true}
-use Prim.Native.Nat.{ℕ}
+use mathlib.Core.List.{List}
+use Prim.Native.Nat.{ℕ, _^_, _<_}
+use lib.ListN.{length}
+use Rattle.semantics.specs.Editions.{edition1}
+use Rattle.semantics.specs.Refusals.{accepted}
 use Rattle.semantics.specs.Plant.{among}
 use Rattle.schedules.specs.Nodes.{nodeAction}
 use Rattle.schedules.specs.Residuals.{Residual, acting}
-use Rattle.schedules.specs.Files.{Schedule}
+use Rattle.schedules.specs.Files.{Schedule, judgeFile}
 use Rattle.schedules.specs.Reached.{Of}
-use Rattle.program.specs.Lent.{Lent, PlantLent, NodeLent}
+use Rattle.program.specs.Lent.{Lent, lent, PlantLent, NodeLent}
+use Rattle.program.specs.declared.Program.{Program}
+use Rattle.schedule_read.specs.declared.call.ScheduleIndex.{ScheduleIndex}
+use Rattle.schedule_read.specs.ScheduleFile.{ScheduleIndexed}
 
 -- the arrays hold the schedule: its plant, and what each node does that acts in a residual of its tree
 pub record ScheduleLent (s : Schedule) (l : Lent) : Type 0 where
   pub plant : PlantLent (s .plant) l
   pub nodes : (r : Residual) → Of (s .root) r → (n : ℕ) → among n (acting r) ≡ true → NodeLent (s .plant) (nodeAction (s .nodes) n) l n
+
+-- x is the index of an accepted file, and r lends it together with the file's bytes
+abbrev pub SchedulePrograms : ScheduleIndex → Program → Type 0
+SchedulePrograms x r = (f : List ℕ) (s : Schedule) → ScheduleIndexed f x → length f < 2 ^ 64 → judgeFile edition1 f ≡ accepted s → ScheduleLent s (lent f (r .index) (r .ranges))

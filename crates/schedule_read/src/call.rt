@@ -4,6 +4,8 @@ ghost use Rattle.semantics.specs.Editions.{edition1};
 ghost use Rattle.schedules.specs.Calls.{readSchedule};
 ghost use Rattle.schedule_read.specs.Indexed.{Indexed};
 ghost use Rattle.schedule_read.specs.ScheduleFile.{numbers, noSchedule, SectionsIndexed, ScheduleIndexed, Planted, NodesJudged};
+ghost use Rattle.schedule_read.specs.Lent.{SchedulePrograms};
+use super::actions;
 use super::assignments;
 use super::names;
 use super::operands;
@@ -11,6 +13,8 @@ use super::parts;
 use super::parts::Parts;
 use plant::equations::both;
 use plant::sections::PlantRead;
+use program::Program;
+use program::fill;
 use tree_read::nodes;
 use tree_read::nodes::Nodes;
 use tree_read::tree;
@@ -149,4 +153,27 @@ pub fn read(file: &[u8]) -> FileRead
         selectors: plant.selectors,
         nodes: nodes.count,
     }
+}
+
+// the same as a run looks things up in it, with places in the whole file
+pub fn program(x: ScheduleIndex) -> Program
+    ensures { λ r. ⌜ SchedulePrograms x r ⌝ }
+{
+    let parts = x.parts;
+    let plant = x.plant;
+    let nodes = x.nodes;
+    let kinds = nodes.kinds;
+    let starts = nodes.starts;
+    let ends = nodes.ends;
+    let acts = actions::kinds(&kinds, paper::NODES);
+    let index = fill::index(
+        plant,
+        &acts,
+        &starts,
+        &ends,
+        parts.equations_from,
+        parts.schedule_from,
+    );
+    let ranges = fill::ranges(plant);
+    Program { index, ranges }
 }

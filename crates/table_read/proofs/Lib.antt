@@ -16,3 +16,4 @@ pub mod LocationsFound
 pub mod TableStages
 pub mod Promises
 pub mod TableCounts
+pub mod LentTable

@@ -1,13 +1,19 @@
 -- A table that is lent to a run: what the reader promises of its bytes, index and ranges.
 use mathlib.Core.Path.{_≡_}
+use mathlib.Core.List.{List}
 use mathlib.Core.Option.{some}
-use Prim.Native.Nat.{ℕ, _≤_, _<_}
+use Prim.Native.Nat.{ℕ, _^_, _≤_, _<_}
 use lib.ListN.{length, getD}
+use Rattle.semantics.specs.Editions.{edition1}
+use Rattle.semantics.specs.Refusals.{accepted}
 use Rattle.semantics.specs.Run.{Action}
 use Rattle.semantics.specs.TableFile.{locationLimit}
-use Rattle.semantics.specs.Tables.{Table, actionAt, entriesAt}
-use Rattle.program.specs.Lent.{Lent, PlantLent, NodeLent}
+use Rattle.semantics.specs.Tables.{Table, actionAt, entriesAt, judgeTable}
+use Rattle.program.specs.Lent.{Lent, lent, PlantLent, NodeLent}
+use Rattle.program.specs.declared.Program.{Program}
+use Rattle.table_read.specs.declared.call.TableIndex.{TableIndex}
 use Rattle.table_read.specs.Promised.{LocationPromised}
+use Rattle.table_read.specs.TableIndex.{tableIndex}
 
 -- location x stands at its place
 pub record LocationLent (t : Table) (l : Lent) (x : ℕ) : Type 0 where
@@ -24,3 +30,7 @@ pub record TableLent (t : Table) (l : Lent) : Type 0 where
   pub nodes : (n : ℕ) (a : Action) → actionAt (t .actions) n ≡ some a → NodeLent (t .plant) a l n
   pub locations : LocationsLent t l
   pub some-location : 1 ≤ length (t .locations)
+
+-- x is the index of an accepted table, and r lends it together with the table's bytes
+abbrev pub TablePrograms : TableIndex → Program → Type 0
+TablePrograms x r = (f : List ℕ) (t : Table) → x ≡ tableIndex f → length f < 2 ^ 64 → judgeTable edition1 f ≡ accepted t → TableLent t (lent f (r .index) (r .ranges))

@@ -1,4 +1,4 @@
--- What stands in the location section of an accepted table.
+-- What stands where the locations of an accepted table do.
 use mathlib.Core.Path.{_≡_}
 use mathlib.Core.Bool.{true}
 use mathlib.Core.List.{List}
@@ -11,7 +11,7 @@ use Rattle.semantics.specs.TableFile.{NodeAction, Entry, readLocation}
 use Rattle.semantics.specs.Tables.{locationFits}
 use Rattle.semantics.specs.TableRuns.{Coded}
 
--- the location of the entries es is read at place p of the section s; they fit n locations and these actions
+-- the location of the entries es is read at place p of the bytes s; they fit n locations and these actions
 pub record LocationPromised (s : List ℕ) (p : ℕ) (n : ℕ) (acts : List NodeAction) (es : List Entry) : Type 0 where
   pub rest : List ℕ
   pub reads : readLocation edition1 (drop p s) ≡ read es rest

@@ -7,10 +7,13 @@ use super::operands;
 use super::parts;
 use super::parts::Parts;
 use plant::sections::PlantRead;
+use program::Program;
+use program::fill;
 ghost use mathlib.Core.Path.{_≡_};
 ghost use Rattle.semantics.specs.Editions.{edition1};
 ghost use Rattle.semantics.specs.Calls.{readTable};
 ghost use Rattle.table_read.specs.TableIndex.{tableNumbers, noTable, tableIndex, sectionsIndex};
+ghost use Rattle.table_read.specs.Lent.{TablePrograms};
 
 // 0, or the first number that applies; where the sections stand, and what a run looks up in them
 pub struct TableIndex {
@@ -114,4 +117,29 @@ pub fn read(table: &[u8]) -> TableRead
         actions: actions.count,
         locations: locations.count,
     }
+}
+
+// the same as a run looks things up in it, with places in the whole table
+pub fn program(x: TableIndex) -> Program
+    ensures { λ r. ⌜ TablePrograms x r ⌝ }
+{
+    let parts = x.parts;
+    let plant = x.plant;
+    let actions = x.actions;
+    let locations = x.locations;
+    let kinds = actions.kinds;
+    let starts = actions.starts;
+    let ends = actions.ends;
+    let places = locations.places;
+    let mut index = fill::index(
+        plant,
+        &kinds,
+        &starts,
+        &ends,
+        parts.equations,
+        parts.actions,
+    );
+    fill::put_locations(&mut index, &places, parts.locations);
+    let ranges = fill::ranges(plant);
+    Program { index, ranges }
 }

@@ -17,7 +17,7 @@ use Rattle.semantics.proofs.Facts.{All, all-nil, all-cons, none-not-some, some-
 use Rattle.codec.proofs.Reading.{nat2At}
 use Rattle.nodeset.specs.Sets.{mem, emptySet, inserted, Words}
 use Rattle.nodeset.proofs.Members.{members-are}
-use Rattle.nodeset.proofs.Membership.{mem-empty, mem-inserted, words-empty}
+use Rattle.nodeset.proofs.Membership.{mem-empty, mem-inserted, words-empty, words-inserted}
 use Rattle.table_read.specs.Promised.{LocationPromised, Leads}
 use Rattle.table_read.proofs.EntryLoop.{entryAt}
 use Rattle.table_read.proofs.LocationsFound.{LocationStands, location-stands}
@@ -90,8 +90,8 @@ gather-start s p e = rw e (record { place = omega arith; words = words-empty; ar
     none [] k = refl
     none (x ∷ es) k = refl
 
-pub gather-next : (s : List ℕ) (p : ℕ) {j q n : ℕ} {ws ws' : List ℕ} → Gathering s p j q ws → j < getD s p 0 → n ≡ getD s q 0 → n < 256 → Words ws' → ws' ≡ inserted ws n → Gathering s p (j + 1) (q + 5) ws'
-gather-next s p {j} {q} {n} {ws} {ws'} g h e b w i = record { place = omega (arith, g .place); words = w; are = more }
+pub gather-next : (s : List ℕ) (p : ℕ) {j q n : ℕ} {ws ws' : List ℕ} → Gathering s p j q ws → j < getD s p 0 → n ≡ getD s q 0 → n < 256 → ws' ≡ inserted ws n → Gathering s p (j + 1) (q + 5) ws'
+gather-next s p {j} {q} {n} {ws} {ws'} g h e b i = record { place = omega (arith, g .place); words = rw i (words-inserted (g .words) b); are = more }
   where
     more : (es : List Entry) → Listed s p es → (k : ℕ) → mem ws' k ≡ among k (entryNodes (take (j + 1) es))
     more es l k = go (split-here es j (entry-here l (g .place) h))

@@ -100,16 +100,16 @@ module _ {s ix : List ℕ} {x n : ℕ} {b : Bool} {y : ℕ} (f : Found s (getD (
       unfolding arrive HALTED
       moved-to-halt e k i = arrives-as k (record { place = none; is = λ s vs ms. ap (λ z. arrive s z vs ms) (next-goes ∙ going-halted y e); stands = stands-end t i })
 
-      pub moved-on : (y ≡ 65534 → ⊥) → (y ≡ 65533 → ⊥) → Gathered s (getD (locationRow ix) y 0) ws' → Arrives (StandsFor t y ws') (tableControl t .next x n b) 200
-      unfolding arrive tableControl
-      moved-on d h g =
-          let i = goes-on d h in
-          let few = m .lent .few in
-          record {
-            place = some y;
-            is = λ s vs ms. ap (λ z. arrive s z vs ms) (next-goes ∙ going-on y (length (t .locations)) i (omega arith));
-            stands = record { place = refl; shows = at-place i (g .are (entriesAt t y) (listed-of (m .lent .at y i .promised))) (g .words) };
-          }
+    pub moved-on : {ws' : List ℕ} → (y ≡ 65534 → ⊥) → (y ≡ 65533 → ⊥) → Gathered s (getD (locationRow ix) y 0) ws' → Arrives (StandsFor t y ws') (tableControl t .next x n b) 200
+    unfolding arrive tableControl
+    moved-on d h g =
+        let i = goes-on d h in
+        let few = m .lent .few in
+        record {
+          place = some y;
+          is = λ s vs ms. ap (λ z. arrive s z vs ms) (next-goes ∙ going-on y (length (t .locations)) i (omega arith));
+          stands = record { place = refl; shows = at-place i (g .are (entriesAt t y) (listed-of (m .lent .at y i .promised))) (g .words) };
+        }
 
   pub row-next : {ws : List ℕ} → Moving s ix x (Move n b) ws → (y ≡ 65534 → ⊥) → (y ≡ 65533 → ⊥) → y < 1024
   row-next m d h = m .movable .lent .at y (goes-on (m .ranges) (m .table) (m .movable) d h) .row
@@ -126,7 +126,7 @@ pub movable-as : {t : Table} {s ix : List ℕ} {rs : List ℤ} {x : ℕ} {v w : 
 movable-as {t} {s} {ix} {rs} {x} e m = subst (Movable t (lent s ix rs) x) e m
 
 -- ---- an event
-module _ {s ix : List ℕ} {rs : List ℤ} {x : ℕ} {ws : List ℕ} {vs : List ℤ} {ms : List ℕ} where
+module _ {s ix : List ℕ} {rs : List ℤ} {x : ℕ} {ws : List ℕ} where
   -- FFFF is no location
   over-here : (t : Table) {o : Option ℕ} → TableLent t (lent s ix rs) → StandsFor t x ws o → x ≡ 65535 → o ≡ none
   over-here t {o} d g e = go o (g .place) (g .shows)
@@ -143,6 +143,7 @@ module _ {s ix : List ℕ} {rs : List ℤ} {x : ℕ} {ws : List ℕ} {vs : List 
       go p (at-place {x = y} h a w) = (ap some (sym p), rw p (record { lent = d .locations; below = h; stands = a; words = w }))
       go p (at-end a w) = absurd (f p)
 
+module _ {s ix : List ℕ} {rs : List ℤ} {x : ℕ} {ws : List ℕ} {vs : List ℤ} {ms : List ℕ} where
   -- what judging asks
   ready : (t : Table) → TableLent t (lent s ix rs) → Here t (lent s ix rs) x ws → Fits (t .plant) vs ms → Ready (t .plant) (tableControl t .action) (lent s ix rs) ws vs ms
   unfolding tableControl
