@@ -99,7 +99,6 @@ module _ {l : Lent} {ls fs ws : List ℕ} {vs : List ℤ} {ms : List ℕ} where
       let h = here-at (p .schedule) (p .charted) (p .stands) f .2 in
       let left = k _ _ (judging p f .ready) in
       record {
-        words = h .words;
         standing = λ n b i.
             let m = judged-possible edition1 _ _ _ _ _ (eventOf e) _ n b (heard-move _ vs ms vs' ms' left i) refl in
             standing (h .words) (p .charted) (h .of) (h .stands) (sym (among-set (h .words) n) ∙ mem-among n (members ws) (m .0));

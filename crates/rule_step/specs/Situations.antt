@@ -39,7 +39,6 @@ pub record Here (ls fs : List ℕ) (t : Tree) (ws : List ℕ) (r : Residual) : T
 -- ---- one event, part by part
 -- a node that moves acts
 pub record Movable (ls fs ws : List ℕ) (v : Verdict) : Type 0 where
-  pub words : Words ws
   pub standing : (n : ℕ) (b : Bool) → v ≡ Move n b → Standing ls fs ws n
 
 -- what the move of node n makes of the set: for every schedule and residual that the arrays and the set are of

@@ -3,7 +3,7 @@ use effects::Verdict;
 use event::Event;
 use moves::How;
 ghost use mathlib.Core.Path.{_≡_};
-ghost use Rattle.nodeset.specs.Sets.{emptySet, Words};
+ghost use Rattle.nodeset.specs.Sets.{emptySet};
 ghost use Rattle.moves.specs.Contracts.{Standing};
 ghost use Rattle.program.specs.Lent.{lent};
 ghost use Rattle.rule_step.specs.Situations.{Movable, Moved, Settled, Promised, StepsOn};
@@ -19,7 +19,7 @@ fn end(n: u8, acting: &mut [u64; 4]) -> u8
 
 // A taken event with the move of node n.
 fn moved<'a>(leads: &'a [u16], fresh: &'a [u64], n: usize, truth: bool, acting: &mut [u64; 4]) -> u8
-    requires { ⌜ Standing (now leads) (now fresh) (now acting) n × Words (now acting) ⌝ }
+    requires { ⌜ Standing (now leads) (now fresh) (now acting) n ⌝ }
     ensures { λ r. ⌜ Moved (now (leads .entry)) (now (fresh .entry)) (now (acting .entry)) n truth r (now (acting .exit)) ⌝ }
 {
     match moves::advance_in(leads, fresh, acting, n, truth) {

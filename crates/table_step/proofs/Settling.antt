@@ -42,6 +42,11 @@ pub stands-end : (t : Table) {ws : List ℕ} → ws ≡ emptySet → StandsFor t
 unfolding NONE
 stands-end t e = record { place = refl; shows = stands-over e }
 
+-- a run that ends so
+pub ended : (t : Table) {a : Stepped} {n : ℕ} {ws : List ℕ} {o : Option ℕ} {vs vs' : List ℤ} {ms ms' : List ℕ} {e : Event} → a ≡ record { answer = n; place = 65535 } → ws ≡ emptySet
+    → (StandsFor t 65535 ws none → Steps (programOfTable t) (StandsFor t 65535 ws) o vs ms e n vs' ms') → Steps (programOfTable t) (StandsFor t (a .place) ws) o vs ms e (a .answer) vs' ms'
+ended t {ws = ws} {o = o} {vs = vs} {vs' = vs'} {ms = ms} {ms' = ms'} {e = e} q i k = subst (λ (a : Stepped). Steps (programOfTable t) (StandsFor t (a .place) ws) o vs ms e (a .answer) vs' ms') (sym q) (k (stands-end t i))
+
 pub stands-at : {t : Table} {s ix : List ℕ} {rs : List ℤ} {x : ℕ} {ws : List ℕ} → Here t (lent s ix rs) x ws → StandsFor t x ws (some x)
 unfolding tableControl
 stands-at h = record { place = refl; shows = at-place (h .below) (h .stands) (h .words) }
@@ -70,8 +75,15 @@ module _ {s ix : List ℕ} {x : ℕ} {ws : List ℕ} where
   pub row-here : {v : Verdict} → Moving s ix x v ws → x < 1024
   row-here m = m .movable .lent .at x (m .movable .below) .row
 
-  pub located-here : {v : Verdict} → Moving s ix x v ws → Located s (getD (locationRow ix) x 0)
-  located-here m = located-of (m .movable .lent .at x (m .movable .below) .promised)
+  pub located-at : {v : Verdict} {p : ℕ} → p ≡ getD (locationRow ix) x 0 → Moving s ix x v ws → Located s p
+  located-at e m = rw e (located-of (m .movable .lent .at x (m .movable .below) .promised))
+
+-- what was found or gathered at the place that the index has
+pub found-at : {s : List ℕ} {p q n : ℕ} {b : Bool} {y : ℕ} → p ≡ q → Found s p n b y → Found s q n b y
+found-at {s} {n = n} {b} {y} e f = subst (λ p. Found s p n b y) e f
+
+pub gathered-at : {s ws : List ℕ} {p q : ℕ} → p ≡ q → Gathered s p ws → Gathered s q ws
+gathered-at {s} {ws} e g = subst (λ p. Gathered s p ws) e g
 
 -- ---- a move to y
 module _ {s ix : List ℕ} {x n : ℕ} {b : Bool} {y : ℕ} (f : Found s (getD (locationRow ix) x 0) n b y) where
@@ -114,8 +126,8 @@ module _ {s ix : List ℕ} {x n : ℕ} {b : Bool} {y : ℕ} (f : Found s (getD (
   pub row-next : {ws : List ℕ} → Moving s ix x (Move n b) ws → (y ≡ 65534 → ⊥) → (y ≡ 65533 → ⊥) → y < 1024
   row-next m d h = m .movable .lent .at y (goes-on (m .ranges) (m .table) (m .movable) d h) .row
 
-  pub located-next : {ws : List ℕ} → Moving s ix x (Move n b) ws → (y ≡ 65534 → ⊥) → (y ≡ 65533 → ⊥) → Located s (getD (locationRow ix) y 0)
-  located-next m d h = located-of (m .movable .lent .at y (goes-on (m .ranges) (m .table) (m .movable) d h) .promised)
+  pub located-next : {ws : List ℕ} {p : ℕ} → p ≡ getD (locationRow ix) y 0 → Moving s ix x (Move n b) ws → (y ≡ 65534 → ⊥) → (y ≡ 65533 → ⊥) → Located s p
+  located-next e m d h = rw e (located-of (m .movable .lent .at y (goes-on (m .ranges) (m .table) (m .movable) d h) .promised))
 
 -- the acting nodes are those of the control
 pub acts-here : {t : Table} {s ix : List ℕ} {rs : List ℤ} {x : ℕ} {ws : List ℕ} → Here t (lent s ix rs) x ws → members ws ≡ tableControl t .acting x

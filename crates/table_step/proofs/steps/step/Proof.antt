@@ -1,0 +1,29 @@
+-- Either the run is over (`step-over`), or the event is judged, then settled (`step-at`).
+use borrow.Author.Needs.{needs}
+use Rattle.table_step.proofs.Settling.{judging, moving, step-over, step-at}
+use Rattle.table_step.proofs.steps.step.Statement.{statement}
+use Rattle.table_step.proofs.steps.step.Tie as tie
+
+returns : tie.Need-returns
+returns c = λ t o d g f. step-over t o d g f _ (c .if1 .taken)
+
+judge-requires : tie.Need-judge-requires
+judge-requires c κs = judging (c .before .before .before .before .before .before .pre) (c .before .before .before .if1 .left)
+
+settled-requires : tie.Need-settled-requires
+settled-requires c κs =
+    let j = c .before .before .before .before in
+    let i = j .before .before .before .before in
+    let s = i .before .before .before in
+    moving (s .args .e) (s .pre) (i .if1 .left) (j .judge .ensures)
+
+returns-2 : tie.Need-returns-2
+returns-2 c =
+    let j = c .before .before .before .before .before in
+    let i = j .before .before .before .before in
+    λ t o d g f. step-at t o d g f _ (i .if1 .left) (j .judge .ensures) (c .settled .ensures)
+
+pub step-spec : {M : Type 1} → statement M
+step-spec =
+    tie.close
+    (tie.spec returns judge-requires settled-requires (λ c. search needs) (λ c. search needs) returns-2)
