@@ -45,6 +45,9 @@ pub acts-here : (s : Schedule) {ls fs ws : List ℕ} {r : Residual} → Here ls 
 unfolding ruleControl
 acts-here s h = h .stands
 
+pub answered : (s : Schedule) {a b : ℕ} {ws : List ℕ} {o : Option Residual} {vs vs' : List ℤ} {ms ms' : List ℕ} {e : Event} → a ≡ b → Steps (programOf s) (StandsFor s ws) o vs ms e b vs' ms' → Steps (programOf s) (StandsFor s ws) o vs ms e a vs' ms'
+answered s q k = rw q k
+
 -- ---- a move
 module _ {ls fs ws : List ℕ} {n : ℕ} {b : Bool} {how : How} {ws' : List ℕ} (d : Advanced ls fs ws n b how ws') (s : Schedule) (r : Residual) (h : Here ls fs (s .root) ws r) where
   pub moved-on : how ≡ To → Arrives (StandsFor s ws') (ruleControl s .next r n b) 200
@@ -75,11 +78,12 @@ some-going : (s : Schedule) {ws : List ℕ} {o : Option Residual} → StandsFor 
 some-going s (at-place h e w) f q = let z : _≡_ {A = ℕ} 0 1 = cc in omega arith
 some-going s (at-end e w) f q = f e
 
-module _ {l : Lent} {ls fs ws : List ℕ} {vs : List ℤ} {ms : List ℕ} where
+module _ {ls fs ws : List ℕ} where
   here-at : (s : Schedule) {o : Option Residual} → Charted ls fs (s .root) → StandsFor s ws o → (members ws ≡ [] → ⊥) → (r : Residual) × ((o ≡ some r) × Here ls fs (s .root) ws r)
   unfolding ruleControl
-  here-at s i g f = let q = not-over g (some-going s g f) in (q .place, q .is, record { charted = i; of = q .here; stands = q .acts; words = q .words })
+  here-at s i g f = let q = not-over g (some-going s g f) in (q .place, (q .is, record { charted = i; of = q .here; stands = q .acts; words = q .words }))
 
+module _ {l : Lent} {ls fs ws : List ℕ} {vs : List ℤ} {ms : List ℕ} where
   -- what judging asks
   ready : (s : Schedule) {r : Residual} → ScheduleLent s l → Here ls fs (s .root) ws r → Fits (s .plant) vs ms → Ready (s .plant) (ruleControl s .action) l ws vs ms
   unfolding ruleControl
@@ -91,12 +95,12 @@ module _ {l : Lent} {ls fs ws : List ℕ} {vs : List ℤ} {ms : List ℕ} where
   }
 
   pub judging : Promised l ls fs ws vs ms → (members ws ≡ [] → ⊥) → Judged.Promised l ws vs ms
-  judging p f = record { plant = p .schedule .plant; action = ruleControl (p .schedule) .action; ready = ready (p .schedule) (p .lent) (here-at (p .schedule) (p .charted) (p .stands) f .2) (p .fits) }
+  judging p f = record { plant = p .schedule .plant; action = ruleControl (p .schedule) .action; ready = ready (p .schedule) (p .lent) (here-at (p .schedule) (p .charted) (p .stands) f .1 .1) (p .fits) }
 
   -- a node that moves acts
   pub movable : (e : Event) {v : Verdict} {vs' : List ℤ} {ms' : List ℕ} → Promised l ls fs ws vs ms → (members ws ≡ [] → ⊥) → Judges l ws e vs ms v vs' ms' → Movable ls fs ws v
   movable e {v} {vs'} {ms'} p f k =
-      let h = here-at (p .schedule) (p .charted) (p .stands) f .2 in
+      let h = here-at (p .schedule) (p .charted) (p .stands) f .1 .1 in
       let left = k _ _ (judging p f .ready) in
       record {
         standing = λ n b i.
@@ -112,8 +116,8 @@ module _ {l : Lent} {ls fs ws : List ℕ} {vs : List ℤ} {ms : List ℕ} where
     pub step-at : {v : Verdict} {vs' : List ℤ} {ms' : List ℕ} {a : ℕ} {ws' : List ℕ} → (members ws ≡ [] → ⊥) → Judges l ws e vs ms v vs' ms' → Settled ls fs v ws a ws' → Steps (programOf s) (StandsFor s ws') o vs ms e a vs' ms' × Fits (s .plant) vs' ms'
     step-at {v} {vs'} {ms'} {a} {ws'} h k m =
         let q = here-at s i g h in
-        let r = ready s d (q .2) f in
+        let r = ready s d (q .1 .1) f in
         let left = k (s .plant) (ruleControl s .action) r in (
-          subst (λ (o : Option Residual). Steps (programOf s) (StandsFor s ws') o vs ms e a vs' ms') (sym (q .1)) (m s (q .0) (q .2) vs ms e vs' ms' left),
+          subst (λ (o : Option Residual). Steps (programOf s) (StandsFor s ws') o vs ms e a vs' ms') (sym (q .1 .0)) (m s (q .0) (q .1 .1) vs ms e vs' ms' left),
           fits-left (s .plant) (ruleControl s .action) l ws vs ms r (eventOf e) left,
         )

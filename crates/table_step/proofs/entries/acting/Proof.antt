@@ -38,9 +38,11 @@ add-p-2 c =
 loop-again : tie.Need-loop-again Inv-loop μ-loop
 loop-again c =
     let l = c .before .before .before .before .before .loop in
-    let s = c .before .before .before .before .before .before .before .before .before .before .before in
-    (omega arith, l .inv .1,
-     gather-next (s .args .t .now) (s .args .at) (l .inv .2) (omega (arith, l .inv .1)) (c .before .wide2 .ensures) (omega (arith, c .before .wide2 .ensures, c .before .before .shared-slice-known3 .given (l .p))) (c .put .ensures))
+    let s = c .before .before .before .before .before .before .before .before .before .before .before in (
+      omega arith,
+      l .inv .1,
+      gather-next (s .args .t .now) (s .args .at) (l .inv .2) (omega (arith, l .inv .1)) (c .before .wide2 .ensures) (omega (arith, c .before .wide2 .ensures, c .before .before .shared-slice-known3 .given (l .p))) (c .put .ensures),
+    )
 
 returns : tie.Need-returns Inv-loop μ-loop
 returns c = let l = c .before .loop in let s = c .before .before .before .before .before .before .before in gather-end (s .args .t .now) (s .args .at) (l .inv .2) (omega (arith, l .inv .1))
