@@ -53,6 +53,10 @@ pub record MayRun (p : Plant) (vs : List ℤ) (ms events d : List ℕ) : Type 0 
 pub record Reports {S : Type 0} (c : Control S) (l : List (Answered S)) (d₀ : List ℕ) (cs : Counts) (d : List ℕ) : Type 0 where
   pub is : ranWith (record { refusal = 0; counts = cs }) d ≡ report d₀ (accepted (outcomeOf edition1 c l))
 
+-- all events of a run from these values and modes are answered
+abbrev pub Whole : {S : Type 0} → Program S → List ℤ → (ms events d₀ : List ℕ) → Counts → List ℕ → Type 0
+Whole g vs ms events d₀ cs d = Reports (g .control) (runFrom edition1 g (record { values = vs; modes = ms }) events) d₀ cs d
+
 -- k events are answered: where the run stands, its counts, and d, which was d₀, with their records up to place i
 pub record RunSoFar {S : Type 0} (g : Program S) (st₀ : Start) (events d₀ : List ℕ) (k i : ℕ) (st : Situation S) (cs : Counts) (d : List ℕ) : Type 0 where
   pub said : List (Answered S)

@@ -29,9 +29,9 @@ use Rattle.plant.proofs.EquationLookups.{mode-is}
 use Rattle.plant.proofs.EquationLaws.{ModePlaced, mode-placed, few-selectors, few-modes-each}
 use Rattle.plant.proofs.RateArrays.{rates-length}
 use Rattle.plant.proofs.PlantLaws.{passed-all, variables-high, lows-of, highs-of, places-of, steady-of}
-use Rattle.program.specs.Rows.{kindRow, startRow, endRow}
+use Rattle.program.specs.Rows.{startRow, endRow}
 use Rattle.program.specs.Filled.{shiftedBy, Filled}
-use Rattle.program.specs.Lent.{Stands, Cut, Lent, lent, ModeLent, PlantLent, NodeLent}
+use Rattle.program.specs.Lent.{Stands, lent, ModeLent, PlantLent, NodeLent}
 use Rattle.program.proofs.Shifts.{shift-place}
 use Rattle.program.proofs.Longer.{more-mode, read-there, part-there}
 

@@ -1,10 +1,8 @@
 -- Places in a section as places in the file.
 use mathlib.Core.Path.{_≡_, refl}
-use mathlib.Core.Bool.{true, false, cond}
-use Prim.Native.Nat.{ℕ, _+_, _^_, _≤_, _<_}
+use Prim.Native.Nat.{ℕ, _+_, _^_, _<_}
 use native.Mathlib.Omega.{arith}
 use borrow.Author.Tests.{le-leb, lt-leb}
-use lib.Dec.{leb}
 use Rattle.program.specs.Filled.{shiftedBy}
 
 pub shift-over : (by p : ℕ) → 0xffff_ffff_ffff_ffff < p + by → 0 ≡ shiftedBy by p

@@ -1,9 +1,9 @@
 -- Entries that are stored one after the other.
-use mathlib.Core.Path.{_≡_, refl, sym, ap, _∙_}
+use mathlib.Core.Path.{_≡_, refl, ap, _∙_}
 use mathlib.Core.List.{List, [], _∷_, map}
 use Prim.Native.Nat.{ℕ, zero, suc, _+_, _≤_, _<_}
 use native.Mathlib.Omega.{arith}
-use lib.ListN.{length, getD, take, set, length-map, length-set}
+use lib.ListN.{length, getD, take, set, length-set}
 use lib.Seq.{sets, take-all, getD-set-same, getD-set-other}
 
 -- ---- a loop that stores the entries of vs from i on
@@ -25,10 +25,6 @@ module _ {A : Type 0} (d : A) where
   pub before-row : (vs l : List A) (i k : ℕ) → k < i → getD (sets l i vs) k d ≡ getD l k d
   before-row [] l i k h = refl
   before-row (x ∷ vs) l i k h = before-row vs (set l i x) (suc i) k (omega arith) ∙ getD-set-other l i k x d (λ e. omega arith)
-
-  pub behind-row : (vs l : List A) (i k : ℕ) → i + length vs ≤ k → getD (sets l i vs) k d ≡ getD l k d
-  behind-row [] l i k h = refl
-  behind-row (x ∷ vs) l i k h = behind-row vs (set l i x) (suc i) k (omega arith) ∙ getD-set-other l i k x d (λ e. omega arith)
 
   pub in-row : (vs l : List A) (i k : ℕ) → i + length vs ≤ length l → k < length vs → getD (sets l i vs) (i + k) d ≡ getD vs k d
   in-row [] l i k h b = absurd (omega arith)

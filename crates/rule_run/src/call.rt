@@ -16,7 +16,7 @@ ghost use Rattle.schedule_read.specs.ScheduleFile.{ScheduleIndexed};
 ghost use Rattle.records.specs.Reported.{ranWith};
 ghost use Rattle.rule_run.specs.Called.{Admitting, Carried};
 
-// The events of an admitted run, over the arrays of the file's index.
+// The events of an admitted run, over what the reader lends of the file.
 fn lend(
     ix: ScheduleIndex,
     asked: Admitted,
@@ -27,38 +27,22 @@ fn lend(
     requires { ⌜ ScheduleIndexed (now file) ix × Admitting (now file) asked (now events) (now records) ⌝ }
     ensures { λ r. ⌜ Carried (now (file .entry)) asked (now (events .entry)) (now (records .entry)) r (now (records .exit)) ⌝ }
 {
-    let parts = ix.parts;
-    let a = parts.equations_from;
-    let b = parts.equations_to;
-    let c = parts.schedule_from;
-    let d = parts.schedule_to;
     let plant = ix.plant;
     let variables = plant.variables;
     let selectors = plant.selectors;
-    let places = plant.mode_offsets;
-    let steady = plant.steady;
-    let lows = plant.lows;
-    let highs = plant.highs;
     let nodes = ix.nodes;
-    let count = nodes.count;
     let kinds = nodes.kinds;
-    let starts = nodes.starts;
-    let ends = nodes.ends;
     let trees = ix.subtrees;
     let subtrees = trees.ends;
-    let acts = schedule_read::actions::kinds(&kinds, count);
+    let lent = schedule_read::call::program(ix);
+    let index = lent.index;
+    let ranges = lent.ranges;
     let mut values = asked.values;
     let mut modes = asked.modes;
     runs::all(
-        &file[a..b],
-        &places,
-        steady,
-        &lows[..variables],
-        &highs[..variables],
-        &file[c..d],
-        &acts,
-        &starts,
-        &ends,
+        file,
+        &index,
+        &ranges,
         &kinds,
         &subtrees,
         events,

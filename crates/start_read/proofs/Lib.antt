@@ -3,3 +3,4 @@ pub mod StartBytes
 pub mod StartTurns
 pub mod PlantStart
 pub mod AdmissionLaws
+pub mod RunCalls

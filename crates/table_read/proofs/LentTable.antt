@@ -1,8 +1,8 @@
 -- A table that was read is lent: what a run asks of the table's bytes, the index and the ranges.
-use mathlib.Core.Path.{_≡_, sym, ap, subst, _∙_}
-use mathlib.Core.List.{List, _∷_, _++_}
+use mathlib.Core.Path.{_≡_, sym, ap, subst}
+use mathlib.Core.List.{List, _++_}
 use mathlib.Core.Option.{some}
-use Prim.Native.Nat.{ℕ, _+_, _-_, _^_, _<_, _≤_}
+use Prim.Native.Nat.{ℕ, _-_, _^_, _<_}
 use native.Mathlib.Omega.{arith}
 use lib.IntN.{ℤ}
 use lib.ListN.{length, getD, drop, length-drop}
@@ -11,7 +11,7 @@ use Rattle.semantics.specs.Editions.{edition1}
 use Rattle.semantics.specs.Refusals.{accepted}
 use Rattle.semantics.specs.Plant.{judgePlant}
 use Rattle.semantics.specs.Run.{Action}
-use Rattle.semantics.specs.TableFile.{TableSections, Entry, NodeAction, readLocation}
+use Rattle.semantics.specs.TableFile.{Entry, NodeAction, readLocation}
 use Rattle.semantics.specs.Tables.{Table, actionAt, entriesAt, judgeTable}
 use Rattle.semantics.proofs.Readers.{split, byte-read}
 use Rattle.codec.specs.Parts.{between}
@@ -25,7 +25,6 @@ use Rattle.table_read.specs.declared.parts.Parts.{Parts}
 use Rattle.table_read.specs.declared.actions.Actions.{Actions}
 use Rattle.table_read.specs.declared.call.TableIndex.{TableIndex}
 use Rattle.table_read.specs.TableParts.{partsOf, sectionsAt}
-use Rattle.table_read.specs.ActionIndex.{actionsOf}
 use Rattle.table_read.specs.Promised.{LocationPromised}
 use Rattle.table_read.specs.TableIndex.{tableIndex}
 use Rattle.table_read.specs.Lent.{LocationLent, TableLent}

@@ -1,24 +1,20 @@
 -- The call "running a table", as the code answers it.
 use mathlib.Core.Path.{_≡_}
-use mathlib.Core.Bool.{true}
 use mathlib.Core.List.{List}
 use Prim.Native.Nat.{ℕ}
-use lib.ListN.{length, take}
 use Rattle.semantics.specs.Editions.{edition1}
 use Rattle.semantics.specs.Refusals.{accepted}
-use Rattle.semantics.specs.Plant.{selectors}
 use Rattle.semantics.specs.Tables.{Table, judgeTable}
-use Rattle.semantics.specs.Calls.{roomForRecords}
-use Rattle.execution.specs.Ready.{Fits}
+use Rattle.semantics.specs.Calls.{programOfTable}
 use Rattle.start_read.specs.declared.admission.Admitted.{Admitted}
+use Rattle.start_read.specs.Admission.{valuesFor, modesFor}
+use Rattle.execution.specs.Runs.{MayRun, Whole}
 use Rattle.records.specs.declared.Counts.{Counts}
-use Rattle.table_run.specs.Runs.{Whole}
 
--- the bytes are those of the table t, a run of it may start with these values and modes, and d has room for its records
+-- the bytes are those of the table t, and a run of it may start with the values and modes that are admitted
 pub record Admits (f : List ℕ) (asked : Admitted) (events d : List ℕ) (t : Table) : Type 0 where
   pub judged : judgeTable edition1 f ≡ accepted t
-  pub fits : Fits (t .plant) (take (length (t .plant .variables)) (asked .values)) (take (length (selectors (t .plant))) (asked .modes))
-  pub room : roomForRecords edition1 (t .plant) events d ≡ true
+  pub may : MayRun (t .plant) (valuesFor (t .plant) asked) (modesFor (t .plant) asked) events d
 
 -- there is such a table
 pub record Admitting (f : List ℕ) (asked : Admitted) (events d : List ℕ) : Type 0 where
@@ -27,5 +23,4 @@ pub record Admitting (f : List ℕ) (asked : Admitted) (events d : List ℕ) : T
 
 -- all events are answered, of every table that is admitted
 abbrev pub Carried : List ℕ → Admitted → (events d₀ : List ℕ) → Counts → List ℕ → Type 0
-Carried f asked events d₀ cs d =
-    (t : Table) → Admits f asked events d₀ t → Whole t (take (length (t .plant .variables)) (asked .values)) (take (length (selectors (t .plant))) (asked .modes)) events d₀ cs d
+Carried f asked events d₀ cs d = (t : Table) → Admits f asked events d₀ t → Whole (programOfTable t) (valuesFor (t .plant) asked) (modesFor (t .plant) asked) events d₀ cs d

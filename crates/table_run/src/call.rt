@@ -11,45 +11,23 @@ ghost use Rattle.table_read.specs.TableIndex.{tableIndex};
 ghost use Rattle.records.specs.Reported.{ranWith};
 ghost use Rattle.table_run.specs.Called.{Admitting, Carried};
 
-// The events of an admitted run, over the arrays of the table's index.
+// The events of an admitted run, over what the reader lends of the table.
 fn lend(ix: TableIndex, asked: Admitted, table: &[u8], events: &[u8], records: &mut [u8]) -> Counts
     requires { ⌜ (ix ≡ tableIndex (now table)) × Admitting (now table) asked (now events) (now records) ⌝ }
     ensures { λ r. ⌜ Carried (now (table .entry)) asked (now (events .entry)) (now (records .entry)) r (now (records .exit)) ⌝ }
 {
-    let parts = ix.parts;
-    let a = parts.equations;
-    let b = parts.equations_end;
-    let c = parts.actions;
-    let d = parts.actions_end;
-    let e = parts.locations;
-    let f = parts.locations_end;
     let plant = ix.plant;
     let variables = plant.variables;
     let selectors = plant.selectors;
-    let rows = plant.mode_offsets;
-    let steady = plant.steady;
-    let lows = plant.lows;
-    let highs = plant.highs;
-    let actions = ix.actions;
-    let kinds = actions.kinds;
-    let starts = actions.starts;
-    let ends = actions.ends;
-    let locations = ix.locations;
-    let places = locations.places;
+    let lent = table_read::call::program(ix);
+    let index = lent.index;
+    let ranges = lent.ranges;
     let mut values = asked.values;
     let mut modes = asked.modes;
     runs::all(
-        &table[a..b],
-        &rows,
-        steady,
-        &lows[..variables],
-        &highs[..variables],
-        &table[c..d],
-        &kinds,
-        &starts,
-        &ends,
-        &table[e..f],
-        &places,
+        table,
+        &index,
+        &ranges,
         events,
         &mut values[..variables],
         &mut modes[..selectors],

@@ -2,71 +2,37 @@
 use records::Counts;
 use table_step::entries;
 use table_step::steps;
-use table_step::steps::Situation;
-ghost use Rattle.execution.specs.Ready.{lent};
+ghost use Rattle.program.specs.Lent.{lent};
 ghost use Rattle.table_run.specs.Runs.{Asking, Completes};
 
 // The record of each event goes to records, one after the other. Values and modes are those that the run starts with.
 pub fn all(
-    es: &[u8],
-    rows: &[usize],
-    steady: [i32; paper::VARIABLES],
-    lows: &[i32],
-    highs: &[i32],
-    ops: &[u8],
-    kinds: &[u8],
-    starts: &[usize],
-    ends: &[usize],
-    locs: &[u8],
-    places: &[usize],
+    t: &[u8],
+    ix: &[usize; program::ENTRIES],
+    ranges: &[i32; program::RANGES],
     events: &[u8],
     values: &mut [i32],
     modes: &mut [u8],
     records: &mut [u8],
 ) -> Counts
-    requires { ⌜ Asking (lent (now es) (now rows) steady (now lows) (now highs) (now ops) (now kinds) (now starts) (now ends))
-        (now locs) (now places) (now values) (now modes) (now events) (now records) ⌝ }
-    ensures { λ r. ⌜ Completes
-        (lent (now (es .entry)) (now (rows .entry)) steady (now (lows .entry)) (now (highs .entry)) (now (ops .entry)) (now (kinds .entry)) (now (starts .entry)) (now (ends .entry)))
-        (now (locs .entry)) (now (places .entry)) (now (values .entry)) (now (modes .entry)) (now (events .entry)) (now (records .entry)) r (now (records .exit)) ⌝ }
+    requires { ⌜ Asking (lent (now t) (now ix) (now ranges)) (now values) (now modes) (now events) (now records) ⌝ }
+    ensures { λ r. ⌜ Completes (lent (now (t .entry)) (now (ix .entry)) (now (ranges .entry))) (now (values .entry)) (now (modes .entry)) (now (events .entry))
+        (now (records .entry)) r (now (records .exit)) ⌝ }
 {
-    let from = places[0];
-    let first = entries::acting(locs, from);
-    let mut at = Situation {
-        over: false,
-        place: 0,
-        acting: first,
-    };
+    let mut acting = [0u64; 4];
+    entries::acting(t, program::location(ix, 0), &mut acting);
+    let mut x = 0;
     let mut counts = records::none();
     let n = events.len() / paper::EVENT_BYTES;
     let mut i = 0;
     let mut k = 0;
     while k < n {
-        let r = steps::step(
-            es,
-            rows,
-            steady,
-            lows,
-            highs,
-            ops,
-            kinds,
-            starts,
-            ends,
-            locs,
-            places,
-            at,
-            events[paper::EVENT_BYTES * k],
-            events[paper::EVENT_BYTES * k + 1],
-            events[paper::EVENT_BYTES * k + 2],
-            values,
-            modes,
-        );
+        let e = event::at(events, k);
+        let r = steps::step(t, ix, ranges, e, x, &mut acting, values, modes);
         let answer = r.answer;
-        let next = r.situation;
-        let acting = next.acting;
-        i = records::put_record(records, i, answer, acting, values, modes);
+        x = r.place;
+        i = records::put_record(records, i, answer, &acting, values, modes);
         counts = records::booked(counts, answer);
-        at = next;
         k += 1;
     }
     counts

@@ -16,7 +16,7 @@ long : (s : lts.Start (put-places-reads.Asked, put-places-reads.Learnt, put-kind
 long s = search needs
 
 put-places-requires : tie.Need-put-places-requires
-put-places-requires c κs = let s = c .before .before .before .before .before .before in room (s .args .p .«mode_offsets») 128 0 (long s) (omega arith)
+put-places-requires c κs = let s = c .before .before .before .before .before .before in room (s .args .p .«mode_offsets») 128 _ (long s) (omega arith)
 
 returns : tie.Need-returns
 returns c =

@@ -14,13 +14,13 @@ long : (s : lts.Start (put-row-reads.Asked, put-row-reads.Learnt) reads.Pre read
 long s = (search needs, search needs, search needs)
 
 put-row-requires : tie.Need-put-row-requires
-put-row-requires c κs = let s = c .before .before .before .before .before in room (s .args .p .lows) 32 0 (long s .0) (omega arith)
+put-row-requires c κs = let s = c .before .before .before .before .before in room (s .args .p .lows) 32 _ (long s .0) (omega arith)
 
 put-row-requires-2 : tie.Need-put-row-requires-2
-put-row-requires-2 c κs = let s = c .before .before .before .before .before .before .before .before in room (s .args .p .highs) 32 32 (long s .1) (omega arith)
+put-row-requires-2 c κs = let s = c .before .before .before .before .before .before .before .before in room (s .args .p .highs) 32 _ (long s .1) (omega arith)
 
 put-row-requires-3 : tie.Need-put-row-requires-3
-put-row-requires-3 c κs = let s = c .before .before .before .before .before .before .before .before .before .before .before in room (s .args .p .steady) 32 64 (long s .2) (omega arith)
+put-row-requires-3 c κs = let s = c .before .before .before .before .before .before .before .before .before .before .before in room (s .args .p .steady) 32 _ (long s .2) (omega arith)
 
 returns : tie.Need-returns
 returns c =
