@@ -1,20 +1,24 @@
--- A start that 20 lets pass fits the plant; a front as long as it is said to be.
+-- A run that is admitted may run.
 use mathlib.Core.Path.{_≡_}
 use mathlib.Core.Bool.{true}
 use mathlib.Core.List.{List, [], _∷_}
 use Prim.Native.Nat.{ℕ, zero, suc, _≤_}
 use native.Mathlib.Omega.{arith}
 use lib.ListN.{length, take}
+use Rattle.semantics.specs.Editions.{edition1}
 use Rattle.semantics.specs.Plant.{Plant, selectors, allDeclared}
 use Rattle.semantics.specs.Starts.{Start, isOk, modesFit, startFits}
+use Rattle.semantics.specs.Calls.{roomForRecords}
 use Rattle.semantics.proofs.Facts.{and-right}
-use Rattle.execution.specs.Ready.{Fits}
+use Rattle.execution.specs.Runs.{MayRun}
 
--- with a value for each variable and a mode for each selector
-pub fits-start : (p : Plant) (st : Start) → length (st .values) ≡ length (p .variables) → length (st .modes) ≡ length (selectors p) → startFits p st ≡ true → Fits p (st .values) (st .modes)
+-- a start that 20 lets pass, with a value for each variable and a mode for each selector, and room
+pub may-run : (p : Plant) (st : Start) (events d : List ℕ) → length (st .values) ≡ length (p .variables) → length (st .modes) ≡ length (selectors p) → startFits p st ≡ true → roomForRecords edition1 p events d ≡ true
+    → MayRun p (st .values) (st .modes) events d
 unfolding startFits
-fits-start p st e f h = record { values = e; modes = f; exist = and-right (isOk (allDeclared (p .variables) (st .values))) (modesFit (selectors p) (st .modes)) h }
+may-run p st events d e f h r = record { fits = record { values = e; modes = f; exist = and-right (isOk (allDeclared (p .variables) (st .values))) (modesFit (selectors p) (st .modes)) h }; room = r }
 
+-- a front as long as it is said to be
 pub take-full : {A : Type 0} (n : ℕ) (l : List A) → length (take n l) ≡ n → n ≤ length l
 take-full zero l h = omega arith
 take-full (suc n) [] h = absurd (omega arith)

@@ -1,3 +1,2 @@
-pub mod Running
-pub mod TableReady
-pub mod Calling
+mod Running
+mod Calling
