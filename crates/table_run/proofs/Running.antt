@@ -23,7 +23,7 @@ module _ {s ix : List ℕ} {rs : List ℤ} where
   pub first-located : {vs : List ℤ} {ms events d : List ℕ} {p : ℕ} → p ≡ getD (locationRow ix) 0 0 → Asking (lent s ix rs) vs ms events d → Located s p
   first-located e q = rw e (located-of (q .asked .lent .locations .at 0 (q .asked .lent .some-location) .promised))
 
-  pub first-stands : (t : Table) {p : ℕ} {ws : List ℕ} → TableLent t (lent s ix rs) → p ≡ getD (locationRow ix) 0 0 → Gathered s p ws → StandsFor t 0 ws (some 0)
+  pub first-stands : (t : Table) {p : ℕ} {ws : List ℕ} → TableLent t (lent s ix rs) → p ≡ getD (locationRow ix) 0 0 → Gathered s p ws → StandsFor t 0 ws (some (tableControl t .start))
   unfolding tableControl
   first-stands t d e g = record { place = refl; shows = at-place (d .some-location) (g .are (entriesAt t 0) (rw e (listed-of (d .locations .at 0 (d .some-location) .promised)))) (g .words) }
 

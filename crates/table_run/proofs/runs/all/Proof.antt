@@ -1,101 +1,94 @@
+-- The loop keeps `Going` for every table that is asked for; each need is one of its laws (execution Loops).
+use mathlib.Core.Path.{_≡_, refl}
+use Prim.Native.Nat.{_-_, _/_, _^_, _≤_, _<_}
+use native.Mathlib.Omega.{arith}
+use lib.ListN.{length}
+use borrow.Author.Needs.{needs}
+use Rattle.semantics.specs.Tables.{Table}
+use Rattle.semantics.specs.Calls.{programOfTable}
+use Rattle.program.specs.Lent.{lent}
+use Rattle.execution.specs.Runs.{Going}
+use Rattle.execution.proofs.Stepping.{shown, shown-words}
+use Rattle.execution.proofs.Loops.{going-start, going-room, going-values, going-modes, going-records, going-counts, going-next, going-end}
+use Rattle.table_step.specs.Situations.{StandsFor}
+use Rattle.table_run.specs.Runs.{Asked}
+use Rattle.table_run.proofs.Running.{first-located, first-stands, acting-few}
 use Rattle.table_run.proofs.runs.all.Statement.{statement}
 use Rattle.table_run.proofs.runs.all.Tie as tie
-use Rattle.table_run.proofs.runs.all.Reads as reads
-use Rattle.table_run.proofs.runs.all.Lts as lts
-use Rattle.event.proofs.at.Reads as at-reads
-use Rattle.program.proofs.location.Reads as location-reads
-use Rattle.records.proofs.booked.Reads as booked-reads
-use Rattle.records.proofs.none.Reads as none-reads
-use Rattle.records.proofs.put_record.Reads as put-record-reads
-use Rattle.table_step.proofs.entries.acting.Reads as acting-reads
-use Rattle.table_step.proofs.steps.step.Reads as step-reads
 
 abbrev Inv-loop : tie.InvT-loop
-Inv-loop t ix ranges events values₀ modes₀ records₀ acting₀ x₀ counts₀ n i₀ k₀ values modes records acting x counts i k =
-    ?
+Inv-loop t ix ranges events values₀ modes₀ records₀ acting₀ x₀ counts₀ n i₀ k₀ values modes records acting x counts i k = (k ≤ n) × (n ≡ length events / 3) × (length events < 2 ^ 64)
+    × ((tb : Table) → Asked tb (lent t ix ranges) values₀ modes₀ events records₀ → Going (programOfTable tb) (StandsFor tb x acting) (record { values = values₀; modes = modes₀ }) events records₀ k i counts values modes records)
 
 abbrev μ-loop : tie.MeasureT-loop
-μ-loop t ix ranges events values₀ modes₀ records₀ acting₀ x₀ counts₀ n i₀ k₀ values modes records acting x counts i k =
-    ?
+μ-loop t ix ranges events values₀ modes₀ records₀ acting₀ x₀ counts₀ n i₀ k₀ values modes records acting x counts i k = n - k
 
--- src/runs.rt:23:24
-location-requires : tie.Need-location-requires Inv-loop μ-loop
-location-requires c κs = ?
-
--- src/runs.rt:23:5
 acting-requires : tie.Need-acting-requires Inv-loop μ-loop
-acting-requires c κs = ?
+acting-requires c κs = first-located (c .before .location .ensures) (c .before .before .before .before .before .before .pre)
 
--- src/runs.rt:25:9
-none-requires : tie.Need-none-requires Inv-loop μ-loop
-none-requires c κs = ?
-
--- src/runs.rt:29:5
 loop-holds : tie.Need-loop-holds Inv-loop μ-loop
-loop-holds c = ?
+loop-holds c =
+    let s = c .before .before .before .before .before .before .before .before in
+    (omega arith, refl, omega (arith, s .good), λ t a. going-start (programOfTable t) (c .none .ensures) (a .may) (first-stands t (a .lent) (c .before .before .before .location .ensures) (c .before .acting2 .ensures)))
 
--- src/runs.rt:30:13
 at-requires : tie.Need-at-requires Inv-loop μ-loop
-at-requires c κs = ?
+at-requires c κs = omega (arith, c .before .loop .inv .1, c .loop-test .taken)
 
--- src/runs.rt:31:13
 step-requires : tie.Need-step-requires Inv-loop μ-loop
-step-requires c κs = ?
+step-requires c κs =
+    let q = c .before .before .before .before .before .before .before .before .before .before .before .before .before .before .pre in
+    let g = c .before .before .before .before .before .loop .inv .3 (q .table) (q .asked) in
+    record { table = q .table; lent = q .asked .lent; place = g .place; stands = g .stands; fits = g .so-far .fits }
 
--- src/runs.rt:34:9
 put-record-requires : tie.Need-put-record-requires Inv-loop μ-loop
-put-record-requires c κs = ?
+put-record-requires c κs =
+    let step = c .before .before .before .before .before .before .before in
+    let turn = step .before .before .before .before .before .before in
+    let q = turn .before .before .before .before .before .before .before .before .before .pre in
+    let g = turn .loop .inv .3 (q .table) (q .asked) in
+    let r = step .step .ensures (q .table) (g .place) (q .asked .lent) (g .stands) (g .so-far .fits) in
+    (going-room (programOfTable (q .table)) g (q .asked .may) (omega (arith, turn .loop .inv .1, step .before .before .before .before .before .loop-test .taken)) (r .1), acting-few (q .asked .lent) (r .0 .stands), shown-words (r .0 .stands .shows))
 
--- src/runs.rt:35:9
 booked-requires : tie.Need-booked-requires Inv-loop μ-loop
-booked-requires c κs = ?
+booked-requires c κs =
+    let turn = c .before .before .before .before .before .before .before .before .before .before .before .before .before .before .before .before in
+    let q = turn .before .before .before .before .before .before .before .before .before .pre in
+    going-counts (programOfTable (q .table)) (turn .loop .inv .3 (q .table) (q .asked)) (omega (arith, turn .loop .inv .1, c .before .before .before .before .before .before .before .before .before .before .before .before .before .before .before .loop-test .taken)) (turn .loop .inv .2)
 
--- src/runs.rt:36:9
 add-k : tie.Need-add-k Inv-loop μ-loop
-add-k c = ?
+add-k c = let turn = c .before .before .before .before .before .before .before .before .before .before .before .before .before .before .before .before .before in omega (arith, turn .loop .inv .1, turn .loop .inv .2, c .before .before .before .before .before .before .before .before .before .before .before .before .before .before .before .before .loop-test .taken)
 
--- src/runs.rt:29:5
 loop-less : tie.Need-loop-less Inv-loop μ-loop
-loop-less c = ?
+loop-less c = omega (arith, c .before .before .before .before .before .before .before .before .before .before .before .before .before .before .before .before .loop-test .taken)
 
--- src/runs.rt:29:5
 loop-again : tie.Need-loop-again Inv-loop μ-loop
-loop-again c = ?
+loop-again c =
+    let turn = c .before .before .before .before .before .before .before .before .before .before .before .before .before .before .before .before .before in
+    let test = c .before .before .before .before .before .before .before .before .before .before .before .before .before .before .before .before .loop-test .taken in
+    let record-put = c .before .before .before .put-record .ensures in (
+      omega (arith, test),
+      turn .loop .inv .1,
+      turn .loop .inv .2,
+      λ t a.
+          let g = turn .loop .inv .3 t a in
+          let r = c .before .before .before .before .before .before .before .before .before .before .before .step .ensures t (g .place) (a .lent) (g .stands) (g .so-far .fits) in
+          going-next (programOfTable t) g (omega (arith, turn .loop .inv .1, test)) (c .before .before .before .before .before .before .before .before .before .before .before .before .before .before .before .at .ensures) (r .0) (r .1) _ (shown (r .0 .stands .shows)) (record-put .1) (record-put .0) (c .booked .ensures),
+    )
 
--- src/runs.rt:9:1
 same-length : tie.Need-same-length Inv-loop μ-loop
-same-length c = ?
+same-length c = let q = c .before .before .before .before .before .before .before .before .before .before .pre in going-values (programOfTable (q .table)) (c .before .loop .inv .3 (q .table) (q .asked)) (q .asked .may)
 
--- src/runs.rt:9:1
 same-length-2 : tie.Need-same-length-2 Inv-loop μ-loop
-same-length-2 c = ?
+same-length-2 c = let q = c .before .before .before .before .before .before .before .before .before .before .pre in going-modes (programOfTable (q .table)) (c .before .loop .inv .3 (q .table) (q .asked)) (q .asked .may)
 
--- src/runs.rt:9:1
 same-length-3 : tie.Need-same-length-3 Inv-loop μ-loop
-same-length-3 c = ?
+same-length-3 c = let q = c .before .before .before .before .before .before .before .before .before .before .pre in going-records (programOfTable (q .table)) (c .before .loop .inv .3 (q .table) (q .asked)) (q .asked .may)
 
--- src/runs.rt:9:1
 returns : tie.Need-returns Inv-loop μ-loop
-returns c = ?
+returns c = λ t a. going-end (programOfTable t) (c .before .loop .inv .3 t a) (omega (arith, c .before .loop .inv .0, c .before .loop .inv .1, c .loop-test .left))
 
 pub all-spec : {M : Type 1} → statement M
 all-spec =
     tie.close
-    (tie.spec
-    Inv-loop
-    μ-loop
-    location-requires
-    acting-requires
-    none-requires
-    loop-holds
-    at-requires
-    step-requires
-    put-record-requires
-    booked-requires
-    add-k
-    loop-less
-    loop-again
-    same-length
-    same-length-2
-    same-length-3
-    returns)
+    (tie.spec Inv-loop μ-loop (λ c κs. omega arith) acting-requires (λ c κs. search needs) loop-holds at-requires step-requires put-record-requires booked-requires add-k loop-less loop-again
+    same-length same-length-2 same-length-3 returns)
