@@ -1,3 +1,2 @@
-pub mod Running
-pub mod ScheduleReady
-pub mod Calling
+mod Running
+mod Calling
