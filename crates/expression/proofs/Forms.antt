@@ -37,6 +37,9 @@ coded Unknown e n h = none-not-some h
 pub form-says : {c : ℕ} {r : Form} → formIs r ≡ formOf c → FormSays c r
 form-says {c} {r} e = record { is = e; number = coded r (subst (Stands c) (sym e) (form-stands c)) }
 
+pub form-told : {c : ℕ} {r q : Form} → FormSays c r → r ≡ q → formOf c ≡ formIs q
+form-told f e = sym (f .is) ∙ ap formIs e
+
 -- the single bytes that lie between codes
 pub form-between : {c : ℕ} → (c ≡ 0x00) ⊎ (c ≡ 0x13) → formOf c ≡ unknown
 unfolding formOf

@@ -64,7 +64,7 @@ truth-says {vs} {o} {r} e = record { is = e; number = ap paperTruthNumber e ∙ 
     valued (some x) = given (holds vs x)
 
 pub found-says : {vs : List ℤ} {n : ℕ} {o : Read Expression} {r : Found} → r ≡ foundIn vs n o → FoundSays vs n o r
-unfolding foundIn paperFound paperFault sideOf faultAnswer valueNumber expressionNumber
+unfolding foundIn paperFound paperFault faultAnswer valueNumber expressionNumber
 found-says {vs} {n} {o} {r} e = record { is = e; number = ap paperFound e ∙ numbered o }
   where
     number : (m : ℕ) (v : Value ℤ) → paperFound (numberAt m v) ≡ valueNumber v

@@ -2,7 +2,8 @@
 use mathlib.Core.Path.{_≡_}
 use mathlib.Core.Option.{some}
 use Prim.Native.Nat.{ℕ}
-use Rattle.semantics.specs.Expressions.{sum, difference, product, at-most, less, equal, unequal, both, either, a-constant, a-variable, an-operation, a-negation, a-comparison, a-connective, an-opposite, a-true, unknown, formOf}
+use Rattle.semantics.specs.Expressions.{sum, difference, product, at-most, less, equal, unequal, both, either}
+use Rattle.semantics.specs.Expressions.{a-constant, a-variable, an-operation, a-negation, a-comparison, a-connective, an-opposite, a-true, unknown, formOf}
 use Rattle.semantics.specs.Expressions as Papers
 use Rattle.expression.specs.PaperNumbers.{paperForm}
 use Rattle.expression.specs.declared.Operation.{Operation}

@@ -74,17 +74,19 @@ enum Form {
     Unknown,
 }
 
-// The one match over the codes: numbers, truths, and the bytes that are no code.
+// The one match over the codes. No other function looks at one.
 fn form_of(code: u8) -> Form
     ensures { λ r. ⌜ FormSays code r ⌝ }
 {
     match code {
+        // numbers
         0x01 => Form::Constant,
         0x02 => Form::Variable,
         0x10 => Form::Operation(Operation::Sum),
         0x11 => Form::Operation(Operation::Difference),
         0x12 => Form::Operation(Operation::Product),
         0x14 => Form::Negation,
+        // truths
         0x20 => Form::Comparison(Comparison::AtMost),
         0x21 => Form::Comparison(Comparison::Less),
         0x22 => Form::Comparison(Comparison::Equal),
@@ -93,6 +95,7 @@ fn form_of(code: u8) -> Form
         0x29 => Form::Connective(Connective::Either),
         0x2a => Form::Opposite,
         0x2f => Form::True,
+        // the bytes that are no code
         0x00 | 0x03..=0x0f | 0x13 | 0x15..=0x1f | 0x24..=0x27 | 0x2b..=0x2e | 0x30..=0xff =>
             Form::Unknown,
     }
@@ -156,7 +159,8 @@ pub fn truth_reads(s: &[u8], variables: usize) -> bool
     }
 }
 
-// A comparison of two leaves; malformed for any other bytes. It does not go through `compared_at`, so that LLVM inlines it.
+// A comparison of two leaves; malformed for any other bytes. It does not go through `compared_at`, so that LLVM inlines it. Its length is
+// tested at once, which spares a test at the first leaf.
 fn comparing(s: &[u8], vars: &[i32]) -> Truth
     ensures { λ r. ⌜ ((r ≡ Truth.Malformed → ⊥) → r ≡ truthAnswer (now (vars .entry)) (truthIn edition1 (length (now (vars .entry))) (now (s .entry)))) ⌝ }
 {

@@ -22,7 +22,8 @@ returns c =
     let L = c .before .before .before .before .before .l .given in
     let R = c .before .before .r .given in
     c .arithmetic .ensures
-    ∙ ap₂ (λ (x y : ℤ). numberAt (R .0 .1 .0) (result (applied (operationIs (c .before .before .before .before .before .before .before .args .o)) x y))) (toZ-ofZ w32 (L .0 .0) (record { sfits = c .before .before .before .before .known-told .given .0 .1 })) (toZ-ofZ w32 (R .0 .0) (record { sfits = c .before .known-told2 .given .0 .1 }))
+    ∙ ap₂ (λ (x y : ℤ). numberAt (R .0 .1 .0) (result (applied (operationIs (c .before .before .before .before .before .before .before .args .o)) x y)))
+    (toZ-ofZ w32 (L .0 .0) (record { sfits = c .before .before .before .before .known-told .given .0 .1 })) (toZ-ofZ w32 (R .0 .0) (record { sfits = c .before .known-told2 .given .0 .1 }))
     ∙ sym (ap₂ (made (c .before .before .before .before .before .before .before)) (L .1) (R .1))
 
 returns-2 : tie.Need-returns-2
@@ -55,5 +56,5 @@ returns-7 c = let s = c .before in off-number _ (s .args .l) (not-number (s .arg
 pub operate-spec : {M : Type 1} → statement M
 operate-spec =
     tie.close
-    (tie.spec (λ c. search needs) (λ c. search needs) (λ c κs. search needs) (λ c. search needs) (λ c. search needs) (λ c. search needs) (λ c. search needs) returns returns-2 returns-3
-    returns-4 returns-5 returns-6 returns-7)
+    (tie.spec (λ c. search needs) (λ c. search needs) (λ c κs. search needs) (λ c. search needs) (λ c. search needs) (λ c. search needs) (λ c. search needs)
+    returns returns-2 returns-3 returns-4 returns-5 returns-6 returns-7)

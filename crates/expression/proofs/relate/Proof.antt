@@ -23,7 +23,9 @@ unfolding operands
 returns c =
     let L = c .before .before .before .before .before .l .given in
     let R = c .before .before .r .given in
-    ap (λ (t : Bool). ATruth t (R .0 .1 .0)) (c .compare .ensures ∙ ap₂ (λ (x y : ℤ). compared (comparisonIs (c .before .before .before .before .before .before .before .args .o)) x y) (toZ-ofZ w32 (L .0 .0) (record { sfits = c .before .before .before .before .known-told .given .0 .1 })) (toZ-ofZ w32 (R .0 .0) (record { sfits = c .before .known-told2 .given .0 .1 })))
+    ap (λ (t : Bool). ATruth t (R .0 .1 .0)) (c .compare .ensures
+    ∙ ap₂ (λ (x y : ℤ). compared (comparisonIs (c .before .before .before .before .before .before .before .args .o)) x y)
+    (toZ-ofZ w32 (L .0 .0) (record { sfits = c .before .before .before .before .known-told .given .0 .1 })) (toZ-ofZ w32 (R .0 .0) (record { sfits = c .before .known-told2 .given .0 .1 })))
     ∙ sym (ap₂ (made (c .before .before .before .before .before .before .before)) (L .1) (R .1))
 
 returns-2 : tie.Need-returns-2
@@ -56,5 +58,5 @@ returns-7 c = let s = c .before in off-number _ (s .args .l) (not-number (s .arg
 pub relate-spec : {M : Type 1} → statement M
 relate-spec =
     tie.close
-    (tie.spec (λ c. search needs) (λ c. search needs) (λ c κs. search needs) (λ c. search needs) (λ c. search needs) (λ c. search needs) (λ c. search needs) returns returns-2 returns-3
-    returns-4 returns-5 returns-6 returns-7)
+    (tie.spec (λ c. search needs) (λ c. search needs) (λ c κs. search needs) (λ c. search needs) (λ c. search needs) (λ c. search needs) (λ c. search needs)
+    returns returns-2 returns-3 returns-4 returns-5 returns-6 returns-7)

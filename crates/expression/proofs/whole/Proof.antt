@@ -1,5 +1,5 @@
 -- A leaf, an operation on two leaves (`two-operated`), or the answer of `eval` as it is.
-use mathlib.Core.Path.{sym, ap, ap₂, _∙_}
+use mathlib.Core.Path.{ap₂, _∙_}
 use native.Mathlib.Omega.{arith}
 use lib.IntN.{ℤ}
 use mir.Syntax.{w32}
@@ -7,7 +7,8 @@ use mir.ValLaws.{toZ-ofZ}
 use borrow.Author.Needs.{needs}
 use Rattle.semantics.specs.Expressions.{applied, result}
 use Rattle.expression.specs.Evaluation.{numberAt}
-use Rattle.expression.specs.Forms.{operationIs, formIs}
+use Rattle.expression.specs.Forms.{operationIs}
+use Rattle.expression.proofs.Forms.{form-told}
 use Rattle.expression.proofs.PaperNumbers.{found-says}
 use Rattle.expression.proofs.Steps.{past, step-constant, step-variable}
 use Rattle.expression.proofs.TwoLeaves.{two-operated}
@@ -22,26 +23,29 @@ returns c =
 returns-4 : tie.Need-returns-4
 returns-4 c =
     let s = c .before .before .before .before .before .before .before .args in
-    let f = sym (c .before .before .before .form-of .ensures .is) ∙ ap formIs (c .before .enum-told .given .1) in
+    let f = form-told (c .before .before .before .form-of .ensures) (c .before .enum-told .given .1) in
     found-says (c .constant .ensures (s .vars .now) ∙ step-constant (s .vars .now) (s .s .now) 0 16 (λ e. omega arith) (omega (arith, c .before .before .before .before .before .if1 .left)) f)
 
 returns-5 : tie.Need-returns-5
 returns-5 c =
     let s = c .before .before .before .before .before .before .before .args in
-    let f = sym (c .before .before .before .form-of .ensures .is) ∙ ap formIs (c .before .enum-told2 .given .1) in
+    let f = form-told (c .before .before .before .form-of .ensures) (c .before .enum-told2 .given .1) in
     found-says (c .variable .ensures ∙ step-variable (s .vars .now) (s .s .now) 0 16 (λ e. omega arith) (omega (arith, c .before .before .before .before .before .if1 .left)) f)
 
 returns-6 : tie.Need-returns-6
 returns-6 c =
-    let s = c .before .before .before .before .before .before .before .before .before .before .before .before .before .before .before .before .args in
-    let O = c .before .before .before .before .before .before .before .before .before .before .o .given in
+    let c7 = c .before .before .before .before .before .before .before in
+    let c14 = c7 .before .before .before .before .before .before .before in
+    let s = c14 .before .before .args in
+    let O = c7 .before .before .before .o .given in
     let A = c .before .before .before .before .before .before .a .given in
     let D = c .before .before .b .given in
     let x = toZ-ofZ w32 (A .0 .0) (record { sfits = c .before .before .before .before .before .known-told2 .given .0 .1 }) in
     let y = toZ-ofZ w32 (D .0 .0) (record { sfits = c .before .known-told3 .given .0 .1 }) in
-    let f = sym (c .before .before .before .before .before .before .before .before .before .before .before .before .form-of .ensures .is) ∙ ap formIs (O .1) in
+    let f = form-told (c7 .before .before .before .before .before .form-of .ensures) (O .1) in
     found-says (c .arithmetic .ensures ∙ ap₂ (λ (v w : ℤ). numberAt (D .0 .1 .0) (result (applied (operationIs (O .0 .0)) v w))) x y
-    ∙ two-operated (s .vars .now) (s .s .now) (omega (arith, c .before .before .before .before .before .before .before .before .before .before .before .before .before .before .if1 .left)) (c .before .before .before .before .before .before .before .before .leaf .ensures) (A .1) (c .before .before .before .before .leaf2 .ensures) (D .1) (operationIs (O .0 .0)) f)
+    ∙ two-operated (s .vars .now) (s .s .now) (omega (arith, c14 .if1 .left))
+    (c7 .before .leaf .ensures) (A .1) (c .before .before .before .before .leaf2 .ensures) (D .1) (operationIs (O .0 .0)) f)
 
 pub whole-spec : {M : Type 1} → statement M
 whole-spec =
