@@ -40,7 +40,7 @@ pub size-is : (p : Plant) {variables cases size : ℕ} → variables ≡ length 
 unfolding recordSize
 size-is p e f h = omega arith
 
-refusal-is : (j : Judged Start) → admitted j .refusal ≡ refusalOf j
+pub refusal-is : (j : Judged Start) → admitted j .refusal ≡ refusalOf j
 unfolding admitted notAdmitted refusalOf
 refusal-is (refused n) = refl
 refusal-is (accepted st) = refl
@@ -60,7 +60,7 @@ module _ (p : Plant) (start es d : List ℕ) {first : Admitted} (e : first ≡ a
       go (accepted st) z = absurd (z refl)
 
   module _ (h : first .refusal ≡ 0) {events room : ℕ} (l : length es ≡ events) (k : length d ≡ room) where
-    started : (st : Start) × (judgeStart p start ≡ accepted st)
+    pub started : (st : Start) × (judgeStart p start ≡ accepted st)
     started = accepted-of (start-first edition1 start es d refl) (all-cons (not-0 19) all-nil) (sym (refusal-is (judgeStart p start)) ∙ sym (ap (λ (a : Admitted). a .refusal) e) ∙ h)
 
     pub by-21 : (events % 3 ≡ 0 → ⊥) → notAdmitted 21 ≡ admitted (judgeAdmission edition1 p start es d)

@@ -1,2 +1,3 @@
 pub mod EntryTurns
 pub mod Settling
+pub mod Callers

@@ -1,0 +1,145 @@
+-- Three steps of a run one after the other, and the call.
+use mathlib.Core.Path.{_≡_, refl, sym, ap, subst, _∙_}
+use mathlib.Core.List.{List, []}
+use mathlib.Core.Option.{some}
+use Prim.Native.Nat.{ℕ, _^_, _<_}
+use native.Mathlib.Nat.{zero-mul}
+use lib.IntN.{ℤ, pos}
+use lib.ListN.{length, take}
+use Rattle.semantics.specs.Editions.{edition1}
+use Rattle.semantics.specs.Refusals.{Judged, refused, accepted, refusalOf, ensure, _>>=_, _>>_}
+use Rattle.semantics.specs.Plant.{Plant}
+use Rattle.semantics.specs.Starts.{Start}
+use Rattle.semantics.specs.Run.{Answered}
+use Rattle.semantics.specs.Tables.{Table, judgeTable, tableControl}
+use Rattle.semantics.specs.Calls.{wholeEvents, eventCount, recordSize, roomForRecords, judgeStart, judgeAdmission}
+use Rattle.semantics.proofs.Admission.{start-passed}
+use Rattle.semantics.proofs.CallsHold.{start-values}
+use Rattle.codec.proofs.Padding.{take-pad}
+use Rattle.program.specs.Lent.{Lent, lent}
+use Rattle.program.specs.declared.Program.{Program}
+use Rattle.event.specs.declared.Event.{Event}
+use Rattle.table_read.specs.TableIndex.{tableIndex}
+use Rattle.table_read.specs.Lent.{TableLent, TablePrograms}
+use Rattle.table_read.specs.declared.call.TableIndex.{TableIndex}
+use Rattle.table_read.proofs.Promises.{table-of, refused-table, opened, plant-read}
+use Rattle.start_read.specs.StartRead.{Arrays, Room}
+use Rattle.start_read.specs.Admission.{admitted}
+use Rattle.start_read.specs.declared.admission.Admitted.{Admitted}
+use Rattle.start_read.proofs.AdmissionLaws as Admission
+use Rattle.start_read.proofs.PlantStart.{arrays-held, room-held}
+use Rattle.execution.specs.Ready.{Fits}
+use Rattle.execution.proofs.Starts.{fits-start, take-full}
+use Rattle.table_step.specs.Situations.{StandsFor, StepsOn}
+use Rattle.table_step.specs.declared.steps.Stepped.{Stepped}
+use Rattle.lookahead.specs.declared.Answers.{Answers}
+use Rattle.lookahead.specs.Ahead.{stepOfTable, answersFrom, noAnswers, told, threeAnswers}
+use Rattle.lookahead.specs.Asked.{Lending, AnswersAll, startIn, Admits, Admitting, AnswersStart}
+
+-- ---- three steps, from location 0
+pub three-steps : {l : Lent} {t : Table} → TableLent t l → {ws ms : List ℕ} {vs : List ℤ} → StandsFor t 0 ws (some 0) → Fits (t .plant) vs ms
+    → (a b c : Event) {x y z : Stepped} {ws1 ms1 ws2 ms2 ws3 ms3 : List ℕ} {vs1 vs2 vs3 : List ℤ}
+    → StepsOn l 0 ws vs ms a x ws1 vs1 ms1 → StepsOn l (x .place) ws1 vs1 ms1 b y ws2 vs2 ms2 → StepsOn l (y .place) ws2 vs2 ms2 c z ws3 vs3 ms3
+    → record { refusal = 0; first = x .answer; second = y .answer; third = z .answer } ≡ answersFrom t (record { values = vs; modes = ms }) a b c
+unfolding answersFrom tableControl
+three-steps {t = t} d g f a b c k1 k2 k3 =
+    let s1 = k1 t (some 0) d g f in
+    let s2 = k2 t (s1 .0 .place) d (s1 .0 .stands) (s1 .1) in
+    let s3 = k3 t (s2 .0 .place) d (s2 .0 .stands) (s2 .1) in
+    let e1 = s1 .0 .is in
+    let e2 = ap (λ (r : Answered ℕ). stepOfTable t (r .left) b) e1 ∙ s2 .0 .is in
+    let e3 = ap (λ (r : Answered ℕ). stepOfTable t (r .left) c) e2 ∙ s3 .0 .is in
+    sym (λ i. record { refusal = 0; first = e1 i .answer; second = e2 i .answer; third = e3 i .answer })
+
+-- ---- a table that was read is lent with its start
+module _ {f : List ℕ} (small : length f < 2 ^ 64) {x : TableIndex} {start : Admitted} {r : Program} (k : TablePrograms x r) where
+  pub lending : Admitting f x start → Lending (lent f (r .index) (r .ranges)) (startIn x start .values) (startIn x start .modes)
+  lending a = record { table = a .table; lent = k f (a .table) (a .is) small (a .admits .judged); fits = a .admits .fits }
+
+  pub answers-start : Admitting f x start → (a b c : Event) {n : Answers} → AnswersAll (lent f (r .index) (r .ranges)) (startIn x start .values) (startIn x start .modes) a b c n → AnswersStart f x start a b c n
+  answers-start q a b c w = λ t m. w t (k f t (q .is) small (m .judged)) (m .fits)
+
+-- ---- 20 is all that is judged of a run of no events
+only-start : (p : Plant) (start : List ℕ) → judgeAdmission edition1 p start [] [] ≡ judgeStart p start
+unfolding judgeAdmission wholeEvents roomForRecords eventCount ensure _>>=_ _>>_
+only-start p start = go (judgeStart p start)
+  where
+    go : (j : Judged Start) → (j >>= λ st. ensure 21 (wholeEvents (edition1 .event-bytes) []) >> (ensure 22 (roomForRecords edition1 p [] []) >> accepted st)) ≡ j
+    go (refused n) = refl
+    go (accepted st) = rw (zero-mul (recordSize edition1 p)) refl
+
+-- ---- one law for each return of the call
+module _ (f start : List ℕ) (a b c : Event) {x : TableIndex} (h : x ≡ tableIndex f) where
+  pub by-table : (x .refusal ≡ 0 → ⊥) → noAnswers (x .refusal) ≡ threeAnswers f start a b c
+  unfolding threeAnswers told _>>=_
+  by-table z = rw (refused-table f h z) refl
+
+  module _ (z : x .refusal ≡ 0) where
+    table : Table
+    table = table-of f h z .table
+
+    judged : judgeTable edition1 f ≡ accepted table
+    unfolding table
+    judged = table-of f h z .is
+
+    pub room-of : Room (x .plant)
+    room-of = room-held _ _ (plant-read f h judged) (opened f judged .plant)
+
+    arrays-of : Arrays (table .plant) (x .plant)
+    arrays-of = arrays-held _ _ (plant-read f h judged) (opened f judged .plant)
+
+    started : {j : Judged Start} → judgeStart (table .plant) start ≡ j → threeAnswers f start a b c ≡ told (j >>= λ st. accepted (answersFrom table st a b c))
+    unfolding threeAnswers _>>=_
+    started e = rw (judged, e) refl
+
+    module _ {asked : Admitted} (g : (p : Plant) → Arrays p (x .plant) → (es d : List ℕ) → length es ≡ 0 → length d ≡ 0 → asked ≡ admitted (judgeAdmission edition1 p start es d)) where
+      asked-is : asked ≡ admitted (judgeStart (table .plant) start)
+      asked-is = g (table .plant) arrays-of [] [] refl refl ∙ ap admitted (only-start (table .plant) start)
+
+      asked-refusal : asked .refusal ≡ refusalOf (judgeStart (table .plant) start)
+      asked-refusal = ap (λ (q : Admitted). q .refusal) asked-is ∙ Admission.refusal-is (judgeStart (table .plant) start)
+
+      pub by-start : (asked .refusal ≡ 0 → ⊥) → noAnswers (asked .refusal) ≡ threeAnswers f start a b c
+      unfolding told _>>=_ refusalOf
+      by-start y = go (judgeStart (table .plant) start) asked-refusal (started refl)
+        where
+          go : (j : Judged Start) → asked .refusal ≡ refusalOf j → threeAnswers f start a b c ≡ told (j >>= λ st. accepted (answersFrom table st a b c)) → noAnswers (asked .refusal) ≡ threeAnswers f start a b c
+          go (refused n) e i = ap noAnswers e ∙ sym i
+          go (accepted st) e i = absurd (y e)
+
+      module _ (y : asked .refusal ≡ 0) where
+        start-accepted : (st : Start) × (judgeStart (table .plant) start ≡ accepted st)
+        start-accepted = Admission.started (table .plant) start [] [] asked-is y refl refl
+
+        -- the arrays hold the start
+        held : startIn x asked ≡ start-accepted .0
+        unfolding admitted
+        held =
+            let st = start-accepted .0 in
+            let s = asked-is ∙ ap admitted (start-accepted .1) in
+            let n = start-values (table .plant) start (start-passed (table .plant) start (start-accepted .1) .is-read) in
+            let v = arrays-of .ranges .count in
+            let m = sym (arrays-of .counts .counted) in
+            let vs = ap (λ (q : Admitted). take (x .plant .variables) (q .values)) s ∙ take-pad 32 (pos 0) (st .values) (x .plant .variables) (n .0 ∙ sym v) in
+            let ms = ap (λ (q : Admitted). take (x .plant .selectors) (q .modes)) s ∙ take-pad 16 0 (st .modes) (x .plant .selectors) (n .1 ∙ sym m) in
+            λ i. record { values = vs i; modes = ms i }
+
+        admits : Admits f x asked table
+        admits =
+            let p = table .plant in
+            let j = start-passed p start (start-accepted .1) in
+            let n = start-values p start (j .is-read) in
+            record { judged = judged; fits = subst (λ (st : Start). Fits p (st .values) (st .modes)) (sym held) (fits-start p (start-accepted .0) (n .0) (n .1) (j .fits)) }
+
+        pub admitting : Admitting f x asked
+        admitting = record {
+          is = h;
+          values = take-full (x .plant .variables) (asked .values) (admits .fits .values ∙ sym (arrays-of .ranges .count));
+          modes = take-full (x .plant .selectors) (asked .modes) (admits .fits .modes ∙ arrays-of .counts .counted);
+          table = table;
+          admits = admits;
+        }
+
+        pub by-events : {r : Answers} → AnswersStart f x asked a b c r → r ≡ threeAnswers f start a b c
+        unfolding told _>>=_
+        by-events k = k table admits ∙ ap (λ st. answersFrom table st a b c) held ∙ sym (started (start-accepted .1))

@@ -1,0 +1,100 @@
+// What a run of a table would answer to three events, with no record written.
+use event::Event;
+use start_read::admission::Admitted;
+use table_read::call::TableIndex;
+use table_step::entries;
+use table_step::steps;
+ghost use mathlib.Core.Path.{_≡_};
+ghost use Rattle.program.specs.Lent.{lent};
+ghost use Rattle.lookahead.specs.Ahead.{noAnswers, threeAnswers};
+ghost use Rattle.lookahead.specs.Asked.{Lending, AnswersAll, Admitting, AnswersStart};
+
+// 0, or the first number that applies; all answers are 0 then
+pub struct Answers {
+    pub refusal: u8,
+    pub first: u8,
+    pub second: u8,
+    pub third: u8,
+}
+
+fn refused(n: u8) -> Answers
+    ensures { λ r. ⌜ r ≡ noAnswers n ⌝ }
+{
+    Answers {
+        refusal: n,
+        first: 0,
+        second: 0,
+        third: 0,
+    }
+}
+
+// Three steps from location 0. Each is made at the place, and with the acting nodes, values and modes, that the one before left.
+fn ahead(
+    t: &[u8],
+    ix: &[usize; program::ENTRIES],
+    ranges: &[i32; program::RANGES],
+    a: Event,
+    b: Event,
+    c: Event,
+    values: &mut [i32],
+    modes: &mut [u8],
+) -> Answers
+    requires { ⌜ Lending (lent (now t) (now ix) (now ranges)) (now values) (now modes) ⌝ }
+    ensures { λ r. ⌜ AnswersAll (lent (now (t .entry)) (now (ix .entry)) (now (ranges .entry))) (now (values .entry)) (now (modes .entry)) a b c r ⌝ }
+{
+    let mut acting = [0u64; 4];
+    entries::acting(t, program::location(ix, 0), &mut acting);
+    let x = steps::step(t, ix, ranges, a, 0, &mut acting, values, modes);
+    let y = steps::step(t, ix, ranges, b, x.place, &mut acting, values, modes);
+    let z = steps::step(t, ix, ranges, c, y.place, &mut acting, values, modes);
+    Answers {
+        refusal: 0,
+        first: x.answer,
+        second: y.answer,
+        third: z.answer,
+    }
+}
+
+// The same of a table that was read and a start that was admitted.
+fn admitted(x: TableIndex, start: Admitted, table: &[u8], a: Event, b: Event, c: Event) -> Answers
+    requires { ⌜ Admitting (now table) x start ⌝ }
+    ensures { λ r. ⌜ AnswersStart (now (table .entry)) x start a b c r ⌝ }
+{
+    let plant = x.plant;
+    let variables = plant.variables;
+    let selectors = plant.selectors;
+    let p = table_read::call::program(x);
+    let index = p.index;
+    let ranges = p.ranges;
+    let mut values = start.values;
+    let mut modes = start.modes;
+    ahead(
+        table,
+        &index,
+        &ranges,
+        a,
+        b,
+        c,
+        &mut values[..variables],
+        &mut modes[..selectors],
+    )
+}
+
+// The answers to three events at the start of a run of the table.
+pub fn three(table: &[u8], start: &[u8], a: Event, b: Event, c: Event) -> Answers
+    ensures { λ r. ⌜ r ≡ threeAnswers (now (table .entry)) (now (start .entry)) a b c ⌝ }
+{
+    let x = table_read::call::index(table);
+    let unread = x.refusal;
+    if unread != 0 {
+        return refused(unread);
+    }
+    let plant = x.plant;
+    // no events and no records: 20 alone is judged
+    let asked = start_read::admission::admit(plant, start, 0, 0);
+    let unfit = asked.refusal;
+    if unfit != 0 {
+        return refused(unfit);
+    }
+    admitted(x, asked, table, a, b, c)
+}
