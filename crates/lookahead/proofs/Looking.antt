@@ -8,12 +8,12 @@ use lib.IntN.{ℤ, pos}
 use lib.ListN.{length, take}
 use Rattle.semantics.specs.Editions.{edition1}
 use Rattle.semantics.specs.Refusals.{Judged, refused, accepted, refusalOf, ensure, _>>=_, _>>_}
-use Rattle.semantics.specs.Plant.{Plant}
+use Rattle.semantics.specs.Plant.{Plant, selectors}
 use Rattle.semantics.specs.Starts.{Start}
 use Rattle.semantics.specs.Run.{Answered}
 use Rattle.semantics.specs.Tables.{Table, judgeTable, tableControl}
 use Rattle.semantics.specs.Calls.{wholeEvents, eventCount, recordSize, roomForRecords, judgeStart, judgeAdmission}
-use Rattle.semantics.proofs.Admission.{start-passed}
+use Rattle.semantics.proofs.Admission.{Starts, start-passed}
 use Rattle.semantics.proofs.CallsHold.{start-values}
 use Rattle.codec.proofs.Padding.{take-pad}
 use Rattle.program.specs.Lent.{Lent, lent}
@@ -56,10 +56,14 @@ module _ {f : List ℕ} (small : length f < 2 ^ 64) {x : TableIndex} {start : Ad
   pub lending : Admitting f x start → Lending (lent f (r .index) (r .ranges)) (startIn x start .values) (startIn x start .modes)
   lending a = record { table = a .table; lent = k f (a .table) (a .is) small (a .admits .judged); fits = a .admits .fits }
 
-  pub answers-start : Admitting f x start → (a b c : Event) {n : Answers} → AnswersAll (lent f (r .index) (r .ranges)) (startIn x start .values) (startIn x start .modes) a b c n → AnswersStart f x start a b c n
+  pub answers-start : Admitting f x start → (a b c : Event) {n : Answers} → AnswersAll (lent f (r .index) (r .ranges)) (startIn x start .values) (startIn x start .modes) a b c n
+      → AnswersStart f x start a b c n
   answers-start q a b c w = λ t m. w t (k f t (q .is) small (m .judged)) (m .fits)
 
 -- ---- 20 is all that is judged of a run of no events
+abbrev Asks : TableIndex → List ℕ → Admitted → Type 0
+Asks x start asked = (p : Plant) → Arrays p (x .plant) → (es d : List ℕ) → length es ≡ 0 → length d ≡ 0 → asked ≡ admitted (judgeAdmission edition1 p start es d)
+
 only-start : (p : Plant) (start : List ℕ) → judgeAdmission edition1 p start [] [] ≡ judgeStart p start
 unfolding judgeAdmission wholeEvents roomForRecords eventCount ensure _>>=_ _>>_
 only-start p start = go (judgeStart p start)
@@ -68,6 +72,65 @@ only-start p start = go (judgeStart p start)
     go (refused n) = refl
     go (accepted st) = rw (zero-mul (recordSize edition1 p)) refl
 
+-- ---- a table and a start that pass
+module _ (f : List ℕ) {x : TableIndex} (h : x ≡ tableIndex f) (z : x .refusal ≡ 0) where
+  table : Table
+  table = table-of f h z .table
+
+  judged : judgeTable edition1 f ≡ accepted table
+  unfolding table
+  judged = table-of f h z .is
+
+  pub room-of : Room (x .plant)
+  room-of = room-held _ _ (plant-read f h judged) (opened f judged .plant)
+
+  arrays-of : Arrays (table .plant) (x .plant)
+  arrays-of = arrays-held _ _ (plant-read f h judged) (opened f judged .plant)
+
+  module _ (start : List ℕ) {asked : Admitted} (g : Asks x start asked) where
+    asked-is : asked ≡ admitted (judgeStart (table .plant) start)
+    asked-is = g (table .plant) arrays-of [] [] refl refl ∙ ap admitted (only-start (table .plant) start)
+
+    asked-refusal : asked .refusal ≡ refusalOf (judgeStart (table .plant) start)
+    asked-refusal = ap (λ (q : Admitted). q .refusal) asked-is ∙ Admission.refusal-is (judgeStart (table .plant) start)
+
+    module _ (y : asked .refusal ≡ 0) where
+      start-accepted : (st : Start) × (judgeStart (table .plant) start ≡ accepted st)
+      start-accepted = Admission.started (table .plant) start [] [] asked-is y refl refl
+
+      passed : Starts (table .plant) start (start-accepted .0)
+      passed = start-passed (table .plant) start (start-accepted .1)
+
+      counted : (length (start-accepted .0 .values) ≡ length (table .plant .variables)) × (length (start-accepted .0 .modes) ≡ length (selectors (table .plant)))
+      counted = start-values (table .plant) start (passed .is-read)
+
+      -- the arrays hold the start
+      held : startIn x asked ≡ start-accepted .0
+      unfolding admitted
+      held =
+          let st = start-accepted .0 in
+          let s = asked-is ∙ ap admitted (start-accepted .1) in
+          let n = counted .0 ∙ sym (arrays-of .ranges .count) in
+          let m = counted .1 ∙ arrays-of .counts .counted in
+          let vs = ap (λ (q : Admitted). take (x .plant .variables) (q .values)) s ∙ take-pad 32 (pos 0) (st .values) (x .plant .variables) n in
+          let ms = ap (λ (q : Admitted). take (x .plant .selectors) (q .modes)) s ∙ take-pad 16 0 (st .modes) (x .plant .selectors) m in
+          λ i. record { values = vs i; modes = ms i }
+
+      admits : Admits f x asked table
+      admits = record {
+        judged = judged;
+        fits = subst (λ (st : Start). Fits (table .plant) (st .values) (st .modes)) (sym held) (fits-start (table .plant) (start-accepted .0) (counted .0) (counted .1) (passed .fits));
+      }
+
+      pub admitting : Admitting f x asked
+      admitting = record {
+        is = h;
+        values = take-full (x .plant .variables) (asked .values) (admits .fits .values ∙ sym (arrays-of .ranges .count));
+        modes = take-full (x .plant .selectors) (asked .modes) (admits .fits .modes ∙ arrays-of .counts .counted);
+        table = table;
+        admits = admits;
+      }
+
 -- ---- one law for each return of the call
 module _ (f start : List ℕ) (a b c : Event) {x : TableIndex} (h : x ≡ tableIndex f) where
   pub by-table : (x .refusal ≡ 0 → ⊥) → noAnswers (x .refusal) ≡ threeAnswers f start a b c
@@ -75,71 +138,22 @@ module _ (f start : List ℕ) (a b c : Event) {x : TableIndex} (h : x ≡ tableI
   by-table z = rw (refused-table f h z) refl
 
   module _ (z : x .refusal ≡ 0) where
-    table : Table
-    table = table-of f h z .table
+    abbrev answersOn : Judged Start → Answers
+    answersOn j = told (j >>= λ st. accepted (answersFrom (table f h z) st a b c))
 
-    judged : judgeTable edition1 f ≡ accepted table
-    unfolding table
-    judged = table-of f h z .is
-
-    pub room-of : Room (x .plant)
-    room-of = room-held _ _ (plant-read f h judged) (opened f judged .plant)
-
-    arrays-of : Arrays (table .plant) (x .plant)
-    arrays-of = arrays-held _ _ (plant-read f h judged) (opened f judged .plant)
-
-    started : {j : Judged Start} → judgeStart (table .plant) start ≡ j → threeAnswers f start a b c ≡ told (j >>= λ st. accepted (answersFrom table st a b c))
+    started : {j : Judged Start} → judgeStart (table f h z .plant) start ≡ j → threeAnswers f start a b c ≡ answersOn j
     unfolding threeAnswers _>>=_
-    started e = rw (judged, e) refl
+    started e = rw (judged f h z, e) refl
 
-    module _ {asked : Admitted} (g : (p : Plant) → Arrays p (x .plant) → (es d : List ℕ) → length es ≡ 0 → length d ≡ 0 → asked ≡ admitted (judgeAdmission edition1 p start es d)) where
-      asked-is : asked ≡ admitted (judgeStart (table .plant) start)
-      asked-is = g (table .plant) arrays-of [] [] refl refl ∙ ap admitted (only-start (table .plant) start)
-
-      asked-refusal : asked .refusal ≡ refusalOf (judgeStart (table .plant) start)
-      asked-refusal = ap (λ (q : Admitted). q .refusal) asked-is ∙ Admission.refusal-is (judgeStart (table .plant) start)
-
+    module _ {asked : Admitted} (g : Asks x start asked) where
       pub by-start : (asked .refusal ≡ 0 → ⊥) → noAnswers (asked .refusal) ≡ threeAnswers f start a b c
       unfolding told _>>=_ refusalOf
-      by-start y = go (judgeStart (table .plant) start) asked-refusal (started refl)
+      by-start y = go (judgeStart (table f h z .plant) start) (asked-refusal f h z start g) ∙ sym (started refl)
         where
-          go : (j : Judged Start) → asked .refusal ≡ refusalOf j → threeAnswers f start a b c ≡ told (j >>= λ st. accepted (answersFrom table st a b c)) → noAnswers (asked .refusal) ≡ threeAnswers f start a b c
-          go (refused n) e i = ap noAnswers e ∙ sym i
-          go (accepted st) e i = absurd (y e)
+          go : (j : Judged Start) → asked .refusal ≡ refusalOf j → noAnswers (asked .refusal) ≡ answersOn j
+          go (refused n) e = ap noAnswers e
+          go (accepted st) e = absurd (y e)
 
-      module _ (y : asked .refusal ≡ 0) where
-        start-accepted : (st : Start) × (judgeStart (table .plant) start ≡ accepted st)
-        start-accepted = Admission.started (table .plant) start [] [] asked-is y refl refl
-
-        -- the arrays hold the start
-        held : startIn x asked ≡ start-accepted .0
-        unfolding admitted
-        held =
-            let st = start-accepted .0 in
-            let s = asked-is ∙ ap admitted (start-accepted .1) in
-            let n = start-values (table .plant) start (start-passed (table .plant) start (start-accepted .1) .is-read) in
-            let v = arrays-of .ranges .count in
-            let m = sym (arrays-of .counts .counted) in
-            let vs = ap (λ (q : Admitted). take (x .plant .variables) (q .values)) s ∙ take-pad 32 (pos 0) (st .values) (x .plant .variables) (n .0 ∙ sym v) in
-            let ms = ap (λ (q : Admitted). take (x .plant .selectors) (q .modes)) s ∙ take-pad 16 0 (st .modes) (x .plant .selectors) (n .1 ∙ sym m) in
-            λ i. record { values = vs i; modes = ms i }
-
-        admits : Admits f x asked table
-        admits =
-            let p = table .plant in
-            let j = start-passed p start (start-accepted .1) in
-            let n = start-values p start (j .is-read) in
-            record { judged = judged; fits = subst (λ (st : Start). Fits p (st .values) (st .modes)) (sym held) (fits-start p (start-accepted .0) (n .0) (n .1) (j .fits)) }
-
-        pub admitting : Admitting f x asked
-        admitting = record {
-          is = h;
-          values = take-full (x .plant .variables) (asked .values) (admits .fits .values ∙ sym (arrays-of .ranges .count));
-          modes = take-full (x .plant .selectors) (asked .modes) (admits .fits .modes ∙ arrays-of .counts .counted);
-          table = table;
-          admits = admits;
-        }
-
-        pub by-events : {r : Answers} → AnswersStart f x asked a b c r → r ≡ threeAnswers f start a b c
-        unfolding told _>>=_
-        by-events k = k table admits ∙ ap (λ st. answersFrom table st a b c) held ∙ sym (started (start-accepted .1))
+      pub by-events : asked .refusal ≡ 0 → {r : Answers} → AnswersStart f x asked a b c r → r ≡ threeAnswers f start a b c
+      unfolding told _>>=_
+      by-events y k = k (table f h z) (admits f h z start g y) ∙ ap (λ st. answersFrom (table f h z) st a b c) (held f h z start g y) ∙ sym (started (start-accepted f h z start g y .1))

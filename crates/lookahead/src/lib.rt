@@ -17,6 +17,9 @@ pub struct Answers {
     pub third: u8,
 }
 
+// The location at which a run of a table starts.
+const START: usize = 0;
+
 fn refused(n: u8) -> Answers
     ensures { λ r. ⌜ r ≡ noAnswers n ⌝ }
 {
@@ -28,7 +31,7 @@ fn refused(n: u8) -> Answers
     }
 }
 
-// Three steps from location 0. Each is made at the place, and with the acting nodes, values and modes, that the one before left.
+// Three steps of a run, each at the place and with the acting nodes, values and modes that the one before left.
 fn ahead(
     t: &[u8],
     ix: &[usize; program::ENTRIES],
@@ -43,20 +46,20 @@ fn ahead(
     ensures { λ r. ⌜ AnswersAll (lent (now (t .entry)) (now (ix .entry)) (now (ranges .entry))) (now (values .entry)) (now (modes .entry)) a b c r ⌝ }
 {
     let mut acting = [0u64; 4];
-    entries::acting(t, program::location(ix, 0), &mut acting);
-    let x = steps::step(t, ix, ranges, a, 0, &mut acting, values, modes);
-    let y = steps::step(t, ix, ranges, b, x.place, &mut acting, values, modes);
-    let z = steps::step(t, ix, ranges, c, y.place, &mut acting, values, modes);
+    entries::acting(t, program::location(ix, START), &mut acting);
+    let first = steps::step(t, ix, ranges, a, START, &mut acting, values, modes);
+    let second = steps::step(t, ix, ranges, b, first.place, &mut acting, values, modes);
+    let third = steps::step(t, ix, ranges, c, second.place, &mut acting, values, modes);
     Answers {
         refusal: 0,
-        first: x.answer,
-        second: y.answer,
-        third: z.answer,
+        first: first.answer,
+        second: second.answer,
+        third: third.answer,
     }
 }
 
-// The same of a table that was read and a start that was admitted.
-fn admitted(x: TableIndex, start: Admitted, table: &[u8], a: Event, b: Event, c: Event) -> Answers
+// The same of a table that was read, and of the start that it is run from.
+fn lend(x: TableIndex, start: Admitted, table: &[u8], a: Event, b: Event, c: Event) -> Answers
     requires { ⌜ Admitting (now table) x start ⌝ }
     ensures { λ r. ⌜ AnswersStart (now (table .entry)) x start a b c r ⌝ }
 {
@@ -96,5 +99,5 @@ pub fn three(table: &[u8], start: &[u8], a: Event, b: Event, c: Event) -> Answer
     if unfit != 0 {
         return refused(unfit);
     }
-    admitted(x, asked, table, a, b, c)
+    lend(x, asked, table, a, b, c)
 }

@@ -25,13 +25,17 @@ module _ {s ix : List ℕ} {rs : List ℤ} {t : Table} (d : TableLent t (lent s 
 
   pub first-stands : {ws : List ℕ} → Gathered s p ws → StandsFor t 0 ws (some 0)
   unfolding tableControl
-  first-stands g = record { place = refl; shows = at-place (d .some-location) (gathered-at e g .are (entriesAt t 0) (listed-of (d .locations .at 0 (d .some-location) .promised))) (g .words) }
+  first-stands g = record {
+    place = refl;
+    shows = at-place (d .some-location) (gathered-at e g .are (entriesAt t 0) (listed-of (d .locations .at 0 (d .some-location) .promised))) (g .words);
+  }
 
   pub first-promised : {ws ms : List ℕ} {vs : List ℤ} → Gathered s p ws → Fits (t .plant) vs ms → Promised (lent s ix rs) 0 ws vs ms
   first-promised g f = record { table = t; lent = d; place = some 0; stands = first-stands g; fits = f }
 
 -- ---- a step made
-pub next-promised : {l : Lent} {x : ℕ} {ws ms ws' ms' : List ℕ} {vs vs' : List ℤ} {e : Event} (r : Stepped) → Promised l x ws vs ms → StepsOn l x ws vs ms e r ws' vs' ms' → Promised l (r .place) ws' vs' ms'
+pub next-promised : {l : Lent} {x : ℕ} {ws ms ws' ms' : List ℕ} {vs vs' : List ℤ} {e : Event} (r : Stepped)
+    → Promised l x ws vs ms → StepsOn l x ws vs ms e r ws' vs' ms' → Promised l (r .place) ws' vs' ms'
 next-promised r p k =
     let s = k (p .table) (p .place) (p .lent) (p .stands) (p .fits) in
     record { table = p .table; lent = p .lent; place = s .0 .place; stands = s .0 .stands; fits = s .1 }

@@ -40,7 +40,8 @@ returns c =
     let g = x .before .before .before .before in
     let l = g .before .before in
     let s = l .before .before .before in
-    λ t d f. three-steps d (first-stands d (l .location .ensures) (g .acting2 .ensures)) f (s .args .a) (s .args .b) (s .args .c) (x .step .ensures) (y .step2 .ensures) (z .step3 .ensures)
+    λ t d f. three-steps d (first-stands d (l .location .ensures) (g .acting2 .ensures)) f (s .args .a) (s .args .b) (s .args .c)
+    (x .step .ensures) (y .step2 .ensures) (z .step3 .ensures)
 
 pub ahead-spec : {M : Type 1} → statement M
 ahead-spec =

@@ -12,33 +12,32 @@ returns c =
     c .refused .ensures ∙ by-table (s .args .table .now) (s .args .start .now) (s .args .a) (s .args .b) (s .args .c) (i .index .ensures) (c .before .if1 .taken)
 
 admit-requires : tie.Need-admit-requires
-admit-requires c κs =
-    let i = c .before .before in
-    let s = i .before .before .before in
-    room-of (s .args .table .now) (s .args .start .now) (s .args .a) (s .args .b) (s .args .c) (i .index .ensures) (c .before .if1 .left)
+admit-requires c κs = let i = c .before .before in room-of (i .before .before .before .args .table .now) (i .index .ensures) (c .before .if1 .left)
 
 returns-2 : tie.Need-returns-2
 returns-2 c =
     let m = c .before .before in
     let i = m .before .before .before in
     let s = i .before .before .before in
-    c .refused2 .ensures ∙ by-start (s .args .table .now) (s .args .start .now) (s .args .a) (s .args .b) (s .args .c) (i .index .ensures) (m .before .before .if1 .left) (m .admit .ensures) (c .before .if2 .taken)
+    c .refused2 .ensures
+    ∙ by-start (s .args .table .now) (s .args .start .now) (s .args .a) (s .args .b) (s .args .c) (i .index .ensures) (m .before .before .if1 .left) (m .admit .ensures) (c .before .if2 .taken)
 
-admitted-requires : tie.Need-admitted-requires
-admitted-requires c κs =
+lend-requires : tie.Need-lend-requires
+lend-requires c κs =
     let m = c .before in
     let i = m .before .before .before in
     let s = i .before .before .before in
-    admitting (s .args .table .now) (s .args .start .now) (s .args .a) (s .args .b) (s .args .c) (i .index .ensures) (m .before .before .if1 .left) (m .admit .ensures) (c .if2 .left)
+    admitting (s .args .table .now) (i .index .ensures) (m .before .before .if1 .left) (s .args .start .now) (m .admit .ensures) (c .if2 .left)
 
 returns-3 : tie.Need-returns-3
 returns-3 c =
     let m = c .before .before in
     let i = m .before .before .before in
     let s = i .before .before .before in
-    by-events (s .args .table .now) (s .args .start .now) (s .args .a) (s .args .b) (s .args .c) (i .index .ensures) (m .before .before .if1 .left) (m .admit .ensures) (c .before .if2 .left) (c .admitted .ensures)
+    by-events (s .args .table .now) (s .args .start .now) (s .args .a) (s .args .b) (s .args .c) (i .index .ensures) (m .before .before .if1 .left) (m .admit .ensures)
+    (c .before .if2 .left) (c .lend .ensures)
 
 pub three-spec : {M : Type 1} → statement M
 three-spec =
     tie.close
-    (tie.spec (λ c κs. search needs) (λ c κs. search needs) returns admit-requires (λ c κs. search needs) returns-2 admitted-requires returns-3)
+    (tie.spec (λ c κs. search needs) (λ c κs. search needs) returns admit-requires (λ c κs. search needs) returns-2 lend-requires returns-3)

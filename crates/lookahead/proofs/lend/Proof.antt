@@ -4,8 +4,8 @@ use native.Mathlib.Omega.{arith}
 use borrow.Author.Needs.{needs}
 use lib.Seq.{length-take-le}
 use Rattle.lookahead.proofs.Looking.{lending, answers-start}
-use Rattle.lookahead.proofs.admitted.Statement.{statement}
-use Rattle.lookahead.proofs.admitted.Tie as tie
+use Rattle.lookahead.proofs.lend.Statement.{statement}
+use Rattle.lookahead.proofs.lend.Tie as tie
 
 array-borrow-prefix-values : tie.Need-array-borrow-prefix-values
 array-borrow-prefix-values c = let s = c .before .before .before .before .before .before .before .before .before in s .pre .values
@@ -32,7 +32,7 @@ returns c =
     let s = p .before .before .before in
     answers-start (omega (arith, s .good)) (p .program .ensures) (s .pre) (s .args .a) (s .args .b) (s .args .c) (w .ahead .ensures)
 
-pub admitted-spec : {M : Type 1} → statement M
-admitted-spec =
+pub lend-spec : {M : Type 1} → statement M
+lend-spec =
     tie.close
     (tie.spec (λ c κs. search needs) array-borrow-prefix-values slice-aggregate-ahead array-borrow-prefix-modes slice-aggregate-ahead-2 ahead-requires returns)
