@@ -10,13 +10,18 @@ use Rattle.semantics.specs.Plant.{Plant, selectors, allDeclared}
 use Rattle.semantics.specs.Starts.{Start, isOk, modesFit, startFits}
 use Rattle.semantics.specs.Calls.{roomForRecords}
 use Rattle.semantics.proofs.Facts.{and-right}
+use Rattle.execution.specs.Ready.{Fits}
 use Rattle.execution.specs.Runs.{MayRun}
 
--- a start that 20 lets pass, with a value for each variable and a mode for each selector, and room
+-- a start that 20 lets pass, with a value for each variable and a mode for each selector
+pub fits-start : (p : Plant) (st : Start) → length (st .values) ≡ length (p .variables) → length (st .modes) ≡ length (selectors p) → startFits p st ≡ true → Fits p (st .values) (st .modes)
+unfolding startFits
+fits-start p st e f h = record { values = e; modes = f; exist = and-right (isOk (allDeclared (p .variables) (st .values))) (modesFit (selectors p) (st .modes)) h }
+
+-- and with room for the records
 pub may-run : (p : Plant) (st : Start) (events d : List ℕ) → length (st .values) ≡ length (p .variables) → length (st .modes) ≡ length (selectors p) → startFits p st ≡ true → roomForRecords edition1 p events d ≡ true
     → MayRun p (st .values) (st .modes) events d
-unfolding startFits
-may-run p st events d e f h r = record { fits = record { values = e; modes = f; exist = and-right (isOk (allDeclared (p .variables) (st .values))) (modesFit (selectors p) (st .modes)) h }; room = r }
+may-run p st events d e f h r = record { fits = fits-start p st e f h; room = r }
 
 -- a front as long as it is said to be
 pub take-full : {A : Type 0} (n : ℕ) (l : List A) → length (take n l) ≡ n → n ≤ length l

@@ -67,13 +67,12 @@ fn lend(x: TableIndex, start: Admitted, table: &[u8], a: Event, b: Event, c: Eve
     let variables = plant.variables;
     let selectors = plant.selectors;
     let p = table_read::call::program(x);
-    let index = p.index;
     let ranges = p.ranges;
     let mut values = start.values;
     let mut modes = start.modes;
     ahead(
         table,
-        &index,
+        &p.index,
         &ranges,
         a,
         b,

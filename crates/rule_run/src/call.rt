@@ -35,13 +35,12 @@ fn lend(
     let trees = ix.subtrees;
     let subtrees = trees.ends;
     let lent = schedule_read::call::program(ix);
-    let index = lent.index;
     let ranges = lent.ranges;
     let mut values = asked.values;
     let mut modes = asked.modes;
     runs::all(
         file,
-        &index,
+        &lent.index,
         &ranges,
         &kinds,
         &subtrees,

@@ -20,13 +20,12 @@ fn lend(ix: TableIndex, asked: Admitted, table: &[u8], events: &[u8], records: &
     let variables = plant.variables;
     let selectors = plant.selectors;
     let lent = table_read::call::program(ix);
-    let index = lent.index;
     let ranges = lent.ranges;
     let mut values = asked.values;
     let mut modes = asked.modes;
     runs::all(
         table,
-        &index,
+        &lent.index,
         &ranges,
         events,
         &mut values[..variables],

@@ -12,7 +12,8 @@ use Rattle.execution.proofs.Stepping.{shown, shown-words}
 use Rattle.execution.proofs.Loops.{going-start, going-room, going-values, going-modes, going-records, going-counts, going-next, going-end}
 use Rattle.table_step.specs.Situations.{StandsFor}
 use Rattle.table_run.specs.Runs.{Asked}
-use Rattle.table_run.proofs.Running.{first-located, first-stands, acting-few}
+use Rattle.table_step.proofs.Callers.{first-located, first-stands}
+use Rattle.table_run.proofs.Running.{at-start, acting-few}
 use Rattle.table_run.proofs.runs.all.Statement.{statement}
 use Rattle.table_run.proofs.runs.all.Tie as tie
 
@@ -24,12 +25,12 @@ abbrev μ-loop : tie.MeasureT-loop
 μ-loop t ix ranges events values₀ modes₀ records₀ acting₀ x₀ counts₀ n i₀ k₀ values modes records acting x counts i k = n - k
 
 acting-requires : tie.Need-acting-requires Inv-loop μ-loop
-acting-requires c κs = first-located (c .before .location .ensures) (c .before .before .before .before .before .before .pre)
+acting-requires c κs = first-located (c .before .before .before .before .before .before .pre .asked .lent) (c .before .location .ensures)
 
 loop-holds : tie.Need-loop-holds Inv-loop μ-loop
 loop-holds c =
     let s = c .before .before .before .before .before .before .before .before in
-    (omega arith, refl, omega (arith, s .good), λ t a. going-start (programOfTable t) (c .none .ensures) (a .may) (first-stands t (a .lent) (c .before .before .before .location .ensures) (c .before .acting2 .ensures)))
+    (omega arith, refl, omega (arith, s .good), λ t a. going-start (programOfTable t) (c .none .ensures) (a .may) (at-start t (first-stands (a .lent) (c .before .before .before .location .ensures) (c .before .acting2 .ensures))))
 
 at-requires : tie.Need-at-requires Inv-loop μ-loop
 at-requires c κs = omega (arith, c .before .loop .inv .1, c .loop-test .taken)
