@@ -1,7 +1,7 @@
 -- The form of a byte, and its code in the papers.
 use mathlib.Core.Path.{_≡_, refl, sym, ap, _∙_, subst}
-use mathlib.Core.Logic.{_⊎_, inl, inr}
-use Prim.Native.Nat.{ℕ}
+use Prim.Native.Nat.{ℕ, _≤_}
+use native.Mathlib.Omega.{arith}
 use mathlib.Core.Option.{some}
 use borrow.Author.Tests.{ne-eqb}
 use Rattle.semantics.specs.Expressions.{unknown, formOf, operationCode, comparisonCode, connectiveCode}
@@ -40,12 +40,6 @@ form-says {c} {r} e = record { is = e; number = coded r (subst (Stands c) (sym e
 pub form-told : {c : ℕ} {r q : Form} → FormSays c r → r ≡ q → formOf c ≡ formIs q
 form-told f e = sym (f .is) ∙ ap formIs e
 
--- the single bytes that lie between codes
-pub form-between : {c : ℕ} → (c ≡ 0x00) ⊎ (c ≡ 0x13) → formOf c ≡ unknown
-unfolding formOf
-form-between (inl e) = ap formOf e
-form-between (inr e) = ap formOf e
-
 -- a byte that is no code
 pub form-unknown : (c : ℕ) → (c ≡ 0x01 → ⊥) → (c ≡ 0x02 → ⊥) → (c ≡ 0x10 → ⊥) → (c ≡ 0x11 → ⊥) → (c ≡ 0x12 → ⊥) → (c ≡ 0x14 → ⊥) →
     (c ≡ 0x20 → ⊥) → (c ≡ 0x21 → ⊥) → (c ≡ 0x22 → ⊥) → (c ≡ 0x23 → ⊥) → (c ≡ 0x28 → ⊥) → (c ≡ 0x29 → ⊥) → (c ≡ 0x2a → ⊥) → (c ≡ 0x2f → ⊥) → formOf c ≡ unknown
@@ -67,3 +61,16 @@ form-unknown c n01 n02 n10 n11 n12 n14 n20 n21 n22 n23 n28 n29 n2a n2f =
       ne-eqb c 0x2a n2a,
       ne-eqb c 0x2f n2f,
     ) refl
+
+-- the same of a byte of a range, and of one that lies in none
+module _ {c : ℕ} where
+  pub no-number : 0x10 ≤ c → c ≤ 0x14 → (c ≡ 0x10 → ⊥) → (c ≡ 0x11 → ⊥) → (c ≡ 0x12 → ⊥) → (c ≡ 0x14 → ⊥) → formOf c ≡ unknown
+  no-number h k n10 n11 n12 n14 = form-unknown c (λ e. omega arith) (λ e. omega arith) n10 n11 n12 n14 (λ e. omega arith) (λ e. omega arith) (λ e. omega arith) (λ e. omega arith) (λ e. omega arith) (λ e. omega arith) (λ e. omega arith) (λ e. omega arith)
+
+  pub no-truth : 0x20 ≤ c → c ≤ 0x2f → (c ≡ 0x20 → ⊥) → (c ≡ 0x21 → ⊥) → (c ≡ 0x22 → ⊥) → (c ≡ 0x23 → ⊥) → (c ≡ 0x28 → ⊥) → (c ≡ 0x29 → ⊥) → (c ≡ 0x2a → ⊥) → (c ≡ 0x2f → ⊥) → formOf c ≡ unknown
+  no-truth h k = form-unknown c (λ e. omega arith) (λ e. omega arith) (λ e. omega arith) (λ e. omega arith) (λ e. omega arith) (λ e. omega arith)
+
+  pub no-form : (c ≡ 0x01 → ⊥) → (c ≡ 0x02 → ⊥) → (0x10 ≤ c → c ≤ 0x14 → ⊥) → (0x20 ≤ c → c ≤ 0x2f → ⊥) → formOf c ≡ unknown
+  no-form n01 n02 f g = form-unknown c n01 n02 (λ e. f (omega arith) (omega arith)) (λ e. f (omega arith) (omega arith)) (λ e. f (omega arith) (omega arith)) (λ e. f (omega arith) (omega arith))
+      (λ e. g (omega arith) (omega arith)) (λ e. g (omega arith) (omega arith)) (λ e. g (omega arith) (omega arith)) (λ e. g (omega arith) (omega arith))
+      (λ e. g (omega arith) (omega arith)) (λ e. g (omega arith) (omega arith)) (λ e. g (omega arith) (omega arith)) (λ e. g (omega arith) (omega arith))
