@@ -28,8 +28,15 @@ number-of (Pick n) h = none-not-some h
 number-of (Switch s k) h = none-not-some h
 number-of Senseless h = refl
 
+numbered-of : (r : Event) → eventOf r ≡ senseless → paperEvent r ≡ some 24
+unfolding paperEvent
+numbered-of Tick h = absurd (let z : _≡_ {A = ℕ} 0 1 = cc in omega arith)
+numbered-of (Pick n) h = absurd (let z : _≡_ {A = ℕ} 0 1 = cc in omega arith)
+numbered-of (Switch s k) h = absurd (let z : _≡_ {A = ℕ} 0 1 = cc in omega arith)
+numbered-of Senseless h = refl
+
 pub decodes : {s : List ℕ} {r : Event} → eventOf r ≡ eventIn edition1 s → Decodes s r
-decodes {s} {r} e = record { is = e; number = λ h. sym e ∙ number-of r h }
+decodes {s} {r} e = record { is = e; number = λ h. sym e ∙ number-of r h; numbered = λ h. numbered-of r (e ∙ h) }
 
 -- ---- an event whose unused bytes are 0, or not
 abbrev made : Events.Event → Bool → Events.Event

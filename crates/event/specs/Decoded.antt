@@ -23,7 +23,8 @@ abbrev pub whereZero : Bool → Event → Event
 whereZero true e = e
 whereZero false e = Senseless
 
--- these bytes are that event, and 24 is told of it just where they are none
+-- these bytes are that event, and its number is 24 just where they are none
 pub record Decodes (s : List ℕ) (r : Event) : Type 0 where
   pub is : eventOf r ≡ eventIn edition1 s
   pub number : paperEvent r ≡ some 24 → eventIn edition1 s ≡ senseless
+  pub numbered : eventIn edition1 s ≡ senseless → paperEvent r ≡ some 24

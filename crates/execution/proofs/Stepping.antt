@@ -9,7 +9,7 @@ use Rattle.semantics.specs.Editions.{edition1}
 use Rattle.semantics.specs.Plant.{Plant, among}
 use Rattle.semantics.specs.Events.{Event}
 use Rattle.semantics.specs.Run as Run
-use Rattle.semantics.specs.Run.{to, finished, halted, Done, Control, judge, at, over, faultAnswer, turnedAway, arrive, follow, settle, stepOn, setNumber, actingSet}
+use Rattle.semantics.specs.Run.{Done, Control, judge, at, over, faultAnswer, turnedAway, arrive, follow, settle, stepOn, setNumber, actingSet}
 use Rattle.semantics.specs.Calls.{Program}
 use Rattle.semantics.proofs.Facts.{true-not-false}
 use Rattle.nodeset.specs.Sets.{mem, members, emptySet, Words}
@@ -67,18 +67,6 @@ module _ {S : Type 0} (p : Plant) (c : Control S) (x : S) (ws : List ℕ) (acts 
     unfolding settle follow
     stepped-move = settled (heard-move _ vs ms vs' ms' l h)
 
-    pub stepped-to : {y : S} → c .next x n b ≡ to y → stepOn edition1 p c (at x vs ms) e ≡ record { answer = 200; left = at y vs' ms' }
-    unfolding arrive
-    stepped-to q = stepped-move ∙ ap (λ z. arrive (at x vs ms) z vs' ms') q
-
-    pub stepped-finished : c .next x n b ≡ finished → stepOn edition1 p c (at x vs ms) e ≡ record { answer = 201; left = over vs' ms' }
-    unfolding arrive
-    stepped-finished q = stepped-move ∙ ap (λ z. arrive (at x vs ms) z vs' ms') q
-
-    pub stepped-halted : c .next x n b ≡ halted → stepOn edition1 p c (at x vs ms) e ≡ record { answer = 202; left = over vs' ms' }
-    unfolding arrive
-    stepped-halted q = stepped-move ∙ ap (λ z. arrive (at x vs ms) z vs' ms') q
-
 -- ---- the step of an event, by the answer of `judge`
 module _ {S : Type 0} (g : Program S) (stands : Option S → Type 0) (x : S) (ws : List ℕ) (acts : members ws ≡ g .control .acting x) (vs : List ℤ) (ms : List ℕ) (e : Decoded.Event) (vs' : List ℤ) (ms' : List ℕ) {r : Verdict}
     (l : Left (judge edition1 (g .plant) (g .control .action) (members ws) vs ms (eventOf e)) vs ms r vs' ms') where
@@ -129,9 +117,6 @@ pub record AtPlace {S : Type 0} (c : Control S) (Place : S → Type 0) (ws : Lis
 pub not-over : {S : Type 0} {c : Control S} {Place : S → Type 0} {ws : List ℕ} {o : Option S} → Shows c Place ws o → (o ≡ none → ⊥) → AtPlace c Place ws o
 not-over (at-place {x = x} h e w) f = record { place = x; is = refl; here = h; acts = e; words = w }
 not-over (at-end e w) f = absurd (f refl)
-
-pub stands-there : {S : Type 0} {c : Control S} {Place : S → Type 0} {ws : List ℕ} {o : Option S} (q : AtPlace c Place ws o) → Shows c Place ws (some (q .place))
-stands-there q = at-place (q .here) (q .acts) (q .words)
 
 pub stands-over : {S : Type 0} {c : Control S} {Place : S → Type 0} {ws : List ℕ} → ws ≡ emptySet → Shows c Place ws none
 stands-over e = at-end (ap members e ∙ members-empty) (rw e words-empty)

@@ -73,7 +73,7 @@ ofTruth Broken k = Broken
 abbrev pub formAt : List ℤ → List ℕ → Form → ℕ → Found
 formAt vs s f p = foundIn vs (length s) (readForm edition1 (length vs) fail f (drop p s))
 
--- a leaf, if one is given, is found whatever depth is left
+-- a leaf, if one is given, is found whatever depth is left, but none; nothing is said of other bytes
 pub record LeafSays (vs : List ℤ) (s : List ℕ) (at : ℕ) (r : Found) : Type 0 where
   pub is : (depth : ℕ) → (depth ≡ 0 → ⊥) → (r ≡ Broken → ⊥) → r ≡ found vs s at depth
 

@@ -75,7 +75,7 @@ enum Form {
 }
 
 // The one match over the codes: ranges for number forms, truth forms and the bytes that are no code. The two functions below tell the forms
-// of a range apart, and no other function looks at a code. The leaves stand alone, so that LLVM makes a jump of them.
+// of a range apart, and no other function of this crate looks at a code. The leaves stand alone, so that LLVM makes a jump of them.
 fn form_of(code: u8) -> Form
     ensures { λ r. ⌜ FormSays code r ⌝ }
 {
@@ -295,7 +295,7 @@ fn whole(s: &[u8], vars: &[i32]) -> Found
     }
 }
 
-// A constant or a variable at a position; broken for any other bytes.
+// A constant or a variable at a position; broken where there is none.
 fn leaf(s: &[u8], vars: &[i32], at: usize) -> Found
     ensures { λ r. ⌜ LeafSays (now (vars .entry)) (now (s .entry)) at r ⌝ }
 {

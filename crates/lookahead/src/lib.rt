@@ -17,9 +17,6 @@ pub struct Answers {
     pub third: u8,
 }
 
-// The location at which a run of a table starts.
-const START: usize = 0;
-
 fn refused(n: u8) -> Answers
     ensures { λ r. ⌜ r ≡ noAnswers n ⌝ }
 {
@@ -46,8 +43,8 @@ fn ahead(
     ensures { λ r. ⌜ AnswersAll (lent (now (t .entry)) (now (ix .entry)) (now (ranges .entry))) (now (values .entry)) (now (modes .entry)) a b c r ⌝ }
 {
     let mut acting = [0u64; 4];
-    entries::acting(t, program::location(ix, START), &mut acting);
-    let first = steps::step(t, ix, ranges, a, START, &mut acting, values, modes);
+    entries::acting(t, program::location(ix, steps::START), &mut acting);
+    let first = steps::step(t, ix, ranges, a, steps::START, &mut acting, values, modes);
     let second = steps::step(t, ix, ranges, b, first.place, &mut acting, values, modes);
     let third = steps::step(t, ix, ranges, c, second.place, &mut acting, values, modes);
     Answers {

@@ -45,7 +45,7 @@ pub record Lent : Type 0 where
   pub ends : List ℕ
   -- the place of each location; none of a schedule
   pub locations : List ℕ
-  -- of each variable its range and its rate of kind 1, and more than there are variables
+  -- of each variable its range and its rate of kind 1; entries beyond the variables stand for nothing
   pub lows : List ℤ
   pub highs : List ℤ
   pub steady : List ℤ

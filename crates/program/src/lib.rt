@@ -7,6 +7,8 @@ ghost use mathlib.Core.Path.{_≡_};
 ghost use Prim.Native.Nat.{_<_};
 ghost use lib.ListN.{getD};
 ghost use lib.IntN.{pos};
+ghost use Rattle.semantics.specs.Sections.{variableLimit};
+ghost use Rattle.semantics.specs.TableFile.{locationLimit};
 ghost use Rattle.program.specs.Rows.{kindRow, startRow, endRow, locationRow, highRow, steadyRow};
 
 // The rows of an index, each of 256 entries but the last of 1,024: places of modes, kinds of actions, starts and ends of operands, places of locations.
@@ -67,7 +69,7 @@ pub fn end(ix: &[usize; ENTRIES], n: usize) -> usize
 
 // where location x stands
 pub fn location(ix: &[usize; ENTRIES], x: usize) -> usize
-    requires { ⌜ x < 1024 ⌝ }
+    requires { ⌜ x < locationLimit ⌝ }
     ensures { λ r. ⌜ r ≡ getD (locationRow (now (ix .entry))) x 0 ⌝ }
 {
     ix[LOCATIONS + x]
@@ -75,7 +77,7 @@ pub fn location(ix: &[usize; ENTRIES], x: usize) -> usize
 
 // the least value of variable v
 pub fn low(rs: &[i32; RANGES], v: usize) -> i32
-    requires { ⌜ v < 32 ⌝ }
+    requires { ⌜ v < variableLimit ⌝ }
     ensures { λ r. ⌜ r ≡ getD (now (rs .entry)) v (pos 0) ⌝ }
 {
     rs[v]
@@ -83,7 +85,7 @@ pub fn low(rs: &[i32; RANGES], v: usize) -> i32
 
 // the greatest
 pub fn high(rs: &[i32; RANGES], v: usize) -> i32
-    requires { ⌜ v < 32 ⌝ }
+    requires { ⌜ v < variableLimit ⌝ }
     ensures { λ r. ⌜ r ≡ getD (highRow (now (rs .entry))) v (pos 0) ⌝ }
 {
     rs[HIGHS + v]
@@ -91,7 +93,7 @@ pub fn high(rs: &[i32; RANGES], v: usize) -> i32
 
 // its rate of kind 1
 pub fn steady(rs: &[i32; RANGES], v: usize) -> i32
-    requires { ⌜ v < 32 ⌝ }
+    requires { ⌜ v < variableLimit ⌝ }
     ensures { λ r. ⌜ r ≡ getD (steadyRow (now (rs .entry))) v (pos 0) ⌝ }
 {
     rs[STEADY + v]

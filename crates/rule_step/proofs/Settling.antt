@@ -1,6 +1,6 @@
 -- One event of a run by the rules, part by part.
 use mathlib.Core.Path.{_≡_, refl, sym, ap, _∙_, subst}
-use mathlib.Core.Bool.{Bool, true}
+use mathlib.Core.Bool.{Bool}
 use mathlib.Core.List.{List, []}
 use mathlib.Core.Option.{Option, none, some}
 use Prim.Native.Nat.{ℕ}
@@ -8,15 +8,14 @@ use native.Mathlib.Omega.{arith}
 use lib.IntN.{ℤ}
 use Rattle.semantics.specs.Editions.{edition1}
 use Rattle.semantics.specs.Plant.{among}
-use Rattle.semantics.specs.Run.{arrive, judge}
+use Rattle.semantics.specs.Run.{arrive}
 use Rattle.semantics.proofs.Facts.{mem-among}
 use Rattle.semantics.proofs.Verdicts.{judged-possible}
 use Rattle.schedules.specs.Residuals.{Residual, acting}
 use Rattle.schedules.specs.Files.{Schedule, ruleControl}
 use Rattle.schedules.specs.Calls.{programOf}
-use Rattle.schedules.specs.Reached.{Of}
 use Rattle.schedules.proofs.ActingDetermines.{NonEmpty, non-empty, some-acts}
-use Rattle.nodeset.specs.Sets.{members, Words}
+use Rattle.nodeset.specs.Sets.{members}
 use Rattle.nodeset.proofs.Members.{among-set}
 use Rattle.moves.specs.Contracts.{Charted, Advanced}
 use Rattle.moves.specs.declared.How.{How}
@@ -26,14 +25,12 @@ use Rattle.program.specs.Lent.{Lent}
 use Rattle.schedule_read.specs.Lent.{ScheduleLent}
 use Rattle.event.specs.Decoded.{eventOf}
 use Rattle.event.specs.declared.Event.{Event}
-use Rattle.effects.specs.Verdicts.{Left}
 use Rattle.effects.specs.declared.Verdict.{Verdict}
-use Rattle.effects.specs.declared.Verdict.the-variants.{Move}
 use Rattle.execution.specs.Ready.{Fits, Ready, Judges}
 use Rattle.execution.specs.Ready as Judged
 use Rattle.execution.specs.Runs.{at-place, at-end, Arrives, Steps}
 use Rattle.execution.proofs.Outcomes.{heard-move}
-use Rattle.execution.proofs.Stepping.{AtPlace, not-over, settled-over, fits-left}
+use Rattle.execution.proofs.Stepping.{not-over, settled-over, fits-left}
 use Rattle.rule_step.specs.Situations.{StandsFor, Here, Movable, Settled, Promised}
 
 -- ---- where a run stands

@@ -21,6 +21,6 @@ pub record ScheduleLent (s : Schedule) (l : Lent) : Type 0 where
   pub plant : PlantLent (s .plant) l
   pub nodes : (r : Residual) → Of (s .root) r → (n : ℕ) → among n (acting r) ≡ true → NodeLent (s .plant) (nodeAction (s .nodes) n) l n
 
--- x is the index of an accepted file, and r lends it together with the file's bytes
+-- where x is the index of an accepted file, of a length that a slice can have, r lends it together with the file's bytes
 abbrev pub SchedulePrograms : ScheduleIndex → Program → Type 0
 SchedulePrograms x r = (f : List ℕ) (s : Schedule) → ScheduleIndexed f x → length f < 2 ^ 64 → judgeFile edition1 f ≡ accepted s → ScheduleLent s (lent f (r .index) (r .ranges))

@@ -155,7 +155,7 @@ pub fn read(file: &[u8]) -> FileRead
     }
 }
 
-// the same as a run looks things up in it, with places in the whole file
+// an index as a run looks things up in it, with places in the whole file
 pub fn program(x: ScheduleIndex) -> Program
     ensures { λ r. ⌜ SchedulePrograms x r ⌝ }
 {

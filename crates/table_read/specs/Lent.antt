@@ -31,6 +31,6 @@ pub record TableLent (t : Table) (l : Lent) : Type 0 where
   pub locations : LocationsLent t l
   pub some-location : 1 ≤ length (t .locations)
 
--- x is the index of an accepted table, and r lends it together with the table's bytes
+-- where x is the index of an accepted table, of a length that a slice can have, r lends it together with the table's bytes
 abbrev pub TablePrograms : TableIndex → Program → Type 0
 TablePrograms x r = (f : List ℕ) (t : Table) → x ≡ tableIndex f → length f < 2 ^ 64 → judgeTable edition1 f ≡ accepted t → TableLent t (lent f (r .index) (r .ranges))

@@ -119,7 +119,7 @@ pub fn read(table: &[u8]) -> TableRead
     }
 }
 
-// the same as a run looks things up in it, with places in the whole table
+// an index as a run looks things up in it, with places in the whole table
 pub fn program(x: TableIndex) -> Program
     ensures { λ r. ⌜ TablePrograms x r ⌝ }
 {

@@ -20,8 +20,8 @@ pub fn all(
         (now (records .entry)) r (now (records .exit)) ⌝ }
 {
     let mut acting = [0u64; 4];
-    entries::acting(t, program::location(ix, 0), &mut acting);
-    let mut x = 0;
+    entries::acting(t, program::location(ix, steps::START), &mut acting);
+    let mut x = steps::START;
     let mut counts = records::none();
     let n = events.len() / paper::EVENT_BYTES;
     let mut i = 0;

@@ -1,6 +1,6 @@
 -- One event of a run of a table, part by part.
 use mathlib.Core.Path.{_≡_, refl, sym, ap, _∙_, subst}
-use mathlib.Core.Bool.{Bool, true}
+use mathlib.Core.Bool.{Bool}
 use mathlib.Core.List.{List}
 use mathlib.Core.Option.{Option, none, some}
 use Prim.Native.Nat.{ℕ, _<_}
@@ -10,7 +10,7 @@ use lib.IntN.{ℤ}
 use lib.ListN.{length, getD}
 use Rattle.semantics.specs.Editions.{edition1}
 use Rattle.semantics.specs.Plant.{among}
-use Rattle.semantics.specs.Run.{Next, to, finished, halted, arrive, judge}
+use Rattle.semantics.specs.Run.{Next, to, finished, halted, arrive}
 use Rattle.semantics.specs.TableFile.{FINISHED, HALTED, NONE}
 use Rattle.semantics.specs.Tables.{Table, actionOrStop, goingTo, entryTarget, entryNext, entriesAt, tableControl}
 use Rattle.semantics.specs.TableRuns.{Coded, coded-location, coded-finished, coded-halted}
@@ -24,14 +24,13 @@ use Rattle.program.specs.Lent.{lent}
 use Rattle.table_read.specs.Lent.{TableLent}
 use Rattle.event.specs.Decoded.{eventOf}
 use Rattle.event.specs.declared.Event.{Event}
-use Rattle.effects.specs.Verdicts.{Left}
 use Rattle.effects.specs.declared.Verdict.{Verdict}
 use Rattle.effects.specs.declared.Verdict.the-variants.{Move}
 use Rattle.execution.specs.Ready.{Fits, Ready, Judges}
 use Rattle.execution.specs.Ready as Judged
 use Rattle.execution.specs.Runs.{at-place, at-end, Shows, Arrives, Steps}
 use Rattle.execution.proofs.Outcomes.{heard-move}
-use Rattle.execution.proofs.Stepping.{AtPlace, not-over, stands-over, settled-over, fits-left}
+use Rattle.execution.proofs.Stepping.{stands-over, settled-over, fits-left}
 use Rattle.table_step.specs.Entries.{Located, Gathered, Found}
 use Rattle.table_step.specs.Situations.{placeNumber, StandsFor, Here, Movable, Moving, Settled, Promised}
 use Rattle.table_step.specs.declared.steps.Stepped.{Stepped}

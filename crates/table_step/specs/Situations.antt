@@ -59,7 +59,7 @@ pub record Moving (s ix : List ℕ) (x : ℕ) (v : Verdict) (ws : List ℕ) : Ty
 abbrev pub Moved : (s ix : List ℕ) → ℕ → ℕ → Bool → Stepped → List ℕ → Type 0
 Moved s ix x n b r ws' = (rs : List ℤ) (t : Table) → Movable t (lent s ix rs) x (Move n b) → Arrives (StandsFor t (r .place) ws') (tableControl t .next x n b) (r .answer)
 
--- what is made of a judged event: for every table and location that the section and the set are of
+-- what is made of a judged event: for every table and location that the bytes, the index and the set are of
 abbrev pub Settled : (s ix : List ℕ) → ℕ → Verdict → List ℕ → Stepped → List ℕ → Type 0
 Settled s ix x v ws r ws' =
     (rs : List ℤ) (t : Table) → Movable t (lent s ix rs) x v → Here t (lent s ix rs) x ws → (vs : List ℤ) (ms : List ℕ) (e : Event) (vs' : List ℤ) (ms' : List ℕ)

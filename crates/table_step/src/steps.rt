@@ -14,6 +14,9 @@ pub struct Stepped {
     pub place: usize,
 }
 
+// The location at which a run starts.
+pub const START: usize = 0;
+
 // The run is over, and no node acts.
 fn end(n: u8, acting: &mut [u64; 4]) -> Stepped
     ensures answer { λ r. ⌜ r ≡ record { answer = n; place = 65535 } ⌝ }

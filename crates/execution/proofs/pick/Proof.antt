@@ -7,7 +7,7 @@ use borrow.Author.Needs.{needs}
 use Rattle.nodeset.specs.Sets.{mem}
 use Rattle.program.specs.Lent.{lent, NodeLent}
 use Rattle.execution.proofs.Lending.{is-current, few-values}
-use Rattle.execution.proofs.Events.{Looked, pick-25, pick-28, pick-end, pick-performs}
+use Rattle.execution.proofs.Events.{pick-25, pick-28, pick-end, pick-performs}
 use Rattle.execution.proofs.pick.Statement.{statement}
 use Rattle.execution.proofs.pick.Tie as tie
 

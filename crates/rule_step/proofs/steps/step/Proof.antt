@@ -1,6 +1,5 @@
 -- No node acts and the run is over (`step-over`), or what the event's verdict makes of the acting nodes is the step (`step-at`).
 use borrow.Author.Needs.{needs}
-use borrow.Author.Tests.{not-true, not-false}
 use Rattle.execution.proofs.Stepping.{shown-words}
 use Rattle.rule_step.proofs.Settling.{judging, movable, step-over, step-at}
 use Rattle.rule_step.proofs.steps.step.Statement.{statement}

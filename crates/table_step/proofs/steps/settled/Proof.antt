@@ -1,5 +1,4 @@
 -- Each verdict has its law, the same for both runs (execution Stepping).
-use mathlib.Core.Path.{refl}
 use borrow.Author.Needs.{needs}
 use Rattle.semantics.specs.Calls.{programOfTable}
 use Rattle.execution.proofs.Stepping.{settled-away, settled-above, settled-below, settled-stay, settled-move}
