@@ -1,12 +1,16 @@
 -- The loop keeps `Going` for every schedule that is asked for; each need is one of its laws (execution Loops).
 use mathlib.Core.Path.{_≡_, refl}
-use Prim.Native.Nat.{_-_, _/_, _^_, _≤_, _<_}
+use mathlib.Core.List.{List}
+use Prim.Native.Nat.{ℕ, _-_, _/_, _^_, _≤_, _<_}
 use native.Mathlib.Omega.{arith}
 use lib.ListN.{length}
 use borrow.Author.Needs.{needs}
 use Rattle.schedules.specs.Files.{Schedule}
 use Rattle.schedules.specs.Calls.{programOf}
+use Rattle.schedules.specs.Laid.{Lies}
+use Rattle.schedules.specs.Trees.{Tree}
 use Rattle.nodeset.proofs.Owned.{owned}
+use Rattle.moves.specs.Contracts.{Planted}
 use Rattle.moves.proofs.Callers.{charted, begun}
 use Rattle.program.specs.Lent.{lent}
 use Rattle.execution.specs.Runs.{Going}
@@ -14,7 +18,7 @@ use Rattle.execution.proofs.Stepping.{shown, shown-words}
 use Rattle.execution.proofs.Loops.{going-start, going-room, going-values, going-modes, going-records, going-counts, going-next, going-end}
 use Rattle.rule_step.specs.Situations.{StandsFor}
 use Rattle.rule_run.specs.Runs.{Asked}
-use Rattle.rule_run.proofs.Running.{planted, first-stands, acting-few}
+use Rattle.rule_step.proofs.Callers.{first-stands, acting-few}
 use Rattle.rule_run.proofs.runs.all.Statement.{statement}
 use Rattle.rule_run.proofs.runs.all.Tie as tie
 
@@ -25,11 +29,14 @@ Inv-loop t ix ranges kinds subtrees events values₀ modes₀ records₀ leads f
 abbrev μ-loop : tie.MeasureT-loop
 μ-loop t ix ranges kinds subtrees events values₀ modes₀ records₀ leads fresh acting₀ counts₀ n i₀ k₀ values modes records acting counts i k = n - k
 
+planted : {ks es : List ℕ} {t : Tree} → Lies ks es t → Planted ks es
+planted {t = t} l = record { tree = t; lies = l }
+
 all-requires : tie.Need-all-requires Inv-loop μ-loop
-all-requires c κs = planted (c .before .before .before .before .before .before .pre)
+all-requires c κs = planted (c .before .before .before .before .before .before .pre .asked .tree)
 
 all-requires-2 : tie.Need-all-requires-2 Inv-loop μ-loop
-all-requires-2 c κs = planted (c .before .before .before .before .before .before .before .pre)
+all-requires-2 c κs = planted (c .before .before .before .before .before .before .before .pre .asked .tree)
 
 at-requires : tie.Need-at-requires Inv-loop μ-loop
 at-requires c κs = (omega arith, c .before .all2 .ensures .long)

@@ -12,8 +12,7 @@ use Rattle.execution.proofs.Stepping.{shown, shown-words}
 use Rattle.execution.proofs.Loops.{going-start, going-room, going-values, going-modes, going-records, going-counts, going-next, going-end}
 use Rattle.table_step.specs.Situations.{StandsFor}
 use Rattle.table_run.specs.Runs.{Asked}
-use Rattle.table_step.proofs.Callers.{first-located, first-stands}
-use Rattle.table_run.proofs.Running.{at-start, acting-few}
+use Rattle.table_step.proofs.Callers.{first-located, first-stands, at-start, acting-few}
 use Rattle.table_run.proofs.runs.all.Statement.{statement}
 use Rattle.table_run.proofs.runs.all.Tie as tie
 
