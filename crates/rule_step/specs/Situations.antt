@@ -49,7 +49,8 @@ Moved ls fs ws n b a ws' = (s : Schedule) (x : Residual) → Here ls fs (s .root
 abbrev pub Settled : (ls fs : List ℕ) → Verdict → List ℕ → ℕ → List ℕ → Type 0
 Settled ls fs v ws a ws' =
     (s : Schedule) (x : Residual) → Here ls fs (s .root) ws x → (vs : List ℤ) (ms : List ℕ) (e : Event) (vs' : List ℤ) (ms' : List ℕ)
-    → Left (judge edition1 (s .plant) (ruleControl s .action) (members ws) vs ms (eventOf e)) vs ms v vs' ms' → Steps (programOf s) (StandsFor s ws') (some x) vs ms e a vs' ms'
+    → Left (judge edition1 (s .plant) (ruleControl s .action) (members ws) vs ms (eventOf e)) vs ms v vs' ms'
+    → Steps (programOf s) (StandsFor s ws') (some x) vs ms e a vs' ms'
 
 -- ---- the whole event
 -- what the reader promises of a schedule, its moves, and a place, values and modes that fit it: all that a step asks

@@ -63,7 +63,8 @@ Moved s ix x n b r ws' = (rs : List ℤ) (t : Table) → Movable t (lent s ix rs
 abbrev pub Settled : (s ix : List ℕ) → ℕ → Verdict → List ℕ → Stepped → List ℕ → Type 0
 Settled s ix x v ws r ws' =
     (rs : List ℤ) (t : Table) → Movable t (lent s ix rs) x v → Here t (lent s ix rs) x ws → (vs : List ℤ) (ms : List ℕ) (e : Event) (vs' : List ℤ) (ms' : List ℕ)
-    → Left (judge edition1 (t .plant) (tableControl t .action) (members ws) vs ms (eventOf e)) vs ms v vs' ms' → Steps (programOfTable t) (StandsFor t (r .place) ws') (some x) vs ms e (r .answer) vs' ms'
+    → Left (judge edition1 (t .plant) (tableControl t .action) (members ws) vs ms (eventOf e)) vs ms v vs' ms'
+    → Steps (programOfTable t) (StandsFor t (r .place) ws') (some x) vs ms e (r .answer) vs' ms'
 
 -- ---- the whole event
 -- what the reader promises of a table, with a place, values and modes that fit it: all that a step asks
