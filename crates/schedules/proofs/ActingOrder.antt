@@ -7,6 +7,6 @@ use Rattle.schedules.specs.Examples.{k5-file, k5-table}
 use Rattle.schedules.specs.Calls.{compile}
 use Rattle.schedules.proofs.Computes.{schedules}
 
-pub K5-table : compile edition1 k5-file (replicate 85 9 ++ (7 ∷ 8 ∷ [])) ≡ record { refusal = 0; written = 85; table = k5-table ++ (7 ∷ 8 ∷ []) }
+pub K5-table : compile edition1 k5-file (replicate 85 9 ++ (7 ∷ 8 ∷ [])) ≡ record { refusal = 0; written = 85; comparisons = 3; table = k5-table ++ (7 ∷ 8 ∷ []) }
 unfolding schedules k5-file k5-table
 K5-table = refl

@@ -21,7 +21,7 @@ use Rattle.schedules.specs.Trees.{Tree, treeOf}
 use Rattle.schedules.specs.Numbering.{locations}
 use Rattle.schedules.specs.Files.{Schedule, judgeFileSections, judgeFile, fileHeader, fileLength}
 use Rattle.schedules.specs.Compiling.{scheduleLocations, tableOf, judgeCompile}
-use Rattle.schedules.specs.Calls.{scheduleCounts, readSchedule, sizeTold, sizeCounts, size, compile, compiledInto}
+use Rattle.schedules.specs.Calls.{scheduleCounts, readSchedule, sizeTold, sizeCounts, size, compile, compiledInto, comparisonsIn}
 use Rattle.schedules.specs.Sizes.{Size, sizeOf}
 use Rattle.schedules.specs.TableSizes.{tableLength}
 use Rattle.schedules.specs.Reordered.{Reordered, SameButOrder}
@@ -158,11 +158,11 @@ module _ (ed : Edition) (file other : List ℕ) (s : SameButOrder ed file other)
       alike-ensure 14 (leb (length (tableOf ed a)) (length room)) (ap (λ n. leb n (length room)) (l .long h13)) (λ h14.
       both-accepted (l .long h13)))))
 
-alike-compiled : (room : List ℕ) {j k : Judged (List ℕ)} → Alike (λ (t u : List ℕ). length t ≡ length u) j k →
-    ((compiledInto room j) .refusal ≡ (compiledInto room k) .refusal) × ((compiledInto room j) .written ≡ (compiledInto room k) .written)
+alike-compiled : (n m : ℕ) (room : List ℕ) {j k : Judged (List ℕ)} → Alike (λ (t u : List ℕ). length t ≡ length u) j k →
+    ((compiledInto n room j) .refusal ≡ (compiledInto m room k) .refusal) × ((compiledInto n room j) .written ≡ (compiledInto m room k) .written)
 unfolding compiledInto
-alike-compiled room (both-refused n) = (refl, refl)
-alike-compiled room (both-accepted e) = (refl, e)
+alike-compiled n m room (both-refused k) = (refl, refl)
+alike-compiled n m room (both-accepted e) = (refl, e)
 
 alike-read : {ed : Edition} {j k : Judged Schedule} → Alike (AsLarge ed) j k → scheduleCounts j ≡ scheduleCounts k
 unfolding scheduleCounts
@@ -186,4 +186,4 @@ size-order ed file other s = alike-size (judged-alike ed file other s)
 pub branch-order : (ed : Edition) (file other room : List ℕ) → SameButOrder ed file other →
     ((compile ed file room) .refusal ≡ (compile ed other room) .refusal) × ((compile ed file room) .written ≡ (compile ed other room) .written)
 unfolding compile
-branch-order ed file other room s = alike-compiled room (compiled-alike ed file other s room)
+branch-order ed file other room s = alike-compiled (comparisonsIn (judgeFile ed file)) (comparisonsIn (judgeFile ed other)) room (compiled-alike ed file other s room)

@@ -1,5 +1,5 @@
 -- What the calls over a schedule file return and leave: on a refusal nothing but the number; where they accept, what the definitions give and the rules derive.
-use mathlib.Core.Path.{_≡_, refl, sym, ap, subst, _∙_}
+use mathlib.Core.Path.{_≡_, refl, sym, ap, ap₂, subst, _∙_}
 use mathlib.Core.Bool.{Bool}
 use mathlib.Core.List.{List}
 use mathlib.Core.Option.{some}
@@ -25,24 +25,25 @@ use Rattle.schedules.specs.Trees.{Tree}
 use Rattle.schedules.specs.Residuals.{Residual, fresh}
 use Rattle.schedules.specs.Reached.{Leads, stays, goes, Of}
 use Rattle.schedules.specs.Files.{Schedule, judgeFile, ruleControl}
-use Rattle.schedules.specs.Compiling.{tableOf, judgeCompile}
-use Rattle.schedules.specs.Calls.{readSchedule, scheduleCounts, ruleProgram, ruleRun, Compiled, compile, compiledInto}
+use Rattle.schedules.specs.Compiling.{scheduleComparisons, tableOf, judgeCompile}
+use Rattle.schedules.specs.Calls.{readSchedule, scheduleCounts, ruleProgram, ruleRun, Compiled, compile, compiledInto, comparisonsIn}
 use Rattle.schedules.specs.Conditions.{fileSchedule, fileConditions, ruleRunConditions}
-use Rattle.schedules.proofs.FirstNumber.{passed, file-schedule, rule-run-first, compile-steps, compile-first, compiled-refusal}
+use Rattle.schedules.proofs.FirstNumber.{passed, file-schedule, rule-run-first, compile-steps, compile-first, compile-refusal}
 use Rattle.schedules.proofs.ResidualsKept.{of-fresh, kept-to}
 use Rattle.schedules.proofs.ScheduleSound.{schedule-sound}
 use Rattle.schedules.proofs.Agreement.{never-0}
 
 -- ---- refused
-compile-nothing : (buffer : List ℕ) (j : Judged (List ℕ)) → ((compiledInto buffer j) .refusal ≡ 0 → ⊥) → compiledInto buffer j ≡ record { refusal = (compiledInto buffer j) .refusal; written = 0; table = buffer }
+compile-nothing : (n : ℕ) (buffer : List ℕ) (j : Judged (List ℕ)) → ((compiledInto n buffer j) .refusal ≡ 0 → ⊥) →
+    compiledInto n buffer j ≡ record { refusal = (compiledInto n buffer j) .refusal; written = 0; comparisons = 0; table = buffer }
 unfolding compiledInto
-compile-nothing buffer (refused n) h = refl
-compile-nothing buffer (accepted t) h = absurd (h refl)
+compile-nothing n buffer (refused k) h = refl
+compile-nothing n buffer (accepted t) h = absurd (h refl)
 
 pub refused-compile : (ed : Edition) (file room : List ℕ) → ((compile ed file room) .refusal ≡ 0 → ⊥) →
-    compile ed file room ≡ record { refusal = (compile ed file room) .refusal; written = 0; table = room }
+    compile ed file room ≡ record { refusal = (compile ed file room) .refusal; written = 0; comparisons = 0; table = room }
 unfolding compile
-refused-compile ed file room h = compile-nothing room (judgeCompile ed file room) h
+refused-compile ed file room h = compile-nothing (comparisonsIn (judgeFile ed file)) room (judgeCompile ed file room) h
 
 pub refused-rule-run : (ed : Edition) (file start events buffer : List ℕ) → ((ruleRun ed file start events buffer) .refusal ≡ 0 → ⊥) →
     ruleRun ed file start events buffer ≡ record { refusal = (ruleRun ed file start events buffer) .refusal; counts = noCounts; records = buffer }
@@ -68,14 +69,14 @@ read-schedule-result ed file h = rw h refl
 -- the table's bytes at the front of the room, which is long enough, and the rest of it as it was
 pub written-table : (ed : Edition) (file room : List ℕ) → (compile ed file room) .refusal ≡ 0 →
     (s : Schedule) × (fileSchedule ed file ≡ some s) × (length (tableOf ed s) ≤ length room) ×
-    (compile ed file room ≡ record { refusal = 0; written = length (tableOf ed s); table = overwrite (tableOf ed s) room })
-unfolding compile compiledInto
+    (compile ed file room ≡ record { refusal = 0; written = length (tableOf ed s); comparisons = scheduleComparisons s; table = overwrite (tableOf ed s) room })
+unfolding compile compiledInto comparisonsIn
 written-table ed file room z =
-    let a = accepted-of (compile-first ed file room) (never-0 ed file room) (sym (compiled-refusal room (judgeCompile ed file room)) ∙ z) in
+    let a = accepted-of (compile-first ed file room) (never-0 ed file room) (sym (compile-refusal ed file room) ∙ z) in
     let b = Judging.passed-then (judgeFile ed file) _ (sym (compile-steps ed file room) ∙ a .1) in
     let c = Judging.passed-ensure 13 _ _ (b .2) in
     let d = Judging.passed-ensure 14 _ _ (c .1) in
-    (b .0, file-schedule ed file (b .1), leb-true (length (tableOf ed (b .0))) (length room) (d .0), ap (compiledInto room) (a .1 ∙ ap accepted (sym (Judging.accepted-is (d .1)))))
+    (b .0, file-schedule ed file (b .1), leb-true (length (tableOf ed (b .0))) (length room) (d .0), ap₂ (λ (n : ℕ) (j : Judged (List ℕ)). compiledInto n room j) (ap comparisonsIn (b .1)) (a .1 ∙ ap accepted (sym (Judging.accepted-is (d .1)))))
 
 -- the same without `overwrite`
 pub table-at-front : (ed : Edition) (file room : List ℕ) → (compile ed file room) .refusal ≡ 0 →

@@ -7,7 +7,7 @@ use Rattle.schedules.specs.Calls.{ruleRun, compile}
 use Rattle.schedules.specs.Examples.{case-file, case-table, case-events, case-records}
 use Rattle.schedules.proofs.Computes.{schedules}
 
-pub case-compiled : compile edition1 case-file (replicate 165 0) ≡ record { refusal = 0; written = 165; table = case-table }
+pub case-compiled : compile edition1 case-file (replicate 165 0) ≡ record { refusal = 0; written = 165; comparisons = 10; table = case-table }
 unfolding schedules case-file case-table
 case-compiled = refl
 

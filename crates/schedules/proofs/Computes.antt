@@ -4,6 +4,7 @@ use Rattle.schedules.specs.Nodes as Nodes
 use Rattle.schedules.specs.Trees as Trees
 use Rattle.schedules.specs.Residuals as Residuals
 use Rattle.schedules.specs.Numbering as Numbering
+use Rattle.schedules.specs.Comparisons as Comparisons
 use Rattle.schedules.specs.Files as Files
 use Rattle.schedules.specs.Compiling as Compiling
 use Rattle.schedules.specs.Writing as Writing
@@ -32,7 +33,7 @@ unfolding Residuals.fresh Residuals.actingAt Residuals.acting Residuals.whenNode
 residuals = tt
 
 unfoldable pub numbering : Unit {0}
-unfolding Numbering.numberOf Numbering.meet Numbering.numberFrom Numbering.residualIn Numbering.nodeTargets Numbering.targets Numbering.locations
+unfolding Numbering.numberOf Numbering.meet Numbering.numberFrom Numbering.residualIn Numbering.nodeTargets Numbering.targets Numbering.locations Comparisons.comparisonsOf Comparisons.comparisonsFrom Comparisons.allTargets Comparisons.comparisons
 numbering = tt
 
 unfoldable pub files : Unit {0}
@@ -40,7 +41,7 @@ unfolding Files.fileHeader Files.fileLength Files.judgeNodes Files.judgeFileSect
 files = tt
 
 unfoldable pub compiling : Unit {0}
-unfolding Compiling.testsOf Compiling.scheduleLocations Compiling.targetCode Compiling.entryOf Compiling.entriesOf Compiling.tableOf Compiling.judgeTableOf Compiling.judgeCompile
+unfolding Compiling.testsOf Compiling.scheduleLocations Compiling.scheduleComparisons Compiling.targetCode Compiling.entryOf Compiling.entriesOf Compiling.tableOf Compiling.judgeTableOf Compiling.judgeCompile
 compiling = tt
 
 unfoldable pub writing : Unit {0}
@@ -52,7 +53,7 @@ unfolding Exchanged.otherKind Exchanged.exchangedAt Exchanged.exchanged
 exchanges = tt
 
 unfoldable pub calls : Unit {0}
-unfolding Calls.scheduleCounts Calls.readSchedule Calls.tooMany Calls.cap Calls.sizeTold Calls.sizeCounts Calls.size Calls.ruleProgram Calls.ruleRun Calls.compiledInto Calls.compile
+unfolding Calls.scheduleCounts Calls.readSchedule Calls.tooMany Calls.cap Calls.sizeTold Calls.sizeCounts Calls.size Calls.ruleProgram Calls.ruleRun Calls.compiledInto Calls.comparisonsIn Calls.compile
 calls = tt
 
 unfoldable pub sizes : Unit {0}

@@ -31,7 +31,7 @@ use Rattle.schedules.specs.Compiling.{judgeCompile}
 use Rattle.schedules.specs.Calls.{ruleProgram, ruleRun, compile}
 use Rattle.schedules.specs.Conditions.{filePlant, fileConditions, compileConditions}
 use Rattle.schedules.specs.Agreement.{RunsAgree}
-use Rattle.schedules.proofs.FirstNumber.{file-plant, compile-first, compiled-refusal}
+use Rattle.schedules.proofs.FirstNumber.{file-plant, compile-first, compile-refusal}
 use Rattle.schedules.proofs.Agreement.{agreement, compile-taken}
 use Rattle.schedules.specs.Exam.{Examined, judgeExam, agreed, refusedExam, reported, examTable, examined, examOf, examClauses, ExamHolds}
 use Rattle.schedules.proofs.SameRuns.{agreed-true}
@@ -141,8 +141,8 @@ module _ (ed : Edition) (file start events table records others : List ℕ) wher
 
   -- compiling accepts where the call does
   exam-compiled : {n : ℕ} → judgeExam ed file start events table records others ≡ accepted n → (compile ed file table) .refusal ≡ 0
-  unfolding judgeExam compile refusalOf
-  exam-compiled e = let a = Judging.passed-then (judgeCompile ed file table) _ e in compiled-refusal table (judgeCompile ed file table) ∙ ap refusalOf (a .1)
+  unfolding judgeExam refusalOf
+  exam-compiled e = let a = Judging.passed-then (judgeCompile ed file table) _ e in compile-refusal ed file table ∙ ap refusalOf (a .1)
 
   -- demand 3 of the call: where it is not refused, neither run is, and both come to what the rules derive
   pub exam-agrees : (examOf ed file start events table records others) .refusal ≡ 0 → ExamHolds ed file start events table records others

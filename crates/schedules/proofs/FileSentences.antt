@@ -37,7 +37,7 @@ use Rattle.schedules.specs.Proper.{ScheduleWritten}
 use Rattle.schedules.specs.Agreement.{TooMany}
 use Rattle.schedules.specs.TableSizes.{tableLength}
 use Rattle.schedules.specs.Sentences.{FileHead, HeadOfFile, three-bytes, FileSource, FileSectionsThere, PlantSectionsOfFile, of-file, NodesThere, FileSourceThere, AllRead, fileClauses, compileClauses, FilePlant, file-plant, ruleRunClauses}
-use Rattle.schedules.proofs.FirstNumber.{file-in-order, nodes-in-order, schedule-refusal, compiled-refusal, passed, compile-steps}
+use Rattle.schedules.proofs.FirstNumber.{file-in-order, nodes-in-order, schedule-refusal, compile-refusal, passed, compile-steps}
 use Rattle.schedules.proofs.OneTree.{one-tree}
 use Rattle.schedules.proofs.FileForms.{nodes-bytes, sections-bytes}
 use Rattle.schedules.proofs.FilesProper.{nodes-named, nodes-parted, nodes-read, schedule-accepted}
@@ -191,8 +191,7 @@ module _ (ed : Edition) (file : List ℕ) (z : AllBytes file) where
 
   pub first-compile : (buffer : List ℕ) →
       FirstHolds ((compile ed file buffer) .refusal) (compileClauses ed file buffer) ⊎ (((compile ed file buffer) .refusal ≡ 0) × (AnyHolds (compileClauses ed file buffer) → ⊥))
-  unfolding compile
-  first-compile buffer = rw (compiled-refusal buffer (judgeCompile ed file buffer)) (first-or-none (compile-answers buffer))
+  first-compile buffer = rw (compile-refusal ed file buffer) (first-or-none (compile-answers buffer))
 
   pub first-rule-run : (start events buffer : List ℕ) → AllBytes start →
       FirstHolds ((ruleRun ed file start events buffer) .refusal) (ruleRunClauses ed file start events buffer) ⊎

@@ -18,6 +18,7 @@ pub mod MovesByRule
 pub mod Places
 pub mod Numbered
 pub mod Reached
+pub mod Comparing
 -- calls
 pub mod FirstNumber
 -- the table of a schedule

@@ -28,7 +28,7 @@ use Rattle.schedules.specs.Compiling.{judgeTableOf, judgeCompile}
 use Rattle.schedules.specs.Calls.{scheduleCounts, readSchedule, sizeCounts, size, ruleProgram, ruleRun, compiledInto, compile}
 use Rattle.schedules.specs.Conditions.{filePlant, fileConditions, compileConditions, ruleRunConditions}
 use Rattle.schedules.specs.Exam.{judgeExam, refusedExam, examined, examOf}
-use Rattle.schedules.proofs.FirstNumber.{passed, file-first, compile-first, rule-run-first, schedule-refusal, compiled-refusal}
+use Rattle.schedules.proofs.FirstNumber.{passed, file-first, compile-first, rule-run-first, schedule-refusal, compile-refusal}
 use Rattle.schedules.proofs.FilesProper.{nodes-parted}
 use Rattle.schedules.proofs.ExamHolds.{examConditions, exam-judged, exam-refusal}
 
@@ -78,7 +78,7 @@ module _ (ed : Edition) (file : List ℕ) where
   pub every-call-34 : (readSchedule ed file) .refusal ≡ 34 →
       (readSchedule ed file ≡ record { refusal = 34; variables = 0; selectors = 0; nodes = 0 }) ×
       (size ed file ≡ record { refusal = 34; locations = 0; entries = 0 }) ×
-      ((room : List ℕ) → compile ed file room ≡ record { refusal = 34; written = 0; table = room }) ×
+      ((room : List ℕ) → compile ed file room ≡ record { refusal = 34; written = 0; comparisons = 0; table = room }) ×
       ((start events buffer : List ℕ) → ruleRun ed file start events buffer ≡ record { refusal = 34; counts = noCounts; records = buffer }) ×
       ((start events table records others : List ℕ) → examOf ed file start events table records others ≡ refusedExam 34 table records others)
   unfolding readSchedule scheduleCounts size sizeCounts compile compiledInto judgeCompile judgeTableOf ruleRun report judgeRun ruleProgram examOf examined judgeExam _>>=_
@@ -104,8 +104,7 @@ module _ (ed : Edition) (file : List ℕ) where
 
   -- and none of them gives 34 of its own
   pub compile-34 : (room : List ℕ) → (compile ed file room) .refusal ≡ 34 → (readSchedule ed file) .refusal ≡ 34
-  unfolding compile
-  compile-34 room h = of-compile room (first-34 (compile-first ed file room) (sym (compiled-refusal room (judgeCompile ed file room)) ∙ h))
+  compile-34 room h = of-compile room (first-34 (compile-first ed file room) (sym (compile-refusal ed file room) ∙ h))
 
   pub rule-run-34 : (start events buffer : List ℕ) → (ruleRun ed file start events buffer) .refusal ≡ 34 → (readSchedule ed file) .refusal ≡ 34
   unfolding ruleRun ruleRunConditions

@@ -23,7 +23,7 @@ use Rattle.semantics.proofs.Facts.{some-is}
 use Rattle.schedules.proofs.Computes.{schedules, nodes, residuals}
 
 -- K1: the table's 75 bytes, and the bytes of the buffer after them as they were
-pub K1 : compile edition1 k1-file (replicate 75 0 ++ (7 ∷ 8 ∷ [])) ≡ record { refusal = 0; written = 75; table = k1-table ++ (7 ∷ 8 ∷ []) }
+pub K1 : compile edition1 k1-file (replicate 75 0 ++ (7 ∷ 8 ∷ [])) ≡ record { refusal = 0; written = 75; comparisons = 1; table = k1-table ++ (7 ∷ 8 ∷ []) }
 unfolding schedules k1-file k1-table
 K1 = refl
 
@@ -99,14 +99,14 @@ unfolding schedules
 K10-refused room = refl
 
 -- K11: "Empty file 1; 01 00 03 gives 3; 01 00 04 gives 2.", whatever the buffer
-pub K11-empty : (buffer : List ℕ) → compile edition1 [] buffer ≡ record { refusal = 1; written = 0; table = buffer }
+pub K11-empty : (buffer : List ℕ) → compile edition1 [] buffer ≡ record { refusal = 1; written = 0; comparisons = 0; table = buffer }
 unfolding schedules
 K11-empty buffer = refl
 
-pub K11-sections : (buffer : List ℕ) → compile edition1 (0x01 ∷ 0x00 ∷ 0x03 ∷ []) buffer ≡ record { refusal = 3; written = 0; table = buffer }
+pub K11-sections : (buffer : List ℕ) → compile edition1 (0x01 ∷ 0x00 ∷ 0x03 ∷ []) buffer ≡ record { refusal = 3; written = 0; comparisons = 0; table = buffer }
 unfolding schedules
 K11-sections buffer = refl
 
-pub K11-length : (buffer : List ℕ) → compile edition1 (0x01 ∷ 0x00 ∷ 0x04 ∷ []) buffer ≡ record { refusal = 2; written = 0; table = buffer }
+pub K11-length : (buffer : List ℕ) → compile edition1 (0x01 ∷ 0x00 ∷ 0x04 ∷ []) buffer ≡ record { refusal = 2; written = 0; comparisons = 0; table = buffer }
 unfolding schedules
 K11-length buffer = refl

@@ -38,7 +38,7 @@ unfolding schedules while-file
 while-starts-nothing = refl
 
 -- "per node of kinds 3..9, reached or not": the RESET after a STOP has its action, and no location
-pub unreached-action : compile edition1 stop-reset-file (replicate 50 9) ≡ record { refusal = 0; written = 50; table = stop-reset-table }
+pub unreached-action : compile edition1 stop-reset-file (replicate 50 9) ≡ record { refusal = 0; written = 50; comparisons = 0; table = stop-reset-table }
 unfolding schedules stop-reset-file stop-reset-table
 unreached-action = refl
 

@@ -12,7 +12,7 @@ use Rattle.semantics.specs.TableFile.{locationLimit}
 use Rattle.semantics.specs.Calls.{Program, judgeRun, Ran, report}
 use Rattle.schedules.specs.Residuals.{Residual}
 use Rattle.schedules.specs.Files.{Schedule, judgeFile, ruleControl}
-use Rattle.schedules.specs.Compiling.{judgeCompile}
+use Rattle.schedules.specs.Compiling.{scheduleComparisons, judgeCompile}
 use Rattle.schedules.specs.Sizes.{Size, sizeOf}
 
 -- ---- the call "reading a schedule": 1 to 11, 34 and 12
@@ -74,12 +74,19 @@ ruleRun ed f start events buffer = report buffer (judgeRun ed (ruleProgram ed f)
 pub record Compiled : Type 0 where
   pub refusal : ℕ
   pub written : ℕ
+  -- document 02, item 4: "Compiling also returns how many comparisons it made"
+  pub comparisons : ℕ
   -- the lent buffer afterwards
   pub table : List ℕ
 
-unfoldable pub compiledInto : List ℕ → Judged (List ℕ) → Compiled
-compiledInto buffer (refused n) = record { refusal = n; written = 0; table = buffer }
-compiledInto buffer (accepted t) = record { refusal = 0; written = length t; table = overwrite t buffer }
+-- n: the comparisons of numbering, which no refused call returns
+unfoldable pub compiledInto : ℕ → List ℕ → Judged (List ℕ) → Compiled
+compiledInto n buffer (refused k) = record { refusal = k; written = 0; comparisons = 0; table = buffer }
+compiledInto n buffer (accepted t) = record { refusal = 0; written = length t; comparisons = n; table = overwrite t buffer }
+
+unfoldable pub comparisonsIn : Judged Schedule → ℕ
+comparisonsIn (refused n) = 0
+comparisonsIn (accepted s) = scheduleComparisons s
 
 unfoldable pub compile : Edition → List ℕ → List ℕ → Compiled
-compile ed f buffer = compiledInto buffer (judgeCompile ed f buffer)
+compile ed f buffer = compiledInto (comparisonsIn (judgeFile ed f)) buffer (judgeCompile ed f buffer)

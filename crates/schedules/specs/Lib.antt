@@ -8,6 +8,7 @@ pub mod Laid
 pub mod Residuals
 pub mod MoveRules
 pub mod Numbering
+pub mod Comparisons
 pub mod Reached
 pub mod Arrivals
 pub mod Files
