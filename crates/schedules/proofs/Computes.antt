@@ -5,6 +5,7 @@ use Rattle.schedules.specs.Trees as Trees
 use Rattle.schedules.specs.Residuals as Residuals
 use Rattle.schedules.specs.Numbering as Numbering
 use Rattle.schedules.specs.Comparisons as Comparisons
+use Rattle.schedules.specs.Comparing as Comparing
 use Rattle.schedules.specs.Files as Files
 use Rattle.schedules.specs.Compiling as Compiling
 use Rattle.schedules.specs.Writing as Writing
@@ -33,7 +34,7 @@ unfolding Residuals.fresh Residuals.actingAt Residuals.acting Residuals.whenNode
 residuals = tt
 
 unfoldable pub numbering : Unit {0}
-unfolding Numbering.numberOf Numbering.meet Numbering.numberFrom Numbering.residualIn Numbering.nodeTargets Numbering.targets Numbering.locations Comparisons.comparisonsOf Comparisons.comparisonsFrom Comparisons.allTargets Comparisons.comparisons
+unfolding Numbering.numberOf Numbering.meet Numbering.numberFrom Numbering.residualIn Numbering.nodeTargets Numbering.targets Numbering.locations Comparisons.comparisonsOf Comparisons.comparisonsFrom Comparisons.allTargets Comparisons.comparisons Comparing.byNumbers Comparing.locationCode Comparing.entryCodes Comparing.locationCodes
 numbering = tt
 
 unfoldable pub files : Unit {0}
