@@ -1,7 +1,7 @@
 -- The comparisons of numbering, counted from the numbers of the targets and so from the table alone.
 use mathlib.Core.Path.{_≡_, refl, sym, ap, subst, _∙_}
 use mathlib.Core.Bool.{Bool, true, false}
-use mathlib.Core.Logic.{_⊎_, inl, inr}
+use mathlib.Core.Logic.{_↔_, inl, inr}
 use mathlib.Core.List.{List, [], _∷_, _++_, map, flatMap, List·Memᴰ as Mem, List·Memᴰ·head as first, List·Memᴰ·tail as later, List·Memᴰ·not-nil}
 use mathlib.Core.Option.{Option, none, some}
 use Prim.Native.Nat.{ℕ, suc, _≤_}
@@ -27,7 +27,7 @@ use Rattle.schedules.specs.Calls.{Compiled, compile}
 use Rattle.schedules.proofs.Places.{Distinct, at-append}
 use Rattle.schedules.proofs.Numbered.{number-found, number-exists, number-none, number-at, meet-nil, meet-met, meet-unmet, meet-more}
 use Rattle.schedules.proofs.Reached.{reached, closed-under}
-use Rattle.schedules.proofs.Comparing.{compared-known, compared-new, compares-from}
+use Rattle.schedules.proofs.Comparing.{compared-known, compared-new, compares-from, compares-all-is}
 use Rattle.schedules.proofs.FirstNumber.{file-schedule}
 use Rattle.schedules.proofs.TableAgrees.{tableFor}
 use Rattle.schedules.proofs.Agreement.{of-written, table-judged}
@@ -116,6 +116,10 @@ module _ (tests : ℕ → Bool) (t : Tree) where
   pub compares-all : ComparesAll (fresh t ∷ []) (allTargets tests t) (comparisons tests t)
   unfolding comparisons
   compares-all = compares-from same? (fresh t ∷ []) (allTargets tests t)
+
+  pub comparisons-is : (n : ℕ) → (comparisons tests t ≡ n) ↔ ComparesAll (fresh t ∷ []) (allTargets tests t) n
+  unfolding comparisons
+  comparisons-is n = compares-all-is same? (fresh t ∷ []) (allTargets tests t) n
 
   module _ (few : length (locations tests t) ≤ locationLimit) where
     -- whatever list has the numbers of the targets

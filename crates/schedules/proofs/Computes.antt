@@ -34,8 +34,12 @@ unfolding Residuals.fresh Residuals.actingAt Residuals.acting Residuals.whenNode
 residuals = tt
 
 unfoldable pub numbering : Unit {0}
-unfolding Numbering.numberOf Numbering.meet Numbering.numberFrom Numbering.residualIn Numbering.nodeTargets Numbering.targets Numbering.locations Comparisons.comparisonsOf Comparisons.comparisonsFrom Comparisons.allTargets Comparisons.comparisons Comparing.byNumbers Comparing.locationCode Comparing.entryCodes Comparing.locationCodes
+unfolding Numbering.numberOf Numbering.meet Numbering.numberFrom Numbering.residualIn Numbering.nodeTargets Numbering.targets Numbering.locations Comparisons.comparisonsOf Comparisons.comparisonsFrom Comparisons.allTargets Comparisons.comparisons
 numbering = tt
+
+unfoldable pub comparing : Unit {0}
+unfolding Comparing.byNumbers Comparing.locationCode Comparing.entryCodes Comparing.locationCodes
+comparing = tt
 
 unfoldable pub files : Unit {0}
 unfolding Files.fileHeader Files.fileLength Files.judgeNodes Files.judgeFileSections Files.judgeFileLayout Files.judgeFile Files.ruleControl
@@ -62,5 +66,5 @@ unfolding Sizes.one Sizes.nothingLeft Sizes.inTurn Sizes.sideBySide Sizes.sequen
 sizes = tt
 
 unfoldable pub schedules : Unit {0}
-unfolding Semantics.semantics ℕ-discrete fileSections nodes trees residuals numbering files compiling writing exchanges calls sizes
+unfolding Semantics.semantics ℕ-discrete fileSections nodes trees residuals numbering comparing files compiling writing exchanges calls sizes
 schedules = tt

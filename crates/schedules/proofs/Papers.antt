@@ -9,7 +9,7 @@ use Rattle.semantics.specs.Editions.{edition1}
 use Rattle.semantics.specs.Plant.{Plant, among}
 use Rattle.semantics.specs.Run.{pass, switchCheck, at, over, step, settle, follow, arrive, judge, judgePick, act, allow, _>>_}
 use Rattle.semantics.specs.K1.{k1-file, k1-table, start-at, k2-events, k2-records, k3-events, k3-records, k4-events, k4-records}
-use Rattle.schedules.specs.Examples.{locationCount, comparisonCount, stopOrWait, fileWith}
+use Rattle.schedules.specs.Examples.{locationCount, comparisonCount, stopOrWait, fileWith, while-file}
 use Rattle.schedules.specs.FileSections.{FileSections}
 use Rattle.schedules.specs.Nodes.{parallel, while-do, if-else, continue-until, reset}
 use Rattle.schedules.specs.Trees.{Tree, treeOf, par, halt, leaf, branch, cons, nil}
@@ -57,6 +57,15 @@ K6 v t e = refl
 pub K6-comparisons : (v : ℕ) (t e : List ℕ) → comparisonCount (while-do t ∷ reset v e ∷ []) ≡ some 2
 unfolding schedules
 K6-comparisons v t e = refl
+
+-- compiled: 2 where the table has room, and 0 where it has none
+pub K6-compiled : (compile edition1 while-file (replicate 100 0)) .comparisons ≡ 2
+unfolding schedules while-file
+K6-compiled = refl
+
+pub K6-no-room : compile edition1 while-file [] ≡ record { refusal = 14; written = 0; comparisons = 0; table = [] }
+unfolding schedules while-file
+K6-no-room = refl
 
 -- two new ones: 1 and 2; what finishes adds nothing
 pub K5-comparisons : (v w : ℕ) (e f : List ℕ) → comparisonCount (parallel 2 ∷ reset v e ∷ reset w f ∷ []) ≡ some 3
