@@ -99,7 +99,7 @@ read-34 = Number34.read-34
 pub every-call-34 : (ed : Edition) (file : List ℕ) → (readSchedule ed file) .refusal ≡ 34 →
     (readSchedule ed file ≡ record { refusal = 34; variables = 0; selectors = 0; nodes = 0 }) ×
     (size ed file ≡ record { refusal = 34; locations = 0; entries = 0 }) ×
-    ((room : List ℕ) → compile ed file room ≡ record { refusal = 34; written = 0; table = room }) ×
+    ((room : List ℕ) → compile ed file room ≡ record { refusal = 34; written = 0; comparisons = 0; table = room }) ×
     ((start events buffer : List ℕ) → ruleRun ed file start events buffer ≡ record { refusal = 34; counts = noCounts; records = buffer }) ×
     ((start events table records others : List ℕ) → examOf ed file start events table records others ≡ refusedExam 34 table records others)
 every-call-34 = Number34.every-call-34

@@ -59,7 +59,7 @@ use Rattle.schedules.specs.MoveRules.{Fresh, Acts, MoveRule, LeadsByRule}
 use Rattle.schedules.specs.Reached.{Leads, Of, AsMany}
 use Rattle.schedules.specs.Arrivals.{NumberedInOrder}
 use Rattle.schedules.specs.Files.{Schedule, judgeFile, ruleControl}
-use Rattle.schedules.specs.Compiling.{testsOf, tableOf}
+use Rattle.schedules.specs.Compiling.{testsOf, scheduleComparisons, tableOf}
 use Rattle.schedules.specs.Calls.{readSchedule, size, ruleRun, compile}
 use Rattle.schedules.specs.Conditions.{fileSchedule}
 use Rattle.schedules.specs.Sentences.{fileClauses, compileClauses, ruleRunClauses}
@@ -153,7 +153,7 @@ reached-rules = MovesByRule.reached-rules
 -- Ruled out: a compiler that writes nothing; one that clears the room beyond its table (with `at-front`).
 pub written-table : (ed : Edition) (file room : List ℕ) → (compile ed file room) .refusal ≡ 0 →
     (s : Schedule) × (fileSchedule ed file ≡ some s) × (length (tableOf ed s) ≤ length room) ×
-    (compile ed file room ≡ record { refusal = 0; written = length (tableOf ed s); table = overwrite (tableOf ed s) room })
+    (compile ed file room ≡ record { refusal = 0; written = length (tableOf ed s); comparisons = scheduleComparisons s; table = overwrite (tableOf ed s) room })
 written-table = FileCalls.written-table
 
 -- how many locations there are, by arithmetic: `sizeOf` of a tree (Sizes) is stated twice, two children at a time and with the products that one works out by hand.
@@ -422,7 +422,7 @@ evaluates-truth-bytes = EvaluatedBytes.evaluates-truth-bytes
 -- ---- demand 1: "A refused call returns .. length and counts zero and every lent buffer unwritten."
 -- Ruled out: a refused run that clears its record buffer; a refused compilation that returns a length.
 pub refused-compile : (ed : Edition) (file room : List ℕ) → ((compile ed file room) .refusal ≡ 0 → ⊥) →
-    compile ed file room ≡ record { refusal = (compile ed file room) .refusal; written = 0; table = room }
+    compile ed file room ≡ record { refusal = (compile ed file room) .refusal; written = 0; comparisons = 0; table = room }
 refused-compile = FileCalls.refused-compile
 
 pub refused-rule-run : (ed : Edition) (file start events buffer : List ℕ) → ((ruleRun ed file start events buffer) .refusal ≡ 0 → ⊥) →

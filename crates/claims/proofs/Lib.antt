@@ -3,3 +3,4 @@ pub mod Papers
 pub mod Practice
 pub mod Sides
 pub mod Assignments
+pub mod Comparisons

@@ -33,7 +33,7 @@ use Rattle.schedules.proofs.ByPencil as Sizes
 use Rattle.schedules.proofs.BorderPapers as Border
 
 -- K1, which computes: its table, and the bytes of the buffer after it as they were
-pub K1 : compile edition1 k1-file (replicate 75 0 ++ (7 ∷ 8 ∷ [])) ≡ record { refusal = 0; written = 75; table = k1-table ++ (7 ∷ 8 ∷ []) }
+pub K1 : compile edition1 k1-file (replicate 75 0 ++ (7 ∷ 8 ∷ [])) ≡ record { refusal = 0; written = 75; comparisons = 1; table = k1-table ++ (7 ∷ 8 ∷ []) }
 K1 = Schedules.K1
 
 -- K2: "K1 from 0: tick 27, pick 1 200, pick 2 29, tick 200, tick 200, tick 31, pick 2 201, tick 23; taken 4, turned away 4."
@@ -56,7 +56,7 @@ pub K5 : (v w : ℕ) (e f : List ℕ) → locationCount (parallel 2 ∷ reset v 
 K5 = Schedules.K5
 
 -- the bytes of such a table, of two variables: two nodes act at location 0, and the lower one's target has the lower number
-pub K5-table : compile edition1 k5-file (replicate 85 9 ++ (7 ∷ 8 ∷ [])) ≡ record { refusal = 0; written = 85; table = k5-table ++ (7 ∷ 8 ∷ []) }
+pub K5-table : compile edition1 k5-file (replicate 85 9 ++ (7 ∷ 8 ∷ [])) ≡ record { refusal = 0; written = 85; comparisons = 3; table = k5-table ++ (7 ∷ 8 ∷ []) }
 K5-table = ActingOrder.K5-table
 
 -- K6: "WHILE over a RESET: 2."
@@ -101,9 +101,9 @@ pub connective-codes : (let holding = truthValue edition1 [] in
 connective-codes = Tables.connective-codes
 
 -- K11: "Empty file 1; 01 00 03 gives 3; 01 00 04 gives 2."
-pub K11 : (buffer : List ℕ) → (compile edition1 [] buffer ≡ record { refusal = 1; written = 0; table = buffer })
-    × (compile edition1 (0x01 ∷ 0x00 ∷ 0x03 ∷ []) buffer ≡ record { refusal = 3; written = 0; table = buffer })
-    × (compile edition1 (0x01 ∷ 0x00 ∷ 0x04 ∷ []) buffer ≡ record { refusal = 2; written = 0; table = buffer })
+pub K11 : (buffer : List ℕ) → (compile edition1 [] buffer ≡ record { refusal = 1; written = 0; comparisons = 0; table = buffer })
+    × (compile edition1 (0x01 ∷ 0x00 ∷ 0x03 ∷ []) buffer ≡ record { refusal = 3; written = 0; comparisons = 0; table = buffer })
+    × (compile edition1 (0x01 ∷ 0x00 ∷ 0x04 ∷ []) buffer ≡ record { refusal = 2; written = 0; comparisons = 0; table = buffer })
 K11 buffer = (Schedules.K11-empty buffer, Schedules.K11-sections buffer, Schedules.K11-length buffer)
 
 -- K10: "Depth 16 is taken, 17 gives 12.": of a CONTINUE UNTIL so many negations of true; and of the reader of a truth, in every edition
@@ -121,7 +121,7 @@ pub true-first : (v w : ℕ) (t e f : List ℕ) →
 true-first = Schedules.true-first
 
 -- ---- a paper of our own: a CASE with rates and switches, a switch event, REINITIAL, an IF and a SWITCH, by the rules and by the table
-pub case-compiled : compile edition1 case-file (replicate 165 0) ≡ record { refusal = 0; written = 165; table = case-table }
+pub case-compiled : compile edition1 case-file (replicate 165 0) ≡ record { refusal = 0; written = 165; comparisons = 10; table = case-table }
 case-compiled = CasePaper.case-compiled
 
 pub case-rules : ruleRun edition1 case-file (replicate 9 0) case-events (replicate 342 0)
@@ -171,7 +171,7 @@ pub while-starts-nothing : ruleRun edition1 while-file (start-at 0) (1 ∷ 0 ∷
 while-starts-nothing = Traps.while-starts-nothing
 
 -- "per node of kinds 3..9, reached or not": the RESET after a STOP has its action, and no location
-pub unreached-action : compile edition1 stop-reset-file (replicate 50 9) ≡ record { refusal = 0; written = 50; table = stop-reset-table }
+pub unreached-action : compile edition1 stop-reset-file (replicate 50 9) ≡ record { refusal = 0; written = 50; comparisons = 0; table = stop-reset-table }
 unreached-action = Traps.unreached-action
 
 -- "a fault in the switch check is 203 before 29 or 31 is looked at": a pick of the CONTINUE that is false, and a tick while the other is true

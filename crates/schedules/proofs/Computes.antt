@@ -5,6 +5,7 @@ use Rattle.schedules.specs.Trees as Trees
 use Rattle.schedules.specs.Residuals as Residuals
 use Rattle.schedules.specs.Numbering as Numbering
 use Rattle.schedules.specs.Comparisons as Comparisons
+use Rattle.schedules.specs.Comparing as Comparing
 use Rattle.schedules.specs.Files as Files
 use Rattle.schedules.specs.Compiling as Compiling
 use Rattle.schedules.specs.Writing as Writing
@@ -36,6 +37,10 @@ unfoldable pub numbering : Unit {0}
 unfolding Numbering.numberOf Numbering.meet Numbering.numberFrom Numbering.residualIn Numbering.nodeTargets Numbering.targets Numbering.locations Comparisons.comparisonsOf Comparisons.comparisonsFrom Comparisons.allTargets Comparisons.comparisons
 numbering = tt
 
+unfoldable pub comparing : Unit {0}
+unfolding Comparing.byNumbers Comparing.locationCode Comparing.entryCodes Comparing.locationCodes
+comparing = tt
+
 unfoldable pub files : Unit {0}
 unfolding Files.fileHeader Files.fileLength Files.judgeNodes Files.judgeFileSections Files.judgeFileLayout Files.judgeFile Files.ruleControl
 files = tt
@@ -61,5 +66,5 @@ unfolding Sizes.one Sizes.nothingLeft Sizes.inTurn Sizes.sideBySide Sizes.sequen
 sizes = tt
 
 unfoldable pub schedules : Unit {0}
-unfolding Semantics.semantics ℕ-discrete fileSections nodes trees residuals numbering files compiling writing exchanges calls sizes
+unfolding Semantics.semantics ℕ-discrete fileSections nodes trees residuals numbering comparing files compiling writing exchanges calls sizes
 schedules = tt

@@ -36,6 +36,7 @@ pub mod Cuts
 pub mod FirstArrivals
 pub mod NodesDo
 pub mod CallsHold
+pub mod ComparisonNumbers
 pub mod WrittenBytes
 pub mod RunRecords
 -- the number of locations, and the order of a PARALLEL's children

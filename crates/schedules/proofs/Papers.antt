@@ -9,7 +9,7 @@ use Rattle.semantics.specs.Editions.{edition1}
 use Rattle.semantics.specs.Plant.{Plant, among}
 use Rattle.semantics.specs.Run.{pass, switchCheck, at, over, step, settle, follow, arrive, judge, judgePick, act, allow, _>>_}
 use Rattle.semantics.specs.K1.{k1-file, k1-table, start-at, k2-events, k2-records, k3-events, k3-records, k4-events, k4-records}
-use Rattle.schedules.specs.Examples.{locationCount, stopOrWait, fileWith}
+use Rattle.schedules.specs.Examples.{locationCount, comparisonCount, stopOrWait, fileWith, while-file}
 use Rattle.schedules.specs.FileSections.{FileSections}
 use Rattle.schedules.specs.Nodes.{parallel, while-do, if-else, continue-until, reset}
 use Rattle.schedules.specs.Trees.{Tree, treeOf, par, halt, leaf, branch, cons, nil}
@@ -52,6 +52,40 @@ K5 v w e f = refl
 pub K6 : (v : ℕ) (t e : List ℕ) → locationCount (while-do t ∷ reset v e ∷ []) ≡ some 2
 unfolding schedules
 K6 v t e = refl
+
+-- document 02, item 4: "K1 gives 1, K6 gives 2."; of K6, the body is new and the root known
+pub K6-comparisons : (v : ℕ) (t e : List ℕ) → comparisonCount (while-do t ∷ reset v e ∷ []) ≡ some 2
+unfolding schedules
+K6-comparisons v t e = refl
+
+-- compiled: 2 where the table has room, and 0 where it has none
+pub K6-compiled : (compile edition1 while-file (replicate 100 0)) .comparisons ≡ 2
+unfolding schedules while-file
+K6-compiled = refl
+
+pub K6-no-room : compile edition1 while-file [] ≡ record { refusal = 14; written = 0; comparisons = 0; table = [] }
+unfolding schedules while-file
+K6-no-room = refl
+
+-- two new ones: 1 and 2; what finishes adds nothing
+pub K5-comparisons : (v w : ℕ) (e f : List ℕ) → comparisonCount (parallel 2 ∷ reset v e ∷ reset w f ∷ []) ≡ some 3
+unfolding schedules
+K5-comparisons v w e f = refl
+
+-- the target on false is compared, too: 1 and 2
+pub if-comparisons : (v w : ℕ) (t e f : List ℕ) → comparisonCount (if-else t ∷ reset v e ∷ reset w f ∷ []) ≡ some 3
+unfolding schedules
+if-comparisons v w t e f = refl
+
+-- the CONTINUE's target alone is a location: 1; the STOP halts at both locations
+pub stop-comparisons : (t : List ℕ) → comparisonCount (stopOrWait t) ≡ some 1
+unfolding schedules
+stop-comparisons t = refl
+
+-- known ones with numbers above 0: at location 0 there are 1 + 2 + 3, at 1 then 4 + 5, at 2 then 5 (number 4) + 6, at 3 then 6 + 7 (numbers 5 and 6)
+pub three-resets-comparisons : (v : ℕ) (e : List ℕ) → comparisonCount (parallel 3 ∷ reset v e ∷ reset v e ∷ reset v e ∷ []) ≡ some 39
+unfolding schedules
+three-resets-comparisons v e = refl
 
 -- K7: "PARALLEL of STOP, CONTINUE: 2; picking STOP halts."
 pub K7-locations : (t : List ℕ) → locationCount (stopOrWait t) ≡ some 2

@@ -11,6 +11,7 @@ use Rattle.semantics.specs.Tables.{Table, judgeTable}
 use Rattle.schedules.specs.Nodes.{Node, sequence, parallel, while-do, if-else, reset, stop-all, continue-until}
 use Rattle.schedules.specs.Trees.{Tree, treeOf}
 use Rattle.schedules.specs.Numbering.{locations}
+use Rattle.schedules.specs.Comparisons.{comparisons}
 use Rattle.schedules.specs.Compiling.{testsOf}
 use Rattle.schedules.specs.Calls.{compile}
 use Rattle.schedules.specs.Writing.{writeFile}
@@ -19,6 +20,10 @@ use Rattle.schedules.specs.Sizes.{Size, sizeOf}
 -- the number of locations of these nodes
 abbrev pub locationCount : List Node → Option ℕ
 locationCount ns = Option·map (λ (t : Tree). length (locations (testsOf ns) t)) (treeOf ns)
+
+-- the comparisons that numbering them takes
+abbrev pub comparisonCount : List Node → Option ℕ
+comparisonCount ns = Option·map (comparisons (testsOf ns)) (treeOf ns)
 
 -- PARALLEL of STOP and CONTINUE
 abbrev pub stopOrWait : List ℕ → List Node

@@ -9,6 +9,7 @@ pub mod Residuals
 pub mod MoveRules
 pub mod Numbering
 pub mod Comparisons
+pub mod Comparing
 pub mod Reached
 pub mod Arrivals
 pub mod Files
