@@ -8,9 +8,9 @@
  *
  * Every call returns, whatever the bytes in the buffers lent to it. It returns
  * 0, or the number of the first condition below that applies. Where it returns
- * another number than 0, no lent buffer is written, and the length, the counts
- * or the numbers of a size are set to 0. What is only read is left as it was in
- * any case.
+ * another number than 0, no lent buffer is written, and the length, the
+ * comparisons, the counts or the numbers of a size are set to 0. What is only
+ * read is left as it was in any case.
  *
  * The caller sees to these things, on which the proofs rest:
  *  - A pointer with a length points to that many bytes, which can be read, and
@@ -19,9 +19,9 @@
  *    with length 0 is an empty buffer. Nothing promises it.)
  *  - A pointer to a uint64_t is that of a whole one, aligned and writable. What
  *    it holds before the call does not matter.
- *  - What a call writes to (table, records or events, length, counts, numbers)
- *    overlaps nothing else that is lent to that call. Buffers that are only
- *    read may overlap.
+ *  - What a call writes to (table, records or events, length, comparisons,
+ *    counts, numbers) overlaps nothing else that is lent to that call. Buffers
+ *    that are only read may overlap.
  *  - Until the call returns, nothing else writes to what is lent, and nothing
  *    else reads what the call writes to.
  *
@@ -32,9 +32,9 @@
  * under 100. 128 KiB are room for any of them.
  *
  * Schedule files, tables, starting values, events and records are those of
- * document 01, with items 1 to 3 of document 02 (practice events; faults above
- * and below their range; RESET and REINITIAL parted); numbers of several bytes
- * are big-endian.
+ * document 01, with items 1 to 4 of document 02 (practice events; faults above
+ * and below their range; RESET and REINITIAL parted; comparisons of compiling);
+ * numbers of several bytes are big-endian.
  */
 #ifndef ZIMTLEITER_H
 #define ZIMTLEITER_H
@@ -132,9 +132,17 @@ uint8_t zimtleiter_read_table(const uint8_t *table, size_t table_len);
  *  14  the lent buffer is shorter than the table
  * On 0 the first *length bytes of table are the schedule's table, and those
  * behind are as they were. ZIMTLEITER_TABLE_ROOM bytes are enough for any.
+ * *comparisons is then how many comparisons it takes to look up the targets of
+ * all entries, in the order in which they stand in the table, when each target
+ * is compared with the locations numbered so far, from 0 up to the equal one:
+ * for a target that has its number already, that number plus one; for one that
+ * is new, as many as were numbered before it. Location 0, where compiling
+ * starts, and the codes FFFE, FFFD and FFFF, which are no locations, take none.
+ * K1 of document 01 gives 1. On any refusal, 13 and 14 too, it is 0.
  */
 uint8_t zimtleiter_compile(const uint8_t *file, size_t file_len,
-                           uint8_t *table, size_t room, uint64_t *length);
+                           uint8_t *table, size_t room, uint64_t *length,
+                           uint64_t *comparisons);
 
 /*
  * Runs a schedule by the rules over a list of events, 3 bytes each. Returns 0,

@@ -1,7 +1,8 @@
 /*
- * Says how large a schedule is, compiles it, runs it by the rules and by its
- * table over a list of events, from its own initial values and modes, and
- * compares the two runs. Where an event faults, it says which and on which side.
+ * Says how large a schedule is, compiles it, says how long its table is and how
+ * many comparisons compiling made, runs it by the rules and by its table over a
+ * list of events, from its own initial values and modes, and compares the two
+ * runs. Where an event faults, it says which and on which side.
  * both SCHEDULE EVENTS
  * both SCHEDULE SEED COUNT: the events are COUNT practice events from SEED
  */
@@ -140,15 +141,15 @@ static void print_size(struct bytes file)
 static struct bytes compiled(struct bytes file)
 {
     struct bytes t = {room_for(ZIMTLEITER_TABLE_ROOM), 0};
-    uint64_t length;
-    uint8_t n = zimtleiter_compile(file.at, file.length, t.at, ZIMTLEITER_TABLE_ROOM, &length);
+    uint64_t length, comparisons;
+    uint8_t n = zimtleiter_compile(file.at, file.length, t.at, ZIMTLEITER_TABLE_ROOM, &length, &comparisons);
     if (n != 0)
         refused("compiling", n);
     t.length = length;
     n = zimtleiter_read_table(t.at, t.length);
     if (n != 0)
         refused("reading the table", n);
-    printf("compiled: a table of %zu bytes\n", t.length);
+    printf("compiled: a table of %zu bytes; comparisons: %llu\n", t.length, (unsigned long long)comparisons);
     return t;
 }
 

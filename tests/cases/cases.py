@@ -3,6 +3,7 @@ read from the papers and not from a program. The bench papers K1 to K11 of docum
 
 What the paper gives: parts split by ';'. A part is a line of a call as cases_test writes it, `CALL R, NUMBERS`, of a run with
 its answers behind it where they are told (`200 x3` is an answer three times in a row), or `table = HEX`, `records = HEX`."""
+from comparisons import of_resets
 from forms import *
 
 
@@ -27,16 +28,17 @@ def unexamined(n):
     return f"examine {n}, 0 0 0 0 0 0 0 0"
 
 
-def tight(name, file, begin, es, counts, table, records):
+def tight(name, file, begin, es, counts, table, comparisons, records):
     """With just the room that a table and records of so many bytes take, and with a byte less for one of the three buffers."""
+    compiled = f"compile 0, {table} {comparisons}"
     runs = f"rules 0, {counts}; by table 0, {counts}"
     examined = f"examine 0, {table} {counts} {counts} 1"
-    of_schedule(f"{name}: just the room", file, begin, es, f"compile 0, {table}; {runs}; {examined}", table, records, records)
-    says = f"compile 14, 0; rules 0, {counts}; {unexamined(14)}"
+    of_schedule(f"{name}: just the room", file, begin, es, f"{compiled}; {runs}; {examined}", table, records, records)
+    says = f"compile 14, 0 0; rules 0, {counts}; {unexamined(14)}"
     of_schedule(f"{name}: a byte less for the table", file, begin, es, says, table - 1, records, records)
-    says = f"compile 0, {table}; rules 22, 0 0 0; by table 22, 0 0 0; {unexamined(22)}"
+    says = f"{compiled}; rules 22, 0 0 0; by table 22, 0 0 0; {unexamined(22)}"
     of_schedule(f"{name}: a byte less for the records", file, begin, es, says, table, records - 1, records)
-    says = f"compile 0, {table}; {runs}; {unexamined(22)}"
+    says = f"{compiled}; {runs}; {unexamined(22)}"
     of_schedule(f"{name}: a byte less for the other records", file, begin, es, says, table, records, records - 1)
 
 
@@ -55,7 +57,7 @@ K1_TABLE = bytes.fromhex(
     "0018 02 0B0103001002000100000001 0A02022001000000030200 0000000E 0002 01 01 0001 FFFF 01 02 FFFE FFFF"
 )
 of_schedule("K1 K2, from 0", K1, start([0]), "t p1 p2 t t t p2 t",
-    "read 0, 1 0 3; size 0, 2 2; compile 0, 75; read table 0, 1 0 2 2; rules 0, 4 4 0: 27 200 29 200 x2 31 201 23; "
+    "read 0, 1 0 3; size 0, 2 2; compile 0, 75 1; read table 0, 1 0 2 2; rules 0, 4 4 0: 27 200 29 200 x2 31 201 23; "
     "by table 0, 4 4 0: 27 200 29 200 x2 31 201 23; examine 0, 75 4 4 0 4 4 0 1; table = " + K1_TABLE.hex())
 of_schedule("K1 K3, from 10", K1, start([10]), "p1 t",
     "rules 0, 0 1 1: 203 23; by table 0, 0 1 1; examine 0, 75 0 1 1 0 1 1 1; "
@@ -63,7 +65,7 @@ of_schedule("K1 K3, from 10", K1, start([10]), "p1 t",
 of_schedule("K1 K4, from 9", K1, start([9]), "p1 p2",
     "rules 0, 2 0 0: 200 201; by table 0, 2 0 0; examine 0, 75 2 0 0 2 0 0 1; "
     "records = C8 0000000000000004 0000000A C9 0000000000000000 0000000A")
-tight("K1 K4", K1, start([9]), "p1 p2", "2 0 0", 75, 26)
+tight("K1 K4", K1, start([9]), "p1 p2", "2 0 0", 75, 1, 26)
 of_table("K1's table as in the paper", K1_TABLE, start([9]), "p1 p2", "read table 0, 1 0 2 2; by table 0, 2 0 0: 200 201")
 
 # what most files below have: one variable from 0 to 10, no equation, and one node, a RESET; some have a REINITIAL in its place
@@ -76,7 +78,7 @@ Z = start([0])
 
 def refused(n, name, file, begin=Z, es="p0"):
     """All calls on it are refused with n."""
-    says = f"read {n}, 0 0 0; size {n}, 0 0; compile {n}, 0; rules {n}, 0 0 0; {unexamined(n)}"
+    says = f"read {n}, 0 0 0; size {n}, 0 0; compile {n}, 0 0; rules {n}, 0 0 0; {unexamined(n)}"
     of_schedule(f"{n}: {name}", file, begin, es, says)
 
 
@@ -123,7 +125,7 @@ refused(5, "initial below minimum", tree(LEAF, vs=variables((0, 10, -1))))
 refused(5, "initial above maximum", tree(LEAF, vs=variables((0, 10, 11))))
 refused(5, "minimum above maximum", tree(LEAF, vs=variables((5, 4, 4))))
 refused(5, "the last of 32", tree(LEAF, vs=variables(*[(0, 10, 0)] * 31, (LOWEST, HIGHEST - 1, HIGHEST))))
-of_schedule("one value only", tree(LEAF, vs=variables((1, 1, 1))), start([1]), "p0", "read 0, 1 0 1; rules 0, 1 0 0: 201; compile 0, 47")
+of_schedule("one value only", tree(LEAF, vs=variables((1, 1, 1))), start([1]), "p0", "read 0, 1 0 1; rules 0, 1 0 0: 201; compile 0, 47 0")
 WIDE = tree(reset(31, const(LOWEST)), vs=variables(*[(LOWEST, HIGHEST, 0)] * 32))
 of_schedule("32 variables, the whole range", WIDE, start([HIGHEST] * 32), "p0",
     "read 0, 32 0 1; rules 0, 1 0 0: 201; read table 0, 32 0 1 1; by table 0, 1 0 0")
@@ -155,7 +157,7 @@ refused(6, "6 later than what 7 is for", plant(rate(1, 1), b"\x00"))
 of_schedule("no switch, no rate", plant(ONE_MODE), start([0], [0]), "p0", "read 0, 1 1 1; rules 0, 1 0 0: 201")
 of_schedule("16 selectors", schedule(V, equations(*[ONE_MODE] * 16), LEAF), start([0], [0] * 16), "t p0 t",
     "read 0, 1 16 1; rules 0, 1 2 0: 27 201 23; by table 0, 1 2 0")
-tight("16 selectors", schedule(V, equations(*[ONE_MODE] * 16), LEAF), start([0], [0] * 16), "t p0 t", "1 2 0", 159, 87)
+tight("16 selectors", schedule(V, equations(*[ONE_MODE] * 16), LEAF), start([0], [0] * 16), "t p0 t", "1 2 0", 159, 0, 87)
 of_schedule("8 modes, the last current", with_reinitial(case(7, *[mode()] * 7, mode([(0, 3)], [(7, FALSE)]))), start([0], [7]),
     "s0.0 s0.1 p0", "read 0, 1 1 1; rules 0, 1 2 0: 30 26 201")
 refused(7, "a rate of a missing variable", plant(rate(1, 1)))
@@ -219,10 +221,10 @@ def long_number(n):
 
 
 of_schedule("a node of length 200", tree(reset(0, long_number(198))), Z, "p0",
-    "read 0, 1 0 1; rules 0, 1 0 0: 201; compile 0, 240; read table 0, 1 0 1 1")
+    "read 0, 1 0 1; rules 0, 1 0 0: 201; compile 0, 240 0; read table 0, 1 0 1 1")
 refused(9, "a node of length 201", tree(reset(0, long_number(199))))
 of_schedule("a node of length 1", tree(STOP), Z, "p0 p0",
-    "read 0, 1 0 1; rules 0, 1 1 0: 202 23; compile 0, 41; read table 0, 1 0 1 1; by table 0, 1 1 0")
+    "read 0, 1 0 1; rules 0, 1 1 0: 202 23; compile 0, 41 0; read table 0, 1 0 1 1; by table 0, 1 1 0")
 
 # 12
 def number(n):
@@ -289,47 +291,57 @@ of_schedule("255 switches", plant(case(0, mode([], [(0, FALSE)] * 254 + [(0, le(
 
 # trees at their limits
 of_schedule("64 nodes: PARALLEL of 63 STOPs", tree(parallel(*[STOP] * 63)), Z, "p0 p64 t p63 p1",
-    "read 0, 1 0 64; size 0, 1 63; rules 0, 1 4 0: 25 x2 27 202 23; compile 0, 537; read table 0, 1 0 63 1")
+    "read 0, 1 0 64; size 0, 1 63; rules 0, 1 4 0: 25 x2 27 202 23; compile 0, 537 0; read table 0, 1 0 63 1")
 of_schedule("64 nodes: SEQUENCE of 63 RESETs", tree(sequence(*[LEAF] * 63)), Z, "p2 p1 p1 p2 p3",
     "read 0, 1 0 64; rules 0, 3 2 0: 25 200 25 200 x2; read table 0, 1 0 63 63")
+# 63 WHILEs, number i the location at which WHILE i acts: on true each leads to the next number, which is new (1 + 2 + .. + 63),
+# on false each but the first to the one before (1 + 2 + .. + 62), and the RESET to 62 (63)
 deep = LEAF
 for i in range(63):
     deep = loop(le(var(0), const(9)), deep)
 of_schedule("64 nodes: 63 WHILEs, one in the other", tree(deep), Z, " ".join(f"p{i}" for i in range(64)) + " p62 p63 p61",
-    "read 0, 1 0 64; size 0, 64 64; rules 0, 66 1 0: 200 x66 25; read table 0, 1 0 64 64")
+    "read 0, 1 0 64; size 0, 64 64; rules 0, 66 1 0: 200 x66 25; compile 0, 1118 4032; read table 0, 1 0 64 64")
 deep = until(TRUE)
 for i in range(63):
     deep = sequence(deep)
 of_schedule("64 nodes: 63 SEQUENCEs, one in the other", tree(deep), Z, "t p63",
-    "read 0, 1 0 64; rules 0, 1 1 0: 31 201; compile 0, 42; read table 0, 1 0 1 1")
+    "read 0, 1 0 64; rules 0, 1 1 0: 31 201; compile 0, 42 0; read table 0, 1 0 1 1")
 of_schedule("64 nodes: PARALLEL of 63 CONTINUEs", tree(parallel(*[until(lt(const(0), var(0)))] * 63)), Z, "t p63",
-    "read 0, 1 0 64; size 0, 1025 0; rules 0, 1 1 0: 200 29; compile 13, 0")
+    "read 0, 1 0 64; size 0, 1025 0; rules 0, 1 1 0: 200 29; compile 13, 0 0")
+# 63 locations in a row: 1 + 2 + .. + 62 comparisons
 of_schedule("64 nodes of length 200", tree(sequence(*[reset(0, long_number(198))] * 63)), Z, "p1 p2",
-    "read 0, 1 0 64; rules 0, 2 0 0: 200 x2; compile 0, 13136; read table 0, 1 0 63 63", table_room=13136)
+    "read 0, 1 0 64; rules 0, 2 0 0: 200 x2; compile 0, 13136 1953; read table 0, 1 0 63 63", table_room=13136)
 
-# K5 to K9
+# K5 to K9. Comparisons: K5 has 1 and 2 for the two new locations; K6 has 1 for the body, which is new, and 1 for location 0 again;
+# K7 has 1 for the location at which the STOP is left
 of_schedule("K5: PARALLEL of two RESETs", tree(parallel(LEAF, LEAF)), Z, "p2 p2 p1",
-    "size 0, 3 4; rules 0, 2 1 0: 200 25 201; read table 0, 1 0 2 3; by table 0, 2 1 0")
+    "size 0, 3 4; compile 0, 73 3; rules 0, 2 1 0: 200 25 201; read table 0, 1 0 2 3; by table 0, 2 1 0")
 of_schedule("K6: WHILE over a RESET", tree(loop(lt(var(0), const(2)), reset(0, add(var(0), const(1))))), Z, "p1 p0 p0 p1 p0 p1 p0",
-    "size 0, 2 2; rules 0, 5 2 0: 25 200 25 200 x3 201; read table 0, 1 0 2 2")
+    "size 0, 2 2; compile 0, 67 2; rules 0, 5 2 0: 25 200 25 200 x3 201; read table 0, 1 0 2 2")
 of_schedule("K7: PARALLEL of STOP and CONTINUE", tree(parallel(STOP, until(TRUE))), Z, "t p2 p1 p1",
-    "size 0, 2 3; rules 0, 2 2 0: 27 200 202 23; read table 0, 1 0 2 2")
+    "size 0, 2 3; compile 0, 56 1; rules 0, 2 2 0: 27 200 202 23; read table 0, 1 0 2 2")
 RESETS = [reset(0, const(1))] * 10
+# K8's comparisons, those with a RESET before it, and those with STOPs beside the RESETs, so that the location without RESETs is there too
+K8_COMPARED, K8_COMPARED_BEHIND_ONE, K8_COMPARED_BESIDE_STOPS = 3074628, 3079739, 3084867
+assert K8_COMPARED == of_resets(10)
+assert K8_COMPARED_BEHIND_ONE == of_resets(10, before=1)
+assert K8_COMPARED_BESIDE_STOPS == of_resets(10, beside_stops=True)
 of_schedule("K8: PARALLEL of ten RESETs", tree(parallel(*RESETS)), Z, "p10 p9 p8 p7 p6 p5 p4 p3 p2 p1",
-    "size 0, 1023 5120; rules 0, 10 0 0: 200 x9 201; compile 0, 26745; read table 0, 1 0 10 1023; by table 0, 10 0 0; "
+    f"size 0, 1023 5120; rules 0, 10 0 0: 200 x9 201; compile 0, 26745 {K8_COMPARED}; read table 0, 1 0 10 1023; by table 0, 10 0 0; "
     "examine 0, 26745 10 0 0 10 0 0 1", table_room=65536)
 of_schedule("K8: one RESET before it", tree(sequence(LEAF, parallel(*RESETS))), Z, "p1 p3 p12 p3",
-    "size 0, 1024 5121; rules 0, 3 1 0: 200 x3 25; compile 0, 26760; read table 0, 1 0 11 1024", table_room=65536)
-tight("K8: one RESET before it", tree(sequence(LEAF, parallel(*RESETS))), Z, "p1 p3 p12 p3", "3 1 0", 26760, 52)
+    f"size 0, 1024 5121; rules 0, 3 1 0: 200 x3 25; compile 0, 26760 {K8_COMPARED_BEHIND_ONE}; read table 0, 1 0 11 1024", table_room=65536)
+tight("K8: one RESET before it", tree(sequence(LEAF, parallel(*RESETS))), Z, "p1 p3 p12 p3", "3 1 0", 26760,
+    K8_COMPARED_BEHIND_ONE, 52)
 of_schedule("K8: two RESETs before it", tree(sequence(LEAF, LEAF, parallel(*RESETS))), Z, "p1 p2 p4",
-    "read 0, 1 0 14; size 0, 1025 0; rules 0, 3 0 0: 200 x3; compile 13, 0; " + unexamined(13), table_room=65536)
+    "read 0, 1 0 14; size 0, 1025 0; rules 0, 3 0 0: 200 x3; compile 13, 0 0; " + unexamined(13), table_room=65536)
 # the most entries that 64 nodes give: 53 STOPs act at each of 1,024 locations, one for each set of RESETs that are left.
 # 11 + 53 nodes; 18 + 13 + 1 + 10 * 9 + 53 * 3 + 1,024 + 5 * (53 * 1,024 + 5,120) bytes
 WIDEST = tree(parallel(*RESETS, *[STOP] * 53))
 of_schedule("the widest table", WIDEST, Z, "p1 p10 p1 p11",
-    "read 0, 1 0 64; size 0, 1024 59392; rules 0, 3 1 0: 200 x2 25 202; compile 0, 298265; read table 0, 1 0 63 1024; by table 0, 3 1 0",
-    table_room=298265)
-of_schedule("the widest table, a byte too few", WIDEST, Z, "p1", "compile 14, 0; " + unexamined(14), table_room=298264)
+    "read 0, 1 0 64; size 0, 1024 59392; rules 0, 3 1 0: 200 x2 25 202; read table 0, 1 0 63 1024; by table 0, 3 1 0; "
+    f"compile 0, 298265 {K8_COMPARED_BESIDE_STOPS}", table_room=298265)
+of_schedule("the widest table, a byte too few", WIDEST, Z, "p1", "compile 14, 0 0; " + unexamined(14), table_room=298264)
 W = variables((LOWEST, HIGHEST, 0))
 of_schedule("K9: negating the lowest", tree(reset(0, neg(var(0))), vs=W), start([LOWEST]), "p0 p0", "rules 0, 0 1 1: 203 23")
 of_schedule("K9: negating the next", tree(reset(0, neg(var(0))), vs=W), start([LOWEST + 1]), "p0", "rules 0, 1 0 0: 201")
@@ -397,12 +409,28 @@ for name, t, holds in [
 ]:
     of_schedule(name, truth(t), Z, "p0", "rules 0, 1 0 0: 201" if holds else "rules 0, 0 1 0: 29")
 
+# Comparisons (document 02, item 4), each target's in the order of the table: the number plus one where it is known, else as many as
+# are numbered; FFFE and FFFD add none. No move leads to its own location: the node that moved does not act there.
+ONCE_MORE = loop(TRUE, LEAF)
+CHOICE = either_of(TRUE, LEAF, LEAF)
+for name, t, length, comparisons in [
+    ("an IF to two new locations, both halted", either_of(TRUE, STOP, STOP), 60, 1 + 2),
+    ("an IF, its branches meet", sequence(CHOICE, LEAF), 87, 1 + 2 + 3 + 4),
+    ("an IF, both targets known", parallel(CHOICE, LEAF), 120, 1 + 2 + 3 + 4 + 5 + 5 + 6 + 6 + 7),
+    ("a WHILE to two new locations, back to 0", sequence(ONCE_MORE, STOP), 66, 1 + 2 + 1),
+    ("a WHILE, back to 1", sequence(LEAF, ONCE_MORE), 72, 1 + 2 + 2),
+    ("a WHILE to a new location and to a known one", loop(TRUE, ONCE_MORE), 67, 1 + 2 + 1 + 2),
+    ("a WHILE to a known location and to the end", parallel(ONCE_MORE, LEAF), 94, 1 + 2 + 3 + 1 + 4 + 5 + 4),
+]:
+    of_schedule(f"comparisons: {name}", tree(t), Z, "", f"compile 0, {length} {comparisons}", table_room=length)
+    of_schedule(f"14: comparisons: {name}", tree(t), Z, "", "compile 14, 0 0; " + unexamined(14), table_room=length - 1)
+
 # 14: a buffer one byte too short, and just enough
-of_schedule("14: K1 with 74 bytes", K1, start([9]), "p1", "read 0, 1 0 3; rules 0, 1 0 0: 200; compile 14, 0", table_room=74)
-of_schedule("K1 with 75 bytes", K1, start([9]), "p1", "compile 0, 75; by table 0, 1 0 0", table_room=75)
-of_schedule("14: K1 with none", K1, start([9]), "p1", "compile 14, 0", table_room=0)
-of_schedule("13 before 14", tree(sequence(LEAF, LEAF, parallel(*RESETS))), Z, "", "compile 13, 0; " + unexamined(13), table_room=0)
-of_schedule("14 before 20 and 21", K1, start([11]), "x00", "compile 14, 0; rules 20, 0 0 0; " + unexamined(14), table_room=74)
+of_schedule("14: K1 with 74 bytes", K1, start([9]), "p1", "read 0, 1 0 3; rules 0, 1 0 0: 200; compile 14, 0 0", table_room=74)
+of_schedule("K1 with 75 bytes", K1, start([9]), "p1", "compile 0, 75 1; by table 0, 1 0 0", table_room=75)
+of_schedule("14: K1 with none", K1, start([9]), "p1", "compile 14, 0 0", table_room=0)
+of_schedule("13 before 14", tree(sequence(LEAF, LEAF, parallel(*RESETS))), Z, "", "compile 13, 0 0; " + unexamined(13), table_room=0)
+of_schedule("14 before 20 and 21", K1, start([11]), "x00", "compile 14, 0 0; rules 20, 0 0 0; " + unexamined(14), table_room=74)
 
 
 # Tables around 65,536 bytes. Ten RESETs and seven STOPs in a PARALLEL: 1,024 locations, each RESET in 512 of them, each STOP in all;
@@ -417,14 +445,14 @@ def filled(last):
 EXACT = filled(lt(const(2), var(0)))
 OVER = filled(lt(const(2), neg(var(0))))
 of_schedule("a table of 65,536 bytes", EXACT, start([0], [0]), "p1 s0.224 s0.225 p17",
-    "size 0, 1024 12288; compile 0, 65536; read table 0, 1 1 17 1024; by table 0, 2 2 0", table_room=65536)
-of_schedule("14: a table of 65,536 bytes in 65,535", EXACT, start([0], [0]), "p1", "compile 14, 0", table_room=65535)
-of_schedule("14: a table of 65,537 bytes in 65,536", OVER, start([0], [0]), "p1", "compile 14, 0", table_room=65536)
+    f"size 0, 1024 12288; compile 0, 65536 {K8_COMPARED_BESIDE_STOPS}; read table 0, 1 1 17 1024; by table 0, 2 2 0", table_room=65536)
+of_schedule("14: a table of 65,536 bytes in 65,535", EXACT, start([0], [0]), "p1", "compile 14, 0 0", table_room=65535)
+of_schedule("14: a table of 65,537 bytes in 65,536", OVER, start([0], [0]), "p1", "compile 14, 0 0", table_room=65536)
 of_schedule("a table of 65,537 bytes", OVER, start([0], [0]), "p1 p10 p2",
-    "compile 0, 65537; read table 0, 1 1 17 1024; by table 0, 3 0 0", table_room=65537)
+    f"compile 0, 65537 {K8_COMPARED_BESIDE_STOPS}; read table 0, 1 1 17 1024; by table 0, 3 0 0", table_room=65537)
 # ten RESETs and 53 STOPs: 5 + 15 + 3 + 3 + 10 * 9 + 53 * 3 + 6 + 1024 + 5 * (5120 + 53 * 1024)
 of_schedule("the longest rows", tree(parallel(*RESETS, *[STOP] * 53)), Z, "p10 p1 p63",
-    "size 0, 1024 59392; compile 0, 298265; read table 0, 1 0 63 1024", table_room=298265)
+    f"size 0, 1024 59392; compile 0, 298265 {K8_COMPARED_BESIDE_STOPS}; read table 0, 1 0 63 1024", table_room=298265)
 
 # 20, 21, 22
 TWO = schedule(variables((-5, 5, 0), (0, 100, 1)), equations(case(0, mode(), mode()), case(0, mode())), LEAF)
@@ -892,7 +920,7 @@ for name, es, good, bad in [("RESET", equations(rate(0, 1)), REINITIAL_LEAF, res
     # before 13, 14, and 20 to 22
     refused(34, f"{name} before 13", tree(sequence(good, good, parallel(*[good] * 9, wrong)), es))
     of_schedule(f"34: {name} before 14, 20, 21 and 22", tree(wrong, es), b"", "x00",
-        "read 34, 0 0 0; size 34, 0 0; compile 34, 0; rules 34, 0 0 0; " + unexamined(34), table_room=0, record_room=0)
+        "read 34, 0 0 0; size 34, 0 0; compile 34, 0 0; rules 34, 0 0 0; " + unexamined(34), table_room=0, record_room=0)
 BROKEN = case(0, mode([], [(0, const(1))]), mode([(0, 1)], [(0, b"")]))
 refused(34, "RESET before 12, a switch's", plant(BROKEN), start([0], [0]))
 refused(34, "REINITIAL before 12, a switch's", with_reinitial(one(TRUE, TRUE + TRUE)), start([0], [0]))

@@ -45,7 +45,7 @@ fn size(file: &[u8]) -> Answer {
 fn compile(file: &[u8], table: &mut [u8]) -> Answer {
     line::text(b"compile");
     let r = compiler::call::compile(file, table);
-    up_to_four(r.refusal, 1, r.length, 0, 0, 0)
+    up_to_four(r.refusal, 2, r.length, r.comparisons as usize, 0, 0)
 }
 
 fn ran(r: records::Ran) -> Answer {

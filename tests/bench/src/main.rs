@@ -22,7 +22,7 @@ mod stack;
 mod tables;
 
 use cases::Runs;
-use fast::Ran;
+use fast::{Compiled, Ran};
 use random::Random;
 use std::hint::black_box;
 
@@ -91,14 +91,14 @@ fn work(name: &str) -> Work {
     }
 }
 
-/// A call's number, or what it gave: the length of what it wrote, a table's size or the counts.
-fn compiled(who: Who, file: &[u8], out: &mut [u8]) -> Result<usize, u8> {
+/// A call's number, or what it gave: the length of what it wrote, of compiling with the comparisons, a table's size or the counts.
+fn compiled(who: Who, file: &[u8], out: &mut [u8]) -> Result<Compiled, u8> {
     match who {
         Who::Product => product::compile(file, out),
         Who::Fast => fast::compile(file, out),
-        Who::Plain => plain::compile(&plain::whole_table(file), out.len()).map(|t| {
-            out[..t.len()].copy_from_slice(t);
-            t.len()
+        Who::Plain => plain::compile(&plain::compiled(file), out.len()).map(|c| {
+            out[..c.table.len()].copy_from_slice(&c.table);
+            Compiled { length: c.table.len(), comparisons: c.comparisons }
         }),
     }
 }
@@ -150,7 +150,10 @@ fn perform(who: Who, w: &Work, out: &mut [u8]) -> [u64; 4] {
         Err(n) => [n as u64, 0, 0, 0],
     };
     match w {
-        Work::Compile(f) => wrote(compiled(who, f, out)),
+        Work::Compile(f) => match compiled(who, f, out) {
+            Ok(c) => [0, c.length as u64, c.comparisons, 0],
+            Err(n) => [n as u64, 0, 0, 0],
+        },
         Work::Size(f) => match sized(who, f) {
             Ok([locations, entries]) => [0, locations, entries, 0],
             Err(n) => [n as u64, 0, 0, 0],
@@ -182,6 +185,9 @@ fn agree(name: &str, w: &Work, room: usize) -> [u64; 4] {
     for (i, g) in gave.iter().enumerate() {
         assert!(g.0 == gave[1].0, "{name}: {:?} by the plain one, {:?} by number {i}", gave[1].0, g.0);
         assert!(g.1 == gave[1].1, "{name}: the bytes of number {i} differ from the plain one's");
+    }
+    if let (Work::Compile(_), [0, length, comparisons, _]) = (w, gave[1].0) {
+        assert_eq!(comparisons, tables::comparisons(&gave[1].1[..length as usize]), "{name}: the table's bytes tell other comparisons");
     }
     gave[1].0
 }

@@ -1,5 +1,5 @@
 //! The product's calls, of libcapi.a.
-use crate::fast::Ran;
+use crate::fast::{Compiled, Ran};
 
 type Run = unsafe extern "C" fn(
     *const u8,
@@ -17,7 +17,7 @@ type Run = unsafe extern "C" fn(
 
 extern "C" {
     fn zimtleiter_size(file: *const u8, file_len: usize, locations: *mut u64, entries: *mut u64) -> u8;
-    fn zimtleiter_compile(file: *const u8, file_len: usize, table: *mut u8, room: usize, length: *mut u64) -> u8;
+    fn zimtleiter_compile(file: *const u8, file_len: usize, table: *mut u8, room: usize, length: *mut u64, comparisons: *mut u64) -> u8;
     fn zimtleiter_rule_run(
         file: *const u8,
         file_len: usize,
@@ -47,11 +47,11 @@ extern "C" {
     fn zimtleiter_practice(seed: u32, count: u64, events: *mut u8, room: usize, length: *mut u64) -> u8;
 }
 
-pub fn compile(file: &[u8], table: &mut [u8]) -> Result<usize, u8> {
-    let mut length = 0;
+pub fn compile(file: &[u8], table: &mut [u8]) -> Result<Compiled, u8> {
+    let [mut length, mut comparisons] = [0; 2];
     // SAFETY: each pointer is lent with its length.
-    let refusal = unsafe { zimtleiter_compile(file.as_ptr(), file.len(), table.as_mut_ptr(), table.len(), &mut length) };
-    if refusal == 0 { Ok(length as usize) } else { Err(refusal) }
+    let refusal = unsafe { zimtleiter_compile(file.as_ptr(), file.len(), table.as_mut_ptr(), table.len(), &mut length, &mut comparisons) };
+    if refusal == 0 { Ok(Compiled { length: length as usize, comparisons }) } else { Err(refusal) }
 }
 
 pub fn size(file: &[u8]) -> Result<[u64; 2], u8> {

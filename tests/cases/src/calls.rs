@@ -43,7 +43,7 @@ pub const CALLS: [Call; 7] = [
     Call { name: "read", reads: &[FILE], rooms: &[], numbers: 3, refusals: &[(1, 12), (34, 34)], gives: read },
     Call { name: "read table", reads: &[TABLE], rooms: &[], numbers: 4, refusals: &[(15, 19)], gives: read_table },
     Call { name: "size", reads: &[FILE], rooms: &[], numbers: 2, refusals: &[(1, 12), (34, 34)], gives: size },
-    Call { name: "compile", reads: &[FILE], rooms: &[0], numbers: 1, refusals: &[(1, 14), (34, 34)], gives: compile },
+    Call { name: "compile", reads: &[FILE], rooms: &[0], numbers: 2, refusals: &[(1, 14), (34, 34)], gives: compile },
     Call { name: "rules", reads: &[FILE, START, EVENTS], rooms: &[1], numbers: 3, refusals: &[(1, 12), (20, 22), (34, 34)], gives: rules },
     Call { name: "by table", reads: &[TABLE, START, EVENTS], rooms: &[1], numbers: 3, refusals: &[(15, 22)], gives: by_table },
     Call {
@@ -81,9 +81,9 @@ fn size(l: &Lent) -> Result<Given, Refusal> {
 }
 
 fn compile(l: &Lent) -> Result<Given, Refusal> {
-    let whole = plain::whole_table(&l.strings[FILE]);
-    let table = plain::compile(&whole, l.rooms[0])?;
-    Ok(Given { numbers: vec![table.len() as u64], left: vec![(TABLE, table.to_vec())] })
+    let whole = plain::compiled(&l.strings[FILE]);
+    let c = plain::compile(&whole, l.rooms[0])?;
+    Ok(Given { numbers: vec![c.table.len() as u64, c.comparisons], left: vec![(TABLE, c.table.clone())] })
 }
 
 fn rules(l: &Lent) -> Result<Given, Refusal> {
@@ -97,8 +97,8 @@ fn by_table(l: &Lent) -> Result<Given, Refusal> {
 /// Compiling, the run by the rules, and the run of the table into a third buffer, of which 22 alone can be left to apply.
 fn examine(l: &Lent) -> Result<Given, Refusal> {
     let [file, _, start, events, _] = &l.strings;
-    let whole = plain::whole_table(file);
-    let table = plain::compile(&whole, l.rooms[0])?;
+    let whole = plain::compiled(file);
+    let table = &plain::compile(&whole, l.rooms[0])?.table;
     let by_rules = plain::rule_run(file, start, events, l.rooms[1])?;
     let by_table = plain::table_run(table, start, events, l.rooms[2]);
     assert!(matches!(by_table, Ok(_) | Err(22)));

@@ -1,6 +1,7 @@
 //! A test: a schedule or a table, what its calls are lent, and what the paper gives for it. Its cases are all calls on it.
 use crate::calls::{EVENTS, FILE, Lent, RECORDS, START, TABLE};
 use crate::case::Case;
+use crate::tables;
 
 pub struct Test {
     pub name: String,
@@ -13,6 +14,12 @@ pub struct Test {
 fn unhex(word: &str) -> Vec<u8> {
     let digits: Vec<u8> = word.chars().filter_map(|c| c.to_digit(16)).map(|d| d as u8).collect();
     digits.chunks(2).map(|d| d[0] * 16 + d[1]).collect()
+}
+
+/// Whether the comparisons that compiling gives, where it accepts, are those that the table's bytes tell.
+fn compared_as_told(c: &Case) -> bool {
+    let Ok(given) = &c.outcome else { return true };
+    c.call().name != "compile" || given.numbers[1] == tables::comparisons(&given.left[0].1)
 }
 
 impl Test {
@@ -57,12 +64,16 @@ impl Test {
         parts.filter(|p| !cases.iter().any(|c| has(c, p))).collect()
     }
 
-    /// What is wrong with it: plain.rs must give what the paper gives, and its two runs the same records.
+    /// What is wrong with it: plain.rs must give what the paper gives, its two runs the same records, and as many comparisons as its
+    /// table tells.
     pub fn complaints(&self, cases: &[Case]) -> Vec<String> {
         let mut l: Vec<String> = self.misses(cases).iter().map(|p| format!("the paper gives '{p}', plain.rs does not")).collect();
         let records: Vec<&Vec<u8>> = cases.iter().filter_map(|c| c.strings()[RECORDS]).collect();
         if records.iter().any(|r| *r != records[0]) {
             l.push("plain.rs gives its runs different records".to_string());
+        }
+        if !cases.iter().all(compared_as_told) {
+            l.push("plain.rs gives other comparisons than the bytes of its table".to_string());
         }
         if !l.is_empty() {
             l.extend(cases.iter().map(|c| format!("  plain.rs gives '{}'", c.told_whole())));

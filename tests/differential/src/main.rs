@@ -9,7 +9,7 @@ mod product;
 mod random;
 mod tables;
 
-use plain::{SITUATIONS, Situation};
+use plain::{Compiled, SITUATIONS, Situation};
 use product::Given;
 use random::Random;
 use std::collections::BTreeMap;
@@ -46,6 +46,7 @@ struct Tally {
     longest: [usize; 4],
     edges: [u64; 4],
     over: u64,
+    most_comparisons: u64,
 }
 
 const EDGES: [&str; 4] = ["of 65,535 bytes", "of 64 nodes", "with 1,024 locations", "with a table of 65,530 to 65,542 bytes"];
@@ -95,6 +96,7 @@ impl Tally {
         let edges: Vec<String> = (0..4).map(|k| format!("{} {}", self.edges[k], EDGES[k])).collect();
         println!("  compiled: {}", edges.join(", "));
         println!("  sizes over the limit: {}", self.over);
+        println!("  most comparisons of one compiling: {}", self.most_comparisons);
     }
 
     /// A schedule that compiles, and its table.
@@ -106,6 +108,12 @@ impl Tally {
         for (n, seen) in self.edges.iter_mut().zip(edges) {
             *n += seen as u64;
         }
+    }
+
+    /// Both ways to count the comparisons give the same: going up the residuals, and from the table's bytes alone.
+    fn saw_comparisons(&mut self, c: &Compiled) {
+        assert_eq!(c.comparisons, tables::comparisons(&c.table), "comparisons by plain.rs and by the bytes of {}", hex(&c.table));
+        self.most_comparisons = self.most_comparisons.max(c.comparisons);
     }
 
     /// A schedule file, and what reading it is refused with.
@@ -150,6 +158,13 @@ fn written(list: Result<&[u8], u8>, old: &[u8]) -> Given {
     }
 }
 
+/// What compiling gives: the same of the table, and the comparisons behind the length.
+fn written_table(compiled: Result<&Compiled, u8>, old: &[u8]) -> Given {
+    let mut given = written(compiled.map(|c| &c.table[..]), old);
+    given.numbers.push(compiled.map_or(0, |c| c.comparisons));
+    given
+}
+
 fn read(r: &mut Random, t: &mut Tally, call: usize, bytes: &[u8]) -> Result<(), Box<Difference>> {
     let (refused, given) = if call == 0 {
         (plain::read_schedule(bytes).err(), product::read_schedule(r, bytes))
@@ -174,14 +189,17 @@ fn size(r: &mut Random, t: &mut Tally, file: &[u8]) -> Result<(), Box<Difference
 
 /// The table, where there is one.
 fn compile(r: &mut Random, t: &mut Tally, file: &[u8]) -> Result<Option<Vec<u8>>, Box<Difference>> {
-    let whole = plain::whole_table(file);
-    let room = inputs::room(r, whole.as_ref().map_or(100, Vec::len));
+    let whole = plain::compiled(file);
+    let room = inputs::room(r, whole.as_ref().map_or(100, |c| c.table.len()));
     let old = inputs::old(r, room);
     let given = product::compile(r, file, &old);
-    let wanted = written(plain::compile(&whole, room), &old);
+    let wanted = written_table(plain::compile(&whole, room), &old);
     t.saw(2, wanted.refusal);
     compare(2, &[("file", file), ("old", &old)], given, wanted)?;
-    Ok(whole.ok())
+    Ok(whole.ok().map(|c| {
+        t.saw_comparisons(&c);
+        c.table
+    }))
 }
 
 /// Practice events, where the call is accepted.

@@ -5,7 +5,7 @@ extern "C" {
     fn zimtleiter_read_schedule(file: *const u8, file_len: usize) -> u8;
     fn zimtleiter_read_table(table: *const u8, table_len: usize) -> u8;
     fn zimtleiter_size(file: *const u8, file_len: usize, locations: *mut u64, entries: *mut u64) -> u8;
-    fn zimtleiter_compile(file: *const u8, file_len: usize, table: *mut u8, room: usize, length: *mut u64) -> u8;
+    fn zimtleiter_compile(file: *const u8, file_len: usize, table: *mut u8, room: usize, length: *mut u64, comparisons: *mut u64) -> u8;
     fn zimtleiter_rule_run(
         file: *const u8,
         file_len: usize,
@@ -139,9 +139,16 @@ pub fn size(r: &mut Random, file: &[u8]) -> Given {
 
 pub fn compile(r: &mut Random, file: &[u8], buffer: &[u8]) -> Given {
     let (mut file, mut table) = (Lent::new(r, file), Lent::new(r, buffer));
-    let mut set = [Set::new(r)];
-    let refusal = unsafe { zimtleiter_compile(file.place(), file.length(), table.place(), table.length(), set[0].place()) };
-    Given { refusal, numbers: vec![set[0].all[1]], buffer: table.bytes().to_vec(), touched: touched(&[&file], Some(&table), &set) }
+    let mut set = [Set::new(r), Set::new(r)];
+    let [length, comparisons] = &mut set;
+    let refusal =
+        unsafe { zimtleiter_compile(file.place(), file.length(), table.place(), table.length(), length.place(), comparisons.place()) };
+    Given {
+        refusal,
+        numbers: set.iter().map(|x| x.all[1]).collect(),
+        buffer: table.bytes().to_vec(),
+        touched: touched(&[&file], Some(&table), &set),
+    }
 }
 
 /// By the rules, or a table.

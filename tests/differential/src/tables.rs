@@ -39,6 +39,22 @@ impl TableDraft {
     }
 }
 
+/// How many comparisons numbering the locations of a compiled table took, from its codes alone: they stand in the order in which their
+/// targets were looked up. Location 0 has its number before all of them.
+pub fn comparisons(table: &[u8]) -> u64 {
+    let (mut numbered, mut total) = (1, 0);
+    for code in split(table).locations.iter().flatten().flat_map(|(_, target, other)| [*target, *other]) {
+        if [FINISHED, HALTED, NONE].contains(&code) {
+            continue;
+        }
+        let number = code as u64;
+        assert!(number <= numbered, "location {number} before location {numbered}");
+        total += if number < numbered { number + 1 } else { numbered };
+        numbered = numbered.max(number + 1);
+    }
+    total
+}
+
 /// A whole table of four sections.
 pub fn table_of(sections: &[Vec<u8>; 4]) -> Vec<u8> {
     let mut t = vec![1, 0, 0, 0, 0];

@@ -9,7 +9,7 @@ mod run;
 mod size;
 mod table;
 
-pub use compile::compile;
+pub use compile::{compile, Compiled};
 pub use practice::practice;
 pub use run::Ran;
 
