@@ -39,13 +39,19 @@ pub extern "C" fn zimtleiter_size(file: &[u8], locations: &mut u64, entries: &mu
     x.refusal
 }
 
-// 0, the table and its length; or the first of 1 to 11, 34, 12 to 14 that applies, and length 0
+// 0, the table, its length and the comparisons of numbering; or the first of 1 to 11, 34, 12 to 14 that applies, and both numbers 0
 #[no_mangle]
-pub extern "C" fn zimtleiter_compile(file: &[u8], table: &mut [u8], length: &mut u64) -> u8
-    ensures { λ r. ⌜ returned r (now (length .exit)) (now (table .exit)) ≡ compile edition1 (now (file .entry)) (now (table .entry)) ⌝ }
+pub extern "C" fn zimtleiter_compile(
+    file: &[u8],
+    table: &mut [u8],
+    length: &mut u64,
+    comparisons: &mut u64,
+) -> u8
+    ensures { λ r. ⌜ returned r (now (length .exit)) (now (comparisons .exit)) (now (table .exit)) ≡ compile edition1 (now (file .entry)) (now (table .entry)) ⌝ }
 {
     let x = compiler::call::compile(file, table);
     *length = x.length as u64;
+    *comparisons = x.comparisons;
     x.refusal
 }
 

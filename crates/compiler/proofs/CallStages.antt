@@ -8,8 +8,9 @@ use borrow.Author.Tests.{le-leb, lt-leb}
 use Rattle.semantics.specs.Editions.{Edition, edition1}
 use Rattle.semantics.specs.Refusals.{refused, accepted, _>>=_, _>>_, ensure}
 use Rattle.semantics.proofs.Judging.{go-then, go-ensure}
+use Rattle.schedules.specs.Files.{judgeFile}
 use Rattle.schedules.specs.Compiling.{judgeTableOf, judgeCompile}
-use Rattle.schedules.specs.Calls.{compiledInto, compile}
+use Rattle.schedules.specs.Calls.{compiledInto, comparisonsIn, compile}
 use Rattle.codec.proofs.Writing.{wrote-front}
 use Rattle.table_write.specs.Pieces.{Put}
 use Rattle.compiler.specs.Answers.{returned}
@@ -29,10 +30,12 @@ module _ (ed : Edition) (f room : List ℕ) where
   unfolding judgeCompile
   long-enough {t} e l = go-then _ e ∙ go-ensure 14 _ (le-leb (length t) (length room) l)
 
-pub compile-refused : (f room : List ℕ) {n m l : ℕ} → judgeCompile edition1 f room ≡ refused n → ((d : List ℕ) → returned m l d ≡ compiledInto d (refused n)) → returned m l room ≡ compile edition1 f room
+pub compile-refused : (f room : List ℕ) {n m l k : ℕ} → judgeCompile edition1 f room ≡ refused n → ((j : ℕ) (d : List ℕ) → returned m l k d ≡ compiledInto j d (refused n)) →
+    returned m l k room ≡ compile edition1 f room
 unfolding compile
-compile-refused f room e p = p room ∙ ap (compiledInto room) (sym e)
+compile-refused f room e p = p (comparisonsIn (judgeFile edition1 f)) room ∙ ap (compiledInto (comparisonsIn (judgeFile edition1 f)) room) (sym e)
 
-pub compile-done : (f room : List ℕ) {t e : List ℕ} {r : ℕ} → judgeCompile edition1 f room ≡ accepted t → Put room 0 t e r → returned 0 r e ≡ compile edition1 f room
+pub compile-done : (f room : List ℕ) {t e : List ℕ} {r k : ℕ} → judgeCompile edition1 f room ≡ accepted t → Put room 0 t e r → k ≡ comparisonsIn (judgeFile edition1 f) →
+    returned 0 r k e ≡ compile edition1 f room
 unfolding compile compiledInto
-compile-done f room {t} h w = rw (h, w .ends ∙ zero-add (length t), wrote-front (w .writes)) refl
+compile-done f room {t} h w c = rw (h, c, w .ends ∙ zero-add (length t), wrote-front (w .writes)) refl

@@ -20,7 +20,7 @@ use Rattle.schedules.specs.Nodes.{actionsOf}
 use Rattle.schedules.specs.Numbering.{locations}
 use Rattle.schedules.specs.Files.{Schedule, fileLength}
 use Rattle.schedules.specs.Compiling.{testsOf, scheduleLocations, tableOf, judgeTableOf}
-use Rattle.schedules.specs.Calls.{Compiled, compiledInto}
+use Rattle.schedules.specs.Calls.{compiledInto}
 use Rattle.schedules.specs.Sizes.{sizeOf}
 use Rattle.schedules.specs.TableSizes.{rowsLength, lengthOfParts, tableLength}
 use Rattle.schedules.proofs.Counting.{total}
@@ -39,21 +39,16 @@ use Rattle.sizes.specs.declared.Measured.{Measured as Sizes}
 use Rattle.sizes.proofs.Nodes.{laid-weighed, Exact, measured-exact}
 use Rattle.table_write.specs.ActionTable.{actionsTo, Operands, Listed, Measured}
 use Rattle.table_write.specs.LocationTable.{Counts}
-use Rattle.compiler.specs.Answers.{returned, Told}
+use Rattle.compiler.specs.Answers.{Told}
 use Rattle.compiler.specs.Plans.{Found, Planned}
 use Rattle.compiler.specs.declared.call.Plan.{Plan}
 use Rattle.compiler.proofs.ActionForms.{actions-listed, operands, tests-are}
 use Rattle.compiler.proofs.Indexes.{Indexed}
 
 -- ---- what is told
--- the number of a refusal that was told
-pub told-number : {n a b : ℕ} → ((d : List ℕ) → returned a b d ≡ compiledInto d (refused n)) → a ≡ n
-unfolding compiledInto
-told-number p = ap (λ (c : Compiled). c .refusal) (p [])
-
-pub told-refused : {j : Judged (List ℕ)} {n a b : ℕ} → (n ≡ 0 → ⊥) → j ≡ refused n → ((d : List ℕ) → returned a b d ≡ compiledInto d (refused n)) → Told j a b
-unfolding refusalOf
-told-refused z e p = rw e (record { number = ap (λ (c : Compiled). c .refusal) (p []); length = ap (λ (c : Compiled). c .written) (p []); numbered = λ y. z (ap refusalOf y) })
+pub told-refused : {j : Judged (List ℕ)} {n a b : ℕ} → (n ≡ 0 → ⊥) → j ≡ refused n → (a ≡ n) × (b ≡ 0) → Told j a b
+unfolding compiledInto refusalOf
+told-refused z e p = rw e (record { number = p .0; length = p .1; numbered = λ y. z (ap refusalOf y) })
 
 pub told-planned : {f : List ℕ} {p : Plan} → p .refusal ≡ 0 → Planned f p → Told (judgeTableOf edition1 f) (p .refusal) (p .length)
 unfolding compiledInto
@@ -64,7 +59,7 @@ module _ {j : Judged (List ℕ)} {a b : ℕ} (t : Told j a b) where
   unfolding compiledInto
   told-refuses h = go j (t .number)
     where
-      go : (k : Judged (List ℕ)) → a ≡ (compiledInto [] k) .refusal → k ≡ refused a
+      go : (k : Judged (List ℕ)) → a ≡ (compiledInto 0 [] k) .refusal → k ≡ refused a
       go (refused n) e = ap refused (sym e)
       go (accepted l) e = absurd (h e)
 
@@ -73,8 +68,8 @@ module _ {j : Judged (List ℕ)} {a b : ℕ} (t : Told j a b) where
   told-accepts h = go j refl
     where
       go : (k : Judged (List ℕ)) → j ≡ k → (l : List ℕ) × (j ≡ accepted l) × (b ≡ length l)
-      go (refused n) e = absurd (t .numbered (e ∙ ap refused (ap (λ k. (compiledInto [] k) .refusal) (sym e) ∙ sym (t .number) ∙ h)))
-      go (accepted l) e = (l, e, t .length ∙ ap (λ k. (compiledInto [] k) .written) e)
+      go (refused n) e = absurd (t .numbered (e ∙ ap refused (ap (λ k. (compiledInto 0 [] k) .refusal) (sym e) ∙ sym (t .number) ∙ h)))
+      go (accepted l) e = (l, e, t .length ∙ ap (λ k. (compiledInto 0 [] k) .written) e)
 
 -- 1 to 11, 34 and 12
 pub measure-refused : (f : List ℕ) {ix : ScheduleIndex} → ScheduleIndexed f ix → (ix .refusal ≡ 0 → ⊥) → judgeTableOf edition1 f ≡ refused (ix .refusal)

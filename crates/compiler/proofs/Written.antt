@@ -1,5 +1,6 @@
--- The table that was planned, written section by section.
+-- The table that was planned, written section by section, and the comparisons of its numbering.
 use mathlib.Core.Path.{_≡_, refl, sym, ap, _∙_}
+use mathlib.Core.Bool.{Bool}
 use mathlib.Core.List.{List, [], _++_, append-assoc}
 use Prim.Native.Nat.{ℕ, _+_, _-_, _≤_, _<_}
 use native.Mathlib.Omega.{arith}
@@ -9,7 +10,11 @@ use Rattle.semantics.specs.Refusals.{accepted}
 use Rattle.semantics.specs.TableFile.{NodeAction, inSection2, copiedThen, actionSection, writeActions, tableHead, tableBytes, tableBody}
 use Rattle.semantics.proofs.Judging.{accepted-is}
 use Rattle.semantics.proofs.WrittenTables.{table-length}
-use Rattle.schedules.specs.Compiling.{scheduleLocations, tableOf, judgeTableOf}
+use Rattle.schedules.specs.Files.{judgeFile}
+use Rattle.schedules.specs.Comparisons.{comparisons}
+use Rattle.schedules.specs.Compiling.{scheduleLocations, scheduleComparisons, tableOf, judgeTableOf}
+use Rattle.schedules.specs.Calls.{comparisonsIn}
+use Rattle.numbering.specs.Located.{Counts}
 use Rattle.schedule_read.specs.Promised.{Slice}
 use Rattle.table_write.specs.ActionTable.{actionsTo, Operands}
 use Rattle.table_write.specs.LocationTable.{sectionOf, Counted, LocationsPut}
@@ -99,3 +104,7 @@ module _ {f : List ℕ} {p : Plan} (g : Planned f p) where
       LocationsPut (p .index .nodes .kinds) (p .index .subtrees .ends) (p .acts) (p .rows .count) (p .rows .at) d₂ j d′ r →
       (t : List ℕ) → judgeTableOf edition1 f ≡ accepted t → Put d 0 t d′ r
   table-written a b x t h = put-as (table-is ∙ accepted-is (sym (g .judged) ∙ h)) (put-then (put-then a b (omega arith)) (x .of (g .schedule .root) (g .rows)) (omega arith))
+
+  pub comparisons-made : {n : ℕ} → Counts (p .index .nodes .kinds) (p .index .subtrees .ends) (p .acts) n → n ≡ comparisonsIn (judgeFile edition1 f)
+  unfolding comparisonsIn scheduleComparisons
+  comparisons-made x = x .is (g .schedule .root) (g .rows .lies) ∙ ap (λ (tests : ℕ → Bool). comparisons tests (g .schedule .root)) (g .tests) ∙ sym (ap comparisonsIn (g .promise .judged))

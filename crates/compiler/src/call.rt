@@ -12,6 +12,7 @@ ghost use lib.ListN.{length};
 ghost use Rattle.semantics.specs.Editions.{edition1};
 ghost use Rattle.semantics.specs.Refusals.{refused, accepted};
 ghost use Rattle.semantics.specs.TableFile.{locationLimit};
+ghost use Rattle.schedules.specs.Files.{judgeFile};
 ghost use Rattle.schedules.specs.Compiling.{judgeTableOf};
 ghost use Rattle.schedules.specs.Calls as calls;
 ghost use Rattle.schedules.specs.TableSizes.{rowsLength, lengthOfParts};
@@ -19,8 +20,15 @@ ghost use Rattle.table_write.specs.Pieces.{Put};
 ghost use Rattle.compiler.specs.Answers.{Told, returned};
 ghost use Rattle.compiler.specs.Plans.{Found, Ready, Planned};
 
-// 0 and the length of the table; or the first number that applies, and 0
+// 0, the length of the table and the comparisons of numbering; or the first number that applies, and 0
 pub struct Compiled {
+    pub refusal: u8,
+    pub length: usize,
+    pub comparisons: u64,
+}
+
+// 0 and the length of the table; or the first number that applies, and 0
+pub struct TableLength {
     pub refusal: u8,
     pub length: usize,
 }
@@ -37,17 +45,18 @@ struct Plan {
 }
 
 fn refused(n: u8) -> Compiled
-    ensures { λ r. ⌜ ((d : List ℕ) → returned (r .refusal) (r .length) d ≡ calls.compiledInto d (refused n)) ⌝ }
+    ensures { λ r. ⌜ ((k : ℕ) (d : List ℕ) → returned (r .refusal) (r .length) (r .comparisons) d ≡ calls.compiledInto k d (refused n)) ⌝ }
 {
     Compiled {
         refusal: n,
         length: 0,
+        comparisons: 0,
     }
 }
 
 // no table
 fn no_plan(n: u8, x: ScheduleIndex) -> Plan
-    ensures { λ r. ⌜ ((d : List ℕ) → returned (r .refusal) (r .length) d ≡ calls.compiledInto d (refused n)) ⌝ }
+    ensures { λ r. ⌜ (r .refusal ≡ n) × (r .length ≡ 0) ⌝ }
 {
     Plan {
         refusal: n,
@@ -124,10 +133,11 @@ fn planned(file: &[u8]) -> Plan
     made(x, m)
 }
 
-// The table that was planned, at the front of a buffer that has room for it; its length.
-fn write(file: &[u8], table: &mut [u8], p: Plan) -> usize
+// The table that was planned, at the front of a buffer that has room for it; its length, and the comparisons of numbering.
+fn write(file: &[u8], table: &mut [u8], p: Plan, comparisons: &mut u64) -> usize
     requires { ⌜ Planned (now file) p × (p .length ≤ length (now table)) ⌝ }
-    ensures { λ r. ⌜ ((t : List ℕ) → judgeTableOf edition1 (now (file .entry)) ≡ accepted t → Put (now (table .entry)) 0 t (now (table .exit)) r) ⌝ }
+    ensures written { λ r. ⌜ ((t : List ℕ) → judgeTableOf edition1 (now (file .entry)) ≡ accepted t → Put (now (table .entry)) 0 t (now (table .exit)) r) ⌝ }
+    ensures compared { λ _. ⌜ now (comparisons .exit) ≡ calls.comparisonsIn (judgeFile edition1 (now (file .entry))) ⌝ }
 {
     let x = p.index;
     let parts = x.parts;
@@ -157,11 +167,11 @@ fn write(file: &[u8], table: &mut [u8], p: Plan) -> usize
         table,
         i,
     );
-    table::put_locations(&kinds, &subs, &acts, rows, table, j)
+    table::put_locations(&kinds, &subs, &acts, rows, table, j, comparisons)
 }
 
 pub fn compile(file: &[u8], table: &mut [u8]) -> Compiled
-    ensures { λ r. ⌜ returned (r .refusal) (r .length) (now (table .exit)) ≡ calls.compile edition1 (now (file .entry)) (now (table .entry)) ⌝ }
+    ensures { λ r. ⌜ returned (r .refusal) (r .length) (r .comparisons) (now (table .exit)) ≡ calls.compile edition1 (now (file .entry)) (now (table .entry)) ⌝ }
 {
     let p = planned(file);
     let refusal = p.refusal;
@@ -171,19 +181,21 @@ pub fn compile(file: &[u8], table: &mut [u8]) -> Compiled
     if table.len() < p.length {
         return refused(14);
     }
-    let end = write(file, table, p);
+    let mut made = 0;
+    let end = write(file, table, p, &mut made);
     Compiled {
         refusal: 0,
         length: end,
+        comparisons: made,
     }
 }
 
 // 1 to 11, 34, 12 and 13, and the length of the table that compiling would write
-pub fn measure(file: &[u8]) -> Compiled
+pub fn measure(file: &[u8]) -> TableLength
     ensures { λ r. ⌜ Told (judgeTableOf edition1 (now (file .entry))) (r .refusal) (r .length) ⌝ }
 {
     let p = planned(file);
-    Compiled {
+    TableLength {
         refusal: p.refusal,
         length: p.length,
     }

@@ -148,7 +148,7 @@ module _ (file start events table records others : List ℕ) where
   Y = ruleRun edition1 file start events records
 
   -- compiling wrote l bytes, and left tb
-  module _ {m l : ℕ} {tb : List ℕ} (h : returned m l tb ≡ C) where
+  module _ {m l k : ℕ} {tb : List ℕ} (h : returned m l k tb ≡ C) where
     abbrev Z : Ran
     Z = tableRun edition1 (take l tb) start events others
 

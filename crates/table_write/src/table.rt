@@ -8,6 +8,7 @@ ghost use Prim.Native.Nat.{_+_, _≤_, _<_};
 ghost use lib.ListN.{length};
 ghost use Rattle.semantics.specs.Editions.{edition1};
 ghost use Rattle.semantics.specs.TableFile.{inSection2, copiedThen, actionSection, writeActions, tableHead};
+ghost use Rattle.numbering.specs.Located.{Counts};
 ghost use Rattle.table_write.specs.ActionTable.{actionsTo, Operands, Measured};
 ghost use Rattle.table_write.specs.LocationTable.{Counted, LocationsPut};
 ghost use Rattle.table_write.specs.Pieces.{Put};
@@ -54,7 +55,7 @@ pub fn put_actions<'a>(
     actions::write(s, acts, starts, ends, count, table, l)
 }
 
-// the location section, of so many locations and bytes of rows, at a place; the next place
+// the location section, of so many locations and bytes of rows, at a place; the next place, and the comparisons of numbering
 pub fn put_locations<'a>(
     kinds: &'a [u8],
     subs: &'a [usize],
@@ -62,11 +63,13 @@ pub fn put_locations<'a>(
     rows: Spot,
     table: &mut [u8],
     i: usize,
+    comparisons: &mut u64,
 ) -> usize
     requires { ⌜ Counted (now kinds) (now subs) (now acts) (rows .count) (rows .at) (now table) i × (64 ≤ length (now acts)) ⌝ }
     ensures { λ r. ⌜ LocationsPut (now (kinds .entry)) (now (subs .entry)) (now (acts .entry)) (rows .count) (rows .at) (now (table .entry)) i (now (table .exit)) r ⌝ }
+    ensures compared { λ _. ⌜ Counts (now (kinds .entry)) (now (subs .entry)) (now (acts .entry)) (now (comparisons .exit)) ⌝ }
 {
     let j = codec::put4(table, i, rows.at + 2);
     let l = codec::put2(table, j, rows.count);
-    locations::number(kinds, subs, acts, table, l)
+    locations::number(kinds, subs, acts, table, l, comparisons)
 }

@@ -19,15 +19,16 @@ returns-2 c =
     compile-refused (a .file .now) (a .table .now) (too-short edition1 (a .file .now) (a .table .now) (g .judged) (omega (arith, g .whole, c .before .if2 .taken))) (c .refused2 .ensures)
 
 write-requires : tie.Need-write-requires
-write-requires c κs = (c .before .before .before .before .planned .ensures .1 (c .before .before .before .if1 .left), c .before .if2 .left)
+write-requires c κs = (c .before .before .before .before .before .planned .ensures .1 (c .before .before .before .before .if1 .left), c .before .before .if2 .left)
 
 returns-3 : tie.Need-returns-3
 returns-3 c =
-    let c10 = c .before .before .before .before .before .before .before .before .before .before in
-    let a = c10 .args in
-    let g = c .before .before .before .before .before .before .before .planned .ensures .1 (c .before .before .before .before .before .before .if1 .left) in
-    let j = long-enough edition1 (a .file .now) (a .table .now) (g .judged) (omega (arith, g .whole, c .before .before .before .before .if2 .left)) in
-    compile-done (a .file .now) (a .table .now) j (c .before .before .write .ensures _ (g .judged))
+    let c7 = c .before .before .before .before .before .before .before in
+    let a = c7 .before .before .before .before .args in
+    let g = c7 .before .planned .ensures .1 (c7 .if1 .left) in
+    let j = long-enough edition1 (a .file .now) (a .table .now) (g .judged) (omega (arith, g .whole, c .before .before .before .before .before .if2 .left)) in
+    let w = c .before .before .write .ensures in
+    compile-done (a .file .now) (a .table .now) j (w .0 _ (g .judged)) (w .1)
 
 pub compile-spec : {M : Type 1} → statement M
 compile-spec =

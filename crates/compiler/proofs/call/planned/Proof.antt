@@ -2,7 +2,7 @@
 use mathlib.Core.Path.{sym, _∙_}
 use native.Mathlib.Omega.{arith}
 use Rattle.compiler.proofs.Indexes.{indexed, planted}
-use Rattle.compiler.proofs.Planning.{told-number, told-refused, told-planned, measure-refused, measure-over, found}
+use Rattle.compiler.proofs.Planning.{told-refused, told-planned, measure-refused, measure-over, found}
 use borrow.Author.Needs.{needs}
 use Rattle.compiler.proofs.call.planned.Statement.{statement}
 use Rattle.compiler.proofs.call.planned.Tie as tie
@@ -11,7 +11,7 @@ returns : tie.Need-returns
 returns c =
     let d = c .before .if1 .taken in
     let e = c .no-plan .ensures in
-    (told-refused d (measure-refused (c .before .before .before .before .args .file .now) (c .before .before .index .ensures) d) e, λ z. absurd (d (sym (told-number e) ∙ z)))
+    (told-refused d (measure-refused (c .before .before .before .before .args .file .now) (c .before .before .index .ensures) d) e, λ z. absurd (d (sym (e .0) ∙ z)))
 
 of-requires : tie.Need-of-requires
 of-requires c κs =
@@ -24,7 +24,7 @@ returns-2 c =
     let e = c .no-plan2 .ensures in (
       told-refused (λ z. omega arith) (measure-over (indexed (d .before .before .before .args .file .now) (d .before .index .ensures) (d .if1 .left)) (c .before .before .of .ensures)
           (c .before .if2 .taken)) e,
-      λ z. absurd (omega (arith, told-number e)),
+      λ z. absurd (omega (arith, e .0)),
     )
 
 made-requires : tie.Need-made-requires

@@ -6,7 +6,7 @@ use Rattle.compiler.proofs.call.refused.Tie as tie
 
 returns : tie.Need-returns
 unfolding compiledInto
-returns c = λ d. refl
+returns c = λ k d. refl
 
 pub refused-spec : {M : Type 1} → statement M
 refused-spec = tie.close (tie.spec returns)

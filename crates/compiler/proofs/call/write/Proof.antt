@@ -1,7 +1,7 @@
 -- Three pieces, whose lengths are those that were planned.
 use mathlib.Core.Path.{sym}
 use native.Mathlib.Omega.{arith}
-use Rattle.compiler.proofs.Written.{front-fits, operands, counted, planned-long, front-planned, list-long, table-written}
+use Rattle.compiler.proofs.Written.{front-fits, operands, counted, planned-long, front-planned, list-long, table-written, comparisons-made}
 use borrow.Author.Needs.{needs}
 use Rattle.compiler.proofs.call.write.Statement.{statement}
 use Rattle.compiler.proofs.call.write.Tie as tie
@@ -29,19 +29,21 @@ slice-aggregate-put-locations c =
 
 put-locations-requires : tie.Need-put-locations-requires
 put-locations-requires c κs =
-    let c14 = c .before .before .before .before .before .before .before .before .before .before .before .before .before .before in
-    let s = c14 .before .before .before .before .before .before .before .before .before .before .before .before .before .before .before .before .before in
+    let c15 = c .before .before .before .before .before .before .before .before .before .before .before .before .before .before .before in
+    let s = c15 .before .before .before .before .before .before .before .before .before .before .before .before .before .before .before .before .before in
     let g = s .pre .0 in
-    let p = c14 .put-front in
-    let q = c .before .before .before .before .before .before .put-actions in
+    let p = c15 .put-front in
+    let q = c .before .before .before .before .before .before .before .put-actions in
     (counted g (omega (arith, planned-long g, front-planned g, list-long g, s .pre .1, p .ensures .ends, p .kept .1 .1 .0, q .ensures .ends, q .kept .1 .1 .1 .1 .1 .1 .0)), omega (arith, g .full))
 
 returns : tie.Need-returns
 returns c =
-    let c9 = c .before .before .before .before .before .before .before .before .before in
-    let c17 = c9 .before .before .before .before .before .before .before .before in
-    let c34 = c17 .before .before .before .before .before .before .before .before .before .before .before .before .before .before .before .before .before in
-    table-written (c34 .pre .0) (c17 .put-front .ensures) (c9 .put-actions .ensures) (c .before .before .put-locations .ensures)
+    let c10 = c .before .before .before .before .before .before .before .before .before .before in
+    let c18 = c10 .before .before .before .before .before .before .before .before in
+    let c35 = c18 .before .before .before .before .before .before .before .before .before .before .before .before .before .before .before .before .before in
+    let g = c35 .pre .0 in
+    let l = c .before .before .put-locations .ensures in
+    (table-written g (c18 .put-front .ensures) (c10 .put-actions .ensures) (l .0), comparisons-made g (l .1))
 
 pub write-spec : {M : Type 1} → statement M
 write-spec =

@@ -18,17 +18,19 @@ put2-requires c κs =
 
 number-requires : tie.Need-number-requires
 number-requires c κs =
-    let s = c .before .before .before .before .before .before .before .before .before .before .before .before .before .before in
-    let p = c .before .before .before .before .before .before .before .put4 in
-    let q = c .before .before .before .put2 in
+    let c8 = c .before .before .before .before .before .before .before .before in
+    let s = c8 .before .before .before .before .before .before .before in
+    let p = c8 .put4 in
+    let q = c .before .before .before .before .put2 in
     let x = s .pre .0 in
     (fitting (x .has) (omega (arith, x .room, locations-long (x .has), p .ensures .0, q .ensures .0, p .kept .0, q .kept .0)), s .pre .1)
 
 returns : tie.Need-returns
 returns c =
-    let c10 = c .before .before .before .before .before .before .before .before .before .before in
-    let c17 = c10 .before .before .before .before .before .before .before in
-    locations-put (omega (arith, c17 .pre .0 .room)) (c10 .put4 .ensures) (c .before .before .before .before .before .before .put2 .ensures) (c .before .before .number .ensures)
+    let c11 = c .before .before .before .before .before .before .before .before .before .before .before in
+    let c18 = c11 .before .before .before .before .before .before .before in
+    let n = c .before .before .number .ensures in
+    (locations-put (omega (arith, c18 .pre .0 .room)) (c11 .put4 .ensures) (c .before .before .before .before .before .before .before .put2 .ensures) (n .0), n .1)
 
 pub put-locations-spec : {M : Type 1} → statement M
 put-locations-spec =
