@@ -136,9 +136,10 @@ uint8_t zimtleiter_read_table(const uint8_t *table, size_t table_len);
  * all entries, in the order in which they stand in the table, when each target
  * is compared with the locations numbered so far, from 0 up to the equal one:
  * for a target that has its number already, that number plus one; for one that
- * is new, as many as were numbered before it. Location 0, where compiling
- * starts, and the codes FFFE, FFFD and FFFF, which are no locations, take none.
- * K1 of document 01 gives 1. On any refusal, 13 and 14 too, it is 0.
+ * is new, as many as were numbered before it. That location 0 is numbered at
+ * the start takes none; a target that is 0 takes one. The codes FFFE, FFFD and
+ * FFFF are no locations and take none. K1, its node 1 a REINITIAL, gives 1; K6,
+ * a WHILE over a RESET, gives 2. On any refusal, 13 and 14 too, it is 0.
  */
 uint8_t zimtleiter_compile(const uint8_t *file, size_t file_len,
                            uint8_t *table, size_t room, uint64_t *length,

@@ -10,7 +10,7 @@ use Rattle.semantics.specs.Refusals.{refused, accepted, _>>=_, _>>_, ensure}
 use Rattle.semantics.proofs.Judging.{go-then, go-ensure}
 use Rattle.schedules.specs.Files.{judgeFile}
 use Rattle.schedules.specs.Compiling.{judgeTableOf, judgeCompile}
-use Rattle.schedules.specs.Calls.{compiledInto, comparisonsIn, compile}
+use Rattle.schedules.specs.Calls.{compiledInto, fileComparisons, compile}
 use Rattle.codec.proofs.Writing.{wrote-front}
 use Rattle.table_write.specs.Pieces.{Put}
 use Rattle.compiler.specs.Answers.{returned}
@@ -33,9 +33,9 @@ module _ (ed : Edition) (f room : List ℕ) where
 pub compile-refused : (f room : List ℕ) {n m l k : ℕ} → judgeCompile edition1 f room ≡ refused n → ((j : ℕ) (d : List ℕ) → returned m l k d ≡ compiledInto j d (refused n)) →
     returned m l k room ≡ compile edition1 f room
 unfolding compile
-compile-refused f room e p = p (comparisonsIn (judgeFile edition1 f)) room ∙ ap (compiledInto (comparisonsIn (judgeFile edition1 f)) room) (sym e)
+compile-refused f room e p = p (fileComparisons (judgeFile edition1 f)) room ∙ ap (compiledInto (fileComparisons (judgeFile edition1 f)) room) (sym e)
 
-pub compile-done : (f room : List ℕ) {t e : List ℕ} {r k : ℕ} → judgeCompile edition1 f room ≡ accepted t → Put room 0 t e r → k ≡ comparisonsIn (judgeFile edition1 f) →
+pub compile-done : (f room : List ℕ) {t e : List ℕ} {r k : ℕ} → judgeCompile edition1 f room ≡ accepted t → Put room 0 t e r → k ≡ fileComparisons (judgeFile edition1 f) →
     returned 0 r k e ≡ compile edition1 f room
 unfolding compile compiledInto
 compile-done f room {t} h w c = rw (h, c, w .ends ∙ zero-add (length t), wrote-front (w .writes)) refl

@@ -13,8 +13,8 @@ use Rattle.semantics.proofs.WrittenTables.{table-length}
 use Rattle.schedules.specs.Files.{judgeFile}
 use Rattle.schedules.specs.Comparisons.{comparisons}
 use Rattle.schedules.specs.Compiling.{scheduleLocations, scheduleComparisons, tableOf, judgeTableOf}
-use Rattle.schedules.specs.Calls.{comparisonsIn}
-use Rattle.numbering.specs.Located.{Counts}
+use Rattle.schedules.specs.Calls.{fileComparisons}
+use Rattle.numbering.specs.Located.{ComparisonsAre}
 use Rattle.schedule_read.specs.Promised.{Slice}
 use Rattle.table_write.specs.ActionTable.{actionsTo, Operands}
 use Rattle.table_write.specs.LocationTable.{sectionOf, Counted, LocationsPut}
@@ -105,6 +105,6 @@ module _ {f : List ℕ} {p : Plan} (g : Planned f p) where
       (t : List ℕ) → judgeTableOf edition1 f ≡ accepted t → Put d 0 t d′ r
   table-written a b x t h = put-as (table-is ∙ accepted-is (sym (g .judged) ∙ h)) (put-then (put-then a b (omega arith)) (x .of (g .schedule .root) (g .rows)) (omega arith))
 
-  pub comparisons-made : {n : ℕ} → Counts (p .index .nodes .kinds) (p .index .subtrees .ends) (p .acts) n → n ≡ comparisonsIn (judgeFile edition1 f)
-  unfolding comparisonsIn scheduleComparisons
-  comparisons-made x = x .is (g .schedule .root) (g .rows .lies) ∙ ap (λ (tests : ℕ → Bool). comparisons tests (g .schedule .root)) (g .tests) ∙ sym (ap comparisonsIn (g .promise .judged))
+  pub comparisons-made : {n : ℕ} → ComparisonsAre (p .index .nodes .kinds) (p .index .subtrees .ends) (p .acts) n → n ≡ fileComparisons (judgeFile edition1 f)
+  unfolding fileComparisons scheduleComparisons
+  comparisons-made x = x .is (g .schedule .root) (g .rows .lies) ∙ ap (λ (tests : ℕ → Bool). comparisons tests (g .schedule .root)) (g .tests) ∙ sym (ap fileComparisons (g .promise .judged))

@@ -137,7 +137,7 @@ fn planned(file: &[u8]) -> Plan
 fn write(file: &[u8], table: &mut [u8], p: Plan, comparisons: &mut u64) -> usize
     requires { ⌜ Planned (now file) p × (p .length ≤ length (now table)) ⌝ }
     ensures written { λ r. ⌜ ((t : List ℕ) → judgeTableOf edition1 (now (file .entry)) ≡ accepted t → Put (now (table .entry)) 0 t (now (table .exit)) r) ⌝ }
-    ensures compared { λ _. ⌜ now (comparisons .exit) ≡ calls.comparisonsIn (judgeFile edition1 (now (file .entry))) ⌝ }
+    ensures comparisons { λ _. ⌜ now (comparisons .exit) ≡ calls.fileComparisons (judgeFile edition1 (now (file .entry))) ⌝ }
 {
     let x = p.index;
     let parts = x.parts;

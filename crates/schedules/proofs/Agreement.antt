@@ -33,7 +33,7 @@ use Rattle.schedules.specs.Nodes.{actionsOf}
 use Rattle.schedules.specs.Residuals.{Residual, fresh, same?}
 use Rattle.schedules.specs.Files.{Schedule, judgeFile, ruleControl}
 use Rattle.schedules.specs.Compiling.{testsOf, scheduleLocations, tableOf, judgeCompile}
-use Rattle.schedules.specs.Calls.{ruleProgram, ruleRun, compiledInto, comparisonsIn, compile}
+use Rattle.schedules.specs.Calls.{ruleProgram, ruleRun, compiledInto, fileComparisons, compile}
 use Rattle.schedules.specs.Conditions.{fileConditions, compileConditions}
 use Rattle.schedules.proofs.FirstNumber.{passed, file-schedule, compile-steps, compile-first}
 use Rattle.schedules.proofs.OneTree.{one-tree}
@@ -168,8 +168,8 @@ pub of-written : (ed : Edition) (file room : List ℕ) (P : List ℕ → Type 0)
 unfolding compile compiledInto overwrite
 of-written ed file room P holds = go (judgeCompile ed file room) refl (compile-first ed file room)
   where
-    go : (j : Judged (List ℕ)) → judgeCompile ed file room ≡ j → Firsts j (compileConditions ed file room) → (compiledInto (comparisonsIn (judgeFile ed file)) room j) .refusal ≡ 0 →
-        P (take ((compiledInto (comparisonsIn (judgeFile ed file)) room j) .written) ((compiledInto (comparisonsIn (judgeFile ed file)) room j) .table))
+    go : (j : Judged (List ℕ)) → judgeCompile ed file room ≡ j → Firsts j (compileConditions ed file room) → (compiledInto (fileComparisons (judgeFile ed file)) room j) .refusal ≡ 0 →
+        P (take ((compiledInto (fileComparisons (judgeFile ed file)) room j) .written) ((compiledInto (fileComparisons (judgeFile ed file)) room j) .table))
     go (refused n) e (refuses f) z = absurd (first-not (never-0 ed file room) f z)
     go (accepted t) e f z =
         let k = compile-taken ed file room e in

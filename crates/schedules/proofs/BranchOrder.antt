@@ -21,7 +21,7 @@ use Rattle.schedules.specs.Trees.{Tree, treeOf}
 use Rattle.schedules.specs.Numbering.{locations}
 use Rattle.schedules.specs.Files.{Schedule, judgeFileSections, judgeFile, fileHeader, fileLength}
 use Rattle.schedules.specs.Compiling.{scheduleLocations, tableOf, judgeCompile}
-use Rattle.schedules.specs.Calls.{scheduleCounts, readSchedule, sizeTold, sizeCounts, size, compile, compiledInto, comparisonsIn}
+use Rattle.schedules.specs.Calls.{scheduleCounts, readSchedule, sizeTold, sizeCounts, size, compile, compiledInto, fileComparisons}
 use Rattle.schedules.specs.Sizes.{Size, sizeOf}
 use Rattle.schedules.specs.TableSizes.{tableLength}
 use Rattle.schedules.specs.Reordered.{Reordered, SameButOrder}
@@ -186,4 +186,4 @@ size-order ed file other s = alike-size (judged-alike ed file other s)
 pub branch-order : (ed : Edition) (file other room : List ℕ) → SameButOrder ed file other →
     ((compile ed file room) .refusal ≡ (compile ed other room) .refusal) × ((compile ed file room) .written ≡ (compile ed other room) .written)
 unfolding compile
-branch-order ed file other room s = alike-compiled (comparisonsIn (judgeFile ed file)) (comparisonsIn (judgeFile ed other)) room (compiled-alike ed file other s room)
+branch-order ed file other room s = alike-compiled (fileComparisons (judgeFile ed file)) (fileComparisons (judgeFile ed other)) room (compiled-alike ed file other s room)

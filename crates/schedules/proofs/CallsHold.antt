@@ -26,7 +26,7 @@ use Rattle.schedules.specs.Residuals.{Residual, fresh}
 use Rattle.schedules.specs.Reached.{Leads, stays, goes, Of}
 use Rattle.schedules.specs.Files.{Schedule, judgeFile, ruleControl}
 use Rattle.schedules.specs.Compiling.{scheduleComparisons, tableOf, judgeCompile}
-use Rattle.schedules.specs.Calls.{readSchedule, scheduleCounts, ruleProgram, ruleRun, Compiled, compile, compiledInto, comparisonsIn}
+use Rattle.schedules.specs.Calls.{readSchedule, scheduleCounts, ruleProgram, ruleRun, Compiled, compile, compiledInto, fileComparisons}
 use Rattle.schedules.specs.Conditions.{fileSchedule, fileConditions, ruleRunConditions}
 use Rattle.schedules.proofs.FirstNumber.{passed, file-schedule, rule-run-first, compile-steps, compile-first, compile-refusal}
 use Rattle.schedules.proofs.ResidualsKept.{of-fresh, kept-to}
@@ -43,7 +43,7 @@ compile-nothing n buffer (accepted t) h = absurd (h refl)
 pub refused-compile : (ed : Edition) (file room : List ℕ) → ((compile ed file room) .refusal ≡ 0 → ⊥) →
     compile ed file room ≡ record { refusal = (compile ed file room) .refusal; written = 0; comparisons = 0; table = room }
 unfolding compile
-refused-compile ed file room h = compile-nothing (comparisonsIn (judgeFile ed file)) room (judgeCompile ed file room) h
+refused-compile ed file room h = compile-nothing (fileComparisons (judgeFile ed file)) room (judgeCompile ed file room) h
 
 pub refused-rule-run : (ed : Edition) (file start events buffer : List ℕ) → ((ruleRun ed file start events buffer) .refusal ≡ 0 → ⊥) →
     ruleRun ed file start events buffer ≡ record { refusal = (ruleRun ed file start events buffer) .refusal; counts = noCounts; records = buffer }
@@ -70,13 +70,18 @@ read-schedule-result ed file h = rw h refl
 pub written-table : (ed : Edition) (file room : List ℕ) → (compile ed file room) .refusal ≡ 0 →
     (s : Schedule) × (fileSchedule ed file ≡ some s) × (length (tableOf ed s) ≤ length room) ×
     (compile ed file room ≡ record { refusal = 0; written = length (tableOf ed s); comparisons = scheduleComparisons s; table = overwrite (tableOf ed s) room })
-unfolding compile compiledInto comparisonsIn
+unfolding compile compiledInto fileComparisons
 written-table ed file room z =
     let a = accepted-of (compile-first ed file room) (never-0 ed file room) (sym (compile-refusal ed file room) ∙ z) in
     let b = Judging.passed-then (judgeFile ed file) _ (sym (compile-steps ed file room) ∙ a .1) in
     let c = Judging.passed-ensure 13 _ _ (b .2) in
     let d = Judging.passed-ensure 14 _ _ (c .1) in
-    (b .0, file-schedule ed file (b .1), leb-true (length (tableOf ed (b .0))) (length room) (d .0), ap₂ (λ (n : ℕ) (j : Judged (List ℕ)). compiledInto n room j) (ap comparisonsIn (b .1)) (a .1 ∙ ap accepted (sym (Judging.accepted-is (d .1)))))
+    let e = a .1 ∙ ap accepted (sym (Judging.accepted-is (d .1))) in (
+      b .0,
+      file-schedule ed file (b .1),
+      leb-true (length (tableOf ed (b .0))) (length room) (d .0),
+      ap₂ (λ (n : ℕ) (j : Judged (List ℕ)). compiledInto n room j) (ap fileComparisons (b .1)) e,
+    )
 
 -- the same without `overwrite`
 pub table-at-front : (ed : Edition) (file room : List ℕ) → (compile ed file room) .refusal ≡ 0 →

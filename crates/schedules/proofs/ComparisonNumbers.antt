@@ -18,7 +18,7 @@ use Rattle.semantics.proofs.Facts.{some-is, at-below, at-mem}
 use Rattle.schedules.specs.Trees.{Tree}
 use Rattle.schedules.specs.Residuals.{Residual, fresh, acting, move, same?}
 use Rattle.schedules.specs.Numbering.{numberOf, meet, residualIn, nodeTargets, targets, locations}
-use Rattle.schedules.specs.Comparisons.{comparisonsFrom, allTargets, comparisons}
+use Rattle.schedules.specs.Comparisons.{comparisonsFrom, targetLocations, comparisons}
 use Rattle.schedules.specs.Comparing.{ComparesAll, byNumbers, locationCode, entryCodes, locationCodes}
 use Rattle.schedules.specs.Reached.{Moves}
 use Rattle.schedules.specs.Files.{Schedule, judgeFile}
@@ -113,25 +113,25 @@ module _ (tests : ℕ → Bool) (l : List Residual) (few : length l ≤ location
   rows-codes = each-flat (targets tests) (flatMap entryCodes) (each-map (entriesOf tests l) l row-codes)
 
 module _ (tests : ℕ → Bool) (t : Tree) where
-  pub compares-all : ComparesAll (fresh t ∷ []) (allTargets tests t) (comparisons tests t)
+  pub compares-all : ComparesAll (fresh t ∷ []) (targetLocations tests t) (comparisons tests t)
   unfolding comparisons
-  compares-all = compares-from same? (fresh t ∷ []) (allTargets tests t)
+  compares-all = compares-from same? (fresh t ∷ []) (targetLocations tests t)
 
-  pub comparisons-is : (n : ℕ) → (comparisons tests t ≡ n) ↔ ComparesAll (fresh t ∷ []) (allTargets tests t) n
+  pub comparisons-is : (n : ℕ) → (comparisons tests t ≡ n) ↔ ComparesAll (fresh t ∷ []) (targetLocations tests t) n
   unfolding comparisons
-  comparisons-is n = compares-all-is same? (fresh t ∷ []) (allTargets tests t) n
+  comparisons-is n = compares-all-is same? (fresh t ∷ []) (targetLocations tests t) n
 
   module _ (few : length (locations tests t) ≤ locationLimit) where
     -- whatever list has the numbers of the targets
-    pub comparisons-by-numbers : (ks : List ℕ) → Each (λ r k. getElem? (locations tests t) k ≡ some r) (allTargets tests t) ks → comparisons tests t ≡ byNumbers 1 ks
-    unfolding comparisons allTargets
+    pub comparisons-by-numbers : (ks : List ℕ) → Each (λ r k. getElem? (locations tests t) k ≡ some r) (targetLocations tests t) ks → comparisons tests t ≡ byNumbers 1 ks
+    unfolding comparisons targetLocations
     comparisons-by-numbers ks e =
         let r = reached tests t few in
-        compared-by-numbers same? (locations tests t) (r .distinct) (fresh t ∷ []) (allTargets tests t) ks (sym (meet-unmet same? (allTargets tests t) List·Memᴰ·not-nil) ∙ r .order) e
+        compared-by-numbers same? (locations tests t) (r .distinct) (fresh t ∷ []) (targetLocations tests t) ks (sym (meet-unmet same? (targetLocations tests t) List·Memᴰ·not-nil) ∙ r .order) e
 
     -- and the entries' codes are such a list
-    pub targets-numbered : Each (λ r k. getElem? (locations tests t) k ≡ some r) (allTargets tests t) (locationCodes (rowsOf tests (locations tests t)))
-    unfolding allTargets
+    pub targets-numbered : Each (λ r k. getElem? (locations tests t) k ≡ some r) (targetLocations tests t) (locationCodes (rowsOf tests (locations tests t)))
+    unfolding targetLocations
     targets-numbered = rows-codes tests (locations tests t) few (λ r s. closed-under tests t few)
 
 -- ---- of the call, where compiling accepts
@@ -147,9 +147,9 @@ module _ (ed : Edition) (file room : List ℕ) (taken : (compile ed file room) .
 
   -- these are the second statement's
   pub comparisons-made : (s : Schedule) → judgeFile ed file ≡ accepted s →
-      ComparesAll (fresh (s .root) ∷ []) (allTargets (testsOf (s .nodes)) (s .root)) ((compile ed file room) .comparisons)
+      ComparesAll (fresh (s .root) ∷ []) (targetLocations (testsOf (s .nodes)) (s .root)) ((compile ed file room) .comparisons)
   unfolding scheduleComparisons
-  comparisons-made s h = let tests = testsOf (s .nodes) in subst (ComparesAll _ (allTargets tests (s .root))) (sym (comparisons-returned s h)) (compares-all tests (s .root))
+  comparisons-made s h = let tests = testsOf (s .nodes) in subst (ComparesAll _ (targetLocations tests (s .root))) (sym (comparisons-returned s h)) (compares-all tests (s .root))
 
   -- and the bytes written, read back as a table, tell them
   pub comparisons-of-table : (t : Table) × (judgeTable ed (take ((compile ed file room) .written) ((compile ed file room) .table)) ≡ accepted t) ×

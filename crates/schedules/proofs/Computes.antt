@@ -34,7 +34,7 @@ unfolding Residuals.fresh Residuals.actingAt Residuals.acting Residuals.whenNode
 residuals = tt
 
 unfoldable pub numbering : Unit {0}
-unfolding Numbering.numberOf Numbering.meet Numbering.numberFrom Numbering.residualIn Numbering.nodeTargets Numbering.targets Numbering.locations Comparisons.comparisonsOf Comparisons.comparisonsFrom Comparisons.allTargets Comparisons.comparisons
+unfolding Numbering.numberOf Numbering.meet Numbering.numberFrom Numbering.residualIn Numbering.nodeTargets Numbering.targets Numbering.locations Comparisons.comparisonsOf Comparisons.comparisonsFrom Comparisons.targetLocations Comparisons.comparisons
 numbering = tt
 
 unfoldable pub comparing : Unit {0}
@@ -58,7 +58,7 @@ unfolding Exchanged.otherKind Exchanged.exchangedAt Exchanged.exchanged
 exchanges = tt
 
 unfoldable pub calls : Unit {0}
-unfolding Calls.scheduleCounts Calls.readSchedule Calls.tooMany Calls.cap Calls.sizeTold Calls.sizeCounts Calls.size Calls.ruleProgram Calls.ruleRun Calls.compiledInto Calls.comparisonsIn Calls.compile
+unfolding Calls.scheduleCounts Calls.readSchedule Calls.tooMany Calls.cap Calls.sizeTold Calls.sizeCounts Calls.size Calls.ruleProgram Calls.ruleRun Calls.compiledInto Calls.fileComparisons Calls.compile
 calls = tt
 
 unfoldable pub sizes : Unit {0}

@@ -21,7 +21,7 @@ use Rattle.schedules.specs.Trees.{treeOf}
 use Rattle.schedules.specs.Residuals.{Residual}
 use Rattle.schedules.specs.Files.{Schedule, judgeNodes, judgeFileSections, judgeFileLayout, judgeFile, fileHeader, fileLength}
 use Rattle.schedules.specs.Compiling.{scheduleLocations, tableOf, judgeCompile, judgeTableOf}
-use Rattle.schedules.specs.Calls.{ruleProgram, scheduleCounts, compiledInto, comparisonsIn, compile}
+use Rattle.schedules.specs.Calls.{ruleProgram, scheduleCounts, compiledInto, fileComparisons, compile}
 use Rattle.schedules.specs.Conditions.{fileParts, filePlant, fileNodes, fileTree, fileSchedule, is1, is2, is3, ofPlant, is9, is10, is11, is34, is12, is13, is14, fileConditions, compileConditions, ruleRunConditions}
 
 -- 1 to 3, as a call goes through them
@@ -161,6 +161,6 @@ pub compile-refusal : (ed : Edition) (file room : List ℕ) → (compile ed file
 unfolding compile compiledInto refusalOf
 compile-refusal ed file room = go (judgeCompile ed file room)
   where
-    go : (j : Judged (List ℕ)) → (compiledInto (comparisonsIn (judgeFile ed file)) room j) .refusal ≡ refusalOf j
+    go : (j : Judged (List ℕ)) → (compiledInto (fileComparisons (judgeFile ed file)) room j) .refusal ≡ refusalOf j
     go (refused n) = refl
     go (accepted t) = refl

@@ -63,7 +63,7 @@ pub K6-compiled : (compile edition1 while-file (replicate 100 0)) .comparisons �
 unfolding schedules while-file
 K6-compiled = refl
 
-pub K6-no-room : compile edition1 while-file [] ≡ record { refusal = 14; written = 0; comparisons = 0; table = [] }
+pub K6-no-room : compile edition1 while-file (replicate 5 9) ≡ record { refusal = 14; written = 0; comparisons = 0; table = replicate 5 9 }
 unfolding schedules while-file
 K6-no-room = refl
 
@@ -81,6 +81,11 @@ if-comparisons v w t e f = refl
 pub stop-comparisons : (t : List ℕ) → comparisonCount (stopOrWait t) ≡ some 1
 unfolding schedules
 stop-comparisons t = refl
+
+-- a WHILE over an IF of two RESETs: the IF, its two RESETs, and two ways back to location 0
+pub while-if-comparisons : (v w : ℕ) (t u e f : List ℕ) → comparisonCount (while-do t ∷ if-else u ∷ reset v e ∷ reset w f ∷ []) ≡ some 8
+unfolding schedules
+while-if-comparisons v w t u e f = refl
 
 -- known ones with numbers above 0: at location 0 there are 1 + 2 + 3, at 1 then 4 + 5, at 2 then 5 (number 4) + 6, at 3 then 6 + 7 (numbers 5 and 6)
 pub three-resets-comparisons : (v : ℕ) (e : List ℕ) → comparisonCount (parallel 3 ∷ reset v e ∷ reset v e ∷ reset v e ∷ []) ≡ some 39

@@ -18,7 +18,7 @@ use Rattle.semantics.specs.Conditions.{Firsts, refuses}
 use Rattle.schedules.specs.Residuals.{Residual, acting}
 use Rattle.schedules.specs.Files.{Schedule, judgeFile}
 use Rattle.schedules.specs.Compiling.{testsOf, scheduleLocations, entryOf, entriesOf, judgeCompile}
-use Rattle.schedules.specs.Calls.{scheduleCounts, readSchedule, Sized, tooMany, cap, sizeTold, sizeCounts, size, compiledInto, comparisonsIn, compile}
+use Rattle.schedules.specs.Calls.{scheduleCounts, readSchedule, Sized, tooMany, cap, sizeTold, sizeCounts, size, compiledInto, fileComparisons, compile}
 use Rattle.schedules.specs.Conditions.{compileConditions}
 use Rattle.schedules.specs.Sizes.{Size, sizeOf}
 use Rattle.semantics.proofs.FirstNumber.{first-not}
@@ -125,8 +125,8 @@ pub size-of-table : (ed : Edition) (file room : List ℕ) → (compile ed file r
 unfolding compile compiledInto overwrite
 size-of-table ed file room = go (judgeCompile ed file room) refl (compile-first ed file room)
   where
-    go : (j : Judged (List ℕ)) → judgeCompile ed file room ≡ j → Firsts j (compileConditions ed file room) → (compiledInto (comparisonsIn (judgeFile ed file)) room j) .refusal ≡ 0 →
-        (t : Table) × (judgeTable ed (take ((compiledInto (comparisonsIn (judgeFile ed file)) room j) .written) ((compiledInto (comparisonsIn (judgeFile ed file)) room j) .table)) ≡ accepted t) ×
+    go : (j : Judged (List ℕ)) → judgeCompile ed file room ≡ j → Firsts j (compileConditions ed file room) → (compiledInto (fileComparisons (judgeFile ed file)) room j) .refusal ≡ 0 →
+        (t : Table) × (judgeTable ed (take ((compiledInto (fileComparisons (judgeFile ed file)) room j) .written) ((compiledInto (fileComparisons (judgeFile ed file)) room j) .table)) ≡ accepted t) ×
         (size ed file ≡ record { refusal = 0; locations = length (t .locations); entries = length (flatten (t .locations)) })
     go (refused n) e (refuses f) z = absurd (first-not (never-0 ed file room) f z)
     go (accepted t) e f z =

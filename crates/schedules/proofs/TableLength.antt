@@ -20,7 +20,7 @@ use Rattle.schedules.specs.Trees.{treeOf}
 use Rattle.schedules.specs.Residuals.{Residual, acting}
 use Rattle.schedules.specs.Files.{Schedule, judgeFile}
 use Rattle.schedules.specs.Compiling.{testsOf, scheduleLocations, entryOf, entriesOf, tableOf, judgeCompile}
-use Rattle.schedules.specs.Calls.{compile, compiledInto, comparisonsIn}
+use Rattle.schedules.specs.Calls.{compile, compiledInto, fileComparisons}
 use Rattle.schedules.specs.Sizes.{sizeOf}
 use Rattle.schedules.specs.TableSizes.{tableLength, TableSized}
 use Rattle.schedules.proofs.Counting.{total}
@@ -114,4 +114,4 @@ taken-by-size ed file room s h few fits =
     let long = table-of-length ed s (passed ed file s h .tree) (leb-true (length (scheduleLocations s)) locationLimit few13) in
     let fits14 = ap (λ n. leb n (length room)) long ∙ le-leb (tableLength ed s) (length room) fits in
     let j : judgeCompile ed file room ≡ accepted (tableOf ed s) = compile-steps ed file room ∙ Judging.go-then _ h ∙ Judging.go-ensure 13 _ few13 ∙ Judging.go-ensure 14 _ fits14 in
-    (ap (λ j. (compiledInto (comparisonsIn (judgeFile ed file)) room j) .refusal) j, ap (λ j. (compiledInto (comparisonsIn (judgeFile ed file)) room j) .written) j ∙ long)
+    (ap (λ j. (compiledInto (fileComparisons (judgeFile ed file)) room j) .refusal) j, ap (λ j. (compiledInto (fileComparisons (judgeFile ed file)) room j) .written) j ∙ long)

@@ -25,7 +25,7 @@ use Rattle.schedules.specs.Nodes.{Node, sequence, parallel, while-do, if
 use Rattle.schedules.specs.Residuals.{Residual, acting}
 use Rattle.schedules.specs.Files.{Schedule, judgeFile, ruleControl}
 use Rattle.schedules.specs.Compiling.{testsOf, scheduleLocations, entryOf, entriesOf, tableOf, judgeCompile}
-use Rattle.schedules.specs.Calls.{compile, compiledInto, comparisonsIn, ruleProgram, ruleRun}
+use Rattle.schedules.specs.Calls.{compile, compiledInto, fileComparisons, ruleProgram, ruleRun}
 use Rattle.schedules.proofs.NodeActions.{node-action}
 use Rattle.schedules.proofs.FirstNumber.{Passed, passed}
 use Rattle.schedules.proofs.ResidualsKept.{acting-fit-a-byte}
@@ -176,7 +176,7 @@ pub compile-bytes : (ed : Edition) (file buffer : List ℕ) → All Byte file �
 unfolding compile compiledInto overwrite
 compile-bytes ed file buffer f b = go (judgeCompile ed file buffer) refl
   where
-    go : (j : Judged (List ℕ)) → judgeCompile ed file buffer ≡ j → All Byte ((compiledInto (comparisonsIn (judgeFile ed file)) buffer j) .table)
+    go : (j : Judged (List ℕ)) → judgeCompile ed file buffer ≡ j → All Byte ((compiledInto (fileComparisons (judgeFile ed file)) buffer j) .table)
     go (refused n) e = b
     go (accepted t) e =
         let k = compile-taken ed file buffer e in

@@ -79,14 +79,15 @@ pub record Compiled : Type 0 where
   -- the lent buffer afterwards
   pub table : List ℕ
 
--- n: the comparisons of numbering, which no refused call returns
+-- n: the comparisons of numbering; on any refusal, 13 and 14 too, the count is 0
 unfoldable pub compiledInto : ℕ → List ℕ → Judged (List ℕ) → Compiled
 compiledInto n buffer (refused k) = record { refusal = k; written = 0; comparisons = 0; table = buffer }
 compiledInto n buffer (accepted t) = record { refusal = 0; written = length t; comparisons = n; table = overwrite t buffer }
 
-unfoldable pub comparisonsIn : Judged Schedule → ℕ
-comparisonsIn (refused n) = 0
-comparisonsIn (accepted s) = scheduleComparisons s
+-- a file that is refused has no schedule to number
+unfoldable pub fileComparisons : Judged Schedule → ℕ
+fileComparisons (refused n) = 0
+fileComparisons (accepted s) = scheduleComparisons s
 
 unfoldable pub compile : Edition → List ℕ → List ℕ → Compiled
-compile ed f buffer = compiledInto (comparisonsIn (judgeFile ed f)) buffer (judgeCompile ed f buffer)
+compile ed f buffer = compiledInto (fileComparisons (judgeFile ed f)) buffer (judgeCompile ed f buffer)

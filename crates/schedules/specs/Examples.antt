@@ -21,7 +21,7 @@ use Rattle.schedules.specs.Sizes.{Size, sizeOf}
 abbrev pub locationCount : List Node → Option ℕ
 locationCount ns = Option·map (λ (t : Tree). length (locations (testsOf ns) t)) (treeOf ns)
 
--- the comparisons that numbering them takes
+-- the comparisons that numbering the locations of these nodes takes
 abbrev pub comparisonCount : List Node → Option ℕ
 comparisonCount ns = Option·map (comparisons (testsOf ns)) (treeOf ns)
 

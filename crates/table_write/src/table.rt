@@ -8,7 +8,7 @@ ghost use Prim.Native.Nat.{_+_, _≤_, _<_};
 ghost use lib.ListN.{length};
 ghost use Rattle.semantics.specs.Editions.{edition1};
 ghost use Rattle.semantics.specs.TableFile.{inSection2, copiedThen, actionSection, writeActions, tableHead};
-ghost use Rattle.numbering.specs.Located.{Counts};
+ghost use Rattle.numbering.specs.Located.{ComparisonsAre};
 ghost use Rattle.table_write.specs.ActionTable.{actionsTo, Operands, Measured};
 ghost use Rattle.table_write.specs.LocationTable.{Counted, LocationsPut};
 ghost use Rattle.table_write.specs.Pieces.{Put};
@@ -67,7 +67,7 @@ pub fn put_locations<'a>(
 ) -> usize
     requires { ⌜ Counted (now kinds) (now subs) (now acts) (rows .count) (rows .at) (now table) i × (64 ≤ length (now acts)) ⌝ }
     ensures { λ r. ⌜ LocationsPut (now (kinds .entry)) (now (subs .entry)) (now (acts .entry)) (rows .count) (rows .at) (now (table .entry)) i (now (table .exit)) r ⌝ }
-    ensures compared { λ _. ⌜ Counts (now (kinds .entry)) (now (subs .entry)) (now (acts .entry)) (now (comparisons .exit)) ⌝ }
+    ensures comparisons { λ _. ⌜ ComparisonsAre (now (kinds .entry)) (now (subs .entry)) (now (acts .entry)) (now (comparisons .exit)) ⌝ }
 {
     let j = codec::put4(table, i, rows.at + 2);
     let l = codec::put2(table, j, rows.count);
