@@ -26,7 +26,7 @@
  *    else reads what the call writes to.
  *
  * Stack, as measured on the largest plants, the deepest trees and the deepest
- * expressions: zimtleiter_table_run 86,000 bytes, zimtleiter_compile 76,000,
+ * expressions: zimtleiter_table_run 86,000 bytes, zimtleiter_compile 68,000,
  * zimtleiter_rule_run 63,000, zimtleiter_read_table 42,000,
  * zimtleiter_read_schedule 24,000, zimtleiter_size 23,000, zimtleiter_practice
  * under 100. 128 KiB are room for any of them.
