@@ -52,6 +52,7 @@ pub mod PreorderSizes
 pub mod ReorderedTrees
 pub mod AnyOrder
 pub mod BranchOrder
+pub mod AlikeTrees
 pub mod BorderPapers
 -- bytes read just where they are a written form
 pub mod FileForms

@@ -1,9 +1,11 @@
 -- Schedules that are the same but for the order in which the children of PARALLELs are listed.
 use mathlib.Core.Path.{_≡_}
+use mathlib.Core.Bool.{cond}
 use mathlib.Core.List.{List, _∷_, _++_}
 use mathlib.Core.Option.{some}
-use Prim.Native.Nat.{ℕ, _+_, _≤_}
-use lib.ListN.{drop}
+use Prim.Native.Nat.{ℕ, suc, _+_, _-_, _≤_}
+use lib.Dec.{ltb}
+use lib.ListN.{length, drop}
 use Rattle.semantics.specs.Editions.{Edition}
 use Rattle.schedules.specs.FileSections.{FileSections, fileSectionsIn}
 use Rattle.schedules.specs.Nodes.{Node, parallel, nodesIn}
@@ -37,6 +39,19 @@ pub record Swapped (ns ms : List Node) : Type 0 where
 pub data Reordered (ns : List Node) : List Node → Type 0 where
   unchanged : Reordered ns ns
   swapped : {ms ls : List Node} → Reordered ns ms → Swapped ms ls → Reordered ns ls
+
+-- ---- which node is which: nodes are numbered as they are listed
+-- the new number of node n where `one` nodes from number `from` on and the `other` ones after them change places
+unfoldable pub exchangedNumber : (from one other : ℕ) → ℕ → ℕ
+exchangedNumber from one other n = cond (ltb n from) n (cond (ltb n (from + one)) (n + other) (cond (ltb n (from + one + other)) (n - one) n))
+
+-- where two children change places; their nodes come after the PARALLEL and its first children
+unfoldable pub swappedNumber : {ns ms : List Node} → Swapped ns ms → ℕ → ℕ
+swappedNumber s n = exchangedNumber (suc (length (s .before) + length (s .first))) (length (s .one)) (length (s .other)) n
+
+unfoldable pub newNumber : {ns ms : List Node} → Reordered ns ms → ℕ → ℕ
+newNumber unchanged n = n
+newNumber (swapped r s) n = swappedNumber s (newNumber r n)
 
 -- two files with the same variables and equations, whose nodes are the same but for that order
 pub record SameButOrder (ed : Edition) (file other : List ℕ) : Type 0 where

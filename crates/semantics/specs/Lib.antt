@@ -21,6 +21,7 @@ pub mod Calls
 pub mod Conditions
 pub mod Sentences
 pub mod Statements
+pub mod Renumbering
 pub mod K1
 -- document 02
 pub mod Practice

@@ -1,0 +1,51 @@
+-- Two runs over one plant whose nodes have other numbers and are asked in another order: what corresponds in their events and answers.
+-- So are the runs of two schedules that differ only in the order in which the children of PARALLELs are listed.
+use mathlib.Core.Path.{_≡_}
+use mathlib.Core.List.{List, [], _∷_, map, List·Memᴰ as Mem, List·Permᴰ as Permuted}
+use mathlib.Core.Option.{Option, none, some}
+use Prim.Native.Nat.{ℕ}
+use lib.IntN.{ℤ}
+use Rattle.semantics.specs.Editions.{Edition}
+use Rattle.semantics.specs.Plant.{Plant}
+use Rattle.semantics.specs.Events.{Event, tick, pick, take-switch, senseless, eventIn}
+use Rattle.semantics.specs.Run.{Control, Situation, Answered, step}
+use Rattle.semantics.specs.Rules.{Found, Stops, Waits}
+
+-- the same event, with a picked node's other number
+unfoldable pub renumbered : (ℕ → ℕ) → Event → Event
+renumbered number tick = tick
+renumbered number (pick n) = pick (number n)
+renumbered number (take-switch s k) = take-switch s k
+renumbered number senseless = senseless
+
+-- two events of a list, by their bytes
+abbrev pub Corresponding : Edition → (ℕ → ℕ) → List ℕ → List ℕ → Type 0
+Corresponding ed number e f = eventIn ed f ≡ renumbered number (eventIn ed e)
+
+-- the acting nodes; none once the run is over
+unfoldable pub actingNow : {S : Type 0} → Control S → Option S → List ℕ
+actingNow c none = []
+actingNow c (some x) = c .acting x
+
+-- two answers: the same number, values and modes, and the same nodes act, each by its other number
+pub record SameButNumbers {S R : Type 0} (number : ℕ → ℕ) (c : Control S) (d : Control R) (o : Answered S) (q : Answered R) : Type 0 where
+  pub answer : o .answer ≡ q .answer
+  pub values : o .left .values ≡ q .left .values
+  pub modes : o .left .modes ≡ q .left .modes
+  pub acting : Permuted (map number (actingNow c (o .left .place))) (actingNow d (q .left .place))
+
+-- ---- "their truths in node order up to the first that is true or faults": a tick's answer can depend on which CONTINUE is asked first, and so on numbers
+-- truths that would stop a tick all in one way: all by being true, or all by a fault above, or all by one below
+pub record StopAlike (ed : Edition) (vs : List ℤ) (ts : List (List ℕ)) : Type 0 where
+  pub alike : (t u : List ℕ) (f g : Found) → Mem t ts → Mem u ts → Stops ed vs t f → Stops ed vs u g → f ≡ g
+
+module _ {S : Type 0} (ed : Edition) (p : Plant) (c : Control S) where
+  -- where all acting nodes are CONTINUEs, their truths are such
+  pub record EitherFirst (s : Situation S) : Type 0 where
+    pub waiting : (x : S) (ts : List (List ℕ)) → s .place ≡ some x → Waits (c .action) (c .acting x) ts → StopAlike ed (s .values) ts
+
+  -- at each tick of a run
+  pub data EitherFirstAtTicks : Situation S → List (List ℕ) → Type 0 where
+    no-event : {s : Situation S} → EitherFirstAtTicks s []
+    one-event : {s : Situation S} {e : List ℕ} {es : List (List ℕ)} → (eventIn ed e ≡ tick → EitherFirst s) →
+        EitherFirstAtTicks ((step ed p c s e) .left) es → EitherFirstAtTicks s (e ∷ es)
