@@ -24,6 +24,8 @@ pub mod TableSizes
 pub mod Sentences
 pub mod Exam
 pub mod Reordered
+pub mod Independent
+pub mod Independence
 pub mod Exchanged
 pub mod Examples
 pub mod SideExamples
