@@ -67,3 +67,7 @@ pub mod ExchangedBytes
 -- RESET and REINITIAL
 pub mod ExchangedKinds
 pub mod Number34
+-- order of independent branches
+pub mod MovesCommute
+pub mod IndependentOrder
+pub mod IndependentPicks
