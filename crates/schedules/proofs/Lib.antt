@@ -71,3 +71,4 @@ pub mod Number34
 pub mod MovesCommute
 pub mod IndependentOrder
 pub mod IndependentPicks
+pub mod IndependentRecords

@@ -25,7 +25,7 @@ unfolding eventsIn
 events-length w zero l = refl
 events-length w (suc n) l = ap suc (events-length w n (drop w l))
 
-flat-length : (w : ℕ) {es : List (List ℕ)} → All (λ e. length e ≡ w) es → length (flatten es) ≡ length es * w
+pub flat-length : (w : ℕ) {es : List (List ℕ)} → All (λ e. length e ≡ w) es → length (flatten es) ≡ length es * w
 unfolding flatten
 flat-length w all-nil = omega arith
 flat-length w (all-cons {x = e} {l = es} h p) = let a = length-append e (flatten es) in let b = flat-length w p in let c = suc-mul (length es) w in omega arith

@@ -1,0 +1,232 @@
+-- Document 02, item 5, over the bytes that the run by the rules and the run of a table write.
+use mathlib.Core.Path.{_≡_, refl, sym, ap, ap₂, subst, subst₂, _∙_}
+use mathlib.Core.Bool.{true, _&&_}
+use mathlib.Core.List.{List, [], _∷_, _++_, flatMap, flatten, append-assoc}
+use mathlib.Core.Option.{some}
+use Prim.Native.Nat.{ℕ, suc, _+_, _*_}
+use native.Mathlib.Nat.{suc-mul}
+use native.Mathlib.Omega.{arith}
+use lib.ListN.{length, take, drop, length-append}
+use lib.Seq.{take-at, drop-at}
+use Rattle.semantics.specs.Bytes.{All, all-nil, all-cons, overwrite}
+use Rattle.semantics.specs.Editions.{Edition}
+use Rattle.semantics.specs.Refusals.{Judged, accepted}
+use Rattle.semantics.specs.Starts.{Start, startIn}
+use Rattle.semantics.specs.Run.{Situation, Answered, step, answers, recordOf, recordBytes, isTaken}
+use Rattle.semantics.specs.Calls.{Program, outcomeOf, runFrom, judgeRun, report, tableRun, wholeEvents, eventCount, recordSize, roomForRecords}
+use Rattle.semantics.proofs.Facts.{some-is, all-append}
+use Rattle.semantics.proofs.Judging as Judging
+use Rattle.semantics.proofs.Admission.{Admits, admission-judged}
+use Rattle.semantics.proofs.EventsCut.{events-cut, flat-length}
+use Rattle.semantics.proofs.RunCounts.{written-length, record-length}
+use Rattle.semantics.proofs.CallsHold.{accepted-of, run-passed}
+use Rattle.semantics.proofs.FirstNumber.{ran-refusal}
+use Rattle.schedules.specs.Residuals.{Residual}
+use Rattle.schedules.specs.Files.{Schedule, judgeFile, ruleControl}
+use Rattle.schedules.specs.Calls.{ruleProgram, ruleRun, compile}
+use Rattle.schedules.specs.Independent.{WithoutCase, leftBy, begun, Reachable, Independent, second, bothTaken, EitherOrder, recordAt, recordTaken, recordsTaken, EitherOrderWritten}
+use Rattle.schedules.proofs.FirstNumber.{rule-run-first}
+use Rattle.schedules.proofs.CallsHold.{rule-numbers}
+use Rattle.schedules.proofs.Agreement.{agreement}
+use Rattle.schedules.proofs.Places.{flat-append}
+use Rattle.schedules.proofs.IndependentPicks.{Kept, kept-step, reachable-kept, independent-picks}
+
+-- ---- records before, one, and those behind it
+module _ (size k : ℕ) (front one rest : List ℕ) (f : length front ≡ k * size) (g : length one ≡ size) where
+  record-here : recordAt size k (front ++ (one ++ rest)) ≡ one
+  unfolding recordAt
+  record-here = ap (take size) (drop-at front (one ++ rest) (k * size) f) ∙ take-at one rest size g
+
+  records-behind : drop (suc k * size) (front ++ (one ++ rest)) ≡ rest
+  records-behind =
+      let i = suc-mul k size in
+      let j = length-append front one in
+      ap (drop (suc k * size)) (sym (append-assoc front one rest)) ∙ drop-at (front ++ one) rest (suc k * size) (omega arith)
+
+-- ---- a run of the whole list
+module _ (ed : Edition) (s : Schedule) where
+  abbrev recorded : Answered Residual → List ℕ
+  recorded o = recordOf ed (ruleControl s) o
+
+  abbrev said : Situation Residual → List (List ℕ) → List (Answered Residual)
+  said x es = answers ed (s .plant) (ruleControl s) x es
+
+  abbrev written : Situation Residual → List (List ℕ) → List ℕ
+  written x es = flatMap (recordOf ed (ruleControl s)) (said x es)
+
+  recorded-taken : (o : Answered Residual) → recordTaken (recorded o) ≡ isTaken (o .answer)
+  unfolding recordTaken recordOf recordBytes
+  recorded-taken o = refl
+
+  said-append : (x : Situation Residual) (es fs : List (List ℕ)) → said x (es ++ fs) ≡ said x es ++ said (leftBy ed s x es) fs
+  unfolding answers leftBy
+  said-append x [] fs = refl
+  said-append x (e ∷ es) fs = ap (λ (l : List (Answered Residual)). step ed (s .plant) (ruleControl s) x e ∷ l) (said-append ((step ed (s .plant) (ruleControl s) x e) .left) es fs)
+
+  -- events, two more, and others
+  written-parts : (x : Situation Residual) (es fs : List (List ℕ)) (e f : List ℕ) →
+      let y = leftBy ed s x es in
+      written x (es ++ (e ∷ f ∷ fs)) ≡ written x es ++ (recorded (step ed (s .plant) (ruleControl s) y e) ++ (recorded (second ed s y e f) ++ written ((second ed s y e f) .left) fs))
+  unfolding answers second flatMap
+  written-parts x es fs e f = ap (flatMap (recordOf ed (ruleControl s))) (said-append x es (e ∷ f ∷ fs)) ∙ flat-append (recordOf ed (ruleControl s)) (said x es) (said (leftBy ed s x es) (e ∷ f ∷ fs))
+
+module _ (ed : Edition) (file : List ℕ) (s : Schedule) (h : judgeFile ed file ≡ accepted s) (start buffer : List ℕ) where
+  abbrev AllWhole : List (List ℕ) → Type 0
+  AllWhole es = All (λ e. length e ≡ ed .event-bytes) es
+
+  abbrev Admitted : List (List ℕ) → Start → Type 0
+  Admitted es st = Admits ed (s .plant) start (flatten es) buffer st
+
+  is-program : ruleProgram ed file ≡ accepted (record { plant = s .plant; control = ruleControl s })
+  unfolding ruleProgram
+  is-program = Judging.go-then _ h
+
+  taken-on : (es : List (List ℕ)) → (ruleRun ed file start (flatten es) buffer) .refusal ≡ 0 → (st : Start) × Admitted es st
+  unfolding ruleRun
+  taken-on es z =
+      let events = flatten es in
+      let a = accepted-of (rule-run-first ed file start events buffer) (rule-numbers ed file start events buffer) (sym (ran-refusal buffer (judgeRun ed (ruleProgram ed file) start events buffer)) ∙ z) in
+      let b = run-passed ed (ruleProgram ed file) start events buffer (a .1) in
+      let e = Judging.accepted-is (sym (b .is-program) ∙ is-program) in
+      (b .st, subst (λ (g : Program Residual). Admits ed (g .plant) start (flatten es) buffer (b .st)) e (b .admits))
+
+  -- as many events are admitted in any order
+  as-many-admitted : (es fs : List (List ℕ)) {st : Start} → length (flatten es) ≡ length (flatten fs) → Admitted es st → Admitted fs st
+  unfolding wholeEvents roomForRecords eventCount
+  as-many-admitted es fs e a = record { starts = a .starts; whole = rw (sym e) (a .whole); room = rw (sym e) (a .room) }
+
+  module _ {st : Start} where
+    records-of : (es : List (List ℕ)) → AllWhole es → Admitted es st → (ruleRun ed file start (flatten es) buffer) .records ≡ overwrite (written ed s (begun ed s st) es) buffer
+    unfolding ruleRun judgeRun report outcomeOf runFrom ruleControl
+    records-of es w a =
+        ap (λ j. (report buffer j) .records) (Judging.go-then _ is-program ∙ Judging.go-then _ (admission-judged ed (s .plant) start (flatten es) buffer a))
+        ∙ ap (λ es. overwrite (written ed s (begun ed s st) es) buffer) (events-cut ed es w)
+
+    reachable : (es fs : List (List ℕ)) → Admitted fs st → Reachable ed s (leftBy ed s (begun ed s st) es)
+    reachable es fs a = record { start = start; st = st; start-read = a .starts .is-read; start-fits = a .starts .fits; events = es; reached = refl }
+
+    module _ (es fs : List (List ℕ)) (e f : List ℕ) (w : AllWhole (es ++ (e ∷ f ∷ fs))) (a : Admitted (es ++ (e ∷ f ∷ fs)) st) where
+      abbrev x : Situation Residual
+      x = leftBy ed s (begun ed s st) es
+
+      abbrev first : Answered Residual
+      first = step ed (s .plant) (ruleControl s) x e
+
+      abbrev last : Answered Residual
+      last = second ed s x e f
+
+      kept : Kept ed file s h x
+      kept = reachable-kept ed file s h (reachable es (es ++ (e ∷ f ∷ fs)) a)
+
+      begins : Kept ed file s h (begun ed s st)
+      unfolding leftBy
+      begins = reachable-kept ed file s h (reachable [] (es ++ (e ∷ f ∷ fs)) a)
+
+      -- what follows the record of the first of the two
+      rest : List ℕ
+      rest = recorded ed s last ++ (written ed s (last .left) fs ++ drop (length (es ++ (e ∷ f ∷ fs)) * recordSize ed (s .plant)) buffer)
+
+      buffer-holds : (ruleRun ed file start (flatten (es ++ (e ∷ f ∷ fs))) buffer) .records ≡ written ed s (begun ed s st) es ++ (recorded ed s first ++ rest)
+      unfolding overwrite rest outcomeOf
+      buffer-holds =
+          let all = es ++ (e ∷ f ∷ fs) in
+          let front = written ed s (begun ed s st) es in
+          let tail = drop (length all * recordSize ed (s .plant)) buffer in
+          let one = recorded ed s first in
+          let two = recorded ed s last in
+          let more = written ed s (last .left) fs in
+          records-of all w a
+          ∙ ap (λ n. written ed s (begun ed s st) all ++ drop n buffer) (written-length ed (s .plant) (ruleControl s) (begun ed s st) all (begins .as-many) (begins .all-modes))
+          ∙ ap (λ (l : List ℕ). l ++ tail) (written-parts ed s (begun ed s st) es fs e f)
+          ∙ append-assoc front (one ++ (two ++ more)) tail
+          ∙ ap (λ (l : List ℕ). front ++ l) (append-assoc one (two ++ more) tail ∙ ap (λ (l : List ℕ). one ++ l) (append-assoc two more tail))
+
+      front-length : length (written ed s (begun ed s st) es) ≡ length es * recordSize ed (s .plant)
+      unfolding outcomeOf
+      front-length = written-length ed (s .plant) (ruleControl s) (begun ed s st) es (begins .as-many) (begins .all-modes)
+
+      first-length : length (recorded ed s first) ≡ recordSize ed (s .plant)
+      first-length = let i = kept-step ed file s h x e kept in record-length ed (s .plant) (ruleControl s) first (i .as-many) (i .all-modes)
+
+      last-length : length (recorded ed s last) ≡ recordSize ed (s .plant)
+      unfolding second
+      last-length =
+          let i = kept-step ed file s h (first .left) f (kept-step ed file s h x e kept) in
+          record-length ed (s .plant) (ruleControl s) last (i .as-many) (i .all-modes)
+
+      -- the two records tell whether both were taken
+      both-recorded : recordsTaken (recordSize ed (s .plant)) (length es) ((ruleRun ed file start (flatten (es ++ (e ∷ f ∷ fs))) buffer) .records) ≡ bothTaken ed s x e f
+      unfolding recordsTaken recordAt bothTaken rest
+      both-recorded =
+          let size = recordSize ed (s .plant) in
+          let front = written ed s (begun ed s st) es in
+          let one = recorded ed s first in
+          let behind = ap (drop (suc (length es) * size)) buffer-holds ∙ records-behind size (length es) front one rest front-length first-length in
+          ap₂ (λ (l m : List ℕ). recordTaken l && recordTaken m)
+          (ap (recordAt size (length es)) buffer-holds ∙ record-here size (length es) front one rest front-length first-length)
+          (ap (take size) behind ∙ take-at (recorded ed s last) _ size last-length)
+          ∙ ap₂ _&&_ (recorded-taken ed s first) (recorded-taken ed s last)
+
+-- ---- item 5 over records
+exchanged-length : (es fs : List (List ℕ)) (e f : List ℕ) → length (es ++ (e ∷ f ∷ fs)) ≡ length (es ++ (f ∷ e ∷ fs))
+exchanged-length es fs e f = length-append es (e ∷ f ∷ fs) ∙ sym (length-append es (f ∷ e ∷ fs))
+
+exchanged-all : {A : Type 0} {P : A → Type 0} (l k : List A) (x y : A) → All P (l ++ (x ∷ y ∷ k)) → All P (l ++ (y ∷ x ∷ k))
+exchanged-all [] k x y (all-cons p (all-cons q r)) = all-cons q (all-cons p r)
+exchanged-all (z ∷ l) k x y (all-cons p r) = all-cons p (exchanged-all l k x y r)
+
+module _ (ed : Edition) (file : List ℕ) (s : Schedule) (h : judgeFile ed file ≡ accepted s) (free : WithoutCase s) (start buffer : List ℕ)
+    (es fs : List (List ℕ)) (e f : List ℕ) (w : All (λ e. length e ≡ ed .event-bytes) (es ++ (e ∷ f ∷ fs)))
+    (z : (ruleRun ed file start (flatten (es ++ (e ∷ f ∷ fs))) buffer) .refusal ≡ 0)
+    (st : Start) (k : startIn (s .plant) start ≡ some st) (i : Independent ed s (leftBy ed s (begun ed s st) es) e f) where
+  abbrev size : ℕ
+  size = recordSize ed (s .plant)
+
+  admitted : Admitted ed file s h start buffer (es ++ (e ∷ f ∷ fs)) st
+  admitted =
+      let a = taken-on ed file s h start buffer (es ++ (e ∷ f ∷ fs)) z in
+      subst (Admitted ed file s h start buffer (es ++ (e ∷ f ∷ fs))) (some-is (sym (a .1 .starts .is-read) ∙ k)) (a .1)
+
+  whole-exchanged : All (λ e. length e ≡ ed .event-bytes) (es ++ (f ∷ e ∷ fs))
+  whole-exchanged = exchanged-all es fs e f w
+
+  admitted-exchanged : Admitted ed file s h start buffer (es ++ (f ∷ e ∷ fs)) st
+  admitted-exchanged =
+      let n = flat-length (ed .event-bytes) w ∙ ap (λ n. n * ed .event-bytes) (exchanged-length es fs e f) ∙ sym (flat-length (ed .event-bytes) whole-exchanged) in
+      as-many-admitted ed file s h start buffer (es ++ (e ∷ f ∷ fs)) (es ++ (f ∷ e ∷ fs)) n admitted
+
+  -- the run by the rules
+  pub rules-either-order : EitherOrderWritten (recordSize ed (s .plant)) (length es)
+      ((ruleRun ed file start (flatten (es ++ (e ∷ f ∷ fs))) buffer) .records) ((ruleRun ed file start (flatten (es ++ (f ∷ e ∷ fs))) buffer) .records)
+  unfolding rest
+  rules-either-order =
+      let n = length es in
+      let x = leftBy ed s (begun ed s st) es in
+      let order = independent-picks ed file s h free x (reachable ed file s h start buffer es (es ++ (e ∷ f ∷ fs)) admitted) e f i in
+      let here = buffer-holds ed file s h start buffer es fs e f w admitted in
+      let there = buffer-holds ed file s h start buffer es fs f e whole-exchanged admitted-exchanged in
+      let both = both-recorded ed file s h start buffer es fs e f w admitted in
+      let front = written ed s (begun ed s st) es in
+      let long = front-length ed file s h start buffer es fs e f w admitted in
+      let one = recorded ed s (step ed (s .plant) (ruleControl s) x e) in
+      let other = recorded ed s (step ed (s .plant) (ruleControl s) x f) in
+      let after-one = rest ed file s h start buffer es fs e f w admitted in
+      let after-other = rest ed file s h start buffer es fs f e whole-exchanged admitted-exchanged in
+      record {
+        taken = both ∙ order .taken ∙ sym (both-recorded ed file s h start buffer es fs f e whole-exchanged admitted-exchanged);
+        before = ap (take (n * size)) here ∙ take-at front (one ++ after-one) (n * size) long ∙ sym (ap (take (n * size)) there ∙ take-at front (other ++ after-other) (n * size) long);
+        behind = λ t.
+            ap (drop (suc n * size)) here ∙ records-behind size n front one after-one long (first-length ed file s h start buffer es fs e f w admitted)
+            ∙ ap₂ (λ (o : Answered Residual) (m : ℕ). recorded ed s o ++ (written ed s (o .left) fs ++ drop (m * size) buffer)) (order .same (sym both ∙ t)) (exchanged-length es fs e f)
+            ∙ sym (ap (drop (suc n * size)) there ∙ records-behind size n front other after-other long (first-length ed file s h start buffer es fs f e whole-exchanged admitted-exchanged));
+      }
+
+  -- the run of the table that compiling wrote for the file
+  pub table-either-order : (room : List ℕ) → (compile ed file room) .refusal ≡ 0 →
+      let table = take ((compile ed file room) .written) ((compile ed file room) .table) in
+      EitherOrderWritten (recordSize ed (s .plant)) (length es)
+      ((tableRun ed table start (flatten (es ++ (e ∷ f ∷ fs))) buffer) .records) ((tableRun ed table start (flatten (es ++ (f ∷ e ∷ fs))) buffer) .records)
+  table-either-order room c =
+      let same = agreement ed file room c .same in
+      subst₂ (λ r t. EitherOrderWritten (recordSize ed (s .plant)) (length es) (r .records) (t .records))
+      (same start (flatten (es ++ (e ∷ f ∷ fs))) buffer) (same start (flatten (es ++ (f ∷ e ∷ fs))) buffer) rules-either-order
