@@ -1,15 +1,15 @@
 -- A walk over truths in another order: where those that stop it stop it alike, it stops at the same.
 use mathlib.Core.Path.{_≡_, refl, sym, ap, _∙_}
 use mathlib.Core.Bool.{false}
-use mathlib.Core.List.{List, [], _∷_, List·Memᴰ as Mem, List·Memᴰ·head as first, List·Memᴰ·tail as later, List·Permᴰ as Permuted, List·Permᴰ·nil as perm-nil, List·Permᴰ·cons as perm-cons, List·Permᴰ·swap as perm-swap, List·Permᴰ·trans as perm-trans, Permᴰ·symm}
+use mathlib.Core.List.{List, [], _∷_, map, List·Memᴰ as Mem, List·Memᴰ·head as first, List·Memᴰ·tail as later, List·Permᴰ as Permuted, List·Permᴰ·nil as perm-nil, List·Permᴰ·cons as perm-cons, List·Permᴰ·swap as perm-swap, List·Permᴰ·trans as perm-trans, Permᴰ·symm}
 use Prim.Native.Nat.{ℕ}
 use native.Mathlib.Omega.{arith}
 use lib.IntN.{ℤ}
 use Rattle.semantics.specs.Editions.{Edition}
 use Rattle.semantics.specs.Expressions.{ok}
 use Rattle.semantics.specs.Evaluating.{TruthComesTo}
-use Rattle.semantics.specs.Run.{walk}
-use Rattle.semantics.specs.Rules.{Found, nothing, Walks, walk-ends, walk-on, stops-at-truth, stops-at-fault, Stops, by-truth, by-fault}
+use Rattle.semantics.specs.Run.{Action, walk}
+use Rattle.semantics.specs.Rules.{Found, nothing, Walks, walk-ends, walk-on, stops-at-truth, stops-at-fault, Stops, by-truth, by-fault, Waits, none-waits, one-waits}
 use Rattle.semantics.specs.Renumbering.{StopAlike}
 use Rattle.semantics.proofs.Facts.{All, all-nil, all-cons, all-mem}
 use Rattle.semantics.proofs.ComesTo.{truth-value}
@@ -55,3 +55,27 @@ walk-any-order ed n vs {ts} {us} d a =
     let v = found-walk ed vs ts in
     let w = found-walk ed vs us in
     walk-found (v .1) n ∙ ap (foundAs n) (same-found d a (came (v .1)) (came (w .1))) ∙ sym (walk-found (w .1) n)
+
+-- ---- CONTINUEs in another order
+-- their truths stand in that order then
+pub record Reordered (action : ℕ → Action) (ns : List ℕ) (ts : List (List ℕ)) : Type 0 where
+  pub truths : List (List ℕ)
+  pub waits : Waits action ns truths
+  pub permuted : Permuted ts truths
+
+pub waits-reordered : {action : ℕ → Action} {ns ms : List ℕ} {ts : List (List ℕ)} → Permuted ns ms → Waits action ns ts → Reordered action ms ts
+waits-reordered perm-nil none-waits = record { truths = []; waits = none-waits; permuted = perm-nil }
+waits-reordered {action} (perm-cons e d) (one-waits {t = t} h w) =
+    let r = waits-reordered d w in
+    record { truths = t ∷ r .truths; waits = one-waits (ap action (sym e) ∙ h) (r .waits); permuted = perm-cons refl (r .permuted) }
+waits-reordered {action} (perm-swap e f) (one-waits {t = t} h (one-waits {t = u} {ts = ts} k w)) =
+    record { truths = u ∷ t ∷ ts; waits = one-waits (ap action (sym f) ∙ k) (one-waits (ap action (sym e) ∙ h) w); permuted = perm-swap refl refl }
+waits-reordered (perm-trans d e) w =
+    let r = waits-reordered d w in
+    let q = waits-reordered e (r .waits) in
+    record { truths = q .truths; waits = q .waits; permuted = perm-trans (r .permuted) (q .permuted) }
+
+pub waits-renumbered : {action other : ℕ → Action} {ns : List ℕ} {ts : List (List ℕ)} (number : ℕ → ℕ) → ((n : ℕ) → other (number n) ≡ action n) →
+    Waits action ns ts → Waits other (map number ns) ts
+waits-renumbered number h none-waits = none-waits
+waits-renumbered number h (one-waits {n = n} e w) = one-waits (h n ∙ e) (waits-renumbered number h w)
