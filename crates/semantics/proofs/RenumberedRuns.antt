@@ -1,7 +1,7 @@
 -- Two controls that agree but for the numbers of their nodes and the order in which these are asked: corresponding events get the same answers.
-use mathlib.Core.Path.{_≡_, refl, sym, ap, _∙_}
+use mathlib.Core.Path.{_≡_, refl, sym, ap, ap₂, _∙_}
 use mathlib.Core.Bool.{Bool, true, false}
-use mathlib.Core.List.{List, [], _∷_, map, List·Memᴰ as Mem, Memᴰ·cast, Memᴰ·map, Memᴰ·of-map, List·Permᴰ as Permuted, List·Permᴰ·nil as perm-nil, Permᴰ·symm}
+use mathlib.Core.List.{List, [], _∷_, map, List·Memᴰ as Mem, Memᴰ·cast, Memᴰ·map, Memᴰ·of-map, map-id, map-map, List·Permᴰ as Permuted, List·Permᴰ·nil as perm-nil, List·Permᴰ·trans as perm-trans, Permᴰ·refl, Permᴰ·symm, Permᴰ·map}
 use mathlib.Core.Option.{Option, none, some}
 use Prim.Native.Nat.{ℕ}
 use lib.IntN.{ℤ}
@@ -11,13 +11,13 @@ use Rattle.semantics.specs.Expressions.{Side, truthValue}
 use Rattle.semantics.specs.Sections.{Variable}
 use Rattle.semantics.specs.Plant.{Plant, among, currentModes, rateOf, advance}
 use Rattle.semantics.specs.Events.{Event, tick, pick, take-switch, senseless, eventIn}
-use Rattle.semantics.specs.Run.{Action, test, wait, assign, switch, stop, to, Control, Verdict, away, faulty, pass, _>>=_, _>>_, allow, find, valued, Moved, nobody, mover, Done, walk, assigned, act, switchCheck, judgePick, judgeSwitch, judgeTick, judge, Situation, Answered, at, turnedAway, follow, settle, step, answers}
+use Rattle.semantics.specs.Run.{Action, test, wait, assign, switch, stop, Next, to, finished, halted, idle, Control, Verdict, away, faulty, pass, _>>=_, _>>_, allow, find, valued, Moved, nobody, mover, Done, walk, assigned, act, switchCheck, judgePick, judgeSwitch, judgeTick, judge, Situation, Answered, at, turnedAway, follow, settle, step, answers, answersIn}
 use Rattle.semantics.specs.Rules.{Waits}
 use Rattle.semantics.specs.Renumbering.{renumbered, Corresponding, actingNow, SameButNumbers, StopAlike, EitherFirst, EitherFirstAtTicks, no-event, one-event}
 use Rattle.semantics.specs.Writing.{Each, each-nil, each-cons}
 use Rattle.semantics.proofs.Facts.{true-not-false, by-cases, among-mem, mem-among}
 use Rattle.semantics.proofs.StepParts.{waits-every, waits-truths, Waiting, all-wait, one-acts, waiting, acts-every}
-use Rattle.semantics.proofs.Simulation.{NextRel, to-rel, PlaceRel, both-over, both-at, SituationRel, AnsweredRel, away-rel, arrive-rel}
+use Rattle.semantics.proofs.Simulation.{NextRel, to-rel, finished-rel, halted-rel, idle-rel, PlaceRel, both-over, both-at, SituationRel, AnsweredRel, away-rel, arrive-rel}
 use Rattle.semantics.proofs.WalksInAnyOrder.{perm-mem, walk-any-order, waits-reordered, waits-renumbered}
 
 -- what the two have to agree on
@@ -174,3 +174,45 @@ module _ {S R : Type 0} {number : ℕ → ℕ} {c : Control S} {d : Control R} {
   pub runs-renumbered : (vs : List ℤ) (ms : List ℕ) (es fs : List (List ℕ)) → EitherFirstAtTicks ed p c (at (c .start) vs ms) es → Each (Corresponding ed number) es fs →
       Each (SameButNumbers number c d) (answers ed p c (at (c .start) vs ms) es) (answers ed p d (at (d .start) vs ms) fs)
   runs-renumbered vs ms es fs m k = answers-alike m k (record { places = both-at (agree .starts); values-same = refl; modes-same = refl })
+
+pub same-said : {S R : Type 0} {number : ℕ → ℕ} {c : Control S} {d : Control R} {l : List (Answered S)} {k : List (Answered R)} →
+    Each (SameButNumbers number c d) l k → answersIn l ≡ answersIn k
+same-said each-nil = refl
+same-said (each-cons h r) = ap₂ _∷_ (h .answer) (same-said r)
+
+-- ---- agreement of a control with itself, and through a third
+next-same : {S : Type 0} (x : Next S) → NextRel (λ (a b : S). a ≡ b) x x
+next-same (to x) = to-rel refl
+next-same finished = finished-rel
+next-same halted = halted-rel
+next-same idle = idle-rel
+
+pub agree-unchanged : {S : Type 0} (c : Control S) → AgreeRenumbered (λ n. n) c c (λ (x y : S). x ≡ y)
+agree-unchanged c = record {
+  starts = refl;
+  one-to-one = λ m n e. e;
+  actions = λ n. refl;
+  acting-same = λ x y e. rw (map-id (c .acting x), e) (Permᴰ·refl (c .acting y));
+  nexts = λ x y e n m b. rw e (next-same (c .next y n b));
+}
+
+-- two relations, one after the other
+abbrev pub Through : {S R T : Type 0} → (S → R → Type 0) → (R → T → Type 0) → S → T → Type 0
+Through {R = R} Sim Sim′ x z = (y : R) × Sim x y × Sim′ y z
+
+next-through : {S R T : Type 0} {Sim : S → R → Type 0} {Sim′ : R → T → Type 0} {x : Next S} {y : Next R} {z : Next T} →
+    NextRel Sim x y → NextRel Sim′ y z → NextRel (Through Sim Sim′) x z
+next-through (to-rel {y = y} h) (to-rel k) = to-rel (y, h, k)
+next-through finished-rel finished-rel = finished-rel
+next-through halted-rel halted-rel = halted-rel
+next-through idle-rel idle-rel = idle-rel
+
+pub agree-then : {S R T : Type 0} {f g : ℕ → ℕ} {c : Control S} {d : Control R} {e : Control T} {Sim : S → R → Type 0} {Sim′ : R → T → Type 0} →
+    AgreeRenumbered f c d Sim → AgreeRenumbered g d e Sim′ → AgreeRenumbered (λ n. g (f n)) c e (Through Sim Sim′)
+agree-then {f = f} {g = g} {c = c} {d = d} {e = e} a b = record {
+  starts = (d .start, a .starts, b .starts);
+  one-to-one = λ m n h. a .one-to-one m n (b .one-to-one (f m) (f n) h);
+  actions = λ n. b .actions (f n) ∙ a .actions n;
+  acting-same = λ x z h. rw (← map-map g f (c .acting x)) (perm-trans (Permᴰ·map g (a .acting-same x (h .0) (h .1))) (b .acting-same (h .0) z (h .2)));
+  nexts = λ x z h n m o. next-through (a .nexts x (h .0) (h .1) n m o) (b .nexts (h .0) z (h .2) (f n) (perm-mem (a .acting-same x (h .0) (h .1)) (Memᴰ·map f m)) o);
+}
