@@ -1,22 +1,26 @@
 -- Two controls that agree but for the numbers of their nodes and the order in which these are asked: corresponding events get the same answers.
 use mathlib.Core.Path.{_≡_, refl, sym, ap, ap₂, _∙_}
 use mathlib.Core.Bool.{Bool, true, false}
-use mathlib.Core.List.{List, [], _∷_, map, List·Memᴰ as Mem, Memᴰ·cast, Memᴰ·map, Memᴰ·of-map, map-id, map-map, List·Permᴰ as Permuted, List·Permᴰ·nil as perm-nil, List·Permᴰ·trans as perm-trans, Permᴰ·refl, Permᴰ·symm, Permᴰ·map}
+use mathlib.Core.List.{List, [], _∷_, _++_, map, flatMap, List·Memᴰ as Mem, Memᴰ·cast, Memᴰ·map, Memᴰ·of-map, map-id, map-map, List·Permᴰ as Permuted, List·Permᴰ·nil as perm-nil, List·Permᴰ·trans as perm-trans, Permᴰ·refl, Permᴰ·symm, Permᴰ·map}
 use mathlib.Core.Option.{Option, none, some}
-use Prim.Native.Nat.{ℕ}
+use Prim.Native.Nat.{ℕ, suc, _+_}
+use native.Mathlib.Omega.{arith}
 use lib.IntN.{ℤ}
-use lib.ListN.{getElem?}
+use lib.ListN.{getElem?, take, drop}
+use lib.Seq.{drop-at}
+use Rattle.semantics.specs.Bytes.{bigEndian}
 use Rattle.semantics.specs.Editions.{Edition}
 use Rattle.semantics.specs.Expressions.{Side, truthValue}
 use Rattle.semantics.specs.Sections.{Variable}
 use Rattle.semantics.specs.Plant.{Plant, among, currentModes, rateOf, advance}
 use Rattle.semantics.specs.Events.{Event, tick, pick, take-switch, senseless, eventIn}
-use Rattle.semantics.specs.Run.{Action, test, wait, assign, switch, stop, Next, to, finished, halted, idle, Control, Verdict, away, faulty, pass, _>>=_, _>>_, allow, find, valued, Moved, nobody, mover, Done, walk, assigned, act, switchCheck, judgePick, judgeSwitch, judgeTick, judge, Situation, Answered, at, turnedAway, follow, settle, step, answers, answersIn}
+use Rattle.semantics.specs.Run.{Action, test, wait, assign, switch, stop, Next, to, finished, halted, idle, Control, Verdict, away, faulty, pass, _>>=_, _>>_, allow, find, valued, Moved, nobody, mover, Done, walk, assigned, act, switchCheck, judgePick, judgeSwitch, judgeTick, judge, Situation, Answered, at, turnedAway, follow, settle, step, answers, answersIn, actingSet, valueBytes, recordBytes, recordOf}
 use Rattle.semantics.specs.Rules.{Waits}
 use Rattle.semantics.specs.Renumbering.{renumbered, Corresponding, actingNow, SameButNumbers, StopAlike, EitherFirst, EitherFirstAtTicks, no-event, one-event}
 use Rattle.semantics.specs.Writing.{Each, each-nil, each-cons}
 use Rattle.semantics.proofs.Facts.{true-not-false, by-cases, among-mem, mem-among}
 use Rattle.semantics.proofs.StepParts.{waits-every, waits-truths, Waiting, all-wait, one-acts, waiting, acts-every}
+use Rattle.semantics.proofs.RunCounts.{set-length}
 use Rattle.semantics.proofs.Simulation.{NextRel, to-rel, finished-rel, halted-rel, idle-rel, PlaceRel, both-over, both-at, SituationRel, AnsweredRel, away-rel, arrive-rel}
 use Rattle.semantics.proofs.WalksInAnyOrder.{perm-mem, walk-any-order, waits-reordered, waits-renumbered}
 
@@ -179,6 +183,22 @@ pub same-said : {S R : Type 0} {number : ℕ → ℕ} {c : Control S} {d : Contr
     Each (SameButNumbers number c d) l k → answersIn l ≡ answersIn k
 same-said each-nil = refl
 same-said (each-cons h r) = ap₂ _∷_ (h .answer) (same-said r)
+
+-- ---- records
+-- what stands behind the set of acting nodes
+behind-set : {S : Type 0} (ed : Edition) (c : Control S) (o : Answered S) → drop (1 + ed .set-bytes) (recordOf ed c o) ≡ flatMap valueBytes (o .left .values) ++ o .left .modes
+unfolding recordOf recordBytes
+behind-set ed c o =
+    let set = actingSet c (o .left .place) in
+    let e : 1 + ed .set-bytes ≡ suc (ed .set-bytes) = omega arith in
+    rw e (drop-at (bigEndian (ed .set-bytes) set) (flatMap valueBytes (o .left .values) ++ o .left .modes) (ed .set-bytes) (set-length (ed .set-bytes) set))
+
+-- two records differ at most in the set
+pub records-but-numbers : {S R : Type 0} {number : ℕ → ℕ} {c : Control S} {d : Control R} {o : Answered S} {q : Answered R} (ed : Edition) → SameButNumbers number c d o q →
+    (take 1 (recordOf ed c o) ≡ take 1 (recordOf ed d q)) × (drop (1 + ed .set-bytes) (recordOf ed c o) ≡ drop (1 + ed .set-bytes) (recordOf ed d q))
+unfolding recordOf recordBytes
+records-but-numbers {c = c} {d = d} {o = o} {q = q} ed h =
+    (ap (λ n. n ∷ []) (h .answer), behind-set ed c o ∙ ap₂ (λ vs ms. flatMap valueBytes vs ++ ms) (h .values) (h .modes) ∙ sym (behind-set ed d q))
 
 -- ---- agreement of a control with itself, and through a third
 next-same : {S : Type 0} (x : Next S) → NextRel (λ (a b : S). a ≡ b) x x

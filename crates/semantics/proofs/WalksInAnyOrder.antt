@@ -58,12 +58,12 @@ walk-any-order ed n vs {ts} {us} d a =
 
 -- ---- CONTINUEs in another order
 -- their truths stand in that order then
-pub record Reordered (action : ℕ → Action) (ns : List ℕ) (ts : List (List ℕ)) : Type 0 where
+pub record ReorderedWaits (action : ℕ → Action) (ns : List ℕ) (ts : List (List ℕ)) : Type 0 where
   pub truths : List (List ℕ)
   pub waits : Waits action ns truths
   pub permuted : Permuted ts truths
 
-pub waits-reordered : {action : ℕ → Action} {ns ms : List ℕ} {ts : List (List ℕ)} → Permuted ns ms → Waits action ns ts → Reordered action ms ts
+pub waits-reordered : {action : ℕ → Action} {ns ms : List ℕ} {ts : List (List ℕ)} → Permuted ns ms → Waits action ns ts → ReorderedWaits action ms ts
 waits-reordered perm-nil none-waits = record { truths = []; waits = none-waits; permuted = perm-nil }
 waits-reordered {action} (perm-cons e d) (one-waits {t = t} h w) =
     let r = waits-reordered d w in
