@@ -27,6 +27,7 @@ pub mod FirstAnswer
 -- a run, and two controls that agree
 pub mod Verdicts
 pub mod Simulation
+pub mod WalksInAnyOrder
 pub mod RenumberedRuns
 pub mod RunCounts
 pub mod RecordForms

@@ -19,18 +19,18 @@ module _ {S R : Type 0} (Sim : S → R → Type 0) where
     halted-rel : NextRel halted halted
     idle-rel : NextRel idle idle
 
-  data PlaceRel : Option S → Option R → Type 0 where
+  pub data PlaceRel : Option S → Option R → Type 0 where
     both-over : PlaceRel none none
     both-at : {x : S} {y : R} → Sim x y → PlaceRel (some x) (some y)
 
-  record SituationRel (s : Situation S) (t : Situation R) : Type 0 where
-    places : PlaceRel (s .place) (t .place)
-    values-same : s .values ≡ t .values
-    modes-same : s .modes ≡ t .modes
+  pub record SituationRel (s : Situation S) (t : Situation R) : Type 0 where
+    pub places : PlaceRel (s .place) (t .place)
+    pub values-same : s .values ≡ t .values
+    pub modes-same : s .modes ≡ t .modes
 
-  record AnsweredRel (o : Answered S) (q : Answered R) : Type 0 where
-    answer-same : o .answer ≡ q .answer
-    lefts : SituationRel (o .left) (q .left)
+  pub record AnsweredRel (o : Answered S) (q : Answered R) : Type 0 where
+    pub answer-same : o .answer ≡ q .answer
+    pub lefts : SituationRel (o .left) (q .left)
 
   data AllAnswered : List (Answered S) → List (Answered R) → Type 0 where
     none-answered : AllAnswered [] []
@@ -38,11 +38,11 @@ module _ {S R : Type 0} (Sim : S → R → Type 0) where
         AnsweredRel o q → AllAnswered l k → AllAnswered (o ∷ l) (q ∷ k)
 
   module _ {s : Situation S} {t : Situation R} (r : SituationRel s t) where
-    away-rel : (n : ℕ) → AnsweredRel (turnedAway n s) (turnedAway n t)
+    pub away-rel : (n : ℕ) → AnsweredRel (turnedAway n s) (turnedAway n t)
     unfolding turnedAway
     away-rel n = record { answer-same = refl; lefts = r }
 
-    arrive-rel : {x : Next S} {y : Next R} (vs : List ℤ) (ms : List ℕ) → NextRel x y → AnsweredRel (arrive s x vs ms) (arrive t y vs ms)
+    pub arrive-rel : {x : Next S} {y : Next R} (vs : List ℤ) (ms : List ℕ) → NextRel x y → AnsweredRel (arrive s x vs ms) (arrive t y vs ms)
     unfolding arrive
     arrive-rel vs ms (to-rel h) = record { answer-same = refl; lefts = record { places = both-at h; values-same = refl; modes-same = refl } }
     arrive-rel vs ms finished-rel = record { answer-same = refl; lefts = record { places = both-over; values-same = refl; modes-same = refl } }
