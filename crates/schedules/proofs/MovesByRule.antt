@@ -283,15 +283,15 @@ rule-mover (all-finished h k f) = parallel-acts (becomes-child k) (rule-mover h)
 rule-mover (child-goes h k) = parallel-acts (becomes-child k) (rule-mover h)
 
 -- no number stands twice
-distinct-front : (l k : List ℕ) → Distinct (l ++ k) → Distinct l
+pub distinct-front : (l k : List ℕ) → Distinct (l ++ k) → Distinct l
 distinct-front [] k d = distinct-nil
 distinct-front (x ∷ l) k (distinct-cons f d) = distinct-cons (λ m. f (Memᴰ·append-left k m)) (distinct-front l k d)
 
-distinct-back : (l k : List ℕ) → Distinct (l ++ k) → Distinct k
+pub distinct-back : (l k : List ℕ) → Distinct (l ++ k) → Distinct k
 distinct-back [] k d = d
 distinct-back (x ∷ l) k (distinct-cons f d) = distinct-back l k d
 
-distinct-apart : {n : ℕ} (l k : List ℕ) → Distinct (l ++ k) → Mem n l → Mem n k → ⊥
+pub distinct-apart : {n : ℕ} (l k : List ℕ) → Distinct (l ++ k) → Mem n l → Mem n k → ⊥
 distinct-apart [] k d m i = List·Memᴰ·not-nil m
 distinct-apart {n} (x ∷ l) k (distinct-cons f d) m i = go (List·Memᴰ·cases-cons m) (λ j. distinct-apart l k d j i)
   where
