@@ -1,5 +1,5 @@
 -- Two controls that agree but for the numbers of their nodes and the order in which these are asked: corresponding events get the same answers.
-use mathlib.Core.Path.{_≡_, refl, sym, ap, ap₂, _∙_}
+use mathlib.Core.Path.{_≡_, refl, sym, ap, ap₂, subst, _∙_}
 use mathlib.Core.Bool.{Bool, true, false}
 use mathlib.Core.List.{List, [], _∷_, _++_, map, flatMap, List·Memᴰ as Mem, Memᴰ·cast, Memᴰ·map, Memᴰ·of-map, map-id, map-map, List·Permᴰ as Permuted, List·Permᴰ·nil as perm-nil, List·Permᴰ·trans as perm-trans, Permᴰ·refl, Permᴰ·symm, Permᴰ·map}
 use mathlib.Core.Option.{Option, none, some}
@@ -12,14 +12,15 @@ use Rattle.semantics.specs.Bytes.{bigEndian}
 use Rattle.semantics.specs.Editions.{Edition}
 use Rattle.semantics.specs.Expressions.{Side, truthValue}
 use Rattle.semantics.specs.Sections.{Variable}
-use Rattle.semantics.specs.Plant.{Plant, among, currentModes, rateOf, advance}
+use Rattle.semantics.specs.Plant.{Plant, among, currentModes, currentTruths, rateOf, advance}
 use Rattle.semantics.specs.Events.{Event, tick, pick, take-switch, senseless, eventIn}
-use Rattle.semantics.specs.Run.{Action, test, wait, assign, switch, stop, Next, to, finished, halted, idle, Control, Verdict, away, faulty, pass, _>>=_, _>>_, allow, find, valued, Moved, nobody, mover, Done, walk, assigned, act, switchCheck, judgePick, judgeSwitch, judgeTick, judge, Situation, Answered, at, turnedAway, follow, settle, step, answers, answersIn, actingSet, valueBytes, recordBytes, recordOf}
-use Rattle.semantics.specs.Rules.{Waits}
+use Rattle.semantics.specs.Run.{Action, test, wait, assign, switch, stop, Next, to, finished, halted, idle, Control, Verdict, away, faulty, pass, _>>=_, _>>_, allow, find, valued, Moved, nobody, mover, Done, walk, checkModes, assigned, act, switchCheck, judgePick, judgeSwitch, judgeTick, judge, Situation, Answered, at, turnedAway, follow, settle, step, answers, answersIn, actingSet, valueBytes, recordBytes, recordOf}
+use Rattle.semantics.specs.Rules.{CurrentSwitch, Found, nothing, found-true, found-fault, Checks, Waits}
 use Rattle.semantics.specs.Renumbering.{renumbered, Corresponding, actingNow, SameButNumbers, StopAlike, EitherFirst, EitherFirstAtTicks, no-event, one-event}
 use Rattle.semantics.specs.Writing.{Each, each-nil, each-cons}
 use Rattle.semantics.proofs.Facts.{true-not-false, by-cases, among-mem, mem-among}
-use Rattle.semantics.proofs.StepParts.{waits-every, waits-truths, Waiting, all-wait, one-acts, waiting, acts-every}
+use Rattle.semantics.proofs.StepParts.{foundAs, walk-found, waits-every, waits-truths, Waiting, all-wait, one-acts, waiting, acts-every}
+use Rattle.semantics.proofs.Currents.{check-walk, found-check}
 use Rattle.semantics.proofs.RunCounts.{set-length}
 use Rattle.semantics.proofs.Simulation.{NextRel, to-rel, finished-rel, halted-rel, idle-rel, PlaceRel, both-over, both-at, SituationRel, AnsweredRel, away-rel, arrive-rel}
 use Rattle.semantics.proofs.WalksInAnyOrder.{perm-mem, walk-any-order, waits-reordered, waits-renumbered}
@@ -107,21 +108,36 @@ module _ {S R : Type 0} {number : ℕ → ℕ} {c : Control S} {d : Control R} {
           (allow-alike 25 (among n (c .acting x)) (λ e.
           then-alike (switchCheck ed p vs ms) (act-alike ed (p .variables) vs ms (among-mem n (c .acting x) e) (c .action n))))
 
-      tick-alike : ((ts : List (List ℕ)) → Waits (c .action) (c .acting x) ts → StopAlike ed vs ts) → Alike tick tick
+      -- all acting nodes wait: where the switch check stops, nobody is asked
+      waits-alike : {ts : List (List ℕ)} → Waits (c .action) (c .acting x) ts → (f : Found) → Checks ed vs (CurrentSwitch p ms) f → (f ≡ nothing → StopAlike ed vs ts) → Alike tick tick
+      unfolding judge judgeTick switchCheck checkModes foundAs _>>_ allow
+      waits-alike {ts} w nothing k a =
+          let r = waits-reordered {action = d .action} (agree .acting-same x y h) (waits-renumbered number (agree .actions) w) in
+          rw (waits-every w, waits-truths w, waits-every (r .waits), waits-truths (r .waits), ← walk-any-order ed 31 vs (r .permuted) (a refl))
+          (then-alike (walk ed 28 vs (currentTruths (currentModes p ms))) (then-alike (walk ed 31 vs ts)
+          (bind-alike (valued (advance (p .variables) (rateOf p ms) vs)) (λ ys. both-pass nobody-alike))))
+      waits-alike w found-true k a =
+          let r = waits-reordered {action = d .action} (agree .acting-same x y h) (waits-renumbered number (agree .actions) w) in
+          rw (waits-every w, waits-every (r .waits), walk-found (check-walk k) 28) both-away
+      waits-alike w (found-fault side) k a =
+          let r = waits-reordered {action = d .action} (agree .acting-same x y h) (waits-renumbered number (agree .actions) w) in
+          rw (waits-every w, waits-every (r .waits), walk-found (check-walk k) 28) both-faulty
+
+      -- what the order of the acting nodes asks of a tick
+      abbrev AskedAlike : Type 0
+      AskedAlike = (ts : List (List ℕ)) → Waits (c .action) (c .acting x) ts → Checks ed vs (CurrentSwitch p ms) nothing → StopAlike ed vs ts
+
+      tick-alike : AskedAlike → Alike tick tick
       unfolding judge judgeTick
-      tick-alike a = go (waiting (c .action) (c .acting x))
+      tick-alike a = go (waiting (c .action) (c .acting x)) (found-check ed p vs ms)
         where
-          go : Waiting (c .action) (c .acting x) → Alike tick tick
-          go (all-wait {ts = ts} w) =
-              let r = waits-reordered {action = d .action} (agree .acting-same x y h) (waits-renumbered number (agree .actions) w) in
-              rw (waits-every w, waits-truths w, waits-every (r .waits), waits-truths (r .waits), ← walk-any-order ed 31 vs (r .permuted) (a ts w))
-              (then-alike (allow 27 true) (then-alike (switchCheck ed p vs ms) (then-alike (walk ed 31 vs ts)
-              (bind-alike (valued (advance (p .variables) (rateOf p ms) vs)) (λ ys. both-pass nobody-alike)))))
-          go (one-acts {n = n} m f) =
+          go : Waiting (c .action) (c .acting x) → (f : Found) × Checks ed vs (CurrentSwitch p ms) f → Alike tick tick
+          go (all-wait {ts = ts} w) k = waits-alike w (k .0) (k .1) (λ e. a ts w (subst (Checks ed vs (CurrentSwitch p ms)) e (k .1)))
+          go (one-acts {n = n} m f) k =
               rw (acts-every (c .action) (c .acting x) m f, acts-every (d .action) (d .acting y) (acting-there m) (λ t e. f t (sym (agree .actions n) ∙ e)))
               (allow-alike 27 false (λ e. true-not-false (sym e)))
 
-      judge-alike : (e : Event) → (e ≡ tick → (ts : List (List ℕ)) → Waits (c .action) (c .acting x) ts → StopAlike ed vs ts) → Alike e (renumbered number e)
+      judge-alike : (e : Event) → (e ≡ tick → AskedAlike) → Alike e (renumbered number e)
       unfolding judge renumbered
       judge-alike tick a = tick-alike (a refl)
       judge-alike (pick n) a = pick-alike n
@@ -151,7 +167,7 @@ module _ {S R : Type 0} {number : ℕ → ℕ} {c : Control S} {d : Control R} {
       by-place i both-over = away-rel Sim r 23
       by-place i (both-at {x = x} {y = y} h) =
           settle-alike x y h r
-          (rw (q, ← r .values-same, ← r .modes-same) (judge-alike x y h (s .values) (s .modes) (eventIn ed e) (λ k ts w. a k .waiting x ts i w)))
+          (rw (q, ← r .values-same, ← r .modes-same) (judge-alike x y h (s .values) (s .modes) (eventIn ed e) (λ k ts w. a k .asked x ts i w)))
 
   -- ---- a run
   acting-alike : {u : Option S} {v : Option R} → PlaceRel Sim u v → Permuted (map number (actingNow c u)) (actingNow d v)

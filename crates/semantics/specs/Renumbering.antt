@@ -9,7 +9,7 @@ use Rattle.semantics.specs.Editions.{Edition}
 use Rattle.semantics.specs.Plant.{Plant}
 use Rattle.semantics.specs.Events.{Event, tick, pick, take-switch, senseless, eventIn}
 use Rattle.semantics.specs.Run.{Control, Situation, Answered, step}
-use Rattle.semantics.specs.Rules.{Found, Stops, Waits}
+use Rattle.semantics.specs.Rules.{CurrentSwitch, Found, nothing, Stops, Checks, Waits}
 
 -- the same event, with a picked node's other number
 unfoldable pub renumbered : (ℕ → ℕ) → Event → Event
@@ -40,9 +40,10 @@ pub record StopAlike (ed : Edition) (vs : List ℤ) (ts : List (List ℕ)) : Typ
   pub alike : (t u : List ℕ) (f g : Found) → Mem t ts → Mem u ts → Stops ed vs t f → Stops ed vs u g → f ≡ g
 
 module _ {S : Type 0} (ed : Edition) (p : Plant) (c : Control S) where
-  -- where all acting nodes are CONTINUEs, their truths are such
+  -- where a tick comes to ask the acting CONTINUEs, their truths are such
   pub record EitherFirst (s : Situation S) : Type 0 where
-    pub waiting : (x : S) (ts : List (List ℕ)) → s .place ≡ some x → Waits (c .action) (c .acting x) ts → StopAlike ed (s .values) ts
+    pub asked : (x : S) (ts : List (List ℕ)) → s .place ≡ some x → Waits (c .action) (c .acting x) ts → Checks ed (s .values) (CurrentSwitch p (s .modes)) nothing →
+        StopAlike ed (s .values) ts
 
   -- at each tick of a run
   pub data EitherFirstAtTicks : Situation S → List (List ℕ) → Type 0 where
