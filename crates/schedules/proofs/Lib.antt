@@ -53,6 +53,7 @@ pub mod ReorderedTrees
 pub mod AnyOrder
 pub mod BranchOrder
 pub mod AlikeTrees
+pub mod SwappedNumbers
 pub mod BorderPapers
 -- bytes read just where they are a written form
 pub mod FileForms
