@@ -54,6 +54,7 @@ pub mod AnyOrder
 pub mod BranchOrder
 pub mod AlikeTrees
 pub mod SwappedNumbers
+pub mod TreeStack
 pub mod BorderPapers
 -- bytes read just where they are a written form
 pub mod FileForms
