@@ -55,6 +55,7 @@ pub mod BranchOrder
 pub mod AlikeTrees
 pub mod SwappedNumbers
 pub mod TreeStack
+pub mod SwappedTrees
 pub mod BorderPapers
 -- bytes read just where they are a written form
 pub mod FileForms

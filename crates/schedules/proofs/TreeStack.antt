@@ -1,15 +1,15 @@
 -- Nodes in preorder, read from the last to the first, make a stack of trees: each node takes its children off and puts its tree there.
 use mathlib.Core.Path.{_≡_, refl, sym, ap, ap₂, subst, _∙_}
 use mathlib.Core.List.{List, [], _∷_, _++_, append-assoc, append-nil}
-use mathlib.Core.Option.{Option, none, some}
-use Prim.Native.Nat.{ℕ, zero, suc, _+_, _≤_, _<_}
+use Prim.Native.Nat.{ℕ, suc, _+_, _≤_, _<_}
 use native.Mathlib.Omega.{arith}
 use lib.ListN.{length, length-append}
 use Rattle.semantics.proofs.Facts.{some-is}
 use Rattle.schedules.specs.Nodes.{Node}
 use Rattle.schedules.specs.Trees.{Tree, Forest, leaf, halt, loop, branch, seq, par, nil, cons, children, treeFrom}
-use Rattle.schedules.specs.Preorder.{forestLength, Written, WrittenAll, a-continue, a-reset, a-reinitial, a-switch, a-stop, a-while, an-if, a-sequence, a-parallel, no-tree, one-tree as next-tree}
-use Rattle.schedules.proofs.OneTree.{Rooted, Headed, written-headed}
+use Rattle.schedules.specs.Preorder.{forestLength, Written, WrittenAll, no-tree, one-tree as next-tree}
+use Rattle.schedules.specs.Preorder.{a-continue, a-reset, a-reinitial, a-switch, a-stop, a-while, an-if, a-sequence, a-parallel}
+use Rattle.schedules.proofs.OneTree.{Rooted, written-headed}
 
 -- the first k trees of a stack, and the others
 pub data Cut : ℕ → Forest → Forest → Forest → Type 0 where
@@ -81,7 +81,8 @@ on-top R f s [] h r v w = r _ _ _ _ (omega arith) (omega arith) v w
 on-top R f s (z ∷ zs) {m = m} {k = k} h r v w =
     let a = opened v in
     let b = opened w in
-    s .keeps z a b (h m k (omega arith) (omega arith) (omega arith)) (on-top R f s zs (λ i j p q e. h i j (omega arith) (omega arith) (omega arith)) (λ i j ts us p q. r i j ts us (omega arith) (omega arith)) (a .written) (b .written))
+    s .keeps z a b (h m k (omega arith) (omega arith) (omega arith)) (on-top R f s zs (λ i j p q e. h i j (omega arith) (omega arith) (omega arith))
+    (λ i j ts us p q. r i j ts us (omega arith) (omega arith)) (a .written) (b .written))
 
 no-node : {ts : Forest} {n : ℕ} → WrittenAll ts n [] → ts ≡ nil
 no-node no-tree = refl
@@ -91,12 +92,13 @@ no-node (next-tree {ms = is} {ns = js} v w e) =
     let j : length is ≡ suc (length (h .rest)) = ap length (h .split) in
     absurd (omega arith)
 
-pub same-nodes : (R : Forest → Forest → Type 0) (f : ℕ → ℕ) → Kept R f → R nil nil → {ns : List Node} {ts us : Forest} {m k : ℕ} → Moves f m k (length ns) → WrittenAll ts m ns → WrittenAll us k ns → R ts us
+pub same-nodes : (R : Forest → Forest → Type 0) (f : ℕ → ℕ) → Kept R f → R nil nil → {ns : List Node} {ts us : Forest} {m k : ℕ} → Moves f m k (length ns) →
+    WrittenAll ts m ns → WrittenAll us k ns → R ts us
 same-nodes R f s r {ns} {ts} {us} {m} {k} h v w =
     let e = sym (append-nil ns) in
     on-top R f s ns h (λ i j ts us p q v w. subst (R ts) (sym (no-node w)) (subst (λ ts. R ts nil) (sym (no-node v)) r)) (subst (WrittenAll ts m) e v) (subst (WrittenAll us k) e w)
 
-pub one-stack : {ns : List Node} {ts us : Forest} {n : ℕ} → WrittenAll ts n ns → WrittenAll us n ns → ts ≡ us
+one-stack : {ns : List Node} {ts us : Forest} {n : ℕ} → WrittenAll ts n ns → WrittenAll us n ns → ts ≡ us
 one-stack = same-nodes _≡_ (λ n. n) (record { keeps = kept }) refl (λ i j p q e. omega arith)
   where
     kept : {ts us : Forest} {m k : ℕ} (x : Node) {ms ns : List Node} (a : Opened ts m x ms) (b : Opened us k x ns) → m ≡ k → a .all ≡ b .all → ts ≡ us
@@ -106,6 +108,7 @@ one-stack = same-nodes _≡_ (λ n. n) (record { keeps = kept }) refl (λ i j p 
         a .is ∙ ap₂ cons f (c .1) ∙ sym (b .is)
 
 -- ---- the first trees of a stack
+-- trees that are not none have a first
 some-tree : (us : Forest) {n l : ℕ} {ns : List Node} → WrittenAll us n ns → forestLength us ≡ suc l → (u : Tree) × (vs : Forest) × WrittenAll (cons u vs) n ns × (forestLength (cons u vs) ≡ suc l)
 unfolding forestLength
 some-tree nil w e = absurd (omega arith)
@@ -146,16 +149,17 @@ what-follows : {ts : Forest} {n : ℕ} (ms ns : List Node) → WrittenAll ts n (
 what-follows {ts} {n} [] ns w = (ts, subst (λ i. WrittenAll ts i ns) (omega arith) w)
 what-follows {n = n} (x ∷ ms) ns w = let a = opened w in let b = what-follows ms ns (a .written) in (b .0, subst (λ i. WrittenAll (b .0) i ns) (omega arith) (b .1))
 
-pub record Front (k : ℕ) (ts : Forest) (n : ℕ) (ms ns : List Node) : Type 0 where
+-- the first k trees of a stack are those of the nodes ms
+pub record TopTrees (k : ℕ) (ts : Forest) (n : ℕ) (ms ns : List Node) : Type 0 where
   pub trees : Forest
   pub others : Forest
   pub cut : Cut k ts trees others
   pub written : WrittenAll trees n ms
   pub others-written : WrittenAll others (n + length ms) ns
 
--- nodes that are so many trees wherever they are counted from
-pub front : {vs ts : Forest} {m n : ℕ} {ms ns : List Node} → WrittenAll vs m ms → WrittenAll ts n (ms ++ ns) → Front (forestLength vs) ts n ms ns
-front {vs} {ts} {n = n} {ms} {ns} v w =
+-- nodes that are so many trees counted from one number are so many from any other
+pub top-trees : {vs ts : Forest} {m n : ℕ} {ms ns : List Node} → WrittenAll vs m ms → WrittenAll ts n (ms ++ ns) → TopTrees (forestLength vs) ts n ms ns
+top-trees {vs} {ts} {n = n} {ms} {ns} v w =
     let o = what-follows ms ns w in
     let s = shifted-all v n in
     let j = joined (s .1) (o .1) refl in
