@@ -53,8 +53,12 @@ pub mod ReorderedTrees
 pub mod AnyOrder
 pub mod BranchOrder
 pub mod AlikeTrees
+pub mod SwappedNumbers
+pub mod TreeStack
+pub mod SwappedTrees
 pub mod LikeResiduals
 pub mod AlikeMoves
+pub mod ReorderedRuns
 pub mod BorderPapers
 -- bytes read just where they are a written form
 pub mod FileForms

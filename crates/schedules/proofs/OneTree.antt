@@ -61,7 +61,7 @@ pub record Rooted (t : Tree) (n : ℕ) (x : Node) (ts : Forest) : Type 0 where
 pub only-one : {t : Tree} {n : ℕ} {ns : List Node} → WrittenAll (cons t nil) n ns → Written t n ns
 only-one {t} {n} (next-tree {ms = ms} w no-tree e) = subst (Written t n) (sym (append-nil ms) ∙ sym e) w
 
-one-only : {t : Tree} {n : ℕ} {ns : List Node} → Written t n ns → WrittenAll (cons t nil) n ns
+pub one-only : {t : Tree} {n : ℕ} {ns : List Node} → Written t n ns → WrittenAll (cons t nil) n ns
 one-only {ns = ns} w = next-tree w no-tree (sym (append-nil ns))
 
 pub rooted-written : {t : Tree} {n : ℕ} (x : Node) (ts : Forest) {ns : List Node} → Rooted t n x ts → WrittenAll ts (suc n) ns → Written t n (x ∷ ns)
@@ -89,18 +89,18 @@ rooted-written {n = n} stop-all nil r no-tree = subst (λ t. Written t n (stop-a
 rooted-written stop-all (cons t ts) r w = none-not-some (r .made)
 
 -- the first node of a written tree, its children and their nodes
-record Headed (t : Tree) (n : ℕ) (ns : List Node) : Type 0 where
-  node : Node
-  trees : Forest
-  rest : List Node
-  split : ns ≡ node ∷ rest
-  rooted : Rooted t n node trees
-  written : WrittenAll trees (suc n) rest
+pub record Headed (t : Tree) (n : ℕ) (ns : List Node) : Type 0 where
+  pub node : Node
+  pub trees : Forest
+  pub rest : List Node
+  pub split : ns ≡ node ∷ rest
+  pub rooted : Rooted t n node trees
+  pub written : WrittenAll trees (suc n) rest
 
 headed : {t : Tree} {n : ℕ} {x : Node} {ts : Forest} {ns : List Node} → forestLength ts ≡ children x → treeFrom n x ts ≡ some t → WrittenAll ts (suc n) ns → Headed t n (x ∷ ns)
 headed {x = x} {ts = ts} {ns = ns} e f w = record { node = x; trees = ts; rest = ns; split = refl; rooted = record { many = e; made = f }; written = w }
 
-written-headed : {t : Tree} {n : ℕ} {ns : List Node} → Written t n ns → Headed t n ns
+pub written-headed : {t : Tree} {n : ℕ} {ns : List Node} → Written t n ns → Headed t n ns
 unfolding forestLength children treeFrom ofNone ofOne ofTwo ofSome
 written-headed a-continue = headed refl refl no-tree
 written-headed a-reset = headed refl refl no-tree
