@@ -13,6 +13,8 @@ use Rattle.schedules.specs.Exchanged as Exchanged
 use Rattle.schedules.specs.Calls as Calls
 use Rattle.schedules.specs.Sizes as Sizes
 use Rattle.schedules.specs.TableSizes as TableSizes
+use Rattle.schedules.specs.Reordered as Reordered
+use Rattle.schedules.specs.Independent as Independent
 use Rattle.semantics.proofs.Computes as Semantics
 use mathlib.Core.Option.{bind}
 use native.Mathlib.Decide.{ℕ-discrete}
@@ -65,6 +67,10 @@ unfoldable pub sizes : Unit {0}
 unfolding Sizes.one Sizes.nothingLeft Sizes.inTurn Sizes.sideBySide Sizes.sequenceSize Sizes.parallelSize Sizes.leafSize Sizes.haltSize Sizes.loopSize Sizes.branchSize Sizes.sizeOf Sizes.allFinish Sizes.upToFirst Sizes.sumOf Sizes.factor Sizes.productOf Sizes.entryProducts Sizes.byProducts Sizes.pencilSize TableSizes.tableLength
 sizes = tt
 
+unfoldable pub branches : Unit {0}
+unfolding Reordered.exchangedNumber Independent.nodesOf Independent.nodesOfAll Independent.inTurn Independent.inDifferent Independent.differentChildren Independent.occurs Independent.occursIn Independent.inStatement Independent.leftBy Independent.second Independent.bothTaken Independent.recordAt Independent.recordTaken Independent.recordsTaken
+branches = tt
+
 unfoldable pub schedules : Unit {0}
-unfolding Semantics.semantics ℕ-discrete fileSections nodes trees residuals numbering comparing files compiling writing exchanges calls sizes
+unfolding Semantics.semantics ℕ-discrete fileSections nodes trees residuals numbering comparing files compiling writing exchanges calls sizes branches
 schedules = tt

@@ -78,3 +78,4 @@ pub mod MovesCommute
 pub mod IndependentOrder
 pub mod IndependentPicks
 pub mod IndependentRecords
+pub mod BranchPapers

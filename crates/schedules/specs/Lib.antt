@@ -30,3 +30,4 @@ pub mod Exchanged
 pub mod Examples
 pub mod SideExamples
 pub mod AssignmentExamples
+pub mod BranchExamples

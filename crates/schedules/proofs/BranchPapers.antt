@@ -1,0 +1,104 @@
+-- Papers of document 02, item 5: the theorem's assumptions can hold, each of them is needed, and what it does not claim.
+use mathlib.Core.Path.{_≡_, refl}
+use mathlib.Core.Bool.{true, false}
+use mathlib.Core.List.{List, [], _∷_, _++_, map, List·Memᴰ·head as first, List·Memᴰ·tail as later}
+use Prim.Native.Nat.{ℕ}
+use lib.ListN.{replicate}
+use lib.IntN.{pos}
+use Rattle.semantics.specs.Editions.{edition1}
+use Rattle.semantics.specs.Expressions.{constant, always}
+use Rattle.semantics.specs.Sections.{Equation}
+use Rattle.semantics.specs.Calls.{Ran}
+use Rattle.semantics.specs.K1.{start-at, one-record}
+use Rattle.schedules.specs.Nodes.{parallel}
+use Rattle.schedules.specs.Trees.{leaf, loop, branch, seq, par, nil, cons}
+use Rattle.schedules.specs.Residuals.{fresh}
+use Rattle.schedules.specs.Files.{Schedule}
+use Rattle.schedules.specs.Writing.{writeNodes, writeFile}
+use Rattle.schedules.specs.Reordered.{exchangedNumber}
+use Rattle.schedules.specs.SideExamples.{BothRun, waitingForBoth, atMost0, tooHigh, tooLow, ticked}
+use Rattle.schedules.specs.BranchExamples.{twoVariables, resetTo, oneMoreThan, independentBranches, meetingBranches, sameVariable, branchesWithCase, fromValues, pickOf, recordWith, wrote}
+use Rattle.schedules.specs.Independent.{differentChildren, begun, Independent}
+use Rattle.schedules.proofs.Computes.{schedules}
+
+-- ---- two that are independent: in either order the last record is the same
+pub independent-one-order : BothRun independentBranches (fromValues 0 0) (pickOf 1 ++ pickOf 2) (replicate 34 9) (wrote 2 0 0 (recordWith 200 4 1 0 ++ recordWith 201 0 1 5))
+unfolding schedules
+independent-one-order = record { by-rules = refl; by-table = refl }
+
+pub independent-other-order : BothRun independentBranches (fromValues 0 0) (pickOf 2 ++ pickOf 1) (replicate 34 9) (wrote 2 0 0 (recordWith 200 2 0 5 ++ recordWith 201 0 1 5))
+unfolding schedules
+independent-other-order = record { by-rules = refl; by-table = refl }
+
+-- from 10 variable 0 leaves its range: not both are taken, in neither order, and what each is answered differs
+pub fault-one-order : BothRun independentBranches (fromValues 10 0) (pickOf 1 ++ pickOf 2) (replicate 34 9) (wrote 0 1 1 (recordWith 203 0 10 0 ++ recordWith 23 0 10 0))
+unfolding schedules
+fault-one-order = record { by-rules = refl; by-table = refl }
+
+pub fault-other-order : BothRun independentBranches (fromValues 10 0) (pickOf 2 ++ pickOf 1) (replicate 34 9) (wrote 1 0 1 (recordWith 200 2 10 5 ++ recordWith 203 0 10 5))
+unfolding schedules
+fault-other-order = record { by-rules = refl; by-table = refl }
+
+-- ---- where the one reads what the other sets, both orders are taken, and the values differ
+pub meeting-one-order : BothRun meetingBranches (fromValues 0 0) (pickOf 1 ++ pickOf 2) (replicate 34 9) (wrote 2 0 0 (recordWith 200 4 1 0 ++ recordWith 201 0 1 5))
+unfolding schedules
+meeting-one-order = record { by-rules = refl; by-table = refl }
+
+pub meeting-other-order : BothRun meetingBranches (fromValues 0 0) (pickOf 2 ++ pickOf 1) (replicate 34 9) (wrote 2 0 0 (recordWith 200 2 0 5 ++ recordWith 201 0 6 5))
+unfolding schedules
+meeting-other-order = record { by-rules = refl; by-table = refl }
+
+-- where both assign one variable, the later one stays
+pub same-one-order : BothRun sameVariable (fromValues 0 0) (pickOf 1 ++ pickOf 2) (replicate 34 9) (wrote 2 0 0 (recordWith 200 4 3 0 ++ recordWith 201 0 5 0))
+unfolding schedules
+same-one-order = record { by-rules = refl; by-table = refl }
+
+pub same-other-order : BothRun sameVariable (fromValues 0 0) (pickOf 2 ++ pickOf 1) (replicate 34 9) (wrote 2 0 0 (recordWith 200 2 5 0 ++ recordWith 201 0 3 0))
+unfolding schedules
+same-other-order = record { by-rules = refl; by-table = refl }
+
+-- ---- with a CASE the first can make a switch true, and then the second is turned away with 28
+pub case-one-order : BothRun branchesWithCase (fromValues 0 0 ++ (0 ∷ [])) (pickOf 1 ++ pickOf 2) (replicate 36 9)
+    (wrote 1 1 0 (recordWith 200 4 1 0 ++ (0 ∷ recordWith 28 4 1 0 ++ (0 ∷ []))))
+unfolding schedules
+case-one-order = record { by-rules = refl; by-table = refl }
+
+pub case-other-order : BothRun branchesWithCase (fromValues 0 0 ++ (0 ∷ [])) (pickOf 2 ++ pickOf 1) (replicate 36 9)
+    (wrote 2 0 0 (recordWith 200 2 0 5 ++ (0 ∷ recordWith 201 0 1 5 ++ (0 ∷ []))))
+unfolding schedules
+case-other-order = record { by-rules = refl; by-table = refl }
+
+-- ---- which children are different ones
+-- PARALLEL of a WHILE over node 3 and of nodes 4 and 5 in a SEQUENCE, in an IF
+pub nested-children : map (λ (b : ℕ). differentChildren 3 b (branch 0 (par (loop 2 (leaf 3)) (cons (seq (leaf 4) (cons (leaf 5) nil)) nil)) (leaf 6))) (2 ∷ 3 ∷ 4 ∷ 5 ∷ 6 ∷ []) ≡ false ∷ false ∷ true ∷ true ∷ false ∷ []
+unfolding schedules
+nested-children = refl
+
+-- the children of a SEQUENCE are not those of a PARALLEL, though one may stand around it
+pub sequence-children : differentChildren 1 2 (par (seq (leaf 1) (cons (leaf 2) nil)) (cons (leaf 3) nil)) ≡ false
+unfolding schedules
+sequence-children = refl
+
+-- ---- runs of reordered schedules: a tick asks the CONTINUEs in node order
+-- one is true, the other faults: 31 and the run goes on, or 203 and it is over
+pub true-asked-first : BothRun (waitingForBoth always (atMost0 tooHigh)) (start-at 0) ticked (replicate 26 9) (wrote 0 2 0 (one-record 31 6 0 (one-record 31 6 0 [])))
+unfolding schedules
+true-asked-first = record { by-rules = refl; by-table = refl }
+
+pub fault-asked-first : BothRun (waitingForBoth (atMost0 tooHigh) always) (start-at 0) ticked (replicate 26 9) (wrote 0 1 1 (one-record 203 0 0 (one-record 23 0 0 [])))
+unfolding schedules
+fault-asked-first = record { by-rules = refl; by-table = refl }
+
+-- both fault, on different sides
+pub above-asked-first : BothRun (waitingForBoth (atMost0 tooHigh) (atMost0 tooLow)) (start-at 0) ticked (replicate 26 9) (wrote 0 1 1 (one-record 203 0 0 (one-record 23 0 0 [])))
+unfolding schedules
+above-asked-first = record { by-rules = refl; by-table = refl }
+
+pub below-asked-first : BothRun (waitingForBoth (atMost0 tooLow) (atMost0 tooHigh)) (start-at 0) ticked (replicate 26 9) (wrote 0 1 1 (one-record 204 0 0 (one-record 23 0 0 [])))
+unfolding schedules
+below-asked-first = record { by-rules = refl; by-table = refl }
+
+-- three nodes from number 1 on and the one after them change places
+pub new-numbers : map (exchangedNumber 1 3 1) (0 ∷ 1 ∷ 2 ∷ 3 ∷ 4 ∷ 5 ∷ []) ≡ 0 ∷ 2 ∷ 3 ∷ 4 ∷ 1 ∷ 5 ∷ []
+unfolding schedules
+new-numbers = refl

@@ -1,0 +1,63 @@
+-- What the papers of document 02, item 5, are about: small schedules of two branches, and two events in the one order and in the other.
+use mathlib.Core.List.{List, [], _∷_, _++_}
+use Prim.Native.Nat.{ℕ}
+use lib.IntN.{pos}
+use Rattle.semantics.specs.Editions.{edition1}
+use Rattle.semantics.specs.Expressions.{Number, constant, variable, operate, sum, compare, equal, numberBytes, truthBytes}
+use Rattle.semantics.specs.Sections.{Variable, Equation, choice}
+use Rattle.semantics.specs.Plant.{Plant}
+use Rattle.semantics.specs.Run.{Counts}
+use Rattle.semantics.specs.Calls.{Ran}
+use Rattle.schedules.specs.Nodes.{Node, parallel, reset}
+use Rattle.schedules.specs.Writing.{writeFile}
+
+abbrev to10 : Variable
+to10 = record { minimum = pos 0; maximum = pos 10; initial = pos 0 }
+
+-- variables 0 and 1, both 0..10
+abbrev pub twoVariables : List Equation → Plant
+twoVariables es = record { variables = to10 ∷ to10 ∷ []; equations = es }
+
+-- RESET this variable to this number
+abbrev pub resetTo : ℕ → Number → Node
+resetTo v e = reset v (numberBytes edition1 e)
+
+-- PARALLEL of two RESETs, nodes 1 and 2
+abbrev pub sideBySide : List Equation → Node → Node → List ℕ
+sideBySide es x y = writeFile edition1 (twoVariables es) (parallel 2 ∷ x ∷ y ∷ [])
+
+abbrev pub oneMoreThan : ℕ → Number
+oneMoreThan v = operate sum (variable v) (constant (pos 1))
+
+-- variable 0 becomes 1 more, variable 1 becomes 5: neither's variable occurs in the other's statement
+abbrev pub independentBranches : List ℕ
+independentBranches = sideBySide [] (resetTo 0 (oneMoreThan 0)) (resetTo 1 (constant (pos 5)))
+
+-- variable 0 becomes 1 more than variable 1
+abbrev pub meetingBranches : List ℕ
+meetingBranches = sideBySide [] (resetTo 0 (oneMoreThan 1)) (resetTo 1 (constant (pos 5)))
+
+-- both assign variable 0
+abbrev pub sameVariable : List ℕ
+sameVariable = sideBySide [] (resetTo 0 (constant (pos 3))) (resetTo 0 (constant (pos 5)))
+
+-- a CASE of one mode, without a rate, with a switch to itself where variable 0 is 1
+abbrev pub switchAt1 : Equation
+switchAt1 = choice (record { initial = 0; modes = record { rates = []; switches = record { target = 0; truth = truthBytes edition1 (compare equal (variable 0) (constant (pos 1))) } ∷ [] } ∷ [] })
+
+abbrev pub branchesWithCase : List ℕ
+branchesWithCase = sideBySide (switchAt1 ∷ []) (resetTo 0 (oneMoreThan 0)) (resetTo 1 (constant (pos 5)))
+
+-- a start with these values below 256
+abbrev pub fromValues : ℕ → ℕ → List ℕ
+fromValues v w = 0 ∷ 0 ∷ 0 ∷ v ∷ 0 ∷ 0 ∷ 0 ∷ w ∷ []
+
+abbrev pub pickOf : ℕ → List ℕ
+pickOf n = 1 ∷ n ∷ 0 ∷ []
+
+-- a record: answer, the last byte of the set of acting nodes, two values below 256
+abbrev pub recordWith : ℕ → ℕ → ℕ → ℕ → List ℕ
+recordWith answer set v w = answer ∷ 0 ∷ 0 ∷ 0 ∷ 0 ∷ 0 ∷ 0 ∷ 0 ∷ set ∷ 0 ∷ 0 ∷ 0 ∷ v ∷ 0 ∷ 0 ∷ 0 ∷ w ∷ []
+
+abbrev pub wrote : ℕ → ℕ → ℕ → List ℕ → Ran
+wrote taken away faulted records = record { refusal = 0; counts = record { taken = taken; turned-away = away; faulted = faulted }; records = records }
