@@ -67,3 +67,6 @@ pub mod ExchangedBytes
 -- RESET and REINITIAL
 pub mod ExchangedKinds
 pub mod Number34
+-- order of independent branches
+pub mod NodesApart
+pub mod ActingApart
