@@ -1,7 +1,7 @@
 -- Nodes that act at once stand in different children of a PARALLEL; and `differentChildren` tells just where two nodes stand so.
 use mathlib.Core.Path.{_≡_, refl, sym, _∙_}
 use mathlib.Core.Bool.{Bool, true, false, _&&_, _||_}
-use mathlib.Core.List.{List, [], _∷_, _++_, List·Memᴰ as Mem, List·Memᴰ·head as first, List·Memᴰ·tail as later}
+use mathlib.Core.List.{[], _∷_, _++_, List·Memᴰ as Mem, List·Memᴰ·head as first, List·Memᴰ·tail as later}
 use mathlib.Core.List.{List·Memᴰ·not-nil, List·Memᴰ·cases-cons, List·Memᴰ·append-cases, List·Memᴰ·eq-of-singleton, Memᴰ·append-left, Memᴰ·append-right}
 use mathlib.Core.Logic.{_↔_, _⊎_, inl, inr, ⊎-elim}
 use Prim.Native.Nat.{ℕ, _≤_, _<_}
@@ -144,7 +144,7 @@ pub node-is : (n : ℕ) (t : Tree) → Mem n (nodesOf t) ↔ NodeIn n t
 node-is n t = (listed-node t, λ h. within-listed (h .within) (own-listed (h .own) (h .is-own)))
 
 -- ---- the test
-or-cases : (a b : Bool) → (a || b) ≡ true → (a ≡ true) ⊎ (b ≡ true)
+pub or-cases : (a b : Bool) → (a || b) ≡ true → (a ≡ true) ⊎ (b ≡ true)
 or-cases true b h = inl refl
 or-cases false b h = inr h
 

@@ -70,3 +70,5 @@ pub mod Number34
 -- order of independent branches
 pub mod NodesApart
 pub mod ActingApart
+pub mod IndependenceTold
+pub mod ReachedTold

@@ -1,6 +1,6 @@
 -- What stands in a part of a tree, and in which of a PARALLEL's children.
 use mathlib.Core.Path.{_≡_}
-use mathlib.Core.List.{List, [], _∷_}
+use mathlib.Core.List.{[], _∷_}
 use Prim.Native.Nat.{ℕ, suc, _<_}
 use native.Mathlib.Omega.{arith}
 use Rattle.schedules.specs.Trees.{Tree, Forest, par, cons}
