@@ -1,10 +1,9 @@
 -- Document 02, item 5: two assignments in different children of a PARALLEL, neither's variable in the other's statement, can be picked in either order.
-use mathlib.Core.Path.{_≡_, refl, sym, ap, ap₂, subst, _∙_}
+use mathlib.Core.Path.{_≡_, refl, sym, ap, ap₂, _∙_}
 use mathlib.Core.Bool.{Bool, true, false, _&&_, _||_}
-use mathlib.Core.List.{List, [], _∷_, flatMap, List·Memᴰ as Mem}
+use mathlib.Core.List.{List, flatMap, List·Memᴰ as Mem}
 use mathlib.Core.Option.{Option, none, some}
 use Prim.Native.Nat.{ℕ}
-use native.Mathlib.Omega.{arith}
 use borrow.Author.Tests.{eq-eqb}
 use lib.Dec.{eqb}
 use lib.ListN.{length, set, length-set}
@@ -15,7 +14,7 @@ use Rattle.semantics.specs.Editions.{Edition}
 use Rattle.semantics.specs.Expressions.{Number, constant, variable, operate, negation, Side, above, below, Value, ok, fault, result, thenValue, valueOf, numberIn, numberValue}
 use Rattle.semantics.specs.Events.{pick, eventIn}
 use Rattle.semantics.specs.Plant.{currentOf, currentModes, currentTruths, declaredAt, stored}
-use Rattle.semantics.specs.Run.{assign, Next, to, finished, halted, idle, Verdict, pass, _>>=_, _>>_, allow, valued, walk, checkModes, switchCheck, assigned, act, judgePick, judge, mover, Situation, Answered, at, over, faultAnswer, arrive, follow, settle, step, isTaken}
+use Rattle.semantics.specs.Run.{assign, Next, to, finished, halted, idle, pass, _>>=_, _>>_, allow, valued, walk, checkModes, switchCheck, assigned, act, judgePick, judge, mover, Situation, Answered, at, over, faultAnswer, arrive, follow, settle, step, isTaken}
 use Rattle.semantics.proofs.Facts.{true-not-false, mem-among}
 use Rattle.schedules.specs.Nodes.{nodeAction}
 use Rattle.schedules.specs.Residuals.{Residual, acting, move}

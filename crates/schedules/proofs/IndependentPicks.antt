@@ -1,6 +1,6 @@
 -- Document 02, item 5, for every reachable state of a run.
-use mathlib.Core.Path.{_≡_, refl, sym, subst, _∙_}
-use mathlib.Core.Bool.{true, false}
+use mathlib.Core.Path.{_≡_, sym, subst, _∙_}
+use mathlib.Core.Bool.{true}
 use mathlib.Core.List.{List, [], _∷_, List·Memᴰ as Mem}
 use mathlib.Core.Option.{some}
 use Prim.Native.Nat.{ℕ}
@@ -21,7 +21,7 @@ use Rattle.schedules.specs.Nodes.{nodeAction}
 use Rattle.schedules.specs.Residuals.{Residual, acting, move}
 use Rattle.schedules.specs.Reached.{Of}
 use Rattle.schedules.specs.Files.{Schedule, judgeFile, ruleControl}
-use Rattle.schedules.specs.Independent.{WithoutCase, occursIn, inStatement, leftBy, begun, Reachable, Independent, EitherOrder}
+use Rattle.schedules.specs.Independent.{WithoutCase, inStatement, leftBy, begun, Reachable, Independent, EitherOrder}
 use Rattle.schedules.proofs.FirstNumber.{passed}
 use Rattle.schedules.proofs.ReadShapes.{root-shapes}
 use Rattle.schedules.proofs.ScheduleSound.{comes-of, schedule-fits, schedule-sound, root-stands}

@@ -1,20 +1,20 @@
 -- Document 02, item 5, over the bytes that the run by the rules and the run of a table write.
 use mathlib.Core.Path.{_≡_, refl, sym, ap, ap₂, subst, subst₂, _∙_}
-use mathlib.Core.Bool.{true, _&&_}
+use mathlib.Core.Bool.{_&&_}
 use mathlib.Core.List.{List, [], _∷_, _++_, flatMap, flatten, append-assoc}
 use mathlib.Core.Option.{some}
-use Prim.Native.Nat.{ℕ, suc, _+_, _*_}
+use Prim.Native.Nat.{ℕ, suc, _*_}
 use native.Mathlib.Nat.{suc-mul}
 use native.Mathlib.Omega.{arith}
 use lib.ListN.{length, take, drop, length-append}
 use lib.Seq.{take-at, drop-at}
-use Rattle.semantics.specs.Bytes.{All, all-nil, all-cons, overwrite}
+use Rattle.semantics.specs.Bytes.{All, all-cons, overwrite}
 use Rattle.semantics.specs.Editions.{Edition}
-use Rattle.semantics.specs.Refusals.{Judged, accepted}
+use Rattle.semantics.specs.Refusals.{accepted}
 use Rattle.semantics.specs.Starts.{Start, startIn}
 use Rattle.semantics.specs.Run.{Situation, Answered, step, answers, recordOf, recordBytes, isTaken}
 use Rattle.semantics.specs.Calls.{Program, outcomeOf, runFrom, judgeRun, report, tableRun, wholeEvents, eventCount, recordSize, roomForRecords}
-use Rattle.semantics.proofs.Facts.{some-is, all-append}
+use Rattle.semantics.proofs.Facts.{some-is}
 use Rattle.semantics.proofs.Judging as Judging
 use Rattle.semantics.proofs.Admission.{Admits, admission-judged}
 use Rattle.semantics.proofs.EventsCut.{events-cut, flat-length}
@@ -24,7 +24,7 @@ use Rattle.semantics.proofs.FirstNumber.{ran-refusal}
 use Rattle.schedules.specs.Residuals.{Residual}
 use Rattle.schedules.specs.Files.{Schedule, judgeFile, ruleControl}
 use Rattle.schedules.specs.Calls.{ruleProgram, ruleRun, compile}
-use Rattle.schedules.specs.Independent.{WithoutCase, leftBy, begun, Reachable, Independent, second, bothTaken, EitherOrder, recordAt, recordTaken, recordsTaken, EitherOrderWritten}
+use Rattle.schedules.specs.Independent.{WithoutCase, leftBy, begun, Reachable, Independent, second, bothTaken, recordAt, recordTaken, recordsTaken, EitherOrderWritten}
 use Rattle.schedules.proofs.FirstNumber.{rule-run-first}
 use Rattle.schedules.proofs.CallsHold.{rule-numbers}
 use Rattle.schedules.proofs.Agreement.{agreement}

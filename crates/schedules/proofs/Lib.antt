@@ -74,8 +74,12 @@ pub mod ExchangedBytes
 pub mod ExchangedKinds
 pub mod Number34
 -- order of independent branches
+pub mod NodesApart
+pub mod ActingApart
 pub mod MovesCommute
 pub mod IndependentOrder
 pub mod IndependentPicks
 pub mod IndependentRecords
+pub mod IndependenceTold
+pub mod ReachedTold
 pub mod BranchPapers

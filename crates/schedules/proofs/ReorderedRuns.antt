@@ -16,7 +16,7 @@ use Rattle.semantics.proofs.Judging.{accepted-is}
 use Rattle.semantics.proofs.RenumberedRuns.{AgreeRenumbered, runs-renumbered, agree-unchanged, agree-then}
 use Rattle.schedules.specs.Nodes.{Node, nodesIn, nodeAction}
 use Rattle.schedules.specs.Trees.{Tree, treeOf}
-use Rattle.schedules.specs.Residuals.{Residual, fresh, acting, move}
+use Rattle.schedules.specs.Residuals.{Residual, fresh}
 use Rattle.schedules.specs.Files.{Schedule, judgeFile, ruleControl}
 use Rattle.schedules.specs.FileSections.{FileSections}
 use Rattle.schedules.specs.Reordered.{Swapped, Reordered, unchanged, swapped, swappedNumber, newNumber, SameButOrder}

@@ -1,12 +1,11 @@
 -- What the papers of document 02, item 5, are about: small schedules of two branches, and two events in the one order and in the other.
-use mathlib.Core.List.{List, [], _∷_, _++_}
+use mathlib.Core.List.{List, [], _∷_}
 use Prim.Native.Nat.{ℕ}
 use lib.IntN.{pos}
 use Rattle.semantics.specs.Editions.{edition1}
 use Rattle.semantics.specs.Expressions.{Number, constant, variable, operate, sum, compare, equal, numberBytes, truthBytes}
 use Rattle.semantics.specs.Sections.{Variable, Equation, choice}
 use Rattle.semantics.specs.Plant.{Plant}
-use Rattle.semantics.specs.Run.{Counts}
 use Rattle.semantics.specs.Calls.{Ran}
 use Rattle.schedules.specs.Nodes.{Node, parallel, reset}
 use Rattle.schedules.specs.Writing.{writeFile}

@@ -33,12 +33,12 @@ unfoldable mutual
   nodesOfAll (cons t ts) = nodesOf t ++ nodesOfAll ts
 
 -- a stands in one of these children and b in a later one
-unfoldable pub inTurn : ℕ → ℕ → Forest → Bool
-inTurn a b nil = false
-inTurn a b (cons t ts) = (among a (nodesOf t) && among b (nodesOfAll ts)) || inTurn a b ts
+unfoldable pub standsBefore : ℕ → ℕ → Forest → Bool
+standsBefore a b nil = false
+standsBefore a b (cons t ts) = (among a (nodesOf t) && among b (nodesOfAll ts)) || standsBefore a b ts
 
 unfoldable pub inDifferent : ℕ → ℕ → Forest → Bool
-inDifferent a b ts = inTurn a b ts || inTurn b a ts
+inDifferent a b ts = standsBefore a b ts || standsBefore b a ts
 
 -- a and b stand in different children of a PARALLEL of this tree, or of one of these trees
 unfoldable mutual

@@ -52,7 +52,7 @@ then-passed (ok a) (ok b) f h = (refl, refl)
 then-passed (ok a) (fault s) f h = true-not-false (sym h)
 then-passed (fault s) w f h = true-not-false (sym h)
 
-values-passed : (xs : List Variable) (zs : List ℤ) → length zs ≡ length xs → isOk (allDeclared xs zs) ≡ true → Each InRange xs zs
+pub values-passed : (xs : List Variable) (zs : List ℤ) → length zs ≡ length xs → isOk (allDeclared xs zs) ≡ true → Each InRange xs zs
 unfolding allDeclared
 values-passed [] [] e h = each-nil
 values-passed [] (z ∷ zs) e h = absurd (omega arith)
@@ -83,7 +83,7 @@ range-fits x z h r = and-both
     (le-trans z (x .maximum) (pos 2147483647) (r .not-above) (and-right (leZ (negsuc 2147483647) (x .maximum)) (leZ (x .maximum) (pos 2147483647)) (h .maximum)))
 
 -- ---- modes that exist
-modes-passed : (cs : List Selector) (ms : List ℕ) → length ms ≡ length cs → modesFit cs ms ≡ true → Each HasMode cs ms
+pub modes-passed : (cs : List Selector) (ms : List ℕ) → length ms ≡ length cs → modesFit cs ms ≡ true → Each HasMode cs ms
 unfolding modesFit
 modes-passed [] [] e h = each-nil
 modes-passed [] (m ∷ ms) e h = absurd (omega arith)
