@@ -68,7 +68,7 @@ unfolding Sizes.one Sizes.nothingLeft Sizes.inTurn Sizes.sideBySide Sizes.sequen
 sizes = tt
 
 unfoldable pub branches : Unit {0}
-unfolding Reordered.exchangedNumber Independent.nodesOf Independent.nodesOfAll Independent.standsBefore Independent.inDifferent Independent.differentChildren Independent.occurs Independent.occursIn Independent.inStatement Independent.leftBy Independent.second Independent.bothTaken Independent.recordAt Independent.recordTaken Independent.recordsTaken
+unfolding Reordered.exchangedNumber Independent.nodesOf Independent.nodesOfAll Independent.standsBefore Independent.inDifferent Independent.differentChildren Independent.occurs Independent.occursIn Independent.inStatement Independent.leftBy Independent.second Independent.bothTaken Independent.recordTaken Independent.recordsTaken
 branches = tt
 
 unfoldable pub schedules : Unit {0}

@@ -11,9 +11,10 @@ use lib.Seq.{take-at, drop-at}
 use Rattle.semantics.specs.Bytes.{All, all-cons, overwrite}
 use Rattle.semantics.specs.Editions.{Edition}
 use Rattle.semantics.specs.Refusals.{accepted}
+use Rattle.semantics.specs.Records.{recordAt}
 use Rattle.semantics.specs.Starts.{Start, startIn}
 use Rattle.semantics.specs.Run.{Situation, Answered, step, answers, recordOf, recordBytes, isTaken}
-use Rattle.semantics.specs.Calls.{Program, outcomeOf, runFrom, judgeRun, report, tableRun, wholeEvents, eventCount, recordSize, roomForRecords}
+use Rattle.semantics.specs.Calls.{Ran, Program, outcomeOf, runFrom, judgeRun, report, tableRun, wholeEvents, eventCount, recordSize, roomForRecords}
 use Rattle.semantics.proofs.Facts.{some-is}
 use Rattle.semantics.proofs.Judging as Judging
 use Rattle.semantics.proofs.Admission.{Admits, admission-judged}
@@ -24,11 +25,12 @@ use Rattle.semantics.proofs.FirstNumber.{ran-refusal}
 use Rattle.schedules.specs.Residuals.{Residual}
 use Rattle.schedules.specs.Files.{Schedule, judgeFile, ruleControl}
 use Rattle.schedules.specs.Calls.{ruleProgram, ruleRun, compile}
-use Rattle.schedules.specs.Independent.{WithoutCase, leftBy, begun, Reachable, Independent, second, bothTaken, recordAt, recordTaken, recordsTaken, EitherOrderWritten}
+use Rattle.schedules.specs.Independent.{WithoutCase, leftBy, begun, Reachable, Independent, second, bothTaken, recordTaken, recordsTaken, EitherOrderWritten}
 use Rattle.schedules.proofs.FirstNumber.{rule-run-first}
 use Rattle.schedules.proofs.CallsHold.{rule-numbers}
 use Rattle.schedules.proofs.Agreement.{agreement}
 use Rattle.schedules.proofs.Places.{flat-append}
+use Rattle.schedules.proofs.RuleLists.{AllWhole, Admitted, as-many-admitted, taken-on, returned}
 use Rattle.schedules.proofs.IndependentPicks.{Kept, kept-step, reachable-kept, independent-picks}
 
 -- ---- records before, one, and those behind it
@@ -71,41 +73,11 @@ module _ (ed : Edition) (s : Schedule) where
   written-parts x es fs e f = ap (flatMap (recordOf ed (ruleControl s))) (said-append x es (e ∷ f ∷ fs)) ∙ flat-append (recordOf ed (ruleControl s)) (said x es) (said (leftBy ed s x es) (e ∷ f ∷ fs))
 
 module _ (ed : Edition) (file : List ℕ) (s : Schedule) (h : judgeFile ed file ≡ accepted s) (start buffer : List ℕ) where
-  abbrev AllWhole : List (List ℕ) → Type 0
-  AllWhole es = All (λ e. length e ≡ ed .event-bytes) es
-
-  abbrev Admitted : List (List ℕ) → Start → Type 0
-  Admitted es st = Admits ed (s .plant) start (flatten es) buffer st
-
-  is-program : ruleProgram ed file ≡ accepted (record { plant = s .plant; control = ruleControl s })
-  unfolding ruleProgram
-  is-program = Judging.go-then _ h
-
-  taken-on : (es : List (List ℕ)) → (ruleRun ed file start (flatten es) buffer) .refusal ≡ 0 → (st : Start) × Admitted es st
-  unfolding ruleRun
-  taken-on es z =
-      let events = flatten es in
-      let a = accepted-of (rule-run-first ed file start events buffer) (rule-numbers ed file start events buffer) (sym (ran-refusal buffer (judgeRun ed (ruleProgram ed file) start events buffer)) ∙ z) in
-      let b = run-passed ed (ruleProgram ed file) start events buffer (a .1) in
-      let e = Judging.accepted-is (sym (b .is-program) ∙ is-program) in
-      (b .st, subst (λ (g : Program Residual). Admits ed (g .plant) start (flatten es) buffer (b .st)) e (b .admits))
-
-  -- as many events are admitted in any order
-  as-many-admitted : (es fs : List (List ℕ)) {st : Start} → length (flatten es) ≡ length (flatten fs) → Admitted es st → Admitted fs st
-  unfolding wholeEvents roomForRecords eventCount
-  as-many-admitted es fs e a = record { starts = a .starts; whole = rw (sym e) (a .whole); room = rw (sym e) (a .room) }
-
   module _ {st : Start} where
-    records-of : (es : List (List ℕ)) → AllWhole es → Admitted es st → (ruleRun ed file start (flatten es) buffer) .records ≡ overwrite (written ed s (begun ed s st) es) buffer
-    unfolding ruleRun judgeRun report outcomeOf runFrom ruleControl
-    records-of es w a =
-        ap (λ j. (report buffer j) .records) (Judging.go-then _ is-program ∙ Judging.go-then _ (admission-judged ed (s .plant) start (flatten es) buffer a))
-        ∙ ap (λ es. overwrite (written ed s (begun ed s st) es) buffer) (events-cut ed es w)
-
-    reachable : (es fs : List (List ℕ)) → Admitted fs st → Reachable ed s (leftBy ed s (begun ed s st) es)
+    reachable : (es fs : List (List ℕ)) → Admitted ed s start buffer fs st → Reachable ed s (leftBy ed s (begun ed s st) es)
     reachable es fs a = record { start = start; st = st; start-read = a .starts .is-read; start-fits = a .starts .fits; events = es; reached = refl }
 
-    module _ (es fs : List (List ℕ)) (e f : List ℕ) (w : AllWhole (es ++ (e ∷ f ∷ fs))) (a : Admitted (es ++ (e ∷ f ∷ fs)) st) where
+    module _ (es fs : List (List ℕ)) (e f : List ℕ) (w : AllWhole ed (es ++ (e ∷ f ∷ fs))) (a : Admitted ed s start buffer (es ++ (e ∷ f ∷ fs)) st) where
       abbrev x : Situation Residual
       x = leftBy ed s (begun ed s st) es
 
@@ -135,7 +107,7 @@ module _ (ed : Edition) (file : List ℕ) (s : Schedule) (h : judgeFile ed file 
           let one = recorded ed s first in
           let two = recorded ed s last in
           let more = written ed s (last .left) fs in
-          records-of all w a
+          ap (λ (r : Ran). r .records) (returned ed file s h start buffer all w a)
           ∙ ap (λ n. written ed s (begun ed s st) all ++ drop n buffer) (written-length ed (s .plant) (ruleControl s) (begun ed s st) all (begins .as-many) (begins .all-modes))
           ∙ ap (λ (l : List ℕ). l ++ tail) (written-parts ed s (begun ed s st) es fs e f)
           ∙ append-assoc front (one ++ (two ++ more)) tail
@@ -176,24 +148,22 @@ exchanged-all [] k x y (all-cons p (all-cons q r)) = all-cons q (all-cons p r)
 exchanged-all (z ∷ l) k x y (all-cons p r) = all-cons p (exchanged-all l k x y r)
 
 module _ (ed : Edition) (file : List ℕ) (s : Schedule) (h : judgeFile ed file ≡ accepted s) (free : WithoutCase s) (start buffer : List ℕ)
-    (es fs : List (List ℕ)) (e f : List ℕ) (w : All (λ e. length e ≡ ed .event-bytes) (es ++ (e ∷ f ∷ fs)))
+    (es fs : List (List ℕ)) (e f : List ℕ) (w : AllWhole ed (es ++ (e ∷ f ∷ fs)))
     (z : (ruleRun ed file start (flatten (es ++ (e ∷ f ∷ fs))) buffer) .refusal ≡ 0)
     (st : Start) (k : startIn (s .plant) start ≡ some st) (i : Independent ed s (leftBy ed s (begun ed s st) es) e f) where
   abbrev size : ℕ
   size = recordSize ed (s .plant)
 
-  admitted : Admitted ed file s h start buffer (es ++ (e ∷ f ∷ fs)) st
-  admitted =
-      let a = taken-on ed file s h start buffer (es ++ (e ∷ f ∷ fs)) z in
-      subst (Admitted ed file s h start buffer (es ++ (e ∷ f ∷ fs))) (some-is (sym (a .1 .starts .is-read) ∙ k)) (a .1)
+  admitted : Admitted ed s start buffer (es ++ (e ∷ f ∷ fs)) st
+  admitted = taken-on ed file s h start buffer (es ++ (e ∷ f ∷ fs)) k z
 
-  whole-exchanged : All (λ e. length e ≡ ed .event-bytes) (es ++ (f ∷ e ∷ fs))
+  whole-exchanged : AllWhole ed (es ++ (f ∷ e ∷ fs))
   whole-exchanged = exchanged-all es fs e f w
 
-  admitted-exchanged : Admitted ed file s h start buffer (es ++ (f ∷ e ∷ fs)) st
+  admitted-exchanged : Admitted ed s start buffer (es ++ (f ∷ e ∷ fs)) st
   admitted-exchanged =
       let n = flat-length (ed .event-bytes) w ∙ ap (λ n. n * ed .event-bytes) (exchanged-length es fs e f) ∙ sym (flat-length (ed .event-bytes) whole-exchanged) in
-      as-many-admitted ed file s h start buffer (es ++ (e ∷ f ∷ fs)) (es ++ (f ∷ e ∷ fs)) n admitted
+      as-many-admitted ed s start buffer (es ++ (e ∷ f ∷ fs)) (es ++ (f ∷ e ∷ fs)) n admitted
 
   -- the run by the rules
   pub rules-either-order : EitherOrderWritten (recordSize ed (s .plant)) (length es)

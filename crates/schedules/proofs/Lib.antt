@@ -39,6 +39,7 @@ pub mod CallsHold
 pub mod ComparisonNumbers
 pub mod WrittenBytes
 pub mod RunRecords
+pub mod RuleLists
 -- the number of locations, and the order of a PARALLEL's children
 pub mod ByPencil
 pub mod Counting
@@ -59,6 +60,7 @@ pub mod SwappedTrees
 pub mod LikeResiduals
 pub mod AlikeMoves
 pub mod ReorderedRuns
+pub mod ReorderedCalls
 pub mod BorderPapers
 -- bytes read just where they are a written form
 pub mod FileForms

@@ -11,6 +11,7 @@ use Rattle.semantics.specs.Expressions.{Number, constant, variable, operate, ne
 use Rattle.semantics.specs.Plant.{among, selectors}
 use Rattle.semantics.specs.Events.{pick, eventIn}
 use Rattle.semantics.specs.Starts.{Start, startIn, startFits}
+use Rattle.semantics.specs.Records.{recordAt}
 use Rattle.semantics.specs.Run.{assign, Situation, Answered, at, step, isTaken}
 use Rattle.schedules.specs.Nodes.{nodeAction}
 use Rattle.schedules.specs.Trees.{Tree, Forest, leaf, halt, loop, branch, seq, par, nil, cons}
@@ -130,10 +131,6 @@ module _ (ed : Edition) (s : Schedule) where
     pub same : bothTaken x e f ≡ true → second x e f ≡ second x f e
 
 -- ---- the same of the bytes that a run writes
--- record k, where each has so many bytes
-unfoldable pub recordAt : ℕ → ℕ → List ℕ → List ℕ
-recordAt size k bytes = take size (drop (k * size) bytes)
-
 -- a record's answer is its first byte
 unfoldable pub recordTaken : List ℕ → Bool
 recordTaken r = isTaken (getD r 0 0)

@@ -7,6 +7,8 @@ use Prim.Native.Nat.{ℕ, suc, _+_, _-_, _≤_}
 use lib.Dec.{ltb}
 use lib.ListN.{length, drop}
 use Rattle.semantics.specs.Editions.{Edition}
+use Rattle.semantics.specs.Renumbering.{SameButSets}
+use Rattle.semantics.specs.Calls.{Ran}
 use Rattle.schedules.specs.FileSections.{FileSections, fileSectionsIn}
 use Rattle.schedules.specs.Nodes.{Node, parallel, nodesIn}
 use Rattle.schedules.specs.Trees.{Tree, Forest}
@@ -69,3 +71,9 @@ pub record SameButOrder (ed : Edition) (file other : List ℕ) : Type 0 where
   pub nodes-read : nodesIn ed (parts .schedule) ≡ some nodes
   pub other-read : nodesIn ed (other-parts .schedule) ≡ some other-nodes
   pub order : Reordered nodes other-nodes
+
+-- what two runs return that correspond in their events: the same refusal and counts, and records with the same bytes but for the sets of acting nodes
+pub record RunsCorrespond (ed : Edition) (size count : ℕ) (one other : Ran) : Type 0 where
+  pub refusal : one .refusal ≡ other .refusal
+  pub counts : one .counts ≡ other .counts
+  pub records : SameButSets ed size count (one .records) (other .records)

@@ -29,6 +29,7 @@ pub mod Verdicts
 pub mod Simulation
 pub mod WalksInAnyOrder
 pub mod RenumberedRuns
+pub mod RenumberedRecords
 pub mod RunCounts
 pub mod RecordForms
 -- calls and formats

@@ -28,7 +28,7 @@ use Rattle.semantics.proofs.TakenBytes.{Is, Takes, takes-then, takes-la
 use Rattle.semantics.proofs.SectionForms.{reads-value, value-written}
 
 -- ---- one for each
-each-length : {A B : Type 0} {R : A → B → Type 0} {l : List A} {k : List B} → Each R l k → length k ≡ length l
+pub each-length : {A B : Type 0} {R : A → B → Type 0} {l : List A} {k : List B} → Each R l k → length k ≡ length l
 each-length each-nil = refl
 each-length (each-cons h e) = ap suc (each-length e)
 

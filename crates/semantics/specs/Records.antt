@@ -55,3 +55,7 @@ pub record RecordIs {S : Type 0} (ed : Edition) (c : Control S) (o : Answered S)
 pub data RecordsIn {S : Type 0} (ed : Edition) (c : Control S) : List (Answered S) → List ℕ → Type 0 where
   no-record : RecordsIn ed c [] []
   one-record : {o : Answered S} {l : List (Answered S)} {s t : List ℕ} → RecordIs ed c o s → RecordsIn ed c l t → RecordsIn ed c (o ∷ l) (s ++ t)
+
+-- record k of a buffer, where each has so many bytes
+unfoldable pub recordAt : ℕ → ℕ → List ℕ → List ℕ
+recordAt size k bytes = take size (drop (k * size) bytes)
