@@ -43,7 +43,7 @@ pick-said ed e {n} h = go (subst (Said ed e) h (said-of ed e))
     go (says-pick w) = w
 
 -- ---- the assignment
--- of a number beyond the nodes the action is STOP, so that one which assigns is its node's own
+-- where a number has no node that acts its action is STOP, so that one which assigns is its node's own
 module _ (ns : List Node) (n : ℕ) {v : ℕ} {e : List ℕ} where
   own-assignment : nodeAction ns n ≡ assign v e → (x : Node) × (getElem? ns n ≡ some x) × Does x (assign v e)
   unfolding nodeAction bind
