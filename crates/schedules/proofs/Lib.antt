@@ -84,4 +84,5 @@ pub mod IndependentPicks
 pub mod IndependentRecords
 pub mod IndependenceTold
 pub mod ReachedTold
+pub mod IndependentRules
 pub mod BranchPapers
