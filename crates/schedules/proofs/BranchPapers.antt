@@ -1,24 +1,21 @@
 -- Papers of document 02, item 5: the theorem's assumptions can hold, each of them is needed, and what it does not claim.
 use mathlib.Core.Path.{_≡_, refl}
 use mathlib.Core.Bool.{true, false}
-use mathlib.Core.List.{List, [], _∷_, _++_, map, List·Memᴰ·head as first, List·Memᴰ·tail as later}
+use mathlib.Core.List.{[], _∷_, _++_, map, List·Memᴰ·head as first, List·Memᴰ·tail as later}
 use Prim.Native.Nat.{ℕ}
 use lib.ListN.{replicate}
 use lib.IntN.{pos}
 use Rattle.semantics.specs.Editions.{edition1}
-use Rattle.semantics.specs.Expressions.{constant, always}
-use Rattle.semantics.specs.Sections.{Equation}
-use Rattle.semantics.specs.Calls.{Ran}
+use Rattle.semantics.specs.Refusals.{accepted}
+use Rattle.semantics.specs.Expressions.{constant, always, numberBytes}
 use Rattle.semantics.specs.K1.{start-at, one-record}
-use Rattle.schedules.specs.Nodes.{parallel}
 use Rattle.schedules.specs.Trees.{leaf, loop, branch, seq, par, nil, cons}
 use Rattle.schedules.specs.Residuals.{fresh}
-use Rattle.schedules.specs.Files.{Schedule}
-use Rattle.schedules.specs.Writing.{writeNodes, writeFile}
+use Rattle.schedules.specs.Files.{judgeFile}
 use Rattle.schedules.specs.Reordered.{exchangedNumber}
 use Rattle.schedules.specs.SideExamples.{BothRun, waitingForBoth, atMost0, tooHigh, tooLow, ticked}
-use Rattle.schedules.specs.BranchExamples.{twoVariables, resetTo, oneMoreThan, independentBranches, meetingBranches, sameVariable, branchesWithCase, fromValues, pickOf, recordWith, wrote}
-use Rattle.schedules.specs.Independent.{differentChildren, begun, Independent}
+use Rattle.schedules.specs.BranchExamples.{oneMoreThan, independentBranches, independentSchedule, meetingBranches, sameVariable, branchesWithCase, fromValues, pickOf, recordWith, wrote}
+use Rattle.schedules.specs.Independent.{differentChildren, inStatement, begun, Independent}
 use Rattle.schedules.proofs.Computes.{schedules}
 
 -- ---- two that are independent: in either order the last record is the same
@@ -29,6 +26,32 @@ independent-one-order = record { by-rules = refl; by-table = refl }
 pub independent-other-order : BothRun independentBranches (fromValues 0 0) (pickOf 2 ++ pickOf 1) (replicate 34 9) (wrote 2 0 0 (recordWith 200 2 0 5 ++ recordWith 201 0 1 5))
 unfolding schedules
 independent-other-order = record { by-rules = refl; by-table = refl }
+
+-- the theorem's assumptions hold of them at the start
+pub independent-read : judgeFile edition1 independentBranches ≡ accepted independentSchedule
+unfolding schedules
+independent-read = refl
+
+pub independent-held : Independent edition1 independentSchedule (begun edition1 independentSchedule (record { values = pos 0 ∷ pos 0 ∷ []; modes = [] })) (pickOf 1) (pickOf 2)
+unfolding schedules
+independent-held = record {
+  a = 1;
+  b = 2;
+  v = 0;
+  w = 1;
+  d = numberBytes edition1 (oneMoreThan 0);
+  e = numberBytes edition1 (constant (pos 5));
+  picks-a = record { is-pick = refl; place = fresh (independentSchedule .root); stands = refl; acts = first refl; assigns = refl };
+  picks-b = record { is-pick = refl; place = fresh (independentSchedule .root); stands = refl; acts = later (first refl); assigns = refl };
+  apart = refl;
+  v-free = refl;
+  w-free = refl;
+}
+
+-- of those that meet, one assumption does not
+pub meeting-occurs : (inStatement edition1 2 1 0 (numberBytes edition1 (oneMoreThan 1)) ≡ true) × (inStatement edition1 2 0 0 (numberBytes edition1 (constant (pos 5))) ≡ true)
+unfolding schedules
+meeting-occurs = (refl, refl)
 
 -- from 10 variable 0 leaves its range: not both are taken, in neither order, and what each is answered differs
 pub fault-one-order : BothRun independentBranches (fromValues 10 0) (pickOf 1 ++ pickOf 2) (replicate 34 9) (wrote 0 1 1 (recordWith 203 0 10 0 ++ recordWith 23 0 10 0))

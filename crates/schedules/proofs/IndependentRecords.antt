@@ -1,5 +1,5 @@
 -- Document 02, item 5, over the bytes that the run by the rules and the run of a table write.
-use mathlib.Core.Path.{_≡_, refl, sym, ap, ap₂, subst, subst₂, _∙_}
+use mathlib.Core.Path.{_≡_, refl, sym, ap, ap₂, subst₂, _∙_}
 use mathlib.Core.Bool.{_&&_}
 use mathlib.Core.List.{List, [], _∷_, _++_, flatMap, flatten, append-assoc}
 use mathlib.Core.Option.{some}
@@ -14,20 +14,13 @@ use Rattle.semantics.specs.Refusals.{accepted}
 use Rattle.semantics.specs.Records.{recordAt}
 use Rattle.semantics.specs.Starts.{Start, startIn}
 use Rattle.semantics.specs.Run.{Situation, Answered, step, answers, recordOf, recordBytes, isTaken}
-use Rattle.semantics.specs.Calls.{Ran, Program, outcomeOf, runFrom, judgeRun, report, tableRun, wholeEvents, eventCount, recordSize, roomForRecords}
-use Rattle.semantics.proofs.Facts.{some-is}
-use Rattle.semantics.proofs.Judging as Judging
-use Rattle.semantics.proofs.Admission.{Admits, admission-judged}
-use Rattle.semantics.proofs.EventsCut.{events-cut, flat-length}
+use Rattle.semantics.specs.Calls.{Ran, outcomeOf, tableRun, recordSize}
+use Rattle.semantics.proofs.EventsCut.{flat-length}
 use Rattle.semantics.proofs.RunCounts.{written-length, record-length}
-use Rattle.semantics.proofs.CallsHold.{accepted-of, run-passed}
-use Rattle.semantics.proofs.FirstNumber.{ran-refusal}
 use Rattle.schedules.specs.Residuals.{Residual}
 use Rattle.schedules.specs.Files.{Schedule, judgeFile, ruleControl}
-use Rattle.schedules.specs.Calls.{ruleProgram, ruleRun, compile}
+use Rattle.schedules.specs.Calls.{ruleRun, compile}
 use Rattle.schedules.specs.Independent.{WithoutCase, leftBy, begun, Reachable, Independent, second, bothTaken, recordTaken, recordsTaken, EitherOrderWritten}
-use Rattle.schedules.proofs.FirstNumber.{rule-run-first}
-use Rattle.schedules.proofs.CallsHold.{rule-numbers}
 use Rattle.schedules.proofs.Agreement.{agreement}
 use Rattle.schedules.proofs.Places.{flat-append}
 use Rattle.schedules.proofs.RuleLists.{AllWhole, Admitted, as-many-admitted, taken-on, returned}

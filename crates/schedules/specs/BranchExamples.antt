@@ -8,7 +8,9 @@ use Rattle.semantics.specs.Sections.{Variable, Equation, choice}
 use Rattle.semantics.specs.Plant.{Plant}
 use Rattle.semantics.specs.Calls.{Ran}
 use Rattle.schedules.specs.Nodes.{Node, parallel, reset}
-use Rattle.schedules.specs.Writing.{writeFile}
+use Rattle.schedules.specs.Trees.{leaf, par, nil, cons}
+use Rattle.schedules.specs.Files.{Schedule}
+use Rattle.schedules.specs.Writing.{sectionsOf, writeFile}
 
 abbrev to10 : Variable
 to10 = record { minimum = pos 0; maximum = pos 10; initial = pos 0 }
@@ -31,6 +33,13 @@ oneMoreThan v = operate sum (variable v) (constant (pos 1))
 -- variable 0 becomes 1 more, variable 1 becomes 5: neither's variable occurs in the other's statement
 abbrev pub independentBranches : List ℕ
 independentBranches = sideBySide [] (resetTo 0 (oneMoreThan 0)) (resetTo 1 (constant (pos 5)))
+
+-- what it is read as
+abbrev branchNodes : List Node
+branchNodes = parallel 2 ∷ resetTo 0 (oneMoreThan 0) ∷ resetTo 1 (constant (pos 5)) ∷ []
+
+abbrev pub independentSchedule : Schedule
+independentSchedule = record { sections = sectionsOf edition1 (twoVariables []) branchNodes; plant = twoVariables []; nodes = branchNodes; root = par (leaf 1) (cons (leaf 2) nil) }
 
 -- variable 0 becomes 1 more than variable 1
 abbrev pub meetingBranches : List ℕ
