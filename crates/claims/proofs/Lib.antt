@@ -4,3 +4,4 @@ pub mod Practice
 pub mod Sides
 pub mod Assignments
 pub mod Comparisons
+pub mod Branches

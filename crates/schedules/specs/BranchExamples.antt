@@ -28,7 +28,7 @@ abbrev pub sideBySide : List Equation → Node → Node → List ℕ
 sideBySide es x y = writeFile edition1 (twoVariables es) (parallel 2 ∷ x ∷ y ∷ [])
 
 abbrev pub oneMoreThan : ℕ → Number
-oneMoreThan v = operate sum (variable v) (constant (pos 1))
+oneMoreThan v = operate sum (constant (pos 1)) (variable v)
 
 -- variable 0 becomes 1 more, variable 1 becomes 5: neither's variable occurs in the other's statement
 abbrev pub independentBranches : List ℕ

@@ -11,7 +11,7 @@ use Rattle.semantics.specs.Plant.{Plant}
 use Rattle.semantics.specs.Events.{Event, tick, pick, take-switch, senseless, eventIn}
 use Rattle.semantics.specs.Run.{Control, Situation, Answered, step}
 use Rattle.semantics.specs.Records.{recordAt}
-use Rattle.semantics.specs.Rules.{CurrentSwitch, Found, nothing, Stops, Checks, Waits}
+use Rattle.semantics.specs.Rules.{SaysPick, CurrentSwitch, Found, nothing, Stops, Checks, Waits}
 
 -- the same event, with a picked node's other number
 unfoldable pub renumbered : (ℕ → ℕ) → Event → Event
@@ -23,6 +23,11 @@ renumbered number senseless = senseless
 -- two events of a list, by their bytes
 abbrev pub Corresponding : Edition → (ℕ → ℕ) → List ℕ → List ℕ → Type 0
 Corresponding ed number e f = eventIn ed f ≡ renumbered number (eventIn ed e)
+
+-- the same from their bytes: both pick, or neither does and they are the same bytes
+pub data SameEvent (ed : Edition) (number : ℕ → ℕ) (e : List ℕ) : List ℕ → Type 0 where
+  both-pick : {f : List ℕ} {n : ℕ} → SaysPick ed e n → SaysPick ed f (number n) → SameEvent ed number e f
+  no-pick : ((n : ℕ) → SaysPick ed e n → ⊥) → SameEvent ed number e e
 
 -- the acting nodes; none once the run is over
 unfoldable pub actingNow : {S : Type 0} → Control S → Option S → List ℕ
