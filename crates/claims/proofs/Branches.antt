@@ -181,6 +181,10 @@ fault-one-order = Papers.fault-one-order
 pub fault-other-order : BothRun independentBranches (fromValues 10 0) (pickOf 2 ++ pickOf 1) (replicate 34 9) (wrote 1 0 1 (recordWith 200 2 10 5 ++ recordWith 203 0 10 5))
 fault-other-order = Papers.fault-other-order
 
+pub fault-not-both : let x = begun edition1 independentSchedule (record { values = pos 10 ∷ pos 0 ∷ []; modes = [] }) in
+    (bothTaken edition1 independentSchedule x (pickOf 1) (pickOf 2) ≡ false) × (bothTaken edition1 independentSchedule x (pickOf 2) (pickOf 1) ≡ false)
+fault-not-both = Papers.fault-not-both
+
 -- where the variables meet, both orders are taken and the values differ: one reads what the other sets, or both set one variable.
 -- Ruled out: a run that evaluates both numbers before it assigns; a definition of a statement without the variable that it assigns.
 pub meeting-one-order : BothRun meetingBranches (fromValues 0 0) (pickOf 1 ++ pickOf 2) (replicate 34 9) (wrote 2 0 0 (recordWith 200 4 1 0 ++ recordWith 201 0 1 5))
@@ -208,10 +212,13 @@ pub case-other-order : BothRun branchesWithCase (fromValues 0 0 ++ (0 ∷ [])) (
     (wrote 2 0 0 (recordWith 200 2 0 5 ++ (0 ∷ recordWith 201 0 1 5 ++ (0 ∷ []))))
 case-other-order = Papers.case-other-order
 
--- different children: of an IF around PARALLEL of a WHILE and a SEQUENCE; and not those of a SEQUENCE in a PARALLEL.
+-- different children: of an IF around PARALLEL of a WHILE and a SEQUENCE; of a PARALLEL in a PARALLEL; and not those of a SEQUENCE in a PARALLEL.
 -- Ruled out: a test that takes any two nodes below a PARALLEL; one that does not look inside an IF.
 pub nested-children : map (λ (b : ℕ). differentChildren 3 b (branch 0 (par (loop 2 (leaf 3)) (cons (seq (leaf 4) (cons (leaf 5) nil)) nil)) (leaf 6))) (2 ∷ 3 ∷ 4 ∷ 5 ∷ 6 ∷ []) ≡ false ∷ false ∷ true ∷ true ∷ false ∷ []
 nested-children = Papers.nested-children
+
+pub inner-children : map (λ (b : ℕ). differentChildren 2 b (par (par (leaf 2) (cons (leaf 3) nil)) (cons (leaf 4) nil))) (2 ∷ 3 ∷ 4 ∷ []) ≡ false ∷ true ∷ true ∷ []
+inner-children = Papers.inner-children
 
 pub sequence-children : differentChildren 1 2 (par (seq (leaf 1) (cons (leaf 2) nil)) (cons (leaf 3) nil)) ≡ false
 sequence-children = Papers.sequence-children

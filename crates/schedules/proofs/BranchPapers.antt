@@ -15,7 +15,7 @@ use Rattle.schedules.specs.Files.{judgeFile}
 use Rattle.schedules.specs.Reordered.{exchangedNumber}
 use Rattle.schedules.specs.SideExamples.{BothRun, waitingForBoth, atMost0, tooHigh, tooLow, ticked}
 use Rattle.schedules.specs.BranchExamples.{oneMoreThan, independentBranches, independentSchedule, meetingBranches, sameVariable, branchesWithCase, fromValues, pickOf, recordWith, wrote}
-use Rattle.schedules.specs.Independent.{differentChildren, inStatement, begun, Independent}
+use Rattle.schedules.specs.Independent.{differentChildren, inStatement, begun, Independent, bothTaken}
 use Rattle.schedules.proofs.Computes.{schedules}
 
 -- ---- two that are independent: in either order the last record is the same
@@ -62,6 +62,11 @@ pub fault-other-order : BothRun independentBranches (fromValues 10 0) (pickOf 2 
 unfolding schedules
 fault-other-order = record { by-rules = refl; by-table = refl }
 
+pub fault-not-both : let x = begun edition1 independentSchedule (record { values = pos 10 ∷ pos 0 ∷ []; modes = [] }) in
+    (bothTaken edition1 independentSchedule x (pickOf 1) (pickOf 2) ≡ false) × (bothTaken edition1 independentSchedule x (pickOf 2) (pickOf 1) ≡ false)
+unfolding schedules
+fault-not-both = (refl, refl)
+
 -- ---- where the one reads what the other sets, both orders are taken, and the values differ
 pub meeting-one-order : BothRun meetingBranches (fromValues 0 0) (pickOf 1 ++ pickOf 2) (replicate 34 9) (wrote 2 0 0 (recordWith 200 4 1 0 ++ recordWith 201 0 1 5))
 unfolding schedules
@@ -96,6 +101,11 @@ case-other-order = record { by-rules = refl; by-table = refl }
 pub nested-children : map (λ (b : ℕ). differentChildren 3 b (branch 0 (par (loop 2 (leaf 3)) (cons (seq (leaf 4) (cons (leaf 5) nil)) nil)) (leaf 6))) (2 ∷ 3 ∷ 4 ∷ 5 ∷ 6 ∷ []) ≡ false ∷ false ∷ true ∷ true ∷ false ∷ []
 unfolding schedules
 nested-children = refl
+
+-- PARALLEL of a PARALLEL of nodes 2 and 3 and of node 4
+pub inner-children : map (λ (b : ℕ). differentChildren 2 b (par (par (leaf 2) (cons (leaf 3) nil)) (cons (leaf 4) nil))) (2 ∷ 3 ∷ 4 ∷ []) ≡ false ∷ true ∷ true ∷ []
+unfolding schedules
+inner-children = refl
 
 -- the children of a SEQUENCE are not those of a PARALLEL, though one may stand around it
 pub sequence-children : differentChildren 1 2 (par (seq (leaf 1) (cons (leaf 2) nil)) (cons (leaf 3) nil)) ≡ false
