@@ -21,7 +21,7 @@ use Rattle.semantics.specs.Calls.{recordSize, tableRun}
 use Rattle.semantics.specs.K1.{start-at, one-record}
 use Rattle.semantics.proofs.RenumberedRuns as RenumberedRuns
 use Rattle.schedules.specs.Nodes.{Node}
-use Rattle.schedules.specs.Trees.{Tree, leaf, loop, branch, seq, par, nil, cons}
+use Rattle.schedules.specs.Trees.{Tree, leaf, seq, par, nil, cons}
 use Rattle.schedules.specs.Residuals.{Residual, fresh, acting}
 use Rattle.schedules.specs.Files.{Schedule, judgeFile, ruleControl}
 use Rattle.schedules.specs.Calls.{ruleRun, compile}
@@ -29,7 +29,7 @@ use Rattle.schedules.specs.Reordered.{Reordered, exchangedNumber, newNumber, Sa
 use Rattle.schedules.specs.Independent.{differentChildren, WithoutCase, occurs, inStatement, leftBy, begun, Reachable, Independent, second, bothTaken, EitherOrder, EitherOrderWritten}
 use Rattle.schedules.specs.Independence.{DifferentChildren, NoCase, Occurs, InStatement, ReachedByRules, IndependentByRules, BothTaken}
 use Rattle.schedules.specs.SideExamples.{BothRun, waitingForBoth, atMost0, tooHigh, tooLow, ticked}
-use Rattle.schedules.specs.BranchExamples.{oneMoreThan, independentBranches, independentSchedule, meetingBranches, sameVariable, branchesWithCase, fromValues, pickOf, recordWith, wrote}
+use Rattle.schedules.specs.BranchExamples.{oneMoreThan, independentBranches, independentSchedule, meetingBranches, sameVariable, branchesWithCase, nestedBranches, fromValues, pickOf, recordWith, wrote}
 use Rattle.schedules.proofs.IndependentPicks as IndependentPicks
 use Rattle.schedules.proofs.IndependentRules as IndependentRules
 use Rattle.schedules.proofs.IndependentRecords as IndependentRecords
@@ -54,7 +54,8 @@ pub independent-picks-rules : (ed : Edition) (file : List ℕ) (s : Schedule) �
     BothTaken ed s x one other answer end ↔ BothTaken ed s x other one answer end
 independent-picks-rules = IndependentRules.independent-picks-rules
 
--- over the bytes that a run by the rules writes, the two anywhere in its list: the records before them are the same, both are taken or not, and where they are taken all bytes from the second record on are.
+-- over the bytes that a run by the rules writes, the two anywhere in its list: the records before them are the same, and where both are taken, which is so in one order exactly when in the other,
+-- all bytes from the record of the second on.
 -- Ruled out: a run that remembers which of two picks came first and shows it later; one that writes its counts' order into a record.
 pub independent-records-rules : (ed : Edition) (file : List ℕ) (s : Schedule) → judgeFile ed file ≡ accepted s → WithoutCase s → (start buffer : List ℕ) (es fs : List (List ℕ)) (e f : List ℕ) →
     All (λ e. length e ≡ ed .event-bytes) (es ++ (e ∷ f ∷ fs)) → (ruleRun ed file start (flatten (es ++ (e ∷ f ∷ fs))) buffer) .refusal ≡ 0 →
@@ -95,7 +96,8 @@ without-case = IndependenceTold.no-case-is
 pub occurs-in-number : (v : ℕ) (e : Number) → (occurs v e ≡ true) ↔ Occurs v e
 occurs-in-number = IndependenceTold.occurs-is
 
-pub occurs-in-statement : (ed : Edition) (variables v w : ℕ) (e : List ℕ) → All (λ b. b < 256) e → isSome (numberIn ed variables e) ≡ true → (inStatement ed variables v w e ≡ true) ↔ InStatement ed v w e
+pub occurs-in-statement : (ed : Edition) (variables v w : ℕ) (e : List ℕ) → All (λ b. b < 256) e → isSome (numberIn ed variables e) ≡ true →
+    (inStatement ed variables v w e ≡ true) ↔ InStatement ed v w e
 occurs-in-statement = IndependenceTold.statement-is
 
 -- all of it together, of two events: they pick acting assignments that are independent.
@@ -130,9 +132,9 @@ new-number-once = ReorderedRuns.reordered-one-to-one
 pub same-event : (ed : Edition) (number : ℕ → ℕ) {e f : List ℕ} → SameEvent ed number e f → Corresponding ed number e f
 same-event ed number h = RenumberedRuns.same-event ed number h
 
--- corresponding events, a picked node by its new number, get the same answers, values and modes, and the same nodes act by their new numbers. A tick asks the acting CONTINUEs in node order and stops at
--- the first that is true or faults, so that there the order of the children can matter, where one is true and another faults, or two fault on different sides: `EitherFirstAtTicks` says that this is not so
--- at any tick of the list. Of a list it says nothing behind such a tick; of the events before it, everything.
+-- corresponding events get the same answers, values and modes, and the same nodes act by their new numbers. The one exception: a tick asks the acting CONTINUEs in node order up to the first that is
+-- true or faults, and where one is true and another faults, or two fault on different sides, the order of the children decides. `EitherFirstAtTicks` says that no tick of the list comes to such truths;
+-- of any list it can be said of the events before the first such tick.
 -- Ruled out: a run in which the first child of a PARALLEL must be picked first; one that checks the switches in the order of the branches that name them.
 pub reordered-runs : (ed : Edition) (file other : List ℕ) (o : SameButOrder ed file other) (s u : Schedule) → judgeFile ed file ≡ accepted s → judgeFile ed other ≡ accepted u →
     (st : Start) (es fs : List (List ℕ)) → EitherFirstAtTicks ed (s .plant) (ruleControl s) (at (fresh (s .root)) (st .values) (st .modes)) es →
@@ -214,7 +216,7 @@ case-other-order = Papers.case-other-order
 
 -- different children: of an IF around PARALLEL of a WHILE and a SEQUENCE; of a PARALLEL in a PARALLEL; and not those of a SEQUENCE in a PARALLEL.
 -- Ruled out: a test that takes any two nodes below a PARALLEL; one that does not look inside an IF.
-pub nested-children : map (λ (b : ℕ). differentChildren 3 b (branch 0 (par (loop 2 (leaf 3)) (cons (seq (leaf 4) (cons (leaf 5) nil)) nil)) (leaf 6))) (2 ∷ 3 ∷ 4 ∷ 5 ∷ 6 ∷ []) ≡ false ∷ false ∷ true ∷ true ∷ false ∷ []
+pub nested-children : map (λ (b : ℕ). differentChildren 3 b nestedBranches) (0 ∷ 2 ∷ 3 ∷ 5 ∷ 6 ∷ 7 ∷ []) ≡ false ∷ false ∷ false ∷ true ∷ true ∷ false ∷ []
 nested-children = Papers.nested-children
 
 pub inner-children : map (λ (b : ℕ). differentChildren 2 b (par (par (leaf 2) (cons (leaf 3) nil)) (cons (leaf 4) nil))) (2 ∷ 3 ∷ 4 ∷ []) ≡ false ∷ true ∷ true ∷ []

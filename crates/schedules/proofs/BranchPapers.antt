@@ -9,12 +9,12 @@ use Rattle.semantics.specs.Editions.{edition1}
 use Rattle.semantics.specs.Refusals.{accepted}
 use Rattle.semantics.specs.Expressions.{constant, always, numberBytes}
 use Rattle.semantics.specs.K1.{start-at, one-record}
-use Rattle.schedules.specs.Trees.{leaf, loop, branch, seq, par, nil, cons}
+use Rattle.schedules.specs.Trees.{leaf, seq, par, nil, cons}
 use Rattle.schedules.specs.Residuals.{fresh}
 use Rattle.schedules.specs.Files.{judgeFile}
 use Rattle.schedules.specs.Reordered.{exchangedNumber}
 use Rattle.schedules.specs.SideExamples.{BothRun, waitingForBoth, atMost0, tooHigh, tooLow, ticked}
-use Rattle.schedules.specs.BranchExamples.{oneMoreThan, independentBranches, independentSchedule, meetingBranches, sameVariable, branchesWithCase, fromValues, pickOf, recordWith, wrote}
+use Rattle.schedules.specs.BranchExamples.{oneMoreThan, independentBranches, independentSchedule, meetingBranches, sameVariable, branchesWithCase, nestedBranches, fromValues, pickOf, recordWith, wrote}
 use Rattle.schedules.specs.Independent.{differentChildren, inStatement, begun, Independent, bothTaken}
 use Rattle.schedules.proofs.Computes.{schedules}
 
@@ -97,8 +97,8 @@ unfolding schedules
 case-other-order = record { by-rules = refl; by-table = refl }
 
 -- ---- which children are different ones
--- PARALLEL of a WHILE over node 3 and of nodes 4 and 5 in a SEQUENCE, in an IF
-pub nested-children : map (λ (b : ℕ). differentChildren 3 b (branch 0 (par (loop 2 (leaf 3)) (cons (seq (leaf 4) (cons (leaf 5) nil)) nil)) (leaf 6))) (2 ∷ 3 ∷ 4 ∷ 5 ∷ 6 ∷ []) ≡ false ∷ false ∷ true ∷ true ∷ false ∷ []
+-- of an IF around PARALLEL of a WHILE and a SEQUENCE
+pub nested-children : map (λ (b : ℕ). differentChildren 3 b nestedBranches) (0 ∷ 2 ∷ 3 ∷ 5 ∷ 6 ∷ 7 ∷ []) ≡ false ∷ false ∷ false ∷ true ∷ true ∷ false ∷ []
 unfolding schedules
 nested-children = refl
 

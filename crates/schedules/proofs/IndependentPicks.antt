@@ -84,6 +84,7 @@ module _ (ed : Edition) (file : List ℕ) (s : Schedule) (h : judgeFile ed file 
       let j : Mem (i .b) (acting r) = subst (λ t. Mem (i .b) (acting t)) (some-is (sym (q .stands) ∙ p .stands)) (q .acts) in
       let different : i .v ≡ i .w → ⊥ = λ e. other-variable (i .v) (i .w) (neither-left (eqb (i .w) (i .v)) _ (i .v-free)) (sym e) in
       let nodes : i .a ≡ i .b → ⊥ = λ e. different (same-assignment (p .assigns) (subst (λ n. nodeAction (s .nodes) n ≡ assign (i .w) (i .e)) (sym e) (q .assigns))) in
-      let ex = exchange (i .a) (i .b) true true nodes o (root-shapes (s .nodes) ((passed ed file s h) .tree) .0) (p .acts) j (assign-goes-on o (p .acts) (p .assigns)) (assign-goes-on o j (q .assigns)) in
+      let spans = root-shapes (s .nodes) ((passed ed file s h) .tree) .0 in
+      let ex = exchange (i .a) (i .b) true true nodes o spans (p .acts) j (assign-goes-on o (p .acts) (p .assigns)) (assign-goes-on o j (q .assigns)) in
       either-order ed s free x r (p .stands) (record { is-pick = p .is-pick; acts = p .acts; assigns = p .assigns }) (record { is-pick = q .is-pick; acts = j; assigns = q .assigns })
       different (rw (k .as-many) (neither-right (eqb (i .w) (i .v)) _ (i .v-free))) (rw (k .as-many) (neither-right (eqb (i .v) (i .w)) _ (i .w-free))) ex

@@ -79,4 +79,6 @@ module _ (ed : Edition) (file other : List ℕ) (o : SameButOrder ed file other)
       RunsCorrespond ed (recordSize ed (s .plant)) (length es) (tableRun ed table start (flatten es) buffer) (tableRun ed table′ start (flatten fs) buffer)
   tables-correspond room c =
       let d = sym (branch-order ed file other room o .0) ∙ c in
-      subst₂ (RunsCorrespond ed (recordSize ed (s .plant)) (length es)) (agreement ed file room c .same start (flatten es) buffer) (agreement ed other room d .same start (flatten fs) buffer) rules-correspond
+      let by-one = agreement ed file room c .same start (flatten es) buffer in
+      let by-other = agreement ed other room d .same start (flatten fs) buffer in
+      subst₂ (RunsCorrespond ed (recordSize ed (s .plant)) (length es)) by-one by-other rules-correspond

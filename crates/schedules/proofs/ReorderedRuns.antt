@@ -6,7 +6,7 @@ use Prim.Native.Nat.{ℕ}
 use lib.ListN.{getElem?}
 use Rattle.semantics.specs.Editions.{Edition}
 use Rattle.semantics.specs.Refusals.{accepted}
-use Rattle.semantics.specs.Plant.{judgePlant}
+use Rattle.semantics.specs.Plant.{Plant, judgePlant}
 use Rattle.semantics.specs.Run.{Control, at, answers}
 use Rattle.semantics.specs.Renumbering.{Corresponding, SameButNumbers, EitherFirstAtTicks}
 use Rattle.semantics.specs.Starts.{Start}
@@ -99,15 +99,18 @@ module _ (ed : Edition) (file other : List ℕ) (o : SameButOrder ed file other)
       let a = reordered-agree s (o .order) (ap treeOf own-nodes ∙ here .tree) (ap treeOf other-nodes ∙ there .tree) in
       subst₂ (λ ns ms. Agreeing (newNumber (o .order)) (ruleControl (with s ns (s .root))) (ruleControl (with s ms (u .root)))) own-nodes other-nodes a
 
-  pub reordered-runs : (st : Start) (es fs : List (List ℕ)) → EitherFirstAtTicks ed (s .plant) (ruleControl s) (at (fresh (s .root)) (st .values) (st .modes)) es →
-      Each (Corresponding ed (newNumber (o .order))) es fs →
-      Each (SameButNumbers (newNumber (o .order)) (ruleControl s) (ruleControl u)) (answers ed (s .plant) (ruleControl s) (at (fresh (s .root)) (st .values) (st .modes)) es)
-      (answers ed (u .plant) (ruleControl u) (at (fresh (u .root)) (st .values) (st .modes)) fs)
-  unfolding ruleControl
-  reordered-runs st es fs a q = subst (λ p. Each (SameButNumbers (newNumber (o .order)) (ruleControl s) (ruleControl u)) (answers ed (s .plant) (ruleControl s) (at (fresh (s .root)) (st .values) (st .modes)) es)
-      (answers ed p (ruleControl u) (at (fresh (u .root)) (st .values) (st .modes)) fs)) same-plant (go files-agree)
-    where
-      go : Agreeing (newNumber (o .order)) (ruleControl s) (ruleControl u) →
-          Each (SameButNumbers (newNumber (o .order)) (ruleControl s) (ruleControl u)) (answers ed (s .plant) (ruleControl s) (at (fresh (s .root)) (st .values) (st .modes)) es)
-          (answers ed (s .plant) (ruleControl u) (at (fresh (u .root)) (st .values) (st .modes)) fs)
-      go (agreeing b) = runs-renumbered ed (s .plant) b (st .values) (st .modes) es fs a q
+  module _ (st : Start) (es fs : List (List ℕ)) where
+    -- over one plant or over two equal ones
+    abbrev Correspond : Plant → Type 0
+    Correspond p = Each (SameButNumbers (newNumber (o .order)) (ruleControl s) (ruleControl u)) (answers ed (s .plant) (ruleControl s) (at (fresh (s .root)) (st .values) (st .modes)) es)
+        (answers ed p (ruleControl u) (at (fresh (u .root)) (st .values) (st .modes)) fs)
+
+    over-one-plant : EitherFirstAtTicks ed (s .plant) (ruleControl s) (at (fresh (s .root)) (st .values) (st .modes)) es → Each (Corresponding ed (newNumber (o .order))) es fs →
+        Agreeing (newNumber (o .order)) (ruleControl s) (ruleControl u) → Correspond (s .plant)
+    unfolding ruleControl
+    over-one-plant a q (agreeing b) = runs-renumbered ed (s .plant) b (st .values) (st .modes) es fs a q
+
+    pub reordered-runs : EitherFirstAtTicks ed (s .plant) (ruleControl s) (at (fresh (s .root)) (st .values) (st .modes)) es → Each (Corresponding ed (newNumber (o .order))) es fs →
+        Each (SameButNumbers (newNumber (o .order)) (ruleControl s) (ruleControl u)) (answers ed (s .plant) (ruleControl s) (at (fresh (s .root)) (st .values) (st .modes)) es)
+        (answers ed (u .plant) (ruleControl u) (at (fresh (u .root)) (st .values) (st .modes)) fs)
+    reordered-runs a q = subst Correspond same-plant (over-one-plant a q files-agree)

@@ -8,7 +8,7 @@ use Rattle.semantics.specs.Sections.{Variable, Equation, choice}
 use Rattle.semantics.specs.Plant.{Plant}
 use Rattle.semantics.specs.Calls.{Ran}
 use Rattle.schedules.specs.Nodes.{Node, parallel, reset}
-use Rattle.schedules.specs.Trees.{leaf, par, nil, cons}
+use Rattle.schedules.specs.Trees.{Tree, leaf, loop, branch, seq, par, nil, cons}
 use Rattle.schedules.specs.Files.{Schedule}
 use Rattle.schedules.specs.Writing.{sectionsOf, writeFile}
 
@@ -55,6 +55,10 @@ switchAt1 = choice (record { initial = 0; modes = record { rates = []; switches 
 
 abbrev pub branchesWithCase : List ℕ
 branchesWithCase = sideBySide (switchAt1 ∷ []) (resetTo 0 (oneMoreThan 0)) (resetTo 1 (constant (pos 5)))
+
+-- an IF, node 0: PARALLEL of a WHILE, node 2, over node 3 and of a SEQUENCE of nodes 5 and 6; else node 7
+abbrev pub nestedBranches : Tree
+nestedBranches = branch 0 (par (loop 2 (leaf 3)) (cons (seq (leaf 5) (cons (leaf 6) nil)) nil)) (leaf 7)
 
 -- a start with these values below 256
 abbrev pub fromValues : ℕ → ℕ → List ℕ

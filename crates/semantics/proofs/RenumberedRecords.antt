@@ -39,8 +39,8 @@ each-found {R = R} (each-cons {b = b} r e) zero h = (b, refl, subst (λ a. R a b
 each-found (each-cons r e) (suc k) h = each-found e k h
 
 -- every record of a run has the plant's length
-pub records-long : {S : Type 0} (ed : Edition) (p : Plant) (c : Control S) (s : Situation S) (es : List (List ℕ)) → length (s .values) ≡ length (p .variables) → length (s .modes) ≡ length (selectors p) →
-    All (λ o. length (recordOf ed c o) ≡ recordSize ed p) (answers ed p c s es)
+pub records-long : {S : Type 0} (ed : Edition) (p : Plant) (c : Control S) (s : Situation S) (es : List (List ℕ)) →
+    length (s .values) ≡ length (p .variables) → length (s .modes) ≡ length (selectors p) → All (λ o. length (recordOf ed c o) ≡ recordSize ed p) (answers ed p c s es)
 unfolding answers
 records-long ed p c s [] h k = all-nil
 records-long ed p c s (e ∷ es) h k =
