@@ -14,7 +14,7 @@ use Rattle.schedules.specs.Trees.{Tree, Forest, leaf, halt, loop, branch
 use Rattle.schedules.specs.Residuals.{Residual, Parts, acting, actingAt, actingParts}
 use Rattle.schedules.specs.Reached.{Of, OfSeq, OfParts, of-leaf, of-halt, of-loop, of-body, of-branch, of-first, of-second, of-seq, of-par, of-here, of-later, of-none, of-finished, of-part}
 use Rattle.schedules.specs.Independent.{nodesOf, nodesOfAll, standsBefore, inDifferent, differentChildren, anyDifferent}
-use Rattle.schedules.specs.Independence.{NthChild, nth-here, nth-later, Within, itself, in-body, in-first, in-second, in-sequence, in-parallel, NodeIn, DifferentChildren}
+use Rattle.schedules.specs.IndependenceRules.{NthChild, nth-here, nth-later, Within, itself, in-body, in-first, in-second, in-sequence, in-parallel, NodeIn, DifferentChildren}
 use Rattle.schedules.proofs.Reachable.{or-left, or-right}
 use Rattle.schedules.proofs.NodesApart.{node-up, different-up, own-node, Some, this-has, later-has, Two, two-now, two-later, different-here, different-turned, different-below}
 

@@ -8,14 +8,15 @@ use lib.IntN.{pos}
 use Rattle.semantics.specs.Editions.{edition1}
 use Rattle.semantics.specs.Refusals.{accepted}
 use Rattle.semantics.specs.Expressions.{constant, always, numberBytes}
+use Rattle.semantics.specs.Plant.{selectors}
 use Rattle.semantics.specs.K1.{start-at, one-record}
 use Rattle.schedules.specs.Trees.{leaf, seq, par, nil, cons}
 use Rattle.schedules.specs.Residuals.{fresh}
 use Rattle.schedules.specs.Files.{judgeFile}
 use Rattle.schedules.specs.Reordered.{exchangedNumber}
-use Rattle.schedules.specs.SideExamples.{BothRun, waitingForBoth, atMost0, tooHigh, tooLow, ticked}
-use Rattle.schedules.specs.BranchExamples.{oneMoreThan, independentBranches, independentSchedule, meetingBranches, sameVariable, branchesWithCase, nestedBranches, fromValues, pickOf, recordWith, wrote}
-use Rattle.schedules.specs.Independent.{differentChildren, inStatement, begun, Independent, bothTaken}
+use Rattle.schedules.specs.SideExamples.{BothRun, waitingForBoth, atMost0, never, tooHigh, tooLow, ticked}
+use Rattle.schedules.specs.BranchExamples.{oneMoreThan, independentBranches, independentSchedule, drivenPlant, drivenBranches, meetingBranches, sameVariable, branchesWithCase, nestedBranches, fromValues, pickOf, recordWith, wrote}
+use Rattle.schedules.specs.Independent.{differentChildren, WithoutCase, inStatement, begun, Reachable, Independent, bothTaken}
 use Rattle.schedules.proofs.Computes.{schedules}
 
 -- ---- two that are independent: in either order the last record is the same
@@ -47,6 +48,27 @@ independent-held = record {
   v-free = refl;
   w-free = refl;
 }
+
+pub independent-without-case : WithoutCase independentSchedule
+unfolding schedules
+independent-without-case = refl
+
+pub independent-reached : Reachable edition1 independentSchedule (begun edition1 independentSchedule (record { values = pos 0 ∷ pos 0 ∷ []; modes = [] }))
+unfolding schedules
+independent-reached = record { start = fromValues 0 0; st = record { values = pos 0 ∷ pos 0 ∷ []; modes = [] }; start-read = refl; start-fits = refl; events = []; reached = refl }
+
+-- equations of kind 1 are no CASE
+pub driven-without-case : selectors drivenPlant ≡ []
+unfolding schedules
+driven-without-case = refl
+
+pub driven-one-order : BothRun drivenBranches (fromValues 0 0) (pickOf 1 ++ pickOf 2) (replicate 34 9) (wrote 2 0 0 (recordWith 200 4 1 0 ++ recordWith 201 0 1 5))
+unfolding schedules
+driven-one-order = record { by-rules = refl; by-table = refl }
+
+pub driven-other-order : BothRun drivenBranches (fromValues 0 0) (pickOf 2 ++ pickOf 1) (replicate 34 9) (wrote 2 0 0 (recordWith 200 2 0 5 ++ recordWith 201 0 1 5))
+unfolding schedules
+driven-other-order = record { by-rules = refl; by-table = refl }
 
 -- of those that meet, one assumption does not
 pub meeting-occurs : (inStatement edition1 2 1 0 (numberBytes edition1 (oneMoreThan 1)) ≡ true) × (inStatement edition1 2 0 0 (numberBytes edition1 (constant (pos 5))) ≡ true)
@@ -108,7 +130,7 @@ unfolding schedules
 inner-children = refl
 
 -- the children of a SEQUENCE are not those of a PARALLEL, though one may stand around it
-pub sequence-children : differentChildren 1 2 (par (seq (leaf 1) (cons (leaf 2) nil)) (cons (leaf 3) nil)) ≡ false
+pub sequence-children : differentChildren 2 3 (par (seq (leaf 2) (cons (leaf 3) nil)) (cons (leaf 4) nil)) ≡ false
 unfolding schedules
 sequence-children = refl
 
@@ -121,6 +143,15 @@ true-asked-first = record { by-rules = refl; by-table = refl }
 pub fault-asked-first : BothRun (waitingForBoth (atMost0 tooHigh) always) (start-at 0) ticked (replicate 26 9) (wrote 0 1 1 (one-record 203 0 0 (one-record 23 0 0 [])))
 unfolding schedules
 fault-asked-first = record { by-rules = refl; by-table = refl }
+
+-- none is true and none faults: taken, whichever is asked first
+pub neither-stops : BothRun (waitingForBoth never (atMost0 (constant (pos 1)))) (start-at 0) ticked (replicate 26 9) (wrote 2 0 0 (one-record 200 6 0 (one-record 200 6 0 [])))
+unfolding schedules
+neither-stops = record { by-rules = refl; by-table = refl }
+
+pub neither-stops-exchanged : BothRun (waitingForBoth (atMost0 (constant (pos 1))) never) (start-at 0) ticked (replicate 26 9) (wrote 2 0 0 (one-record 200 6 0 (one-record 200 6 0 [])))
+unfolding schedules
+neither-stops-exchanged = record { by-rules = refl; by-table = refl }
 
 -- both fault, on different sides
 pub above-asked-first : BothRun (waitingForBoth (atMost0 tooHigh) (atMost0 tooLow)) (start-at 0) ticked (replicate 26 9) (wrote 0 1 1 (one-record 203 0 0 (one-record 23 0 0 [])))

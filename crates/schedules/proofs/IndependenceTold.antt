@@ -23,7 +23,7 @@ use Rattle.semantics.proofs.StepRules.{step-rules, rule-of, step-of, rule-stand
 use Rattle.schedules.specs.Residuals.{Residual}
 use Rattle.schedules.specs.Files.{Schedule, ruleControl}
 use Rattle.schedules.specs.Independent.{WithoutCase, occurs, occursIn, inStatement, second, bothTaken}
-use Rattle.schedules.specs.Independence.{NoCase, Occurs, is-variable, in-left, in-right, in-negation, InStatement, Taken, BothTaken}
+use Rattle.schedules.specs.IndependenceRules.{NoCase, Occurs, is-variable, in-left, in-right, in-negation, InStatement, Taken, BothTaken}
 use Rattle.schedules.proofs.Reachable.{or-left, or-right}
 use Rattle.schedules.proofs.ActingApart.{or-cases}
 

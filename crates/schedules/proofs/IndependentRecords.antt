@@ -1,7 +1,7 @@
 -- Document 02, item 5, over the bytes that the run by the rules and the run of a table write.
 use mathlib.Core.Path.{_≡_, refl, sym, ap, ap₂, subst₂, _∙_}
-use mathlib.Core.Bool.{_&&_}
-use mathlib.Core.List.{List, [], _∷_, _++_, flatMap, flatten, append-assoc}
+use mathlib.Core.Bool.{true, _&&_}
+use mathlib.Core.List.{List, [], _∷_, _++_, flatMap, flatten, append-assoc, map-append}
 use mathlib.Core.Option.{some}
 use Prim.Native.Nat.{ℕ, suc, _*_}
 use native.Mathlib.Nat.{suc-mul}
@@ -13,14 +13,15 @@ use Rattle.semantics.specs.Editions.{Edition}
 use Rattle.semantics.specs.Refusals.{accepted}
 use Rattle.semantics.specs.Records.{recordAt}
 use Rattle.semantics.specs.Starts.{Start, startIn}
-use Rattle.semantics.specs.Run.{Situation, Answered, step, answers, recordOf, recordBytes, isTaken}
+use Rattle.semantics.specs.Run.{Situation, Answered, step, answers, recordOf, recordBytes, answersIn, isTaken, countsOf}
 use Rattle.semantics.specs.Calls.{Ran, outcomeOf, tableRun, recordSize}
+use Rattle.semantics.proofs.Facts.{and-left}
 use Rattle.semantics.proofs.EventsCut.{flat-length}
-use Rattle.semantics.proofs.RunCounts.{written-length, record-length}
+use Rattle.semantics.proofs.RunCounts.{written-length, record-length, taken-counted}
 use Rattle.schedules.specs.Residuals.{Residual}
 use Rattle.schedules.specs.Files.{Schedule, judgeFile, ruleControl}
 use Rattle.schedules.specs.Calls.{ruleRun, compile}
-use Rattle.schedules.specs.Independent.{WithoutCase, leftBy, begun, Reachable, Independent, second, bothTaken, recordTaken, recordsTaken, EitherOrderWritten}
+use Rattle.schedules.specs.Independent.{WithoutCase, leftBy, begun, Reachable, Independent, second, bothTaken, recordTaken, recordsTaken, EitherOrderReturned}
 use Rattle.schedules.proofs.Agreement.{agreement}
 use Rattle.schedules.proofs.Places.{flat-append}
 use Rattle.schedules.proofs.RuleLists.{AllWhole, Admitted, as-many-admitted, taken-on, returned}
@@ -64,6 +65,28 @@ module _ (ed : Edition) (s : Schedule) where
       written x (es ++ (e ∷ f ∷ fs)) ≡ written x es ++ (recorded (step ed (s .plant) (ruleControl s) y e) ++ (recorded (second ed s y e f) ++ written ((second ed s y e f) .left) fs))
   unfolding answers second flatMap
   written-parts x es fs e f = ap (flatMap (recordOf ed (ruleControl s))) (said-append x es (e ∷ f ∷ fs)) ∙ flat-append (recordOf ed (ruleControl s)) (said x es) (said (leftBy ed s x es) (e ∷ f ∷ fs))
+
+  answers-parts : (x : Situation Residual) (es fs : List (List ℕ)) (e f : List ℕ) →
+      let y = leftBy ed s x es in
+      answersIn (said x (es ++ (e ∷ f ∷ fs))) ≡ answersIn (said x es) ++ ((step ed (s .plant) (ruleControl s) y e) .answer ∷ (second ed s y e f) .answer ∷ answersIn (said ((second ed s y e f) .left) fs))
+  unfolding answers second
+  answers-parts x es fs e f = ap answersIn (said-append x es (e ∷ f ∷ fs)) ∙ map-append (λ (o : Answered Residual). o .answer) (said x es) (said (leftBy ed s x es) (e ∷ f ∷ fs))
+
+  -- where both are taken, which was the first does not count
+  counts-either : (x : Situation Residual) (es fs : List (List ℕ)) (e f : List ℕ) → let y = leftBy ed s x es in
+      bothTaken ed s y e f ≡ true → bothTaken ed s y f e ≡ true → second ed s y e f ≡ second ed s y f e →
+      countsOf (answersIn (said x (es ++ (e ∷ f ∷ fs)))) ≡ countsOf (answersIn (said x (es ++ (f ∷ e ∷ fs))))
+  unfolding bothTaken
+  counts-either x es fs e f g h i =
+      let y = leftBy ed s x es in
+      let one = (step ed (s .plant) (ruleControl s) y e) .answer in
+      let other = (step ed (s .plant) (ruleControl s) y f) .answer in
+      let before = answersIn (said x es) in
+      let behind : Answered Residual → List ℕ = λ o. o .answer ∷ answersIn (said (o .left) fs) in
+      ap countsOf (answers-parts x es fs e f)
+      ∙ taken-counted before (behind (second ed s y e f)) one other (and-left (isTaken one) (isTaken ((second ed s y e f) .answer)) g) (and-left (isTaken other) (isTaken ((second ed s y f e) .answer)) h)
+      ∙ ap (λ o. countsOf (before ++ (other ∷ behind o))) i
+      ∙ sym (ap countsOf (answers-parts x es fs f e))
 
 module _ (ed : Edition) (file : List ℕ) (s : Schedule) (h : judgeFile ed file ≡ accepted s) (start buffer : List ℕ) where
   module _ {st : Start} where
@@ -159,8 +182,8 @@ module _ (ed : Edition) (file : List ℕ) (s : Schedule) (h : judgeFile ed file 
       as-many-admitted ed s start buffer (es ++ (e ∷ f ∷ fs)) (es ++ (f ∷ e ∷ fs)) n admitted
 
   -- the run by the rules
-  pub rules-either-order : EitherOrderWritten (recordSize ed (s .plant)) (length es)
-      ((ruleRun ed file start (flatten (es ++ (e ∷ f ∷ fs))) buffer) .records) ((ruleRun ed file start (flatten (es ++ (f ∷ e ∷ fs))) buffer) .records)
+  pub rules-either-order : EitherOrderReturned (recordSize ed (s .plant)) (length es)
+      (ruleRun ed file start (flatten (es ++ (e ∷ f ∷ fs))) buffer) (ruleRun ed file start (flatten (es ++ (f ∷ e ∷ fs))) buffer)
   unfolding rest
   rules-either-order =
       let n = length es in
@@ -175,7 +198,13 @@ module _ (ed : Edition) (file : List ℕ) (s : Schedule) (h : judgeFile ed file 
       let other = recorded ed s (step ed (s .plant) (ruleControl s) x f) in
       let after-one = rest ed file s h start buffer es fs e f w admitted in
       let after-other = rest ed file s h start buffer es fs f e whole-exchanged admitted-exchanged in
+      let ran = returned ed file s h start buffer (es ++ (e ∷ f ∷ fs)) w admitted in
+      let ran-exchanged = returned ed file s h start buffer (es ++ (f ∷ e ∷ fs)) whole-exchanged admitted-exchanged in
       record {
+        refusal = ap (λ (r : Ran). r .refusal) ran ∙ sym (ap (λ (r : Ran). r .refusal) ran-exchanged);
+        counts = λ t.
+            let b = sym both ∙ t in
+            ap (λ (r : Ran). r .counts) ran ∙ counts-either ed s (begun ed s st) es fs e f b (sym (order .taken) ∙ b) (order .same b) ∙ sym (ap (λ (r : Ran). r .counts) ran-exchanged);
         taken = both ∙ order .taken ∙ sym (both-recorded ed file s h start buffer es fs f e whole-exchanged admitted-exchanged);
         before = ap (take (n * size)) here ∙ take-at front (one ++ after-one) (n * size) long ∙ sym (ap (take (n * size)) there ∙ take-at front (other ++ after-other) (n * size) long);
         behind = λ t.
@@ -184,12 +213,15 @@ module _ (ed : Edition) (file : List ℕ) (s : Schedule) (h : judgeFile ed file 
             ∙ sym (ap (drop (suc n * size)) there ∙ records-behind size n front other after-other long (first-length ed file s h start buffer es fs f e whole-exchanged admitted-exchanged));
       }
 
-  -- the run of the table that compiling wrote for the file
-  pub table-either-order : (room : List ℕ) → (compile ed file room) .refusal ≡ 0 →
-      let table = take ((compile ed file room) .written) ((compile ed file room) .table) in
-      EitherOrderWritten (recordSize ed (s .plant)) (length es)
-      ((tableRun ed table start (flatten (es ++ (e ∷ f ∷ fs))) buffer) .records) ((tableRun ed table start (flatten (es ++ (f ∷ e ∷ fs))) buffer) .records)
-  table-either-order room c =
-      let same = agreement ed file room c .same in
-      subst₂ (λ r t. EitherOrderWritten (recordSize ed (s .plant)) (length es) (r .records) (t .records))
-      (same start (flatten (es ++ (e ∷ f ∷ fs))) buffer) (same start (flatten (es ++ (f ∷ e ∷ fs))) buffer) rules-either-order
+-- the run of the table that compiling wrote for the file
+pub table-either-order : (ed : Edition) (file : List ℕ) (s : Schedule) → judgeFile ed file ≡ accepted s → WithoutCase s → (room : List ℕ) → (compile ed file room) .refusal ≡ 0 →
+    let table = take ((compile ed file room) .written) ((compile ed file room) .table) in
+    (start buffer : List ℕ) (es fs : List (List ℕ)) (e f : List ℕ) → AllWhole ed (es ++ (e ∷ f ∷ fs)) → (tableRun ed table start (flatten (es ++ (e ∷ f ∷ fs))) buffer) .refusal ≡ 0 →
+    (st : Start) → startIn (s .plant) start ≡ some st → Independent ed s (leftBy ed s (begun ed s st) es) e f →
+    EitherOrderReturned (recordSize ed (s .plant)) (length es) (tableRun ed table start (flatten (es ++ (e ∷ f ∷ fs))) buffer) (tableRun ed table start (flatten (es ++ (f ∷ e ∷ fs))) buffer)
+table-either-order ed file s h free room c start buffer es fs e f w z st k i =
+    let same = agreement ed file room c .same in
+    let one = same start (flatten (es ++ (e ∷ f ∷ fs))) buffer in
+    let other = same start (flatten (es ++ (f ∷ e ∷ fs))) buffer in
+    subst₂ (EitherOrderReturned (recordSize ed (s .plant)) (length es)) one other
+    (rules-either-order ed file s h free start buffer es fs e f w (ap (λ (r : Ran). r .refusal) one ∙ z) st k i)

@@ -24,7 +24,7 @@ use Rattle.schedules.specs.Residuals.{Residual, acting}
 use Rattle.schedules.specs.Files.{Schedule, judgeFile}
 use Rattle.schedules.specs.Writing.{PayloadLimits, reset-within, reinitial-within}
 use Rattle.schedules.specs.Independent.{differentChildren, inStatement, Reachable, PicksAssignment, Independent}
-use Rattle.schedules.specs.Independence.{NoCase, InStatement, ReachedByRules, PicksByRules, IndependentByRules, BothTaken}
+use Rattle.schedules.specs.IndependenceRules.{NoCase, InStatement, ReachedByRules, PicksByRules, IndependentByRules, BothTaken}
 use Rattle.schedules.proofs.ActionDone.{does, done}
 use Rattle.schedules.proofs.MovesByRule.{acting-rules}
 use Rattle.schedules.proofs.FirstNumber.{passed}

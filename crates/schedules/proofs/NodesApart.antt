@@ -5,7 +5,7 @@ use Prim.Native.Nat.{ℕ, suc, _<_}
 use native.Mathlib.Omega.{arith}
 use Rattle.schedules.specs.Trees.{Tree, Forest, par, cons}
 use Rattle.schedules.specs.Residuals.{actingAt}
-use Rattle.schedules.specs.Independence.{NthChild, nth-here, nth-later, Within, itself, in-body, in-first, in-second, in-sequence, in-parallel, NodeIn, DifferentChildren}
+use Rattle.schedules.specs.IndependenceRules.{NthChild, nth-here, nth-later, Within, itself, in-body, in-first, in-second, in-sequence, in-parallel, NodeIn, DifferentChildren}
 
 -- ---- what is in a part is in the whole
 within-on : {t u v : Tree} → Within t u → Within u v → Within t v

@@ -19,7 +19,7 @@ use Rattle.semantics.proofs.CallsHold.{start-values}
 use Rattle.schedules.specs.Residuals.{Residual}
 use Rattle.schedules.specs.Files.{Schedule, judgeFile, ruleControl}
 use Rattle.schedules.specs.Independent.{leftBy, begun, Reachable}
-use Rattle.schedules.specs.Independence.{ReachedByRules, from-start, by-event}
+use Rattle.schedules.specs.IndependenceRules.{ReachedByRules, from-start, by-event}
 use Rattle.schedules.proofs.ScheduleSound.{root-stands}
 use Rattle.schedules.proofs.CallsHold.{sound-rules}
 use Rattle.schedules.proofs.FilesProper.{starts-admitted}

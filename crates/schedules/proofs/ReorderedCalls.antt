@@ -11,7 +11,7 @@ use Rattle.semantics.specs.Starts.{Start, startIn}
 use Rattle.semantics.specs.Run.{Answered, answers, recordOf, countsOf}
 use Rattle.semantics.specs.Renumbering.{Corresponding, SameButNumbers, SameButSets, EitherFirstAtTicks}
 use Rattle.semantics.specs.Writing.{Each}
-use Rattle.semantics.specs.Calls.{recordSize, tableRun}
+use Rattle.semantics.specs.Calls.{Ran, recordSize, tableRun}
 use Rattle.semantics.proofs.Admission.{Admits}
 use Rattle.semantics.proofs.EventsCut.{flat-length}
 use Rattle.semantics.proofs.RunCounts.{answers-length}
@@ -72,13 +72,17 @@ module _ (ed : Edition) (file other : List ℕ) (o : SameButOrder ed file other)
   rules-correspond = rw (returned ed file s h start buffer es w admitted, returned ed other u k start buffer fs v admitted-other)
       (record { refusal = refl; counts = ap countsOf (same-said said); records = sets })
 
-  -- the runs of the tables that compiling wrote for the files
-  pub tables-correspond : (room : List ℕ) → (compile ed file room) .refusal ≡ 0 →
-      let table = take ((compile ed file room) .written) ((compile ed file room) .table) in
-      let table′ = take ((compile ed other room) .written) ((compile ed other room) .table) in
-      RunsCorrespond ed (recordSize ed (s .plant)) (length es) (tableRun ed table start (flatten es) buffer) (tableRun ed table′ start (flatten fs) buffer)
-  tables-correspond room c =
-      let d = sym (branch-order ed file other room o .0) ∙ c in
-      let by-one = agreement ed file room c .same start (flatten es) buffer in
-      let by-other = agreement ed other room d .same start (flatten fs) buffer in
-      subst₂ (RunsCorrespond ed (recordSize ed (s .plant)) (length es)) by-one by-other rules-correspond
+-- the runs of the tables that compiling wrote for the files
+pub tables-correspond : (ed : Edition) (file other : List ℕ) (o : SameButOrder ed file other) (s u : Schedule) → judgeFile ed file ≡ accepted s → judgeFile ed other ≡ accepted u →
+    (room : List ℕ) → (compile ed file room) .refusal ≡ 0 →
+    let table = take ((compile ed file room) .written) ((compile ed file room) .table) in
+    let other-table = take ((compile ed other room) .written) ((compile ed other room) .table) in
+    (start buffer : List ℕ) (st : Start) → startIn (s .plant) start ≡ some st → (es fs : List (List ℕ)) → AllWhole ed es → AllWhole ed fs →
+    Each (Corresponding ed (newNumber (o .order))) es fs → EitherFirstAtTicks ed (s .plant) (ruleControl s) (begun ed s st) es → (tableRun ed table start (flatten es) buffer) .refusal ≡ 0 →
+    RunsCorrespond ed (recordSize ed (s .plant)) (length es) (tableRun ed table start (flatten es) buffer) (tableRun ed other-table start (flatten fs) buffer)
+tables-correspond ed file other o s u h k room c start buffer st r es fs w v same ticks z =
+    let d = sym (branch-order ed file other room o .0) ∙ c in
+    let by-one = agreement ed file room c .same start (flatten es) buffer in
+    let by-other = agreement ed other room d .same start (flatten fs) buffer in
+    subst₂ (RunsCorrespond ed (recordSize ed (s .plant)) (length es)) by-one by-other
+    (rules-correspond ed file other o s u h k start buffer st r es fs w v same ticks (ap (λ (r : Ran). r .refusal) by-one ∙ z))

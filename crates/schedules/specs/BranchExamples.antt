@@ -4,10 +4,10 @@ use Prim.Native.Nat.{ℕ}
 use lib.IntN.{pos}
 use Rattle.semantics.specs.Editions.{edition1}
 use Rattle.semantics.specs.Expressions.{Number, constant, variable, operate, sum, compare, equal, numberBytes, truthBytes}
-use Rattle.semantics.specs.Sections.{Variable, Equation, choice}
+use Rattle.semantics.specs.Sections.{Variable, Equation, steady, choice}
 use Rattle.semantics.specs.Plant.{Plant}
 use Rattle.semantics.specs.Calls.{Ran}
-use Rattle.schedules.specs.Nodes.{Node, parallel, reset}
+use Rattle.schedules.specs.Nodes.{Node, parallel, reset, reinitial}
 use Rattle.schedules.specs.Trees.{Tree, leaf, loop, branch, seq, par, nil, cons}
 use Rattle.schedules.specs.Files.{Schedule}
 use Rattle.schedules.specs.Writing.{sectionsOf, writeFile}
@@ -41,6 +41,13 @@ branchNodes = parallel 2 ∷ resetTo 0 (oneMoreThan 0) ∷ resetTo 1 (constant (
 abbrev pub independentSchedule : Schedule
 independentSchedule = record { sections = sectionsOf edition1 (twoVariables []) branchNodes; plant = twoVariables []; nodes = branchNodes; root = par (leaf 1) (cons (leaf 2) nil) }
 
+-- the same with an equation of kind 1: variable 1 rises by 1, and its node is a REINITIAL
+abbrev pub drivenPlant : Plant
+drivenPlant = twoVariables (steady (record { driven = 1; rate = pos 1 }) ∷ [])
+
+abbrev pub drivenBranches : List ℕ
+drivenBranches = writeFile edition1 drivenPlant (parallel 2 ∷ resetTo 0 (oneMoreThan 0) ∷ reinitial 1 (numberBytes edition1 (constant (pos 5))) ∷ [])
+
 -- variable 0 becomes 1 more than variable 1
 abbrev pub meetingBranches : List ℕ
 meetingBranches = sideBySide [] (resetTo 0 (oneMoreThan 1)) (resetTo 1 (constant (pos 5)))
@@ -71,5 +78,6 @@ pickOf n = 1 ∷ n ∷ 0 ∷ []
 abbrev pub recordWith : ℕ → ℕ → ℕ → ℕ → List ℕ
 recordWith answer set v w = answer ∷ 0 ∷ 0 ∷ 0 ∷ 0 ∷ 0 ∷ 0 ∷ 0 ∷ set ∷ 0 ∷ 0 ∷ 0 ∷ v ∷ 0 ∷ 0 ∷ 0 ∷ w ∷ []
 
+-- a run that is not refused: its counts and records
 abbrev pub wrote : ℕ → ℕ → ℕ → List ℕ → Ran
 wrote taken away faulted records = record { refusal = 0; counts = record { taken = taken; turned-away = away; faulted = faulted }; records = records }

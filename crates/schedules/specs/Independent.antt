@@ -1,4 +1,4 @@
--- Document 02, item 5, "Order of independent branches": what its sentences mention, each as a definition that can be worked out. Independence says them again.
+-- Document 02, item 5, "Order of independent branches": what its sentences mention, each as a definition that can be worked out. IndependenceRules says them again.
 use mathlib.Core.Path.{_≡_}
 use mathlib.Core.Bool.{Bool, true, false, _&&_, _||_}
 use mathlib.Core.List.{List, [], _∷_, _++_, List·Memᴰ as Mem}
@@ -12,6 +12,7 @@ use Rattle.semantics.specs.Plant.{among, selectors}
 use Rattle.semantics.specs.Events.{pick, eventIn}
 use Rattle.semantics.specs.Starts.{Start, startIn, startFits}
 use Rattle.semantics.specs.Records.{recordAt}
+use Rattle.semantics.specs.Calls.{Ran}
 use Rattle.semantics.specs.Run.{assign, Situation, Answered, at, step, isTaken}
 use Rattle.schedules.specs.Nodes.{nodeAction}
 use Rattle.schedules.specs.Trees.{Tree, Forest, leaf, halt, loop, branch, seq, par, nil, cons}
@@ -38,6 +39,7 @@ unfoldable pub standsBefore : ℕ → ℕ → Forest → Bool
 standsBefore a b nil = false
 standsBefore a b (cons t ts) = (among a (nodesOf t) && among b (nodesOfAll ts)) || standsBefore a b ts
 
+-- one of them in one child and the other in another
 unfoldable pub inDifferent : ℕ → ℕ → Forest → Bool
 inDifferent a b ts = standsBefore a b ts || standsBefore b a ts
 
@@ -139,10 +141,12 @@ recordTaken r = isTaken (getD r 0 0)
 unfoldable pub recordsTaken : ℕ → ℕ → List ℕ → Bool
 recordsTaken size k bytes = recordTaken (recordAt size k bytes) && recordTaken (recordAt size (suc k) bytes)
 
--- two buffers after runs whose events k and suc k stand in the one order and in the other
-pub record EitherOrderWritten (size k : ℕ) (bytes exchanged : List ℕ) : Type 0 where
-  pub taken : recordsTaken size k bytes ≡ recordsTaken size k exchanged
+-- what two runs return whose events k and suc k stand in the one order and in the other
+pub record EitherOrderReturned (size k : ℕ) (one other : Ran) : Type 0 where
+  pub refusal : one .refusal ≡ other .refusal
+  pub taken : recordsTaken size k (one .records) ≡ recordsTaken size k (other .records)
   -- all records before the two
-  pub before : take (k * size) bytes ≡ take (k * size) exchanged
-  -- where both are taken, the record of the second and all bytes behind it
-  pub behind : recordsTaken size k bytes ≡ true → drop (suc k * size) bytes ≡ drop (suc k * size) exchanged
+  pub before : take (k * size) (one .records) ≡ take (k * size) (other .records)
+  -- where both are taken, the record of the second and all bytes behind it, and the counts
+  pub behind : recordsTaken size k (one .records) ≡ true → drop (suc k * size) (one .records) ≡ drop (suc k * size) (other .records)
+  pub counts : recordsTaken size k (one .records) ≡ true → one .counts ≡ other .counts

@@ -25,7 +25,7 @@ pub mod Sentences
 pub mod Exam
 pub mod Reordered
 pub mod Independent
-pub mod Independence
+pub mod IndependenceRules
 pub mod Exchanged
 pub mod Examples
 pub mod SideExamples

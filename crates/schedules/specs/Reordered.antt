@@ -72,7 +72,7 @@ pub record SameButOrder (ed : Edition) (file other : List ℕ) : Type 0 where
   pub other-read : nodesIn ed (other-parts .schedule) ≡ some other-nodes
   pub order : Reordered nodes other-nodes
 
--- what two runs return that correspond in their events: the same refusal and counts, and records with the same bytes but for the sets of acting nodes
+-- what two runs with corresponding events return: the same refusal and counts, and records with the same bytes but for the sets of acting nodes
 pub record RunsCorrespond (ed : Edition) (size count : ℕ) (one other : Ran) : Type 0 where
   pub refusal : one .refusal ≡ other .refusal
   pub counts : one .counts ≡ other .counts

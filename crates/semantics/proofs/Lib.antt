@@ -28,7 +28,9 @@ pub mod FirstAnswer
 pub mod Verdicts
 pub mod Simulation
 pub mod WalksInAnyOrder
+pub mod RenumberedEvents
 pub mod RenumberedRuns
+pub mod TickOrders
 pub mod RenumberedRecords
 pub mod RunCounts
 pub mod RecordForms

@@ -15,11 +15,10 @@ use Rattle.semantics.specs.Sections.{Variable}
 use Rattle.semantics.specs.Plant.{Plant, among, currentModes, currentTruths, rateOf, advance}
 use Rattle.semantics.specs.Events.{Event, tick, pick, take-switch, senseless, eventIn}
 use Rattle.semantics.specs.Run.{Action, test, wait, assign, switch, stop, Next, to, finished, halted, idle, Control, Verdict, away, faulty, pass, _>>=_, _>>_, allow, find, valued, Moved, nobody, mover, Done, walk, checkModes, assigned, act, switchCheck, judgePick, judgeSwitch, judgeTick, judge, Situation, Answered, at, turnedAway, follow, settle, step, answers, answersIn, actingSet, valueBytes, recordBytes, recordOf}
-use Rattle.semantics.specs.Rules.{SaysPick, CurrentSwitch, Found, nothing, found-true, found-fault, Checks, Waits}
-use Rattle.semantics.specs.Renumbering.{renumbered, Corresponding, SameEvent, both-pick, no-pick, actingNow, SameButNumbers, StopAlike, EitherFirst, EitherFirstAtTicks, no-event, one-event}
+use Rattle.semantics.specs.Rules.{CurrentSwitch, Found, nothing, found-true, found-fault, Checks, Waits}
+use Rattle.semantics.specs.Renumbering.{renumbered, Corresponding, actingNow, SameButNumbers, StopAlike, EitherFirst, EitherFirstAtTicks, no-event, one-event}
 use Rattle.semantics.specs.Writing.{Each, each-nil, each-cons}
 use Rattle.semantics.proofs.Facts.{true-not-false, by-cases, among-mem, mem-among}
-use Rattle.semantics.proofs.EventDecoding.{decoded-pick, Said, says-tick, says-pick, says-switch, says-nothing, said-of}
 use Rattle.semantics.proofs.StepParts.{foundAs, walk-found, waits-every, waits-truths, Waiting, all-wait, one-acts, waiting, acts-every}
 use Rattle.semantics.proofs.Currents.{check-walk, found-check}
 use Rattle.semantics.proofs.RunCounts.{set-length}
@@ -33,19 +32,6 @@ pub record AgreeRenumbered {S R : Type 0} (number : ℕ → ℕ) (c : Control S)
   pub actions : (n : ℕ) → d .action (number n) ≡ c .action n
   pub acting-same : (x : S) (y : R) → Sim x y → Permuted (map number (c .acting x)) (d .acting y)
   pub nexts : (x : S) (y : R) → Sim x y → (n : ℕ) → Mem n (c .acting x) → (b : Bool) → NextRel Sim (c .next x n b) (d .next y (number n) b)
-
--- ---- events that correspond, by their bytes
-not-picked : (ed : Edition) (number : ℕ → ℕ) {e : List ℕ} {m : Event} → ((n : ℕ) → SaysPick ed e n → ⊥) → Said ed e m → m ≡ renumbered number m
-unfolding renumbered
-not-picked ed number f (says-tick s) = refl
-not-picked ed number f (says-pick {n = n} s) = absurd (f n s)
-not-picked ed number f (says-switch s) = refl
-not-picked ed number f (says-nothing a b c) = refl
-
-pub same-event : (ed : Edition) (number : ℕ → ℕ) {e f : List ℕ} → SameEvent ed number e f → Corresponding ed number e f
-unfolding renumbered
-same-event ed number (both-pick s t) = decoded-pick ed t ∙ sym (ap (renumbered number) (decoded-pick ed s))
-same-event ed number {e} (no-pick f) = not-picked ed number f (said-of ed e)
 
 -- ---- verdicts that differ at most in the mover's number
 data MovesAlike (number : ℕ → ℕ) (acting : List ℕ) : Moved → Moved → Type 0 where

@@ -217,3 +217,25 @@ module _ {S : Type 0} (ed : Edition) (p : Plant) (c : Control S) where
       let a = length-append (recordOf ed c (step ed p c s e)) rest in
       let m = suc-mul (length es) (recordSize ed p) in
       a ∙ rw (one, ih, m) (add-comm _ _)
+
+-- ---- counts do not depend on which taken answer stands at a place
+taken-not-away : (n : ℕ) → isTaken n ≡ true → isTurnedAway n ≡ false
+unfolding isTaken isTurnedAway
+taken-not-away n h = by-cases (within 23 31 n) (λ e. let a = within-low 200 202 n h in let b = within-high 23 31 n e in absurd (omega arith)) (λ e. e)
+
+taken-no-fault : (n : ℕ) → isTaken n ≡ true → isFaulted n ≡ false
+unfolding isTaken isFaulted
+taken-no-fault n h = by-cases (within 203 204 n) (λ e. let a = within-high 200 202 n h in let b = within-low 203 204 n e in absurd (omega arith)) (λ e. e)
+
+as-many : {A : Type 0} (f : A → Bool) (l k : List A) {a b : A} → f a ≡ f b → howMany f (l ++ (a ∷ k)) ≡ howMany f (l ++ (b ∷ k))
+unfolding howMany
+as-many f [] k e = rw e refl
+as-many f (x ∷ l) k e = ap (λ n. elim (f x) [ true ↦ suc n | false ↦ n ]) (as-many f l k e)
+
+pub taken-counted : (l k : List ℕ) (a b : ℕ) → isTaken a ≡ true → isTaken b ≡ true → countsOf (l ++ (a ∷ k)) ≡ countsOf (l ++ (b ∷ k))
+unfolding countsOf
+taken-counted l k a b g h = rw (
+  as-many isTaken l k (g ∙ sym h),
+  as-many isTurnedAway l k (taken-not-away a g ∙ sym (taken-not-away b h)),
+  as-many isFaulted l k (taken-no-fault a g ∙ sym (taken-no-fault b h)),
+) refl

@@ -25,7 +25,7 @@ perm-mem (perm-swap e f) (later (later m)) = later (later m)
 perm-mem (perm-trans d e) m = perm-mem e (perm-mem d m)
 
 -- what a walk comes to, in whichever order its truths stand
-data Came (ed : Edition) (vs : List ℤ) (ts : List (List ℕ)) : Found → Type 0 where
+pub data Came (ed : Edition) (vs : List ℤ) (ts : List (List ℕ)) : Found → Type 0 where
   all-false : All (λ t. TruthComesTo ed vs t (ok false)) ts → Came ed vs ts nothing
   one-stops : {t : List ℕ} {f : Found} → Mem t ts → Stops ed vs t f → Came ed vs ts f
 
@@ -34,7 +34,7 @@ module _ {ed : Edition} {vs : List ℤ} where
   came-on e (all-false a) = all-false (all-cons e a)
   came-on e (one-stops m s) = one-stops (later m) s
 
-  came : {ts : List (List ℕ)} {f : Found} → Walks ed vs ts f → Came ed vs ts f
+  pub came : {ts : List (List ℕ)} {f : Found} → Walks ed vs ts f → Came ed vs ts f
   came walk-ends = all-false all-nil
   came (walk-on e w) = came-on e (came w)
   came (stops-at-truth e) = one-stops (first refl) (by-truth e)
@@ -44,11 +44,19 @@ module _ {ed : Edition} {vs : List ℤ} where
   stops-not-false (by-truth h) k = let z : _≡_ {A = ℕ} 0 1 = cc (truth-value ed vs h, truth-value ed vs k) in absurd (omega arith)
   stops-not-false (by-fault h) k = let z : _≡_ {A = ℕ} 0 1 = cc (truth-value ed vs h, truth-value ed vs k) in absurd (omega arith)
 
-  same-found : {ts us : List (List ℕ)} {f g : Found} → Permuted ts us → StopAlike ed vs ts → Came ed vs ts f → Came ed vs us g → f ≡ g
+  pub same-found : {ts us : List (List ℕ)} {f g : Found} → Permuted ts us → StopAlike ed vs ts → Came ed vs ts f → Came ed vs us g → f ≡ g
   same-found d a (all-false p) (all-false q) = refl
   same-found d a (all-false p) (one-stops m s) = stops-not-false s (all-mem p (perm-mem (Permᴰ·symm d) m))
   same-found d a (one-stops m s) (all-false q) = stops-not-false s (all-mem q (perm-mem d m))
   same-found d a (one-stops m s) (one-stops n r) = a .alike _ _ _ _ m (perm-mem (Permᴰ·symm d) n) s r
+
+  no-stop : {C : Type 0} {t : List ℕ} {f : Found} → Stops ed vs t f → f ≡ nothing → C
+  no-stop (by-truth h) e = let z : _≡_ {A = ℕ} 0 1 = cc in absurd (omega arith)
+  no-stop (by-fault h) e = let z : _≡_ {A = ℕ} 0 1 = cc in absurd (omega arith)
+
+  pub none-stops : {ts : List (List ℕ)} → Came ed vs ts nothing → StopAlike ed vs ts
+  none-stops (all-false p) = record { alike = λ t u f g m n s r. stops-not-false s (all-mem p m) }
+  none-stops (one-stops m s) = no-stop s refl
 
 pub walk-any-order : (ed : Edition) (n : ℕ) (vs : List ℤ) {ts us : List (List ℕ)} → Permuted ts us → StopAlike ed vs ts → walk ed n vs ts ≡ walk ed n vs us
 walk-any-order ed n vs {ts} {us} d a =

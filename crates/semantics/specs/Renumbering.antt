@@ -1,5 +1,5 @@
--- Two runs over one plant whose nodes have other numbers and are asked in another order: what corresponds in their events and answers.
--- So are the runs of two schedules that differ only in the order in which the children of PARALLELs are listed.
+-- Two runs over one plant, with other node numbers and another order of asking: how their events and answers correspond.
+-- Runs of two schedules that differ only in the listed order of PARALLELs' children are such.
 use mathlib.Core.Path.{_≡_}
 use mathlib.Core.List.{List, [], _∷_, map, List·Memᴰ as Mem, List·Permᴰ as Permuted}
 use mathlib.Core.Option.{Option, none, some}
@@ -11,7 +11,7 @@ use Rattle.semantics.specs.Plant.{Plant}
 use Rattle.semantics.specs.Events.{Event, tick, pick, take-switch, senseless, eventIn}
 use Rattle.semantics.specs.Run.{Control, Situation, Answered, step}
 use Rattle.semantics.specs.Records.{recordAt}
-use Rattle.semantics.specs.Rules.{SaysPick, CurrentSwitch, Found, nothing, Stops, Checks, Waits}
+use Rattle.semantics.specs.Rules.{SaysTick, SaysPick, SaysSwitch, CurrentSwitch, Found, nothing, Stops, Checks, Waits}
 
 -- the same event, with a picked node's other number
 unfoldable pub renumbered : (ℕ → ℕ) → Event → Event
@@ -24,10 +24,18 @@ renumbered number senseless = senseless
 abbrev pub Corresponding : Edition → (ℕ → ℕ) → List ℕ → List ℕ → Type 0
 Corresponding ed number e f = eventIn ed f ≡ renumbered number (eventIn ed e)
 
--- the same from their bytes: both pick, or neither does and they are the same bytes
-pub data SameEvent (ed : Edition) (number : ℕ → ℕ) (e : List ℕ) : List ℕ → Type 0 where
-  both-pick : {f : List ℕ} {n : ℕ} → SaysPick ed e n → SaysPick ed f (number n) → SameEvent ed number e f
-  no-pick : ((n : ℕ) → SaysPick ed e n → ⊥) → SameEvent ed number e e
+-- no event of the three kinds: 24
+pub record SaysNothing (ed : Edition) (e : List ℕ) : Type 0 where
+  pub no-tick : SaysTick ed e → ⊥
+  pub no-pick : (n : ℕ) → SaysPick ed e n → ⊥
+  pub no-switch : (s k : ℕ) → SaysSwitch ed e s k → ⊥
+
+-- the same in the words of the rules: both say the same, a pick by the other number
+pub data SameEvent (ed : Edition) (number : ℕ → ℕ) (e f : List ℕ) : Type 0 where
+  both-tick : SaysTick ed e → SaysTick ed f → SameEvent ed number e f
+  both-pick : {n : ℕ} → SaysPick ed e n → SaysPick ed f (number n) → SameEvent ed number e f
+  both-switch : {s k : ℕ} → SaysSwitch ed e s k → SaysSwitch ed f s k → SameEvent ed number e f
+  both-senseless : SaysNothing ed e → SaysNothing ed f → SameEvent ed number e f
 
 -- the acting nodes; none once the run is over
 unfoldable pub actingNow : {S : Type 0} → Control S → Option S → List ℕ
@@ -62,3 +70,9 @@ module _ {S : Type 0} (ed : Edition) (p : Plant) (c : Control S) where
     no-event : {s : Situation S} → EitherFirstAtTicks s []
     one-event : {s : Situation S} {e : List ℕ} {es : List (List ℕ)} → (eventIn ed e ≡ tick → EitherFirst s) →
         EitherFirstAtTicks ((step ed p c s e) .left) es → EitherFirstAtTicks s (e ∷ es)
+
+-- an answer to a tick that no CONTINUE gave: neither 31 nor a fault
+pub record NotStopped (answer : ℕ) : Type 0 where
+  pub no-31 : answer ≡ 31 → ⊥
+  pub no-203 : answer ≡ 203 → ⊥
+  pub no-204 : answer ≡ 204 → ⊥

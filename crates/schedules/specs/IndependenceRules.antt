@@ -1,4 +1,5 @@
--- Document 02, item 5, said again: relations from its sentences, with no test of Independent in them. `differentChildren`, `occurs`, `Reachable` and `EitherOrder` are shown to be just these.
+-- Document 02, item 5, said again: relations from its sentences, with no test of Independent in them.
+-- `differentChildren`, `WithoutCase`, `occurs`, `inStatement`, `Independent`, `Reachable`, and `bothTaken` with `second` are shown to be just these.
 use mathlib.Core.Path.{_≡_}
 use mathlib.Core.List.{List, [], _∷_, List·Memᴰ as Mem}
 use mathlib.Core.Logic.{_⊎_}
@@ -66,7 +67,7 @@ pub data Occurs (v : ℕ) : Number → Type 0 where
   in-right : {o : Operation} {a b : Number} → Occurs v b → Occurs v (operate o a b)
   in-negation : {a : Number} → Occurs v a → Occurs v (negation a)
 
--- v is the variable that is assigned, or occurs in the number that these bytes are
+-- v is the variable that is assigned, or occurs in a number that has these bytes
 abbrev pub InStatement : Edition → (v w : ℕ) → List ℕ → Type 0
 InStatement ed v w e = (w ≡ v) ⊎ ((x : Number) × (numberBytes ed x ≡ e) × Occurs v x)
 
