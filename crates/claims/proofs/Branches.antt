@@ -145,13 +145,13 @@ pub reordered-runs : (ed : Edition) (file other : List ℕ) (o : SameButOrder ed
     (answers ed (u .plant) (ruleControl u) (at (fresh (u .root)) (st .values) (st .modes)) fs)
 reordered-runs = ReorderedRuns.reordered-runs
 
--- over the calls: neither is refused, the counts are the same, and so are the records' bytes but for the sets of acting nodes, which `reordered-runs` tells; by the rules, and by the tables that
--- compiling wrote.
--- Ruled out: a compiler whose table of the reordered file turns another pick away; a table run whose values depend on the order of a location's entries.
+-- over the calls: neither is refused, the counts are the same, and so are the records' bytes but for the sets of acting nodes, in which each bit stands at its node's new number; by the rules, and
+-- by the tables that compiling wrote.
+-- Ruled out: a compiler whose table of the reordered file turns another pick away; a table run whose values depend on the order of a location's entries; a record whose set has the old numbers.
 pub reordered-calls-rules : (ed : Edition) (file other : List ℕ) (o : SameButOrder ed file other) (s u : Schedule) → judgeFile ed file ≡ accepted s → judgeFile ed other ≡ accepted u →
     (start buffer : List ℕ) (st : Start) → startIn (s .plant) start ≡ some st → (es fs : List (List ℕ)) → All (λ e. length e ≡ ed .event-bytes) es → All (λ e. length e ≡ ed .event-bytes) fs →
     Each (Corresponding ed (newNumber (o .order))) es fs → EitherFirstAtTicks ed (s .plant) (ruleControl s) (begun ed s st) es → (ruleRun ed file start (flatten es) buffer) .refusal ≡ 0 →
-    RunsCorrespond ed (recordSize ed (s .plant)) (length es) (ruleRun ed file start (flatten es) buffer) (ruleRun ed other start (flatten fs) buffer)
+    RunsCorrespond ed (newNumber (o .order)) (recordSize ed (s .plant)) (length es) (ruleRun ed file start (flatten es) buffer) (ruleRun ed other start (flatten fs) buffer)
 reordered-calls-rules = ReorderedCalls.rules-correspond
 
 pub reordered-calls-table : (ed : Edition) (file other : List ℕ) (o : SameButOrder ed file other) (s u : Schedule) → judgeFile ed file ≡ accepted s → judgeFile ed other ≡ accepted u →
@@ -160,7 +160,7 @@ pub reordered-calls-table : (ed : Edition) (file other : List ℕ) (o : SameButO
     let other-table = take ((compile ed other room) .written) ((compile ed other room) .table) in
     (start buffer : List ℕ) (st : Start) → startIn (s .plant) start ≡ some st → (es fs : List (List ℕ)) → All (λ e. length e ≡ ed .event-bytes) es → All (λ e. length e ≡ ed .event-bytes) fs →
     Each (Corresponding ed (newNumber (o .order))) es fs → EitherFirstAtTicks ed (s .plant) (ruleControl s) (begun ed s st) es → (tableRun ed table start (flatten es) buffer) .refusal ≡ 0 →
-    RunsCorrespond ed (recordSize ed (s .plant)) (length es) (tableRun ed table start (flatten es) buffer) (tableRun ed other-table start (flatten fs) buffer)
+    RunsCorrespond ed (newNumber (o .order)) (recordSize ed (s .plant)) (length es) (tableRun ed table start (flatten es) buffer) (tableRun ed other-table start (flatten fs) buffer)
 reordered-calls-table = ReorderedCalls.tables-correspond
 
 -- the condition on ticks: truths stop alike exactly where the walk over them comes to the same in every order of them.

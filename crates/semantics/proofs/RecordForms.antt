@@ -1,7 +1,7 @@
 -- What is written at the front of a buffer, and the bytes of a record: its set bit by bit, its values four bytes each.
 use mathlib.Core.Path.{_≡_, refl, sym, ap, subst, _∙_}
 use mathlib.Core.Bool.{Bool, true, false}
-use mathlib.Core.List.{List, [], _∷_, flatMap, List·Memᴰ as Mem, List·Memᴰ·head as first, List·Memᴰ·tail as later, List·Memᴰ·not-nil, List·Memᴰ·cases-cons}
+use mathlib.Core.List.{List, [], _∷_, _++_, flatMap, List·Memᴰ as Mem, List·Memᴰ·head as first, List·Memᴰ·tail as later, List·Memᴰ·not-nil, List·Memᴰ·cases-cons}
 use mathlib.Core.Logic.{_↔_, _⊎_, inl, inr}
 use mathlib.Core.Option.{Option, none, some}
 use Prim.Native.Nat.{ℕ, zero, suc, _+_, _-_, _*_, _/_, _%_, _^_, _≤_, _<_}
@@ -10,7 +10,7 @@ use native.Mathlib.Decide.{ℕ-discrete}
 use native.Mathlib.Nat.{pow-suc, zero-div}
 use borrow.Author.Tests.{leb-true, le-leb}
 use lib.Dec.{leb}
-use lib.ListN.{length, drop, getD, length-append, length-drop}
+use lib.ListN.{length, drop, getD, length-append, length-drop, List·getD-append}
 use lib.IntN.{ℤ, pos, negsuc}
 use lib.Pow.{pow-add, shr-shr, field, mod-mod-pow}
 use lib.Seq.{take-append-seam, drop-append-seam}
@@ -18,7 +18,7 @@ use Rattle.semantics.specs.Bytes.{bigEndian, out4, unsigned, overwrite}
 use Rattle.semantics.specs.Editions.{Edition}
 use Rattle.semantics.specs.Run.{Control, Answered, setNumber, actingSet, valueBytes, recordBytes, recordOf}
 use Rattle.semantics.specs.Tables.{risingFrom}
-use Rattle.semantics.specs.Records.{AtFront, Fits32, FourBytes, from-0, below-0, ValuesIn, no-value, one-value, ActsAt, acts-at, RecordIs}
+use Rattle.semantics.specs.Records.{AtFront, Fits32, FourBytes, from-0, below-0, ValuesIn, no-value, one-value, InSet, ActsAt, acts-at, RecordIs}
 use Rattle.semantics.proofs.Facts.{true-not-false, none-not-some, some-is, All, all-nil, all-cons}
 use Rattle.semantics.proofs.RunCounts.{set-length}
 use Rattle.semantics.proofs.WrittenRecords.{bigEndian-bytes}
@@ -190,18 +190,34 @@ values-in all-nil = no-value
 values-in (all-cons {x = z} h k) = one-value (four-bytes z h) (values-in k)
 
 -- ---- records
+-- where a run stands, the acting nodes rise
+abbrev pub RisesAt : {S : Type 0} → Control S → Option S → Type 0
+RisesAt {S} c place = (x : S) → place ≡ some x → risingFrom 0 (c .acting x) ≡ true
+
 module _ {S : Type 0} (ed : Edition) (c : Control S) where
   acts : {place : Option S} {n : ℕ} → ActsAt c place n → (x : S) × (place ≡ some x) × Mem n (c .acting x)
   acts (acts-at {x = x} m) = (x, refl, m)
 
-  place-bits : (place : Option S) → ((x : S) → place ≡ some x → risingFrom 0 (c .acting x) ≡ true) → (n : ℕ) → (actingSet c place / 2 ^ n % 2 ≡ 1) ↔ ActsAt c place n
+  place-bits : (place : Option S) → RisesAt c place → (n : ℕ) → (actingSet c place / 2 ^ n % 2 ≡ 1) ↔ ActsAt c place n
   unfolding actingSet
   place-bits none rising n = (λ e. (let z = zero-div (2 ^ n) in absurd (omega arith)), λ a. none-not-some ((acts a) .1))
   place-bits (some x) rising n =
       let k = set-bit n (c .acting x) (rising x refl) in
       (λ e. acts-at (k .0 e), λ a. (let q = acts a in k .1 (subst (λ y. Mem n (c .acting y)) (sym (some-is (q .1))) (q .2))))
 
-  pub record-is : (o : Answered S) → ((x : S) → o .left .place ≡ some x → risingFrom 0 (c .acting x) ≡ true) → All Fits32 (o .left .values) → RecordIs ed c o (recordOf ed c o)
+  -- the set does not depend on the values
+  pub record-bits : (o : Answered S) → RisesAt c (o .left .place) → (n : ℕ) → n < 8 * ed .set-bytes → InSet ed (recordOf ed c o) n ↔ ActsAt c (o .left .place) n
+  unfolding recordOf recordBytes
+  record-bits o rising n h =
+      let width = ed .set-bytes in
+      let number = actingSet c (o .left .place) in
+      let long = set-length width number in
+      let there = List·getD-append (bigEndian width number) (flatMap valueBytes (o .left .values) ++ o .left .modes) 0 (width - 1 - n / 8) (omega arith) in
+      let e = ap (λ b. b / 2 ^ (n % 8) % 2) there ∙ number-bit width number n h in
+      let k = place-bits (o .left .place) rising n in
+      (λ i. k .0 (sym e ∙ i), λ a. e ∙ k .1 a)
+
+  pub record-is : (o : Answered S) → RisesAt c (o .left .place) → All Fits32 (o .left .values) → RecordIs ed c o (recordOf ed c o)
   unfolding recordOf recordBytes
   record-is o rising fits =
       let number = actingSet c (o .left .place) in
@@ -211,6 +227,6 @@ module _ {S : Type 0} (ed : Edition) (c : Control S) where
         layout = refl;
         set-long = set-length (ed .set-bytes) number;
         set-bytes = bigEndian-bytes (ed .set-bytes) number;
-        set-bits = λ n h. (let e = number-bit (ed .set-bytes) number n h in let k = place-bits (o .left .place) rising n in (λ i. k .0 (sym e ∙ i), λ a. e ∙ k .1 a));
+        set-bits = record-bits o rising;
         values-in = values-in fits;
       }

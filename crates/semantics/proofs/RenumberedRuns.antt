@@ -2,6 +2,7 @@
 use mathlib.Core.Path.{_≡_, refl, sym, ap, ap₂, subst, _∙_}
 use mathlib.Core.Bool.{Bool, true, false}
 use mathlib.Core.List.{List, [], _∷_, _++_, map, flatMap, List·Memᴰ as Mem, Memᴰ·cast, Memᴰ·map, Memᴰ·of-map, map-id, map-map, List·Permᴰ as Permuted, List·Permᴰ·nil as perm-nil, List·Permᴰ·trans as perm-trans, Permᴰ·refl, Permᴰ·symm, Permᴰ·map}
+use mathlib.Core.Logic.{_↔_}
 use mathlib.Core.Option.{Option, none, some}
 use Prim.Native.Nat.{ℕ, suc, _+_}
 use native.Mathlib.Omega.{arith}
@@ -78,16 +79,21 @@ module _ {number : ℕ → ℕ} {acting : List ℕ} where
       bind-alike (find 26 (getElem? (currentModes p ms) s)) (λ m. bind-alike (find 26 (getElem? (m .switches) k)) (λ w.
       bind-alike (valued (truthValue ed vs (w .truth))) (λ b. then-alike (allow 30 b) (both-pass nobody-alike))))
 
+-- the nodes of a set and of its renumbered one
+pub renumbered-mem : {number : ℕ → ℕ} → ((m n : ℕ) → number m ≡ number n → m ≡ n) → {l k : List ℕ} → Permuted (map number l) k → (n : ℕ) → Mem n l ↔ Mem (number n) k
+renumbered-mem {number} one-to-one {l} p n = (
+  λ m. perm-mem p (Memᴰ·map number m),
+  λ m. (let q = Memᴰ·of-map number l (perm-mem (Permᴰ·symm p) m) in Memᴰ·cast (sym (one-to-one (q .0) n (q .2))) (q .1)),
+)
+
 -- ---- one event
 module _ {S R : Type 0} {number : ℕ → ℕ} {c : Control S} {d : Control R} {Sim : S → R → Type 0} (ed : Edition) (p : Plant) (agree : AgreeRenumbered number c d Sim) where
   module _ (x : S) (y : R) (h : Sim x y) where
     acting-there : {n : ℕ} → Mem n (c .acting x) → Mem (number n) (d .acting y)
-    acting-there m = perm-mem (agree .acting-same x y h) (Memᴰ·map number m)
+    acting-there {n} m = renumbered-mem (agree .one-to-one) (agree .acting-same x y h) n .0 m
 
     acting-here : {n : ℕ} → Mem (number n) (d .acting y) → Mem n (c .acting x)
-    acting-here {n} m =
-        let q = Memᴰ·of-map number (c .acting x) (perm-mem (Permᴰ·symm (agree .acting-same x y h)) m) in
-        Memᴰ·cast (sym (agree .one-to-one (q .0) n (q .2))) (q .1)
+    acting-here {n} m = renumbered-mem (agree .one-to-one) (agree .acting-same x y h) n .1 m
 
     among-same : (n : ℕ) → among (number n) (d .acting y) ≡ among n (c .acting x)
     among-same n = by-cases (among n (c .acting x))

@@ -36,6 +36,10 @@ pub data ValuesIn : List ℤ → List ℕ → Type 0 where
   no-value : ValuesIn [] []
   one-value : {z : ℤ} {zs : List ℤ} {s t : List ℕ} → FourBytes z s → ValuesIn zs t → ValuesIn (z ∷ zs) (s ++ t)
 
+-- "bit n for node n": node n is in the set of acting nodes of this record; nodes 0 to 7 in the set's last byte, 8 to 15 in the one before it, and so on
+abbrev pub InSet : Edition → List ℕ → ℕ → Type 0
+InSet ed r n = getD (drop 1 r) (ed .set-bytes - 1 - n / 8) 0 / 2 ^ (n % 8) % 2 ≡ 1
+
 -- a node that acts: none "once the run is over"
 pub data ActsAt {S : Type 0} (c : Control S) : Option S → ℕ → Type 0 where
   acts-at : {x : S} {n : ℕ} → Mem n (c .acting x) → ActsAt c (some x) n
@@ -47,8 +51,7 @@ pub record RecordIs {S : Type 0} (ed : Edition) (c : Control S) (o : Answered S)
   pub layout : bytes ≡ o .answer ∷ set ++ (values ++ o .left .modes)
   pub set-long : length set ≡ ed .set-bytes
   pub set-bytes : All (λ b. b < 256) set
-  -- nodes 0 to 7 in the last byte, 8 to 15 in the one before it, and so on
-  pub set-bits : (n : ℕ) → n < 8 * ed .set-bytes → (getD set (ed .set-bytes - 1 - n / 8) 0 / 2 ^ (n % 8) % 2 ≡ 1) ↔ ActsAt c (o .left .place) n
+  pub set-bits : (n : ℕ) → n < 8 * ed .set-bytes → InSet ed bytes n ↔ ActsAt c (o .left .place) n
   pub values-in : ValuesIn (o .left .values) values
 
 -- the records of a list of answers, one after the other

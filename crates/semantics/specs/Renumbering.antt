@@ -2,15 +2,16 @@
 -- Runs of two schedules that differ only in the listed order of PARALLELs' children are such.
 use mathlib.Core.Path.{_≡_}
 use mathlib.Core.List.{List, [], _∷_, map, List·Memᴰ as Mem, List·Permᴰ as Permuted}
+use mathlib.Core.Logic.{_↔_}
 use mathlib.Core.Option.{Option, none, some}
-use Prim.Native.Nat.{ℕ, _+_, _<_}
+use Prim.Native.Nat.{ℕ, _+_, _*_, _<_}
 use lib.ListN.{take, drop}
 use lib.IntN.{ℤ}
 use Rattle.semantics.specs.Editions.{Edition}
 use Rattle.semantics.specs.Plant.{Plant}
 use Rattle.semantics.specs.Events.{Event, tick, pick, take-switch, senseless, eventIn}
 use Rattle.semantics.specs.Run.{Control, Situation, Answered, step}
-use Rattle.semantics.specs.Records.{recordAt}
+use Rattle.semantics.specs.Records.{InSet, recordAt}
 use Rattle.semantics.specs.Rules.{SaysTick, SaysPick, SaysSwitch, CurrentSwitch, Found, nothing, Stops, Checks, Waits}
 
 -- the same event, with a picked node's other number
@@ -49,10 +50,11 @@ pub record SameButNumbers {S R : Type 0} (number : ℕ → ℕ) (c : Control S) 
   pub modes : o .left .modes ≡ q .left .modes
   pub acting : Permuted (map number (actingNow c (o .left .place))) (actingNow d (q .left .place))
 
--- so many records in two buffers: of each the answer is the same, and so are all bytes behind the set of acting nodes
-pub record SameButSets (ed : Edition) (size count : ℕ) (bytes other : List ℕ) : Type 0 where
+-- so many records in two buffers: of each the answer is the same, so are all bytes behind the set of acting nodes, and the sets have the same nodes, each by its other number
+pub record RecordsCorrespond (ed : Edition) (number : ℕ → ℕ) (size count : ℕ) (bytes other : List ℕ) : Type 0 where
   pub answer : (k : ℕ) → k < count → take 1 (recordAt size k bytes) ≡ take 1 (recordAt size k other)
   pub behind : (k : ℕ) → k < count → drop (1 + ed .set-bytes) (recordAt size k bytes) ≡ drop (1 + ed .set-bytes) (recordAt size k other)
+  pub acting : (k n : ℕ) → k < count → n < 8 * ed .set-bytes → number n < 8 * ed .set-bytes → InSet ed (recordAt size k bytes) n ↔ InSet ed (recordAt size k other) (number n)
 
 -- ---- "their truths in node order up to the first that is true or faults": a tick's answer can depend on which CONTINUE is asked first, and so on numbers
 -- truths that would stop a tick all in one way: all by being true, or all by a fault above, or all by one below
