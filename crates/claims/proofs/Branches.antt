@@ -58,8 +58,8 @@ pub independent-picks-rules : (ed : Edition) (file : List ℕ) (s : Schedule) �
     BothTaken ed s x one other answer end ↔ BothTaken ed s x other one answer end
 independent-picks-rules = IndependentRules.independent-picks-rules
 
--- over what a run by the rules returns, the two anywhere in its list: neither order is refused, the records before the two are the same, and where both are taken, which is so in one order exactly when in
--- the other, all bytes from the record of the second on, and the counts.
+-- over what a run by the rules returns, the two anywhere in its list: neither order is refused, the records before the two are the same, and where both are taken,
+-- which is so in one order exactly when in the other, all bytes from the record of the second on, and the counts.
 -- Ruled out: a run that remembers which of two picks came first and shows it later; one that writes the number of the picked node into its record.
 pub independent-records-rules : (ed : Edition) (file : List ℕ) (s : Schedule) → judgeFile ed file ≡ accepted s → WithoutCase s → (start buffer : List ℕ) (es fs : List (List ℕ)) (e f : List ℕ) →
     All (λ e. length e ≡ ed .event-bytes) (es ++ (e ∷ f ∷ fs)) → (ruleRun ed file start (flatten (es ++ (e ∷ f ∷ fs))) buffer) .refusal ≡ 0 →
@@ -134,9 +134,9 @@ new-number-once = ReorderedRuns.reordered-one-to-one
 pub same-event : (ed : Edition) (number : ℕ → ℕ) (e f : List ℕ) → SameEvent ed number e f ↔ Corresponding ed number e f
 same-event = RenumberedEvents.same-event
 
--- corresponding events get the same answers, values and modes, and the same nodes act by their new numbers. The one exception: a tick asks the acting CONTINUEs in node order up to the first that is
--- true or faults, and where one is true and another faults, or two fault on different sides, the order of the children decides. `EitherFirstAtTicks` says that no tick of the list comes to such truths;
--- where a list has such a tick, take the events before it as the list.
+-- corresponding events get the same answers, values and modes, and the same nodes act by their new numbers. The one exception: a tick asks the acting CONTINUEs in node order up to
+-- the first that is true or faults, and where one is true and another faults, or two fault on different sides, the order of the children decides.
+-- `EitherFirstAtTicks` says that no tick of the list comes to such truths; where a list has such a tick, take the events before it as the list.
 -- Ruled out: a run in which the first child of a PARALLEL must be picked first; one that checks the switches in the order of the branches that name them.
 pub reordered-runs : (ed : Edition) (file other : List ℕ) (o : SameButOrder ed file other) (s u : Schedule) → judgeFile ed file ≡ accepted s → judgeFile ed other ≡ accepted u →
     (st : Start) (es fs : List (List ℕ)) → EitherFirstAtTicks ed (s .plant) (ruleControl s) (at (fresh (s .root)) (st .values) (st .modes)) es →
@@ -147,7 +147,7 @@ reordered-runs = ReorderedRuns.reordered-runs
 
 -- over the calls: neither is refused, the counts are the same, and so are the records' bytes but for the sets of acting nodes, in which each bit stands at its node's new number; by the rules, and
 -- by the tables that compiling wrote.
--- Ruled out: a compiler whose table of the reordered file turns another pick away; a table run whose values depend on the order of a location's entries; a record whose set has the old numbers.
+-- Ruled out: a compiler whose table of the reordered file turns another pick away; a record of the reordered run whose set has the old numbers.
 pub reordered-calls-rules : (ed : Edition) (file other : List ℕ) (o : SameButOrder ed file other) (s u : Schedule) → judgeFile ed file ≡ accepted s → judgeFile ed other ≡ accepted u →
     (start buffer : List ℕ) (st : Start) → startIn (s .plant) start ≡ some st → (es fs : List (List ℕ)) → All (λ e. length e ≡ ed .event-bytes) es → All (λ e. length e ≡ ed .event-bytes) fs →
     Each (Corresponding ed (newNumber (o .order))) es fs → EitherFirstAtTicks ed (s .plant) (ruleControl s) (begun ed s st) es → (ruleRun ed file start (flatten es) buffer) .refusal ≡ 0 →

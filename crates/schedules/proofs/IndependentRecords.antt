@@ -68,7 +68,8 @@ module _ (ed : Edition) (s : Schedule) where
 
   answers-parts : (x : Situation Residual) (es fs : List (List ℕ)) (e f : List ℕ) →
       let y = leftBy ed s x es in
-      answersIn (said x (es ++ (e ∷ f ∷ fs))) ≡ answersIn (said x es) ++ ((step ed (s .plant) (ruleControl s) y e) .answer ∷ (second ed s y e f) .answer ∷ answersIn (said ((second ed s y e f) .left) fs))
+      answersIn (said x (es ++ (e ∷ f ∷ fs))) ≡
+      answersIn (said x es) ++ ((step ed (s .plant) (ruleControl s) y e) .answer ∷ (second ed s y e f) .answer ∷ answersIn (said ((second ed s y e f) .left) fs))
   unfolding answers second
   answers-parts x es fs e f = ap answersIn (said-append x es (e ∷ f ∷ fs)) ∙ map-append (λ (o : Answered Residual). o .answer) (said x es) (said (leftBy ed s x es) (e ∷ f ∷ fs))
 
@@ -84,7 +85,7 @@ module _ (ed : Edition) (s : Schedule) where
       let before = answersIn (said x es) in
       let behind : Answered Residual → List ℕ = λ o. o .answer ∷ answersIn (said (o .left) fs) in
       ap countsOf (answers-parts x es fs e f)
-      ∙ taken-counted before (behind (second ed s y e f)) one other (and-left (isTaken one) (isTaken ((second ed s y e f) .answer)) g) (and-left (isTaken other) (isTaken ((second ed s y f e) .answer)) h)
+      ∙ taken-counted before (behind (second ed s y e f)) one other (and-left (isTaken one) _ g) (and-left (isTaken other) _ h)
       ∙ ap (λ o. countsOf (before ++ (other ∷ behind o))) i
       ∙ sym (ap countsOf (answers-parts x es fs f e))
 
