@@ -84,7 +84,7 @@ acting-apart = IndependentRules.reached-apart
 
 -- ---- what the item's words mean, said again
 -- "in different children of one PARALLEL": some PARALLEL of the tree, two of its children with different numbers, the one node in the one and the other in the other.
--- Ruled out: a test that takes the children of a SEQUENCE for different ones; one that looks at the nearest PARALLEL alone.
+-- Ruled out: a test that takes the children of a SEQUENCE for different ones; one that looks at the outermost PARALLEL alone.
 pub different-children : (a b : ℕ) (t : Tree) → (differentChildren a b t ≡ true) ↔ DifferentChildren a b t
 different-children = ActingApart.different-is
 
@@ -164,13 +164,13 @@ pub reordered-calls-table : (ed : Edition) (file other : List ℕ) (o : SameButO
 reordered-calls-table = ReorderedCalls.tables-correspond
 
 -- the condition on ticks: truths stop alike exactly where the walk over them comes to the same in every order of them.
--- Ruled out: a condition that looks at the first truth alone; one that no truth meets that is true or faults.
+-- Ruled out: a condition on the first truth alone; one that fails wherever some truth is true or faults.
 pub stop-alike : (ed : Edition) (vs : List ℤ) (ts : List (List ℕ)) →
     StopAlike ed vs ts ↔ ((us : List (List ℕ)) (f g : Found) → Permuted ts us → Walks ed vs ts f → Walks ed vs us g → f ≡ g)
 stop-alike = TickOrders.stop-alike-is
 
 -- it holds of every run none of whose ticks is answered 31, 203 or 204, so of every list without a tick.
--- Ruled out: a condition that no tick meets; one that a run is asked for its picks too.
+-- Ruled out: a condition that no tick meets; one that asks something at picks too.
 pub either-first-told : {S : Type 0} (ed : Edition) (p : Plant) (c : Control S) (s : Situation S) (es : List (List ℕ)) →
     Each (λ e (o : Answered S). eventIn ed e ≡ tick → NotStopped (o .answer)) es (answers ed p c s es) → EitherFirstAtTicks ed p c s es
 either-first-told ed p c = TickOrders.either-first-told ed p c

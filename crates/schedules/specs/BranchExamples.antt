@@ -23,7 +23,7 @@ twoVariables es = record { variables = to10 ∷ to10 ∷ []; equations = es }
 abbrev pub resetTo : ℕ → Number → Node
 resetTo v e = reset v (numberBytes edition1 e)
 
--- PARALLEL of two RESETs, nodes 1 and 2
+-- PARALLEL of these two, nodes 1 and 2
 abbrev pub sideBySide : List Equation → Node → Node → List ℕ
 sideBySide es x y = writeFile edition1 (twoVariables es) (parallel 2 ∷ x ∷ y ∷ [])
 

@@ -51,6 +51,7 @@ exchangedNumber from one other n = cond (ltb n from) n (cond (ltb n (from + one)
 unfoldable pub swappedNumber : {ns ms : List Node} → Swapped ns ms → ℕ → ℕ
 swappedNumber s n = exchangedNumber (suc (length (s .before) + length (s .first))) (length (s .one)) (length (s .other)) n
 
+-- by one exchange after the other
 unfoldable pub newNumber : {ns ms : List Node} → Reordered ns ms → ℕ → ℕ
 newNumber unchanged n = n
 newNumber (swapped r s) n = swappedNumber s (newNumber r n)
