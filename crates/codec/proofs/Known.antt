@@ -11,10 +11,11 @@ use lib.ListN.{length, getD, take, drop, getElem?, length-drop}
 use lib.Seq.{drop-drop}
 use borrow.Author.Tests.{le-leb, lt-leb}
 use lib.Dec.{leb}
-use Rattle.semantics.specs.Bytes.{signed, one-byte, Read, broken, read, Reader, andThen, _>>=_, give, byte, nat2, nat4, int4, number, bytes, times, section2, section4}
+use Rattle.semantics.specs.Bytes.{signed, Width, widthOf, Read, broken, read, Reader, andThen, _>>=_, give, byte, nat2, nat4, int4, number, bytes, times, section2, section4}
 use Rattle.semantics.proofs.Readers.{broken-not-read, read-value, read-rest, split, given, given-rest, times-read}
+use Rattle.codec.specs.Numbers.{numberAt}
 use Rattle.codec.specs.Reading.{Took, Reads}
-use Rattle.codec.proofs.Reading.{lost, drop-past, drop-some, nat2At, nat4At, nat2-at, nat2-short, nat4-at, nat4-short, int4-at, int4-short, section2-at, section2-cut, section4-at, section4-cut}
+use Rattle.codec.proofs.Reading.{lost, drop-past, drop-some, nat2At, nat4At, nat2-at, nat2-short, nat4-at, nat4-short, int4-at, int4-short, number-at, number-front, number-short, section2-at, section2-cut, section4-at, section4-cut}
 
 -- ---- what follows the first reader
 module _ {A B : Type 0} (f : A → Reader B) {s : List ℕ} {p : ℕ} {b : B} {e : List ℕ} where
@@ -38,14 +39,13 @@ module _ {B : Type 0} (f : ℕ → Reader B) (s : List ℕ) (p : ℕ) {b : B} {e
   unfolding _>>=_ andThen byte
   not-past i h = broken-not-read (rw (drop-past p s) at h)
 
-  -- a count, length or number of edition 1
-  pub after-number : p < length s → (number one-byte >>= f) (drop p s) ≡ read b e → f (getD s p 0) (drop (p + 1) s) ≡ read b e
-  unfolding number
-  after-number i h = after-byte i h
+  -- a count, length or number of the edition's width
+  pub after-number : (w : Width) → p + widthOf w ≤ length s → (number w >>= f) (drop p s) ≡ read b e → f (numberAt w s p) (drop (p + widthOf w) s) ≡ read b e
+  unfolding _>>=_ andThen
+  after-number w i h = rw (number-at w s p i) at h
 
-  pub not-number : {C : Type 0} → length s ≤ p → (number one-byte >>= f) (drop p s) ≡ read b e → C
-  unfolding number
-  not-number i h = not-past i h
+  pub not-number : {C : Type 0} (w : Width) → length s < p + widthOf w → (number w >>= f) (drop p s) ≡ read b e → C
+  not-number w i h = not-lost f (number w) (drop p s) (number-short w s p i) h
 
   pub after-nat2 : p + 2 ≤ length s → (nat2 >>= f) (drop p s) ≡ read b e → f (nat2At s p) (drop (p + 2) s) ≡ read b e
   unfolding _>>=_ andThen
@@ -60,6 +60,11 @@ module _ {B : Type 0} (f : ℕ → Reader B) (s : List ℕ) (p : ℕ) {b : B} {e
 
   pub not-nat4 : {C : Type 0} → length s < p + 4 → p ≤ length s → (nat4 >>= f) (drop p s) ≡ read b e → C
   not-nat4 i j h = not-lost f nat4 (drop p s) (nat4-short s p i j) h
+
+-- a number at the front
+pub after-front : {B : Type 0} (f : ℕ → Reader B) (s : List ℕ) {b : B} {e : List ℕ} (w : Width) → widthOf w ≤ length s → (number w >>= f) s ≡ read b e → f (numberAt w s 0) (drop (widthOf w) s) ≡ read b e
+unfolding _>>=_ andThen
+after-front f s w i h = rw (number-front w s i) at h
 
 module _ {B : Type 0} (f : ℤ → Reader B) (s : List ℕ) (p : ℕ) {b : B} {e : List ℕ} where
   pub after-int4 : p + 4 ≤ length s → (int4 >>= f) (drop p s) ≡ read b e → f (signed (nat4At s p)) (drop (p + 4) s) ≡ read b e

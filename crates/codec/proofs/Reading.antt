@@ -4,7 +4,7 @@ use mathlib.Core.Bool.{Bool, true, false, and-false}
 use mathlib.Core.List.{List, [], _∷_}
 use mathlib.Core.Option.{Option, none, some}
 use Prim.Native.Nat.{ℕ, zero, suc, _+_, _≤_, _<_}
-use native.Mathlib.Nat.{add-zero}
+use native.Mathlib.Nat.{add-zero, zero-add}
 use native.Mathlib.Numerals.{add-one}
 use native.Mathlib.Omega.{arith}
 use borrow.Author.Tests.{ltb-true, ltb-false, le-leb, lt-leb}
@@ -12,8 +12,9 @@ use lib.Dec.{leb, ltb}
 use lib.IntN.{ℤ}
 use lib.ListN.{length, getD, take, drop, length-drop}
 use lib.Seq.{drop-cons, drop-drop, drop-nil, getD-drop}
-use Rattle.semantics.specs.Bytes.{be2, be4, signed, one-byte, Read, broken, read, Reader, andThen, _>>=_, give, fail, guard, from, byte, nat2, nat4, int4, number, bytes, section2, section4, just, whole, within}
+use Rattle.semantics.specs.Bytes.{be2, be4, signed, Width, one-byte, two-bytes, widthOf, Read, broken, read, Reader, andThen, _>>=_, give, fail, guard, from, byte, nat2, nat4, int4, number, bytes, section2, section4, just, whole, within}
 use Rattle.semantics.proofs.Facts.{none-not-some}
+use Rattle.codec.specs.Numbers.{numberAt}
 use Rattle.codec.specs.Reading.{Took, Reads, reads-at, reads-none}
 
 -- ---- an answer that is known
@@ -111,15 +112,6 @@ module _ {B X : Type 0} (f : ℕ → Reader B) {L : B → X → Type 0} {s : Lis
   unfolding _>>=_ andThen byte
   no-byte h = reads-none (rw (drop-past p s) refl)
 
-  -- a count, length or number of edition 1
-  pub then-number : {v : Option (ℕ × X)} → p < length s → Reads (f (getD s p 0)) L s (p + 1) v → Reads (number one-byte >>= f) L s p v
-  unfolding number
-  then-number h k = then-byte h k
-
-  pub no-number : length s ≤ p → Reads (number one-byte >>= f) L s p none
-  unfolding number
-  no-number h = no-byte h
-
 module _ {B X : Type 0} (f : List ℕ → Reader B) {L : B → X → Type 0} {s : List ℕ} {p : ℕ} (n : ℕ) where
   pub then-bytes : {v : Option (ℕ × X)} → p + n ≤ length s → Reads (f (take n (drop p s))) L s (p + n) v → Reads (bytes n >>= f) L s p v
   unfolding _>>=_ andThen bytes
@@ -210,6 +202,33 @@ module _ {B X : Type 0} (f : ℕ → Reader B) {L : B → X → Type 0} {s : Lis
   pub no-nat4 : length s < p + 4 → p ≤ length s → Reads (nat4 >>= f) L s p none
   unfolding _>>=_ andThen
   no-nat4 h i = reads-none (rw (nat4-short s p h i) refl)
+
+-- a count, length or number of the edition's width
+pub number-at : (w : Width) (s : List ℕ) (p : ℕ) → p + widthOf w ≤ length s → number w (drop p s) ≡ read (numberAt w s p) (drop (p + widthOf w) s)
+unfolding number widthOf numberAt byte
+number-at one-byte s p h = rw (drop-some p s (omega arith)) refl
+number-at two-bytes s p h = nat2-at s p h
+
+pub number-short : (w : Width) (s : List ℕ) (p : ℕ) → length s < p + widthOf w → number w (drop p s) ≡ broken
+unfolding number widthOf byte
+number-short one-byte s p h = rw (drop-past p s (omega arith)) refl
+number-short two-bytes s p h = nat2-none (drop p s) (omega (arith, length-drop p s))
+
+-- at the front
+pub number-front : (w : Width) (s : List ℕ) → widthOf w ≤ length s → number w s ≡ read (numberAt w s 0) (drop (widthOf w) s)
+number-front w s h = number-at w s 0 (omega arith) ∙ ap (λ k. read (numberAt w s 0) (drop k s)) (zero-add (widthOf w))
+
+pub no-front : (w : Width) (s : List ℕ) → length s < widthOf w → number w s ≡ broken
+no-front w s h = number-short w s 0 (omega arith)
+
+module _ (w : Width) {B X : Type 0} (f : ℕ → Reader B) {L : B → X → Type 0} {s : List ℕ} {p : ℕ} where
+  pub then-number : {v : Option (ℕ × X)} → p + widthOf w ≤ length s → Reads (f (numberAt w s p)) L s (p + widthOf w) v → Reads (number w >>= f) L s p v
+  unfolding _>>=_ andThen
+  then-number h k = moves (rw (number-at w s p h) refl) k
+
+  pub no-number : length s < p + widthOf w → Reads (number w >>= f) L s p none
+  unfolding _>>=_ andThen
+  no-number h = reads-none (rw (number-short w s p h) refl)
 
 module _ {B X : Type 0} (f : ℤ → Reader B) {L : B → X → Type 0} {s : List ℕ} {p : ℕ} where
   pub then-int4 : {v : Option (ℕ × X)} → p + 4 ≤ length s → Reads (f (signed (nat4At s p))) L s (p + 4) v → Reads (int4 >>= f) L s p v

@@ -1,4 +1,5 @@
 -- What the contracts of code that reads and writes bytes by position cite.
+pub mod Numbers
 pub mod Reading
 pub mod Places
 pub mod Writing

@@ -1,10 +1,14 @@
 // Numbers in bytes, by position: big-endian, signed ones in two's complement.
+use edition::Edition;
 ghost use mathlib.Core.Path.{_≡_};
 ghost use mathlib.Core.List.{_∷_, []};
 ghost use Prim.Native.Nat.{_+_, _%_, _≤_, _<_};
 ghost use lib.ListN.{length, getD};
 ghost use Rattle.semantics.specs.Bytes as bytes;
 ghost use Rattle.semantics.specs.Run.{valueBytes};
+ghost use Rattle.semantics.specs.Editions.{capacity};
+ghost use Rattle.edition.specs.Editions.{editionOf};
+ghost use Rattle.codec.specs.Numbers.{numberAt};
 ghost use Rattle.codec.specs.Ends.{endOf};
 ghost use Rattle.codec.specs.Writing.{Wrote};
 
@@ -21,6 +25,17 @@ pub fn nat2(s: &[u8], at: usize) -> usize
     ensures { λ r. ⌜ r ≡ bytes.be2 (getD (now (s .entry)) at 0) (getD (now (s .entry)) (at + 1) 0) ⌝ }
 {
     (s[at] as usize) * 256 + s[at + 1] as usize
+}
+
+// the count, length or number at a place, as wide as the edition has it
+pub fn number(s: &[u8], at: usize, ed: Edition) -> usize
+    requires { ⌜ at + bytes.widthOf (editionOf ed .width) ≤ length (now s) ⌝ }
+    ensures { λ r. ⌜ r ≡ numberAt (editionOf ed .width) (now (s .entry)) at ⌝ }
+{
+    match ed {
+        Edition::First => s[at] as usize,
+        Edition::Second => nat2(s, at),
+    }
 }
 
 // the four bytes at a place, in 32 bits
@@ -115,6 +130,17 @@ pub fn put2(d: &mut [u8], i: usize, n: usize) -> usize
 {
     let j = put1(d, i, low(n / 256));
     put1(d, j, low(n))
+}
+
+// a count, length or number at a place, as wide as the edition has it; the next place
+pub fn put_number(d: &mut [u8], i: usize, n: usize, ed: Edition) -> usize
+    requires { ⌜ (i + bytes.widthOf (editionOf ed .width) ≤ length (now d)) × (n < capacity (editionOf ed .width)) ⌝ }
+    ensures { λ r. ⌜ (r ≡ i + bytes.widthOf (editionOf ed .width)) × Wrote (now (d .entry)) i (bytes.out (editionOf ed .width) n) (now (d .exit)) ⌝ }
+{
+    match ed {
+        Edition::First => put1(d, i, low(n)),
+        Edition::Second => put2(d, i, n),
+    }
 }
 
 // the four bytes of a number at a place; the next place

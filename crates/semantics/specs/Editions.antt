@@ -1,4 +1,4 @@
--- The editions of the formats. Whatever reads or writes bytes takes one. Edition 1 is document 01's.
+-- The editions of the formats. Whatever reads or writes bytes takes one. Edition 1 is document 01's, edition 2 that of document 02, item 6.
 use Prim.Native.Nat.{ℕ, _*_, _≤_, _<_}
 use lib.Dec.{lit<, lit≤}
 use Rattle.semantics.specs.Bytes.{Width, one-byte, two-bytes}
@@ -34,6 +34,22 @@ edition1 = record {
   nodes = 64;
   set-bytes = 8;
   event-bytes = 3;
+  version-fits = lit< tt;
+  nodes-fit = lit< tt;
+  entries-fit = lit≤ tt;
+  set-holds = lit≤ tt;
+  event-holds = lit≤ tt;
+}
+
+-- Document 02, item 6: "version byte 2, node counts, action counts and node numbers of two bytes, and node lengths of two bytes"; "Action lengths are two bytes too."; "up to 256 nodes";
+-- "An event is then 4 bytes"; "The set in a record grows to 32 bytes"
+abbrev pub edition2 : Edition
+edition2 = record {
+  version = 2;
+  width = two-bytes;
+  nodes = 256;
+  set-bytes = 32;
+  event-bytes = 4;
   version-fits = lit< tt;
   nodes-fit = lit< tt;
   entries-fit = lit≤ tt;

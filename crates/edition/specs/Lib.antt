@@ -1,0 +1,2 @@
+-- What the contracts of the editions' numbers cite.
+pub mod Editions
