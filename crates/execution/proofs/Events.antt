@@ -150,7 +150,7 @@ module _ (ed : Edition) (p : Plant) (f : ℕ → Action) (l : Lent) (ws : List �
       pick-28 g = left-eq vs ms (pick-is h) (left-out vs ms check (act ed (p .variables) vs ms n (f n)) e g)
 
       pub pick-end : goesOn r ≡ true → {k b d : ℕ} → Looked k b d → {x : Verdict} {ys : List ℤ} {ns : List ℕ} → Does k (between b d (l .bytes)) (variablesOf l (length vs)) n vs ms x ys ns → Left pick vs ms x ys ns
-      pick-end g o {x} {ys} {ns} y = let w : Does (getD (l .kinds) n 0) (operandAt l n) (variablesOf l (length vs)) n vs ms x ys ns = rw (← o .kind, ← o .start, ← o .end) y in left-eq vs ms (pick-is h ∙ then-on check (act ed (p .variables) vs ms n (f n)) r e g ∙ act-same ed p l (q .plant) vs (q .fits .values) ms n (f n)) (w .leaves (f n) (q .nodes n h .is))
+      pick-end g o {x} {ys} {ns} y = let w : Does (getD (l .kinds) n 0) (operandAt l n) (variablesOf l (length vs)) n vs ms x ys ns = rw (← o .kind, ← o .start, ← o .end) y in left-eq vs ms (pick-is h ∙ then-on check (act ed (p .variables) vs ms n (f n)) r e g ∙ act-same ed p l (q .plant) vs (q .fits .values) ms n (f n)) (w .leaves ed (f n) (q .nodes n h .is))
 
     pub pick-performs : mem ws n ≡ true → {k b d : ℕ} → Looked k b d → Performs k (between b d (l .bytes)) (length vs) (length ms)
     pick-performs e o =
@@ -165,7 +165,7 @@ module _ (ed : Edition) (p : Plant) (f : ℕ → Action) (l : Lent) (ws : List �
   -- ---- a switch event
   pub switch-left : (s k : ℕ) {r : Verdict} {ns : List ℕ} → Switched (l .bytes) (l .places) s k vs ms r ns → Left (judge ed p f (members ws) vs ms (Events.take-switch s k)) vs ms r vs ns
   unfolding judge
-  switch-left s k x = left-eq vs ms (ap (λ z. judgeSwitch ed z vs ms s k) (sym (modes-current p l (q .plant) vs ms (q .fits)))) (x .leaves)
+  switch-left s k x = left-eq vs ms (ap (λ z. judgeSwitch ed z vs ms s k) (sym (modes-current p l (q .plant) vs ms (q .fits)))) (x .leaves ed)
 
   -- ---- bytes that are no event
   pub senseless-left : {r : Verdict} → r ≡ Away 24 → Left (judge ed p f (members ws) vs ms Events.senseless) vs ms r vs ms

@@ -113,10 +113,10 @@ module _ (ed : Edition) (vs : List ℤ) (cut : ℕ → List ℕ) (ws : List ℕ)
 
   module _ (n : ℕ) (h : n < end) (x : At ws end n) (r : Verdict) (e : r ≡ stepVerdict (checkWaits ed vs (cut n ∷ []))) where
     pub still-out : goesOn r ≡ false → r ≡ stepVerdict (stillFrom ed vs cut ws n)
-    still-out f = walk-out 31 vs (cut n) (map cut (membersOn ws (n + 1))) r (e ∙ sym (still-one ed vs (cut n))) f ∙ sym (ap (λ l. stepVerdict (asks l)) (on-here few n h x))
+    still-out f = walk-out ed 31 vs (cut n) (map cut (membersOn ws (n + 1))) r (e ∙ sym (still-one ed vs (cut n))) f ∙ sym (ap (λ l. stepVerdict (asks l)) (on-here few n h x))
 
     pub still-on : {m : ℕ} → NextIn ws (n + 1) end m → goesOn r ≡ true → stillFrom ed vs cut ws n ≡ stillFrom ed vs cut ws m
-    still-on g f = ap asks (on-here few n h x) ∙ walk-on 31 vs (cut n) (map cut (membersOn ws (n + 1))) r (e ∙ sym (still-one ed vs (cut n))) f ∙ ap asks (on-behind few n g)
+    still-on g f = ap asks (on-here few n h x) ∙ walk-on ed 31 vs (cut n) (map cut (membersOn ws (n + 1))) r (e ∙ sym (still-one ed vs (cut n))) f ∙ ap asks (on-behind few n g)
 
   pub still-end : (n : ℕ) → end ≤ n → Stay ≡ stepVerdict (stillFrom ed vs cut ws n)
   unfolding walk doneVerdict

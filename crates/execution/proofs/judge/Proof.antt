@@ -16,7 +16,7 @@ take-switch-requires : tie.Need-take-switch-requires
 take-switch-requires c κs = let r = c @pre .ready in is-current _ _ (r .plant) _ _ (r .fits)
 
 returns-3 : tie.Need-returns-3
-returns-3 c = λ p f q. event-left _ _ _ _ _ _ _ q (c @e2 .given .1) (switch-left _ _ _ _ _ _ _ q _ _ (c @take-switch .ensures _))
+returns-3 c = λ p f q. event-left _ _ _ _ _ _ _ q (c @e2 .given .1) (switch-left _ _ _ _ _ _ _ q _ _ (c @take-switch .ensures))
 
 returns-4 : tie.Need-returns-4
 returns-4 c = λ p f q. event-left _ _ _ _ _ _ _ q (c @enum-told2 .given .1) (senseless-left _ _ _ _ _ _ _ q refl)

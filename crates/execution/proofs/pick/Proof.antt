@@ -73,7 +73,7 @@ returns-3 c =
     let i = k .before .before .before in
     let h = i .before .before in
     let o = h .before .before .before in
-    λ ed p f q. pick-end _ _ _ _ _ _ _ q _ (acts o) _ (h .switch-check .ensures _) (sym (i .before .goes-on .ensures) ∙ not-false _ (i .if2 .left)) (record { kind = k .kind .ensures; start = k .before .before .start .ensures; end = k .before .end .ensures }) (e .effect .ensures ed)
+    λ ed p f q. pick-end _ _ _ _ _ _ _ q _ (acts o) _ (h .switch-check .ensures _) (sym (i .before .goes-on .ensures) ∙ not-false _ (i .if2 .left)) (record { kind = k .kind .ensures; start = k .before .before .start .ensures; end = k .before .end .ensures }) (e .effect .ensures)
 
 pub pick-spec : {M : Type 1} → statement M
 pick-spec =
