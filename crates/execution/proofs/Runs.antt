@@ -4,7 +4,7 @@ use mathlib.Core.Bool.{true}
 use mathlib.Core.List.{List, [], _∷_, _++_, map, flatMap, append-assoc, append-nil}
 use mathlib.Core.Option.{Option}
 use Prim.Native.Nat.{ℕ, suc, _+_, _-_, _*_, _/_, _^_, _≤_, _<_}
-use native.Mathlib.Nat.{zero-add, sub-zero, suc-mul, zero-mul, mul-le-mul-right}
+use native.Mathlib.Nat.{zero-add, sub-zero, suc-mul, zero-mul, mul-le-mul-right, div-le-self}
 use native.Mathlib.Numerals.{add-one}
 use native.Mathlib.Omega.{arith}
 use lib.IntN.{ℤ}
@@ -102,7 +102,8 @@ module _ {S : Type 0} (ed : Edition) (g : Program S) (st₀ : Start) (events d�
   module _ {k p i : ℕ} {st : Situation S} {cs : Counts} {d : List ℕ} (x : RunSoFar ed g st₀ events d₀ k p i st cs d) where
     -- the counts may each be one more
     pub run-counts : k < eventCount ed events → length events < 2 ^ 64 → Room cs
-    run-counts h m = counts-room (answersIn (x .said)) (counted ed (x .reports)) (omega (arith, said-length (x .said), x .many))
+    unfolding eventCount
+    run-counts h m = counts-room (answersIn (x .said)) (counted ed (x .reports)) (omega (arith, h, div-le-self (length events) (ed .event-bytes), said-length (x .said), x .many))
       where
         said-length : (l : List (Answered S)) → length (answersIn l) ≡ length l
         said-length [] = refl
