@@ -13,41 +13,41 @@ use Rattle.execution.proofs.all_wait.Statement.{statement}
 use Rattle.execution.proofs.all_wait.Tie as tie
 
 abbrev Inv-loop : tie.InvT-loop
-Inv-loop ix acting ed end n₀ n = At acting end n × (every (isWaitKind (kindRow ix)) (members acting) ≡ all (kindRow ix) acting n)
+Inv-loop ix acting end n₀ n = At acting end n × (every (isWaitKind (kindRow ix)) (members acting) ≡ all (kindRow ix) acting n)
 
 abbrev μ-loop : tie.MeasureT-loop
-μ-loop ix acting ed end n₀ n = end - n
+μ-loop ix acting end n₀ n = end - n
 
 next-requires : tie.Need-next-requires Inv-loop μ-loop
-next-requires c κs = (omega (arith, few-bounded _ (c @pre .0) (c @node-limit .ensures) .small), c @pre .0 .words)
+next-requires c κs = (omega (arith, few-bounded _ (c .before .pre .0) (c .node-limit .ensures) .small), c .before .pre .0 .words)
 
 loop-holds : tie.Need-loop-holds Inv-loop μ-loop
-loop-holds c = (at-next (c @next .ensures), all-start (kindRow (c @args .ix .now)) _ (few-bounded _ (c @pre .0) (c @node-limit .ensures)) (c @next .ensures))
+loop-holds c = (at-next (c .next .ensures), all-start (kindRow (c .before .before .args .ix .now)) _ (few-bounded _ (c .before .before .pre .0) (c .before .node-limit .ensures)) (c .next .ensures))
 
 kind-requires : tie.Need-kind-requires Inv-loop μ-loop
-kind-requires c κs = omega (arith, few-bounded _ (c @pre .0) (c @node-limit .ensures) .small, c @loop-test .taken)
+kind-requires c κs = omega (arith, few-bounded _ (c .before .before .before .before .pre .0) (c .before .before .before .node-limit .ensures) .small, c .loop-test .taken)
 
 returns : tie.Need-returns Inv-loop μ-loop
 returns c =
-    let l = c @loop in
-    λ f k. sym (l .inv .1 ∙ all-out (kindRow (c @args .ix .now)) _ (few-bounded _ (c @pre .0) (c @node-limit .ensures)) (l .n) (c @loop-test .taken) (l .inv .0) (ap (λ x. eqb x 2) (sym (c @kind .ensures)) ∙ ne-eqb _ 2 (c @if1 .taken))) ∙ kinds-wait f _ _ k
+    let l = c .before .before .before .loop in
+    λ f k. sym (l .inv .1 ∙ all-out (kindRow (c .before .before .before .before .before .before .args .ix .now)) _ (few-bounded _ (c .before .before .before .before .before .before .pre .0) (c .before .before .before .before .before .node-limit .ensures)) (l .n) (c .before .before .loop-test .taken) (l .inv .0) (ap (λ x. eqb x 2) (sym (c .before .kind .ensures)) ∙ ne-eqb _ 2 (c .if1 .taken))) ∙ kinds-wait f _ _ k
 
 add-next : tie.Need-add-next Inv-loop μ-loop
-add-next c = omega (arith, c @loop-test .taken)
+add-next c = omega (arith, c .before .before .loop-test .taken)
 
 next-requires-2 : tie.Need-next-requires-2 Inv-loop μ-loop
-next-requires-2 c κs = (omega (arith, few-bounded _ (c @pre .0) (c @node-limit .ensures) .small), c @pre .0 .words)
+next-requires-2 c κs = (omega (arith, few-bounded _ (c .before .before .before .before .before .before .pre .0) (c .before .before .before .before .before .node-limit .ensures) .small), c .before .before .before .before .before .before .pre .0 .words)
 
 loop-less : tie.Need-loop-less Inv-loop μ-loop
-loop-less c = omega (arith, c @next2 .ensures .from, c @loop-test .taken)
+loop-less c = omega (arith, c .next2 .ensures .from, c .before .before .before .loop-test .taken)
 
 loop-again : tie.Need-loop-again Inv-loop μ-loop
 loop-again c =
-    let l = c @loop in
-    (at-next (c @next2 .ensures), l .inv .1 ∙ all-on (kindRow (c @args .ix .now)) _ (few-bounded _ (c @pre .0) (c @node-limit .ensures)) (l .n) (c @loop-test .taken) (l .inv .0) (c @next2 .ensures) (ap (λ x. eqb x 2) (sym (c @kind .ensures)) ∙ eq-eqb _ 2 (c @if1 .left)))
+    let l = c .before .before .before .before .loop in
+    (at-next (c .next2 .ensures), l .inv .1 ∙ all-on (kindRow (c .before .before .before .before .before .before .before .args .ix .now)) _ (few-bounded _ (c .before .before .before .before .before .before .before .pre .0) (c .before .before .before .before .before .before .node-limit .ensures)) (l .n) (c .before .before .before .loop-test .taken) (l .inv .0) (c .next2 .ensures) (ap (λ x. eqb x 2) (sym (c .before .before .kind .ensures)) ∙ eq-eqb _ 2 (c .before .if1 .left)))
 
 returns-2 : tie.Need-returns-2 Inv-loop μ-loop
-returns-2 c = λ f k. sym (c @loop .inv .1 ∙ all-end (kindRow (c @args .ix .now)) _ (few-bounded _ (c @pre .0) (c @node-limit .ensures)) (c @loop .n) (c @loop-test .left)) ∙ kinds-wait f _ _ k
+returns-2 c = λ f k. sym (c .before .loop .inv .1 ∙ all-end (kindRow (c .before .before .before .before .args .ix .now)) _ (few-bounded _ (c .before .before .before .before .pre .0) (c .before .before .before .node-limit .ensures)) (c .before .loop .n) (c .loop-test .left)) ∙ kinds-wait f _ _ k
 
 pub all-wait-spec : {M : Type 1} → statement M
 all-wait-spec =

@@ -27,10 +27,10 @@ below-all : (c : tie.Else1) → start c .args .n < 256
 below-all c = omega (arith, node c .below, start c .pre .0 .entries-fit)
 
 has-requires : tie.Need-has-requires
-has-requires c κs = c @pre .1 .ready .words
+has-requires c κs = c .before .before .pre .1 .ready .words
 
 returns : tie.Need-returns
-returns c = λ ed p f q. pick-25 _ _ _ _ _ _ _ q _ (sym (c @has .ensures) ∙ not-true _ (c @if1 .taken))
+returns c = λ ed p f q. pick-25 _ _ _ _ _ _ _ q _ (sym (c .before .has .ensures) ∙ not-true _ (c .if1 .taken))
 
 switch-check-requires : tie.Need-switch-check-requires
 switch-check-requires c κs = let r = start (c .before .before) .pre .1 .ready in is-current _ _ (r .plant) _ _ (r .fits)
@@ -39,7 +39,7 @@ goes-on-requires : tie.Need-goes-on-requires
 goes-on-requires c κs = search needs
 
 returns-2 : tie.Need-returns-2
-returns-2 c = let o = c .before .before .before .before .before in λ ed p f q. pick-28 _ _ _ _ _ _ _ q _ (acts o) _ (c @switch-check .ensures _) (sym (c @goes-on .ensures) ∙ not-true _ (c @if2 .taken))
+returns-2 c = let o = c .before .before .before .before .before in λ ed p f q. pick-28 _ _ _ _ _ _ _ q _ (acts o) _ (c .before .before .switch-check .ensures _) (sym (c .before .goes-on .ensures) ∙ not-true _ (c .if2 .taken))
 
 start-requires : tie.Need-start-requires
 start-requires c κs = below-all (c .before .before .before .before .before)
@@ -51,13 +51,13 @@ kind-requires : tie.Need-kind-requires
 kind-requires c κs = below-all (c .before .before .before .before .before .before .before)
 
 sub-effect : tie.Need-sub-effect
-sub-effect c = let x = node (c .before .before .before .before .before .before .before .before) .cut in omega (arith, x .low, x .high, c @end .ensures, c @start .ensures)
+sub-effect c = let x = node (c .before .before .before .before .before .before .before .before) .cut in omega (arith, x .low, x .high, c .before .end .ensures, c .before .before .start .ensures)
 
 part-effect-start : tie.Need-part-effect-start
-part-effect-start c = let x = node (c .before .before .before .before .before .before .before .before) .cut in omega (arith, x .low, x .high, c @end .ensures, c @start .ensures)
+part-effect-start c = let x = node (c .before .before .before .before .before .before .before .before) .cut in omega (arith, x .low, x .high, c .before .end .ensures, c .before .before .start .ensures)
 
 part-effect-end : tie.Need-part-effect-end
-part-effect-end c = let x = node (c .before .before .before .before .before .before .before .before) .cut in omega (arith, x .low, x .high, c @end .ensures, c @start .ensures)
+part-effect-end c = let x = node (c .before .before .before .before .before .before .before .before) .cut in omega (arith, x .low, x .high, c .before .end .ensures, c .before .before .start .ensures)
 
 effect-requires : tie.Need-effect-requires
 effect-requires c κs =
