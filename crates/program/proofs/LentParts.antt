@@ -134,15 +134,14 @@ module _ (ed : Edition) (f : List ℕ) (small : length f < 2 ^ 64) (a b : ℕ) (
 
 -- ---- a node, whose operand stands in the section from o to c
 module _ (ed : Edition) (f : List ℕ) (small : length f < 2 ^ 64) {x : PlantRead} {ks ss es : List ℕ} {a o : ℕ} {ix : List ℕ} (filled : Filled x ks ss es a o ix) {rs : List ℤ} {p : Plant} where
-  pub node-lent : (c n : ℕ) {w : Action} → n < ed .nodes → length ks ≡ 256 → length ss ≡ 256 → length es ≡ 256 → o ≤ length f → getD ss n 0 ≤ getD es n 0 → getD es n 0 ≤ length (between o c f)
+  pub node-lent : (c n : ℕ) {w : Action} → n < ed .nodes → n < length ks → n < length ss → n < length es → o ≤ length f → getD ss n 0 ≤ getD es n 0 → getD es n 0 ≤ length (between o c f)
       → actionOfKind (actionKind (getD ks n 0)) (partAt (between o c f) ss es n) ≡ some w → operandFits ed (length (p .variables)) (selectors p) w ≡ true → NodeLent ed p w (lent f ix rs) n
-  node-lent c n {w} i kl sl el oi low high is fits =
-      let j : n < 256 = omega (arith, ed .entries-fit) in
-      let s : getD (startRow ix) n 0 ≡ getD ss n 0 + o = filled .starts n (omega arith) ∙ end-there f small o c oi (getD ss n 0) (omega arith) in
-      let t : getD (endRow ix) n 0 ≡ getD es n 0 + o = filled .ends n (omega arith) ∙ end-there f small o c oi (getD es n 0) high in
+  node-lent c n {w} i jk js je oi low high is fits =
+      let s : getD (startRow ix) n 0 ≡ getD ss n 0 + o = filled .starts n js ∙ end-there f small o c oi (getD ss n 0) (omega arith) in
+      let t : getD (endRow ix) n 0 ≡ getD es n 0 + o = filled .ends n je ∙ end-there f small o c oi (getD es n 0) high in
       record {
         below = i;
         cut = record { low = omega arith; high = omega (arith, end-below f small o c oi (getD es n 0) high) };
-        is = rw (filled .kinds n (omega arith), s, t, ← part-there f o c (getD ss n 0) (getD es n 0) low high) is;
+        is = rw (filled .kinds n jk, s, t, ← part-there f o c (getD ss n 0) (getD es n 0) low high) is;
         fits = fits;
       }
