@@ -1,5 +1,5 @@
 -- A run's loop with the place where it stands, for any control.
-use mathlib.Core.Path.{_≡_, sym, _∙_}
+use mathlib.Core.Path.{_≡_, sym, ap, _∙_}
 use mathlib.Core.List.{List}
 use mathlib.Core.Option.{Option, some}
 use Prim.Native.Nat.{ℕ, _+_, _*_, _/_, _^_, _≤_, _<_}
@@ -21,6 +21,11 @@ use Rattle.records.proofs.Books.{Booked}
 use Rattle.execution.specs.Ready.{Fits}
 use Rattle.execution.specs.Runs.{Reports, Steps, MayRun, Going}
 use Rattle.execution.proofs.Runs.{run-start, run-counts, run-length, run-room, run-next, run-end}
+
+-- as the code counts them
+pub events-counted : (ed : Edition) (events : List ℕ) {w : ℕ} → w ≡ ed .event-bytes → length events / w ≡ eventCount ed events
+unfolding eventCount
+events-counted ed events e = ap (λ w. length events / w) e
 
 abbrev begun : List ℤ → List ℕ → Start
 begun vs ms = record { values = vs; modes = ms }
@@ -53,13 +58,13 @@ module _ {S : Type 0} (ed : Edition) (g : Program S) {vs₀ : List ℤ} {ms₀ e
 
     -- an event more
     pub going-next : k < eventCount ed events → {after : Option S → Type 0} {e : Event} {a : ℕ} {vs' : List ℤ} {ms' : List ℕ} → Decodes ed (take (ed .event-bytes) (drop p events)) e
-        → (s : Steps ed g after (x .place) vs ms e a vs' ms') → Fits (g .plant) vs' ms' → (ws : List ℕ) → actingSet (g .control) (s .place) ≡ setNumber (members ws) → {i' : ℕ} {cs' : Counts} {d' : List ℕ}
-        → Wrote d i (recordBytes ed a (setNumber (members ws)) vs' ms') d' → i' ≡ i + recordLength ed (length vs') (length ms') → Booked cs a cs' → Going ed g after (begun vs₀ ms₀) events d₀ (k + 1) (p + ed .event-bytes) i' cs' vs' ms' d'
-    going-next h {a = a} {vs' = vs'} {ms' = ms'} q s f ws u w j b = record {
+        → (s : Steps ed g after (x .place) vs ms e a vs' ms') → Fits (g .plant) vs' ms' → (ws : List ℕ) → actingSet (g .control) (s .place) ≡ setNumber (members ws) → {i' p' : ℕ} {cs' : Counts} {d' : List ℕ}
+        → Wrote d i (recordBytes ed a (setNumber (members ws)) vs' ms') d' → i' ≡ i + recordLength ed (length vs') (length ms') → Booked cs a cs' → p' ≡ p + ed .event-bytes → Going ed g after (begun vs₀ ms₀) events d₀ (k + 1) p' i' cs' vs' ms' d'
+    going-next h {a = a} {vs' = vs'} {ms' = ms'} q s f ws u w j b z = rw z (record {
       place = s .place;
       stands = s .stands;
       so-far = run-next ed g (begun vs₀ ms₀) events d₀ (x .so-far) h a (s .place) vs' ms' ws q (s .is) u f w j b;
-    }
+    })
 
     pub going-end : k ≡ eventCount ed events → Reports ed (g .control) (runFrom ed g (begun vs₀ ms₀) events) d₀ cs d
     going-end h = run-end ed g (begun vs₀ ms₀) events d₀ (x .so-far) h

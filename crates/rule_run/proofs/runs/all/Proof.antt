@@ -13,10 +13,11 @@ use Rattle.nodeset.proofs.Owned.{owned}
 use Rattle.moves.specs.Contracts.{Planted}
 use Rattle.moves.proofs.Callers.{charted, begun}
 use Rattle.edition.specs.Editions.{editionOf}
+use Rattle.semantics.specs.Calls.{eventCount}
 use Rattle.program.specs.Lent.{lent}
 use Rattle.execution.specs.Runs.{Going}
 use Rattle.execution.proofs.Stepping.{shown, shown-words}
-use Rattle.execution.proofs.Loops.{going-start, going-event, going-room, going-values, going-modes, going-records, going-counts, going-next, going-end}
+use Rattle.execution.proofs.Loops.{events-counted, going-start, going-event, going-room, going-values, going-modes, going-records, going-counts, going-next, going-end}
 use Rattle.rule_step.specs.Situations.{StandsFor}
 use Rattle.rule_run.specs.Runs.{Asked}
 use Rattle.rule_step.proofs.Callers.{first-stands, acting-few}
@@ -42,18 +43,21 @@ all-requires-2 c κs = planted (c @pre .asked .tree)
 at-requires : tie.Need-at-requires Inv-loop μ-loop
 at-requires c κs = (omega arith, c @all2 .ensures .long)
 
+div-n : tie.Need-div-n Inv-loop μ-loop
+div-n c = omega (arith, c @event-bytes .ensures, editionOf (c @args .ed) .event-holds)
+
 loop-holds : tie.Need-loop-holds Inv-loop μ-loop
 loop-holds c =
     let w = owned _ _ (c @at .ok .1 .1 .0) in (
       omega arith,
-      refl,
+      events-counted _ _ (c @event-bytes .ensures),
       omega (arith, c @good),
       λ s a.
           going-start _ (programOf s) (c @none .ensures) (a .may) (first-stands s w (begun (charted (a .tree) (c @all .ensures) (c @all2 .ensures)) w (c @at .ensures))),
     )
 
 at-requires-2 : tie.Need-at-requires-2 Inv-loop μ-loop
-at-requires-2 c κs = omega (arith, c @loop .inv .1, c @loop-test .taken)
+at-requires-2 c κs = let q = c @pre in going-event _ (programOf (q .schedule)) (c @loop .inv .3 (q .schedule) (q .asked)) (omega (arith, c @loop .inv .1, c @loop-test .taken))
 
 step-requires : tie.Need-step-requires Inv-loop μ-loop
 step-requires c κs =
@@ -81,8 +85,13 @@ booked-requires c κs =
     let q = c @pre in
     going-counts _ (programOf (q .schedule)) (c @loop .inv .3 (q .schedule) (q .asked)) (omega (arith, c @loop .inv .1, c @loop-test .taken)) (c @loop .inv .2)
 
+add-at : tie.Need-add-at Inv-loop μ-loop
+add-at c =
+    let q = c @pre in
+    omega (arith, c @event-bytes2 .ensures, c @loop .inv .2, going-event _ (programOf (q .schedule)) (c @loop .inv .3 (q .schedule) (q .asked)) (omega (arith, c @loop .inv .1, c @loop-test .taken)))
+
 add-k : tie.Need-add-k Inv-loop μ-loop
-add-k c = omega (arith, c @loop .inv .1, c @loop .inv .2, c @loop-test .taken)
+add-k c = omega (arith, c @loop-test .taken)
 
 loop-less : tie.Need-loop-less Inv-loop μ-loop
 loop-less c = omega (arith, c @loop-test .taken)
@@ -98,7 +107,7 @@ loop-again c =
           let g = c @loop .inv .3 s a in
           let h = charted (a .tree) (c @all .ensures) (c @all2 .ensures) in
           let r = c @step .ensures s (g .place) (a .lent) h (g .stands) (g .so-far .fits) in
-          going-next _ (programOf s) g (omega (arith, c @loop .inv .1, test)) (c @at2 .ensures) (r .0) (r .1) _ (shown (r .0 .stands)) (record-put .1) (record-put .0) (c @booked .ensures),
+          going-next _ (programOf s) g (omega (arith, c @loop .inv .1, test)) (c @at2 .ensures) (r .0) (r .1) _ (shown (r .0 .stands)) (record-put .1) (record-put .0) (c @booked .ensures) (omega (arith, c @event-bytes2 .ensures)),
     )
 
 same-length : tie.Need-same-length Inv-loop μ-loop

@@ -5,12 +5,12 @@ use native.Mathlib.Omega.{arith}
 use lib.ListN.{length}
 use borrow.Author.Needs.{needs}
 use Rattle.semantics.specs.Tables.{Table}
-use Rattle.semantics.specs.Calls.{programOfTable}
+use Rattle.semantics.specs.Calls.{eventCount, programOfTable}
 use Rattle.edition.specs.Editions.{editionOf}
 use Rattle.program.specs.Lent.{lent}
 use Rattle.execution.specs.Runs.{Going}
 use Rattle.execution.proofs.Stepping.{shown, shown-words}
-use Rattle.execution.proofs.Loops.{going-start, going-event, going-room, going-values, going-modes, going-records, going-counts, going-next, going-end}
+use Rattle.execution.proofs.Loops.{events-counted, going-start, going-event, going-room, going-values, going-modes, going-records, going-counts, going-next, going-end}
 use Rattle.table_step.specs.Situations.{StandsFor}
 use Rattle.table_run.specs.Runs.{Asked}
 use Rattle.table_step.proofs.Callers.{first-located, first-stands, at-start, acting-few}
@@ -24,15 +24,18 @@ Inv-loop t ix ranges events values₀ modes₀ records₀ ed acting₀ x₀ coun
 abbrev μ-loop : tie.MeasureT-loop
 μ-loop t ix ranges events values₀ modes₀ records₀ ed acting₀ x₀ counts₀ n at₀ i₀ k₀ values modes records acting x counts at i k = n - k
 
+div-n : tie.Need-div-n Inv-loop μ-loop
+div-n c = omega (arith, c @event-bytes .ensures, editionOf (c @args .ed) .event-holds)
+
 acting-requires : tie.Need-acting-requires Inv-loop μ-loop
 acting-requires c κs = first-located _ (c @pre .asked .lent) (c @location .ensures)
 
 loop-holds : tie.Need-loop-holds Inv-loop μ-loop
 loop-holds c =
-    (omega arith, refl, omega (arith, c @good), λ t a. going-start _ (programOfTable t) (c @none .ensures) (a .may) (at-start t (first-stands _ (a .lent) (c @location .ensures) (c @acting2 .ensures))))
+    (omega arith, events-counted _ _ (c @event-bytes .ensures), omega (arith, c @good), λ t a. going-start _ (programOfTable t) (c @none .ensures) (a .may) (at-start t (first-stands _ (a .lent) (c @location .ensures) (c @acting2 .ensures))))
 
 at-requires : tie.Need-at-requires Inv-loop μ-loop
-at-requires c κs = omega (arith, c @loop .inv .1, c @loop-test .taken)
+at-requires c κs = let q = c @pre in going-event _ (programOfTable (q .table)) (c @loop .inv .3 (q .table) (q .asked)) (omega (arith, c @loop .inv .1, c @loop-test .taken))
 
 step-requires : tie.Need-step-requires Inv-loop μ-loop
 step-requires c κs =
@@ -52,8 +55,13 @@ booked-requires c κs =
     let q = c @pre in
     going-counts _ (programOfTable (q .table)) (c @loop .inv .3 (q .table) (q .asked)) (omega (arith, c @loop .inv .1, c @loop-test .taken)) (c @loop .inv .2)
 
+add-at : tie.Need-add-at Inv-loop μ-loop
+add-at c =
+    let q = c @pre in
+    omega (arith, c @event-bytes2 .ensures, c @loop .inv .2, going-event _ (programOfTable (q .table)) (c @loop .inv .3 (q .table) (q .asked)) (omega (arith, c @loop .inv .1, c @loop-test .taken)))
+
 add-k : tie.Need-add-k Inv-loop μ-loop
-add-k c = omega (arith, c @loop .inv .1, c @loop .inv .2, c @loop-test .taken)
+add-k c = omega (arith, c @loop-test .taken)
 
 loop-less : tie.Need-loop-less Inv-loop μ-loop
 loop-less c = omega (arith, c @loop-test .taken)
@@ -68,7 +76,7 @@ loop-again c =
       λ t a.
           let g = c @loop .inv .3 t a in
           let r = c @step .ensures t (g .place) (a .lent) (g .stands) (g .so-far .fits) in
-          going-next _ (programOfTable t) g (omega (arith, c @loop .inv .1, test)) (c @at .ensures) (r .0) (r .1) _ (shown (r .0 .stands .shows)) (record-put .1) (record-put .0) (c @booked .ensures),
+          going-next _ (programOfTable t) g (omega (arith, c @loop .inv .1, test)) (c @at .ensures) (r .0) (r .1) _ (shown (r .0 .stands .shows)) (record-put .1) (record-put .0) (c @booked .ensures) (omega (arith, c @event-bytes2 .ensures)),
     )
 
 same-length : tie.Need-same-length Inv-loop μ-loop
