@@ -6,19 +6,19 @@ use Rattle.rule_step.proofs.steps.step.Statement.{statement}
 use Rattle.rule_step.proofs.steps.step.Tie as tie
 
 none-requires : tie.Need-none-requires
-none-requires c κs = shown-words (c @pre .stands)
+none-requires c κs = shown-words (c .before .before .before .before .before .pre .stands)
 
 returns : tie.Need-returns
-returns c = λ s o d i g f. step-over _ s o d i g f _ (c @none .ensures .yes (c @if1 .taken))
+returns c = λ s o d i g f. step-over _ s o d i g f _ (c .before .none .ensures .yes (c .if1 .taken))
 
 judge-requires : tie.Need-judge-requires
-judge-requires c κs = judging _ (c @pre) (c @none .ensures .no (c @if1 .left))
+judge-requires c κs = judging _ (c .before .before .before .before .before .before .before .before .before .before .pre) (c .before .before .before .before .none .ensures .no (c .before .before .before .if1 .left))
 
 settled-requires : tie.Need-settled-requires
-settled-requires c κs = movable _ (c @args .e) (c @pre) (c @none .ensures .no (c @if1 .left)) (c @judge .ensures)
+settled-requires c κs = movable _ (c .before .before .before .before .before .before .before .before .before .before .before .before .before .before .before .args .e) (c .before .before .before .before .before .before .before .before .before .before .before .before .before .before .before .pre) (c .before .before .before .before .before .before .before .before .before .none .ensures .no (c .before .before .before .before .before .before .before .before .if1 .left)) (c .before .before .before .before .judge .ensures)
 
 returns-2 : tie.Need-returns-2
-returns-2 c = λ s o d k g f. step-at _ s o d k g f _ (c @none .ensures .no (c @if1 .left)) (c @judge .ensures) (c @settled .ensures _)
+returns-2 c = λ s o d k g f. step-at _ s o d k g f _ (c .before .before .before .before .before .before .before .before .before .before .none .ensures .no (c .before .before .before .before .before .before .before .before .before .if1 .left)) (c .before .before .before .before .before .judge .ensures) (c .settled .ensures _)
 
 pub step-spec : {M : Type 1} → statement M
 step-spec =
