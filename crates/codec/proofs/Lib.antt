@@ -3,6 +3,7 @@ pub mod Known
 pub mod Loops
 pub mod Places
 pub mod Writing
+pub mod Strides
 pub mod Widths
 pub mod Whole
 pub mod Sections

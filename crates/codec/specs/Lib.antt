@@ -3,6 +3,7 @@ pub mod Numbers
 pub mod Reading
 pub mod Places
 pub mod Writing
+pub mod Strides
 pub mod Ends
 pub mod Parts
 pub mod Padding

@@ -10,7 +10,7 @@ use lib.IntN.{ℤ, pos}
 use lib.Dec.{eqb}
 use lib.ListN.{length, getD, set, take, drop}
 use lib.Seq.{take-all}
-use Rattle.semantics.specs.Editions.{edition1}
+use Rattle.semantics.specs.Editions.{Edition}
 use Rattle.semantics.specs.Expressions.{Side, Value, ok, fault, above, below, ranged, thenValue, numberIn, numberValue, truthValue}
 use Rattle.semantics.specs.Bytes.{noBytes, twoBytes, byteAndRest}
 use Rattle.semantics.specs.Sections.{Variable}
@@ -52,31 +52,31 @@ module _ (xs : List Variable) (vs : List ℤ) (v : ℕ) (d : Verdict) where
     stored-out f = gives-fault d vs (declaredAt xs v z) _ r (e ∙ ap (λ x. stepVerdict (valued x)) (sym is)) f
 
   -- ---- a number that is assigned
-  module _ (e : List ℕ) (n : Number) (told : n ≡ numberAnswer vs (numberIn edition1 (length vs) e)) where
-    number-is : (w : Value ℤ) → numberTold n ≡ some w → numberValue edition1 vs e ≡ w
-    number-is w h = number-valued vs e told h .value
+  module _ (ed : Edition) (e : List ℕ) (n : Number) (told : n ≡ numberAnswer vs (numberIn ed (length vs) e)) where
+    number-is : (w : Value ℤ) → numberTold n ≡ some w → numberValue ed vs e ≡ w
+    number-is w h = number-valued ed vs e told h .value
 
-    malformed-is : n ≡ Numbers.Malformed → numberValue edition1 vs e ≡ fault above
+    malformed-is : n ≡ Numbers.Malformed → numberValue ed vs e ≡ fault above
     unfolding numberValue
-    malformed-is h = rw (number-malformed vs e told h, numberValue) refl
+    malformed-is h = rw (number-malformed ed vs e told h, numberValue) refl
 
-    pub assigned-number : (z : ℤ) (r : Verdict) (ys : List ℤ) → n ≡ Numbers.Is z → Gives d vs (stored xs vs v z) r ys → Gives d vs (assigned edition1 xs vs v e) r ys
+    pub assigned-number : (z : ℤ) (r : Verdict) (ys : List ℤ) → n ≡ Numbers.Is z → Gives d vs (stored xs vs v z) r ys → Gives d vs (assigned ed xs vs v e) r ys
     unfolding assigned thenValue
     assigned-number z r ys h g = rw (number-is (ok z) (ap numberTold h)) g
 
-    faults : (s : Side) (r : Verdict) → numberValue edition1 vs e ≡ fault s → r ≡ stepVerdict (valued {A = ℤ} (fault s)) → goesOn r ≡ false → Gives d vs (assigned edition1 xs vs v e) r vs
+    faults : (s : Side) (r : Verdict) → numberValue ed vs e ≡ fault s → r ≡ stepVerdict (valued {A = ℤ} (fault s)) → goesOn r ≡ false → Gives d vs (assigned ed xs vs v e) r vs
     unfolding assigned
-    faults s r h k f = gives-fault d vs (numberValue edition1 vs e) _ r (k ∙ sym (ap (λ x. stepVerdict (valued x)) h)) f
+    faults s r h k f = gives-fault d vs (numberValue ed vs e) _ r (k ∙ sym (ap (λ x. stepVerdict (valued x)) h)) f
 
-    pub assigned-above : n ≡ Numbers.Above → Gives d vs (assigned edition1 xs vs v e) Above vs
+    pub assigned-above : n ≡ Numbers.Above → Gives d vs (assigned ed xs vs v e) Above vs
     unfolding doneVerdict valued goesOn
     assigned-above h = faults above Above (number-is (fault above) (ap numberTold h)) refl refl
 
-    pub assigned-below : n ≡ Numbers.Below → Gives d vs (assigned edition1 xs vs v e) Below vs
+    pub assigned-below : n ≡ Numbers.Below → Gives d vs (assigned ed xs vs v e) Below vs
     unfolding doneVerdict valued goesOn
     assigned-below h = faults below Below (number-is (fault below) (ap numberTold h)) refl refl
 
-    pub assigned-malformed : n ≡ Numbers.Malformed → Gives d vs (assigned edition1 xs vs v e) Above vs
+    pub assigned-malformed : n ≡ Numbers.Malformed → Gives d vs (assigned ed xs vs v e) Above vs
     unfolding doneVerdict valued goesOn
     assigned-malformed h = faults above Above (malformed-is h) refl refl
 
@@ -166,26 +166,26 @@ module _ (xs : List Variable) (vs : List ℤ) (ms : List ℕ) (n : ℕ) where
   put (fault below) g = rw (g .left) (left-below (g .answer) refl)
 
   module _ (k : ℕ) (t : List ℕ) where
-    pub tests : {r : Verdict} → k ≡ 1 → r ≡ truthVerdict (Move n true) (Move n false) (truthValue edition1 vs t) → Does k t xs n vs ms r vs ms
+    pub tests : {r : Verdict} → k ≡ 1 → ((ed : Edition) → r ≡ truthVerdict (Move n true) (Move n false) (truthValue ed vs t)) → Does k t xs n vs ms r vs ms
     unfolding act
-    tests e h = record { leaves = λ a i. rw (is-test k t i e) (tested (truthValue edition1 vs t) h) }
+    tests e h = record { leaves = λ ed a i. rw (is-test k t i e) (tested (truthValue ed vs t) (h ed)) }
 
-    pub waits : {r : Verdict} → k ≡ 2 → r ≡ truthVerdict (Move n true) (Away 29) (truthValue edition1 vs t) → Does k t xs n vs ms r vs ms
+    pub waits : {r : Verdict} → k ≡ 2 → ((ed : Edition) → r ≡ truthVerdict (Move n true) (Away 29) (truthValue ed vs t)) → Does k t xs n vs ms r vs ms
     unfolding act
-    waits e h = record { leaves = λ a i. rw (is-wait k t i e) (awaited (truthValue edition1 vs t) h) }
+    waits e h = record { leaves = λ ed a i. rw (is-wait k t i e) (awaited (truthValue ed vs t) (h ed)) }
 
     pub assigns : {r : Verdict} {ys : List ℤ} → k ≡ 3 → Assigns t xs (Move n true) vs r ys → Does k t xs n vs ms r ys ms
     unfolding act actionKind
-    assigns e g = record { leaves = λ a i. let q = is-assign k t i e in rw (q .3) (put (assigned edition1 xs vs (q .0) (q .1)) (g .gives (q .0) (q .1) (by-kind k t i e ∙ ap some (q .3)))) }
+    assigns e g = record { leaves = λ ed a i. let q = is-assign k t i e in rw (q .3) (put (assigned ed xs vs (q .0) (q .1)) (g .gives ed (q .0) (q .1) (by-kind k t i e ∙ ap some (q .3)))) }
 
     pub switches : k ≡ 4 → Does k t xs n vs ms (Move n true) vs (set ms (getD t 0 0) (getD t 1 0))
     unfolding act
     switches e = record {
-      leaves = λ a i.
+      leaves = λ ed a i.
           let q = is-switch k t i e in
           rw (q .3) (left-move refl (sym (ap (λ l. pass (record { moved = mover n true; values = vs; modes = set ms (getD l 0 0) (getD l 1 0) })) (q .2))));
     }
 
     pub others : (k ≡ 1 → ⊥) → (k ≡ 2 → ⊥) → (k ≡ 3 → ⊥) → (k ≡ 4 → ⊥) → Does k t xs n vs ms (Move n true) vs ms
     unfolding act
-    others f g h j = record { leaves = λ a i. rw (is-stop k t i f g h j) (left-move refl refl) }
+    others f g h j = record { leaves = λ ed a i. rw (is-stop k t i f g h j) (left-move refl refl) }

@@ -9,7 +9,7 @@ use lib.ListN.{length}
 use lib.Signed.{ltZ}
 use types.Run.{OneOf, miss}
 use denote.Enum.Declared.{tagOf}
-use Rattle.semantics.specs.Editions.{edition1}
+use Rattle.semantics.specs.Editions.{Edition}
 use Rattle.semantics.specs.Expressions as Forms
 use Rattle.semantics.specs.Expressions.{Value, ok, fault, above, below, ranged, holds, truthIn, truthValue}
 use Rattle.semantics.specs.Run as Run
@@ -48,9 +48,9 @@ module _ (y n : Verdict) where
   by-value (fault above) = refl
   by-value (fault below) = refl
 
-  pub asked : (vs : List ℤ) (s : List ℕ) (r t : Truth) → r ≡ truthAnswer vs (truthIn edition1 (length vs) s) → r ≡ t → byTruth y n t ≡ truthVerdict y n (truthValue edition1 vs s)
+  pub asked : (ed : Edition) (vs : List ℤ) (s : List ℕ) (r t : Truth) → r ≡ truthAnswer vs (truthIn ed (length vs) s) → r ≡ t → byTruth y n t ≡ truthVerdict y n (truthValue ed vs s)
   unfolding truthValue truthAnswer truthVerdict
-  asked vs s r t e f = ap (byTruth y n) (sym f ∙ e) ∙ go (truthIn edition1 (length vs) s)
+  asked ed vs s r t e f = ap (byTruth y n) (sym f ∙ e) ∙ go (truthIn ed (length vs) s)
     where
       go : (o : Option Forms.Truth) → byTruth y n (truthAnswer vs o) ≡ truthVerdict y n (elim o [ none ↦ fault above | some x ↦ holds vs x ])
       go none = refl
@@ -71,34 +71,34 @@ module _ (low high z : ℤ) where
   inside-it e f = rw (e, f) refl
 
 -- ---- walks over truths
-module _ (n : ℕ) (vs : List ℤ) where
-  pub walk-out : (t : List ℕ) (ts : List (List ℕ)) (r : Verdict) → r ≡ truthVerdict (Away n) Stay (truthValue edition1 vs t) → goesOn r ≡ false → r ≡ stepVerdict (walk edition1 n vs (t ∷ ts))
+module _ (ed : Edition) (n : ℕ) (vs : List ℤ) where
+  pub walk-out : (t : List ℕ) (ts : List (List ℕ)) (r : Verdict) → r ≡ truthVerdict (Away n) Stay (truthValue ed vs t) → goesOn r ≡ false → r ≡ stepVerdict (walk ed n vs (t ∷ ts))
   unfolding walk truthVerdict doneVerdict goesOn valued allow _>>=_ _>>_
-  walk-out t ts r e h = go (truthValue edition1 vs t) e
+  walk-out t ts r e h = go (truthValue ed vs t) e
     where
-      go : (u : Value Bool) → r ≡ truthVerdict (Away n) Stay u → r ≡ stepVerdict (valued u >>= (λ b. allow n (not b) >> walk edition1 n vs ts))
+      go : (u : Value Bool) → r ≡ truthVerdict (Away n) Stay u → r ≡ stepVerdict (valued u >>= (λ b. allow n (not b) >> walk ed n vs ts))
       go (ok true) e = e
       go (ok false) e = true-not-false (sym (ap goesOn e) ∙ h)
       go (fault above) e = e
       go (fault below) e = e
 
-  pub walk-on : (t : List ℕ) (ts : List (List ℕ)) (r : Verdict) → r ≡ truthVerdict (Away n) Stay (truthValue edition1 vs t) → goesOn r ≡ true → walk edition1 n vs (t ∷ ts) ≡ walk edition1 n vs ts
+  pub walk-on : (t : List ℕ) (ts : List (List ℕ)) (r : Verdict) → r ≡ truthVerdict (Away n) Stay (truthValue ed vs t) → goesOn r ≡ true → walk ed n vs (t ∷ ts) ≡ walk ed n vs ts
   unfolding walk truthVerdict goesOn valued allow _>>=_ _>>_
-  walk-on t ts r e h = go (truthValue edition1 vs t) e
+  walk-on t ts r e h = go (truthValue ed vs t) e
     where
-      go : (u : Value Bool) → r ≡ truthVerdict (Away n) Stay u → (valued u >>= (λ b. allow n (not b) >> walk edition1 n vs ts)) ≡ walk edition1 n vs ts
+      go : (u : Value Bool) → r ≡ truthVerdict (Away n) Stay u → (valued u >>= (λ b. allow n (not b) >> walk ed n vs ts)) ≡ walk ed n vs ts
       go (ok true) e = true-not-false (sym h ∙ ap goesOn e)
       go (ok false) e = refl
       go (fault above) e = true-not-false (sym h ∙ ap goesOn e)
       go (fault below) e = true-not-false (sym h ∙ ap goesOn e)
 
   -- the truths of one list, then those of another
-  pub walk-then : (a b : List (List ℕ)) → walk edition1 n vs (a ++ b) ≡ (walk edition1 n vs a >> walk edition1 n vs b)
+  pub walk-then : (a b : List (List ℕ)) → walk ed n vs (a ++ b) ≡ (walk ed n vs a >> walk ed n vs b)
   unfolding walk _>>_ _>>=_ valued allow
   walk-then [] b = refl
-  walk-then (t ∷ ts) b = go (truthValue edition1 vs t) (walk-then ts b)
+  walk-then (t ∷ ts) b = go (truthValue ed vs t) (walk-then ts b)
     where
-      go : (u : Value Bool) → walk edition1 n vs (ts ++ b) ≡ (walk edition1 n vs ts >> walk edition1 n vs b) → (valued u >>= (λ c. allow n (not c) >> walk edition1 n vs (ts ++ b))) ≡ ((valued u >>= (λ c. allow n (not c) >> walk edition1 n vs ts)) >> walk edition1 n vs b)
+      go : (u : Value Bool) → walk ed n vs (ts ++ b) ≡ (walk ed n vs ts >> walk ed n vs b) → (valued u >>= (λ c. allow n (not c) >> walk ed n vs (ts ++ b))) ≡ ((valued u >>= (λ c. allow n (not c) >> walk ed n vs ts)) >> walk ed n vs b)
       go (ok true) e = refl
       go (ok false) e = e
       go (fault s) e = refl

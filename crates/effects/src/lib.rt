@@ -6,7 +6,7 @@ ghost use mathlib.Core.Bool.{true};
 ghost use Prim.Native.Nat.{_*_, _≤_, _<_};
 ghost use lib.ListN.{length, getD};
 ghost use lib.IntN.{_+ℤ_};
-ghost use Rattle.semantics.specs.Editions.{edition1};
+ghost use Rattle.semantics.specs.Editions.{Edition};
 ghost use Rattle.semantics.specs.Expressions.{ranged as rangedOf, truthValue};
 ghost use Rattle.semantics.specs.Sections.{variableLimit};
 ghost use Rattle.semantics.specs.Plant.{stored, advance as advanced};
@@ -38,7 +38,7 @@ pub fn goes_on(v: Verdict) -> bool
 
 // A truth: yes where it is true, no where it is false.
 pub fn ask(t: &[u8], values: &[i32], yes: Verdict, no: Verdict) -> Verdict
-    ensures { λ r. ⌜ r ≡ truthVerdict yes no (truthValue edition1 (now (values .entry)) (now (t .entry))) ⌝ }
+    ensures { λ r. ⌜ ((ed : Edition) → r ≡ truthVerdict yes no (truthValue ed (now (values .entry)) (now (t .entry)))) ⌝ }
 {
     match expression::truth_value(t, values) {
         Truth::Yes => yes,

@@ -4,7 +4,9 @@ use mathlib.Core.Bool.{Bool, true, false}
 use mathlib.Core.List.{List}
 use mathlib.Core.Option.{some}
 use Prim.Native.Nat.{ℕ}
-use Rattle.semantics.specs.Editions.{edition1}
+use lib.Dec.{eqb}
+use Rattle.semantics.specs.Bytes.{every}
+use Rattle.semantics.specs.Editions.{Edition}
 use Rattle.semantics.specs.Events as Events
 use Rattle.semantics.specs.Events.{tick, pick, take-switch, senseless, eventIn}
 use Rattle.event.specs.PaperNumbers.{paperEvent}
@@ -18,13 +20,16 @@ eventOf (Pick n) = pick n
 eventOf (Switch s k) = take-switch s k
 eventOf Senseless = senseless
 
+abbrev pub allZero : List ℕ → Bool
+allZero s = every (λ b. eqb b 0) s
+
 -- an event whose unused bytes are 0, or not
 abbrev pub whereZero : Bool → Event → Event
 whereZero true e = e
 whereZero false e = Senseless
 
 -- these bytes are that event, and its number is 24 just where they are none
-pub record Decodes (s : List ℕ) (r : Event) : Type 0 where
-  pub is : eventOf r ≡ eventIn edition1 s
-  pub number : paperEvent r ≡ some 24 → eventIn edition1 s ≡ senseless
-  pub numbered : eventIn edition1 s ≡ senseless → paperEvent r ≡ some 24
+pub record Decodes (ed : Edition) (s : List ℕ) (r : Event) : Type 0 where
+  pub is : eventOf r ≡ eventIn ed s
+  pub number : paperEvent r ≡ some 24 → eventIn ed s ≡ senseless
+  pub numbered : eventIn ed s ≡ senseless → paperEvent r ≡ some 24

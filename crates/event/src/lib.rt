@@ -1,10 +1,10 @@
 // An event, decoded once from its bytes.
+use edition::Edition;
 ghost use mathlib.Core.Path.{_≡_};
-ghost use mathlib.Core.List.{[], _∷_};
-ghost use Prim.Native.Nat.{_+_, _*_, _≤_};
+ghost use Prim.Native.Nat.{_+_, _≤_};
 ghost use lib.ListN.{length, take, drop};
-ghost use Rattle.semantics.specs.Editions.{edition1};
-ghost use Rattle.event.specs.Decoded.{whereZero, Decodes};
+ghost use Rattle.edition.specs.Editions.{editionOf};
+ghost use Rattle.event.specs.Decoded.{whereZero, allZero, Decodes};
 
 // A tick; the pick of a node; switch k of selector s's current mode; none of these.
 pub enum Event {
@@ -14,37 +14,48 @@ pub enum Event {
     Senseless,
 }
 
-// The first of the three bytes.
+// The first of the bytes.
 const TICK: u8 = 0;
 
 const PICK: u8 = 1;
 
 const SWITCH: u8 = 2;
 
-// The event where the bytes that it does not use are 0.
-fn unused(zero: bool, e: Event) -> Event
-    ensures { λ r. ⌜ r ≡ whereZero zero e ⌝ }
+// The event where the bytes from a place on, which it does not use, are 0.
+fn unused(s: &[u8], from: usize, e: Event) -> Event
+    ensures { λ r. ⌜ r ≡ whereZero (allZero (drop from (now (s .entry)))) e ⌝ }
 {
-    if zero { e } else { Event::Senseless }
+    let mut i = from;
+    while i < s.len() {
+        if s[i] != 0 {
+            return Event::Senseless;
+        }
+        i += 1;
+    }
+    e
 }
 
-// The event of three bytes.
-fn decoded(a: u8, b: u8, c: u8) -> Event
-    ensures { λ r. ⌜ Decodes (a ∷ b ∷ c ∷ []) r ⌝ }
+// The event of just its bytes.
+fn decoded(s: &[u8], ed: Edition) -> Event
+    requires { ⌜ 3 ≤ length (now s) ⌝ }
+    ensures { λ r. ⌜ Decodes (editionOf ed) (now (s .entry)) r ⌝ }
 {
-    match a {
-        TICK => unused((b == 0) & (c == 0), Event::Tick),
-        PICK => unused(c == 0, Event::Pick(b as usize)),
-        SWITCH => Event::Switch(b as usize, c as usize),
+    match s[0] {
+        TICK => unused(s, 1, Event::Tick),
+        PICK => unused(
+            s,
+            1 + edition::width(ed),
+            Event::Pick(codec::number(s, 1, ed)),
+        ),
+        SWITCH => unused(s, 3, Event::Switch(codec::wide(s[1]), codec::wide(s[2]))),
         _ => Event::Senseless,
     }
 }
 
-// Event k of a list.
-pub fn at(events: &[u8], k: usize) -> Event
-    requires { ⌜ edition1 .event-bytes * k + edition1 .event-bytes ≤ length (now events) ⌝ }
-    ensures { λ r. ⌜ Decodes (take (edition1 .event-bytes) (drop (edition1 .event-bytes * k) (now (events .entry)))) r ⌝ }
+// The event at a place of a list.
+pub fn at(events: &[u8], at: usize, ed: Edition) -> Event
+    requires { ⌜ at + editionOf ed .event-bytes ≤ length (now events) ⌝ }
+    ensures { λ r. ⌜ Decodes (editionOf ed) (take (editionOf ed .event-bytes) (drop at (now (events .entry)))) r ⌝ }
 {
-    let i = paper::EVENT_BYTES * k;
-    decoded(events[i], events[i + 1], events[i + 2])
+    decoded(&events[at..at + edition::event_bytes(ed)], ed)
 }

@@ -12,7 +12,7 @@ use lib.ListN.{length, drop, getD, length-drop, drop-of-length-le}
 use lib.Seq.{drop-cons, getD-drop, drop-drop}
 use borrow.Author.Tests.{lt-ltb, le-ltb}
 use Rattle.semantics.specs.Bytes.{be4, signed, Read, broken, read, Reader, _>>=_, andThen, give, fail, guard, from, byte, nat4, int4}
-use Rattle.semantics.specs.Editions.{edition1}
+use Rattle.semantics.specs.Editions.{Edition}
 use Rattle.semantics.specs.Expressions.{above, below, Value, ok, fault, result, Operation, Comparison, Connective, Number, constant, variable, operate, negation, Truth, compare, connect, opposite, valueOf, holds, Form, a-constant, a-variable, an-operation, a-negation, a-comparison, a-connective, an-opposite, a-true, unknown, formOf, Expression, a-number, a-truth, toNumber, toTruth, readVariableNumber, readNumber, readTruth, readForm, readExpression}
 use Rattle.expression.specs.Evaluation.{numberAt, truthAt, foundIn, found, nextOf, formAt, ofNumber, ofTruth, operated, related, joined, negated, opposed}
 use Rattle.expression.specs.declared.Found.{Found}
@@ -66,36 +66,36 @@ truth-next n (ok b) = refl
 truth-next n (fault u) = refl
 
 -- ---- the forms without operands, at the position after their code
-abbrev pub form-at : List ℤ → List ℕ → Reader Expression → Form → ℕ → Found
-form-at vs s R f p = foundIn vs (length s) (readForm edition1 (length vs) R f (drop p s))
+abbrev pub form-at : Edition → List ℤ → List ℕ → Reader Expression → Form → ℕ → Found
+form-at ed vs s R f p = foundIn vs (length s) (readForm ed (length vs) R f (drop p s))
 
-module _ (vs : List ℤ) (s : List ℕ) (p : ℕ) where
+module _ (ed : Edition) (vs : List ℤ) (s : List ℕ) (p : ℕ) where
   abbrev constantOf : Read ℕ → Found
   constantOf o = foundIn vs (length s) (andThen (andThen o (λ n. give (signed n))) (λ z. give (a-number (constant z))))
 
-  pub constant-there : (w : ℕ) → p + 4 ≤ length s → nat4 (drop p s) ≡ read w (drop (p + 4) s) → numberAt (p + 4) (result (signed w)) ≡ formAt vs s a-constant p
+  pub constant-there : (w : ℕ) → p + 4 ≤ length s → nat4 (drop p s) ≡ read w (drop (p + 4) s) → numberAt (p + 4) (result (signed w)) ≡ formAt ed vs s a-constant p
   unfolding foundIn readForm int4 _>>=_ andThen give valueOf
   constant-there w h e = sym (ap constantOf e ∙ ap (λ n. numberAt n (result (signed w))) (after-at s (p + 4) h))
 
-  pub constant-cut : length s < p + 4 → Broken ≡ formAt vs s a-constant p
+  pub constant-cut : length s < p + 4 → Broken ≡ formAt ed vs s a-constant p
   unfolding foundIn readForm int4 _>>=_ andThen
   constant-cut h = sym (ap constantOf (nat4-past s p h))
 
   abbrev variableOf : Read ℕ → Found
   variableOf o = foundIn vs (length s) (andThen o (λ v. guard (ltb v (length vs)) (give (a-number (variable v)))))
 
-  pub variable-cut : length s ≤ p → Broken ≡ formAt vs s a-variable p
+  pub variable-cut : length s ≤ p → Broken ≡ formAt ed vs s a-variable p
   unfolding foundIn readForm readVariableNumber _>>=_ andThen
   variable-cut h = sym (ap variableOf (byte-past s p h))
 
   module _ (here : p < length s) where
-    pub variable-there : getD s p 0 < length vs → numberAt (p + 1) (result (getD vs (getD s p 0) (pos 0))) ≡ formAt vs s a-variable p
+    pub variable-there : getD s p 0 < length vs → numberAt (p + 1) (result (getD vs (getD s p 0) (pos 0))) ≡ formAt ed vs s a-variable p
     unfolding foundIn readForm readVariableNumber _>>=_ andThen give valueOf guard
     variable-there h =
         let e : variableOf (read (getD s p 0) (drop (p + 1) s)) ≡ numberAt (length s - length (drop (p + 1) s)) (result (getD vs (getD s p 0) (pos 0))) = rw (lt-ltb _ _ h) refl in
         sym (ap variableOf (byte-at s p here) ∙ e ∙ ap (λ n. numberAt n (result (getD vs (getD s p 0) (pos 0)))) (after-at s (p + 1) (omega arith)))
 
-    pub variable-missing : length vs ≤ getD s p 0 → Broken ≡ formAt vs s a-variable p
+    pub variable-missing : length vs ≤ getD s p 0 → Broken ≡ formAt ed vs s a-variable p
     unfolding foundIn readForm readVariableNumber _>>=_ andThen guard fail
     variable-missing h =
         let e : variableOf (read (getD s p 0) (drop (p + 1) s)) ≡ Broken = rw (le-ltb _ _ h) refl in
@@ -136,106 +136,106 @@ module _ (vs : List ℤ) (s : List ℕ) where
     one-truth (read (a-number a) t) = wrong-truth k (length s - length t) (valueOf vs a)
     one-truth (read (a-truth a) t) = made a t ∙ truth-seen k (length s - length t) (holds vs a)
 
-  module _ (R : Reader Expression) where
-    module _ (k : Value ℤ → Value ℤ → ℕ → Found) (mk : Number → Number → Expression)
-        (made : (a b : Number) (t : List ℕ) → foundIn vs (length s) (read (mk a b) t) ≡ k (valueOf vs a) (valueOf vs b) (length s - length t)) where
-      two-numbers : (D : Read Expression) → Ends s D →
-          foundIn vs (length s) (andThen (andThen D (λ e. from (toNumber e))) (λ a. readNumber edition1 (length vs) R >>= λ b. give (mk a b)))
-          ≡ ofNumber (foundIn vs (length s) D) (λ a m. ofNumber (foundIn vs (length s) (R (drop (nextOf (foundIn vs (length s) D)) s))) (λ b n. k a b n))
-      unfolding foundIn andThen from give fail toNumber readNumber _>>=_
-      two-numbers broken nothing = refl
-      two-numbers (read (a-number a) t) (at-end e) =
-          rw (number-next (length s - length t) (valueOf vs a), e)
-          (one-number (λ b n. k (valueOf vs a) b n) (mk a) (made a) (R t) ∙ number-seen (λ x m. ofNumber (foundIn vs (length s) (R t)) (λ b n. k x b n)) (length s - length t) (valueOf vs a))
-      two-numbers (read (a-truth a) t) (at-end e) = wrong-number _ (length s - length t) (holds vs a)
+module _ (ed : Edition) (vs : List ℤ) (s : List ℕ) (R : Reader Expression) where
+  module _ (k : Value ℤ → Value ℤ → ℕ → Found) (mk : Number → Number → Expression)
+      (made : (a b : Number) (t : List ℕ) → foundIn vs (length s) (read (mk a b) t) ≡ k (valueOf vs a) (valueOf vs b) (length s - length t)) where
+    two-numbers : (D : Read Expression) → Ends s D →
+        foundIn vs (length s) (andThen (andThen D (λ e. from (toNumber e))) (λ a. readNumber ed (length vs) R >>= λ b. give (mk a b)))
+        ≡ ofNumber (foundIn vs (length s) D) (λ a m. ofNumber (foundIn vs (length s) (R (drop (nextOf (foundIn vs (length s) D)) s))) (λ b n. k a b n))
+    unfolding foundIn andThen from give fail toNumber readNumber _>>=_
+    two-numbers broken nothing = refl
+    two-numbers (read (a-number a) t) (at-end e) =
+        rw (number-next (length s - length t) (valueOf vs a), e)
+        (one-number vs s (λ b n. k (valueOf vs a) b n) (mk a) (made a) (R t) ∙ number-seen (λ x m. ofNumber (foundIn vs (length s) (R t)) (λ b n. k x b n)) (length s - length t) (valueOf vs a))
+    two-numbers (read (a-truth a) t) (at-end e) = wrong-number _ (length s - length t) (holds vs a)
 
-    module _ (k : Value Bool → Value Bool → ℕ → Found) (mk : Truth → Truth → Expression)
-        (made : (a b : Truth) (t : List ℕ) → foundIn vs (length s) (read (mk a b) t) ≡ k (holds vs a) (holds vs b) (length s - length t)) where
-      two-truths : (D : Read Expression) → Ends s D →
-          foundIn vs (length s) (andThen (andThen D (λ e. from (toTruth e))) (λ a. readTruth edition1 (length vs) R >>= λ b. give (mk a b)))
-          ≡ ofTruth (foundIn vs (length s) D) (λ a m. ofTruth (foundIn vs (length s) (R (drop (nextOf (foundIn vs (length s) D)) s))) (λ b n. k a b n))
-      unfolding foundIn andThen from give fail toTruth readTruth _>>=_
-      two-truths broken nothing = refl
-      two-truths (read (a-number a) t) (at-end e) = wrong-truth _ (length s - length t) (valueOf vs a)
-      two-truths (read (a-truth a) t) (at-end e) =
-          rw (truth-next (length s - length t) (holds vs a), e)
-          (one-truth (λ b n. k (holds vs a) b n) (mk a) (made a) (R t) ∙ truth-seen (λ x m. ofTruth (foundIn vs (length s) (R t)) (λ b n. k x b n)) (length s - length t) (holds vs a))
+  module _ (k : Value Bool → Value Bool → ℕ → Found) (mk : Truth → Truth → Expression)
+      (made : (a b : Truth) (t : List ℕ) → foundIn vs (length s) (read (mk a b) t) ≡ k (holds vs a) (holds vs b) (length s - length t)) where
+    two-truths : (D : Read Expression) → Ends s D →
+        foundIn vs (length s) (andThen (andThen D (λ e. from (toTruth e))) (λ a. readTruth ed (length vs) R >>= λ b. give (mk a b)))
+        ≡ ofTruth (foundIn vs (length s) D) (λ a m. ofTruth (foundIn vs (length s) (R (drop (nextOf (foundIn vs (length s) D)) s))) (λ b n. k a b n))
+    unfolding foundIn andThen from give fail toTruth readTruth _>>=_
+    two-truths broken nothing = refl
+    two-truths (read (a-number a) t) (at-end e) = wrong-truth _ (length s - length t) (valueOf vs a)
+    two-truths (read (a-truth a) t) (at-end e) =
+        rw (truth-next (length s - length t) (holds vs a), e)
+        (one-truth vs s (λ b n. k (holds vs a) b n) (mk a) (made a) (R t) ∙ truth-seen (λ x m. ofTruth (foundIn vs (length s) (R t)) (λ b n. k x b n)) (length s - length t) (holds vs a))
 
 -- ---- a step of depth d, which is not 0
-pub no-depth : (vs : List ℤ) (s : List ℕ) (at d : ℕ) → d ≡ 0 → Broken ≡ found vs s at d
+pub no-depth : (ed : Edition) (vs : List ℤ) (s : List ℕ) (at d : ℕ) → d ≡ 0 → Broken ≡ found ed vs s at d
 unfolding foundIn readExpression fail
-no-depth vs s at d e = rw e refl
+no-depth ed vs s at d e = rw e refl
 
-module _ (vs : List ℤ) (s : List ℕ) (at d : ℕ) (deep : d ≡ 0 → ⊥) where
+module _ (ed : Edition) (vs : List ℤ) (s : List ℕ) (at d : ℕ) (deep : d ≡ 0 → ⊥) where
   abbrev R : Reader Expression
-  R = readExpression edition1 (length vs) (d - 1)
+  R = readExpression ed (length vs) (d - 1)
 
-  unroll : readExpression edition1 (length vs) d ≡ (byte >>= λ c. readForm edition1 (length vs) R (formOf c))
+  unroll : readExpression ed (length vs) d ≡ (byte >>= λ c. readForm ed (length vs) R (formOf c))
   unfolding readExpression
   unroll = go d deep
     where
-      go : (d : ℕ) → (d ≡ 0 → ⊥) → readExpression edition1 (length vs) d ≡ (byte >>= λ c. readForm edition1 (length vs) (readExpression edition1 (length vs) (d - 1)) (formOf c))
+      go : (d : ℕ) → (d ≡ 0 → ⊥) → readExpression ed (length vs) d ≡ (byte >>= λ c. readForm ed (length vs) (readExpression ed (length vs) (d - 1)) (formOf c))
       go zero h = absurd (h refl)
       go (suc n) h = rw (sub-one (suc n)) refl
 
-  pub past : length s ≤ at → Broken ≡ found vs s at d
+  pub past : length s ≤ at → Broken ≡ found ed vs s at d
   unfolding foundIn _>>=_ andThen
-  past h = sym (ap (λ r. foundIn vs (length s) (r (drop at s))) unroll ∙ ap (λ o. foundIn vs (length s) (andThen o (λ c. readForm edition1 (length vs) R (formOf c)))) (byte-past s at h))
+  past h = sym (ap (λ r. foundIn vs (length s) (r (drop at s))) unroll ∙ ap (λ o. foundIn vs (length s) (andThen o (λ c. readForm ed (length vs) R (formOf c)))) (byte-past s at h))
 
   module _ (here : at < length s) where
-    pub by-form : (f : Form) → formOf (getD s at 0) ≡ f → form-at vs s R f (at + 1) ≡ found vs s at d
+    pub by-form : (f : Form) → formOf (getD s at 0) ≡ f → form-at ed vs s R f (at + 1) ≡ found ed vs s at d
     unfolding _>>=_ andThen
     by-form f e = sym (
         ap (λ r. foundIn vs (length s) (r (drop at s))) unroll
-        ∙ ap (λ o. foundIn vs (length s) (andThen o (λ c. readForm edition1 (length vs) R (formOf c)))) (byte-at s at here)
-        ∙ ap (λ f. form-at vs s R f (at + 1)) e)
+        ∙ ap (λ o. foundIn vs (length s) (andThen o (λ c. readForm ed (length vs) R (formOf c)))) (byte-at s at here)
+        ∙ ap (λ f. form-at ed vs s R f (at + 1)) e)
 
-    pub step-unknown : formOf (getD s at 0) ≡ unknown → Broken ≡ found vs s at d
+    pub step-unknown : formOf (getD s at 0) ≡ unknown → Broken ≡ found ed vs s at d
     unfolding foundIn readForm fail
     step-unknown e = by-form unknown e
 
-    pub step-true : formOf (getD s at 0) ≡ a-true → ATruth true (at + 1) ≡ found vs s at d
+    pub step-true : formOf (getD s at 0) ≡ a-true → ATruth true (at + 1) ≡ found ed vs s at d
     unfolding foundIn readForm give holds
     step-true e = ap (λ n. ATruth true n) (sym (after-at s (at + 1) (omega arith))) ∙ by-form a-true e
 
-    pub step-constant : formOf (getD s at 0) ≡ a-constant → formAt vs s a-constant (at + 1) ≡ found vs s at d
+    pub step-constant : formOf (getD s at 0) ≡ a-constant → formAt ed vs s a-constant (at + 1) ≡ found ed vs s at d
     unfolding readForm
     step-constant e = by-form a-constant e
 
-    pub step-variable : formOf (getD s at 0) ≡ a-variable → formAt vs s a-variable (at + 1) ≡ found vs s at d
+    pub step-variable : formOf (getD s at 0) ≡ a-variable → formAt ed vs s a-variable (at + 1) ≡ found ed vs s at d
     unfolding readForm
     step-variable e = by-form a-variable e
 
-    module _ (x l : Found) (l-is : l ≡ found vs s (at + 1) (d - 1)) where
-      pub step-negation : formOf (getD s at 0) ≡ a-negation → x ≡ negated l → x ≡ found vs s at d
+    module _ (x l : Found) (l-is : l ≡ found ed vs s (at + 1) (d - 1)) where
+      pub step-negation : formOf (getD s at 0) ≡ a-negation → x ≡ negated l → x ≡ found ed vs s at d
       unfolding readForm readNumber _>>=_ foundIn valueOf
       step-negation e q = q ∙ ap negated l-is ∙ sym (one-number vs s _ (λ a. a-number (negation a)) (λ a t. refl) (R (drop (at + 1) s))) ∙ by-form a-negation e
 
-      pub step-opposite : formOf (getD s at 0) ≡ an-opposite → x ≡ opposed l → x ≡ found vs s at d
+      pub step-opposite : formOf (getD s at 0) ≡ an-opposite → x ≡ opposed l → x ≡ found ed vs s at d
       unfolding readForm readTruth _>>=_ foundIn holds
       step-opposite e q = q ∙ ap opposed l-is ∙ sym (one-truth vs s _ (λ a. a-truth (opposite a)) (λ a t. refl) (R (drop (at + 1) s))) ∙ by-form an-opposite e
 
-      module _ (n : ℕ) (r : Found) (n-is : n ≡ nextOf l) (r-is : r ≡ found vs s n (d - 1)) where
-        right-is : r ≡ found vs s (nextOf (found vs s (at + 1) (d - 1))) (d - 1)
-        right-is = r-is ∙ ap (λ m. found vs s m (d - 1)) (n-is ∙ ap nextOf l-is)
+      module _ (n : ℕ) (r : Found) (n-is : n ≡ nextOf l) (r-is : r ≡ found ed vs s n (d - 1)) where
+        right-is : r ≡ found ed vs s (nextOf (found ed vs s (at + 1) (d - 1))) (d - 1)
+        right-is = r-is ∙ ap (λ m. found ed vs s m (d - 1)) (n-is ∙ ap nextOf l-is)
 
-        pub step-operation : (o : Operation) → formOf (getD s at 0) ≡ an-operation o → x ≡ operated o l r → x ≡ found vs s at d
+        pub step-operation : (o : Operation) → formOf (getD s at 0) ≡ an-operation o → x ≡ operated o l r → x ≡ found ed vs s at d
         unfolding readForm readNumber _>>=_ foundIn valueOf
         step-operation o e q =
             q ∙ ap₂ (operated o) l-is right-is
-            ∙ sym (two-numbers vs s R _ (λ a b. a-number (operate o a b)) (λ a b t. refl) (R (drop (at + 1) s)) (ends edition1 (length vs) (d - 1) s (at + 1)))
+            ∙ sym (two-numbers ed vs s R _ (λ a b. a-number (operate o a b)) (λ a b t. refl) (R (drop (at + 1) s)) (ends ed (length vs) (d - 1) s (at + 1)))
             ∙ by-form (an-operation o) e
 
-        pub step-comparison : (o : Comparison) → formOf (getD s at 0) ≡ a-comparison o → x ≡ related o l r → x ≡ found vs s at d
+        pub step-comparison : (o : Comparison) → formOf (getD s at 0) ≡ a-comparison o → x ≡ related o l r → x ≡ found ed vs s at d
         unfolding readForm readNumber _>>=_ foundIn holds
         step-comparison o e q =
             q ∙ ap₂ (related o) l-is right-is
-            ∙ sym (two-numbers vs s R _ (λ a b. a-truth (compare o a b)) (λ a b t. refl) (R (drop (at + 1) s)) (ends edition1 (length vs) (d - 1) s (at + 1)))
+            ∙ sym (two-numbers ed vs s R _ (λ a b. a-truth (compare o a b)) (λ a b t. refl) (R (drop (at + 1) s)) (ends ed (length vs) (d - 1) s (at + 1)))
             ∙ by-form (a-comparison o) e
 
-        pub step-connective : (o : Connective) → formOf (getD s at 0) ≡ a-connective o → x ≡ joined o l r → x ≡ found vs s at d
+        pub step-connective : (o : Connective) → formOf (getD s at 0) ≡ a-connective o → x ≡ joined o l r → x ≡ found ed vs s at d
         unfolding readForm readTruth _>>=_ foundIn holds
         step-connective o e q =
             q ∙ ap₂ (joined o) l-is right-is
-            ∙ sym (two-truths vs s R _ (λ a b. a-truth (connect o a b)) (λ a b t. refl) (R (drop (at + 1) s)) (ends edition1 (length vs) (d - 1) s (at + 1)))
+            ∙ sym (two-truths ed vs s R _ (λ a b. a-truth (connect o a b)) (λ a b t. refl) (R (drop (at + 1) s)) (ends ed (length vs) (d - 1) s (at + 1)))
             ∙ by-form (a-connective o) e

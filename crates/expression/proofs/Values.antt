@@ -9,7 +9,7 @@ use lib.ListN.{length}
 use types.Run.{OneOf, miss}
 use denote.Enum.Declared.{tagOf}
 use Rattle.semantics.specs.Bytes.{isSome}
-use Rattle.semantics.specs.Editions.{edition1}
+use Rattle.semantics.specs.Editions.{Edition}
 use Rattle.semantics.specs.Expressions as Forms
 use Rattle.semantics.specs.Expressions.{Value, ok, fault, above, below, valueOf, holds, numberIn, truthIn, numberValue}
 use Rattle.semantics.proofs.Facts.{true-not-false, none-not-some, some-is}
@@ -49,9 +49,9 @@ truth-told (fault above) = refl
 truth-told (fault below) = refl
 
 -- condition 12 holds of the bytes, and this is their value
-pub record IsNumber (vs : List ℤ) (s : List ℕ) (v : Value ℤ) : Type 0 where
-  pub reads : isSome (numberIn edition1 (length vs) s) ≡ true
-  pub value : numberValue edition1 vs s ≡ v
+pub record IsNumber (ed : Edition) (vs : List ℤ) (s : List ℕ) (v : Value ℤ) : Type 0 where
+  pub reads : isSome (numberIn ed (length vs) s) ≡ true
+  pub value : numberValue ed vs s ≡ v
 
 none-of : {A : Type 0} (o : Option A) → isSome o ≡ false → o ≡ none
 unfolding isSome
@@ -72,31 +72,31 @@ module _ {R E A : Type 0} (told : R → Option (Value A)) (answer : Option E →
   valued none e h = none-not-some (sym malformed ∙ sym (ap told e) ∙ h)
   valued (some x) e h = (refl, some-is (sym (tells x) ∙ sym (ap told e) ∙ h))
 
-module _ (vs : List ℤ) (s : List ℕ) where
-  module _ {r : Number} (r-is : r ≡ numberAnswer vs (numberIn edition1 (length vs) s)) where
-    pub number-valued : {v : Value ℤ} → numberTold r ≡ some v → IsNumber vs s v
+module _ (ed : Edition) (vs : List ℤ) (s : List ℕ) where
+  module _ {r : Number} (r-is : r ≡ numberAnswer vs (numberIn ed (length vs) s)) where
+    pub number-valued : {v : Value ℤ} → numberTold r ≡ some v → IsNumber ed vs s v
     unfolding numberValue numberAnswer
-    number-valued h = let q = valued numberTold (numberAnswer vs) (valueOf vs) refl (λ x. number-told (valueOf vs x)) (numberIn edition1 (length vs) s) r-is h in record { reads = q .0; value = q .1 }
+    number-valued h = let q = valued numberTold (numberAnswer vs) (valueOf vs) refl (λ x. number-told (valueOf vs x)) (numberIn ed (length vs) s) r-is h in record { reads = q .0; value = q .1 }
 
-    pub number-judged : isSome (numberTold r) ≡ isSome (numberIn edition1 (length vs) s)
+    pub number-judged : isSome (numberTold r) ≡ isSome (numberIn ed (length vs) s)
     unfolding numberAnswer
-    number-judged = judged numberTold (numberAnswer vs) (valueOf vs) refl (λ x. number-told (valueOf vs x)) (numberIn edition1 (length vs) s) r-is
+    number-judged = judged numberTold (numberAnswer vs) (valueOf vs) refl (λ x. number-told (valueOf vs x)) (numberIn ed (length vs) s) r-is
 
-    pub number-malformed : r ≡ Numbers.Malformed → numberIn edition1 (length vs) s ≡ none
+    pub number-malformed : r ≡ Numbers.Malformed → numberIn ed (length vs) s ≡ none
     unfolding isSome
-    number-malformed h = none-of (numberIn edition1 (length vs) s) (sym number-judged ∙ ap (λ a. isSome (numberTold a)) h)
+    number-malformed h = none-of (numberIn ed (length vs) s) (sym number-judged ∙ ap (λ a. isSome (numberTold a)) h)
 
     -- the test of condition 12, where so many variables are declared
-    pub number-decides : {n : ℕ} → length vs ≡ n → {b : Bool} → isSome (numberTold r) ≡ b → b ≡ isSome (numberIn edition1 n s)
-    number-decides e h = sym h ∙ number-judged ∙ ap (λ n. isSome (numberIn edition1 n s)) e
+    pub number-decides : {n : ℕ} → length vs ≡ n → {b : Bool} → isSome (numberTold r) ≡ b → b ≡ isSome (numberIn ed n s)
+    number-decides e h = sym h ∙ number-judged ∙ ap (λ n. isSome (numberIn ed n s)) e
 
-  module _ {r : Truth} (r-is : r ≡ truthAnswer vs (truthIn edition1 (length vs) s)) where
-    truth-judged : isSome (truthTold r) ≡ isSome (truthIn edition1 (length vs) s)
+  module _ {r : Truth} (r-is : r ≡ truthAnswer vs (truthIn ed (length vs) s)) where
+    truth-judged : isSome (truthTold r) ≡ isSome (truthIn ed (length vs) s)
     unfolding truthAnswer
-    truth-judged = judged truthTold (truthAnswer vs) (holds vs) refl (λ x. truth-told (holds vs x)) (truthIn edition1 (length vs) s) r-is
+    truth-judged = judged truthTold (truthAnswer vs) (holds vs) refl (λ x. truth-told (holds vs x)) (truthIn ed (length vs) s) r-is
 
-    pub truth-decides : {n : ℕ} → length vs ≡ n → {b : Bool} → isSome (truthTold r) ≡ b → b ≡ isSome (truthIn edition1 n s)
-    truth-decides e h = sym h ∙ truth-judged ∙ ap (λ n. isSome (truthIn edition1 n s)) e
+    pub truth-decides : {n : ℕ} → length vs ≡ n → {b : Bool} → isSome (truthTold r) ≡ b → b ≡ isSome (truthIn ed n s)
+    truth-decides e h = sym h ∙ truth-judged ∙ ap (λ n. isSome (truthIn ed n s)) e
 
 -- ---- the arm of every answer but malformed
 pub number-tells : (r : Number) → OneOf (0 ∷ 1 ∷ 2 ∷ []) (tagOf number.the-type r) → isSome (numberTold r) ≡ true

@@ -9,7 +9,7 @@ use lib.Dec.{eqb}
 use lib.IntN.{ℤ}
 use lib.ListN.{length, drop, length-drop}
 use Rattle.semantics.specs.Bytes.{Read, broken, read, _>>=_, andThen, give, fail, from, just, whole}
-use Rattle.semantics.specs.Editions.{edition1}
+use Rattle.semantics.specs.Editions.{Edition}
 use Rattle.semantics.specs.Expressions.{Value, ok, fault, above, below, valueOf, holds, Expression, a-number, a-truth, toNumber, toTruth, readNumber, readTruth, readExpression, numberIn, truthIn}
 use Rattle.expression.specs.Answers.{numberOf, truthOf, numberAnswer, truthAnswer}
 use Rattle.expression.specs.Evaluation.{sideOf, numberAt, truthAt, foundIn, found}
@@ -86,14 +86,14 @@ module _ (vs : List ℤ) (s : List ℕ) where
   truth-read (read (a-truth e) []) (at-end k) = truth-said-all (length s - 0) (length s) (omega arith) (holds vs e)
   truth-read (read (a-truth e) (x ∷ t)) (at-end k) = truth-said-part (length s - suc (length t)) (length s) (left-over s x t k) (holds vs e)
 
-  module _ (f : Found) (f-is : f ≡ found vs s 0 16) where
-    pub number-said : numberSaid (length s) f ≡ numberAnswer vs (numberIn edition1 (length vs) s)
-    unfolding numberIn whole readNumber _>>=_
-    number-said = ap (numberSaid (length s)) f-is ∙ number-read (readExpression edition1 (length vs) 16 s) (ends edition1 (length vs) 16 s 0)
+module _ (ed : Edition) (vs : List ℤ) (s : List ℕ) (f : Found) (f-is : f ≡ found ed vs s 0 16) where
+  pub number-said : numberSaid (length s) f ≡ numberAnswer vs (numberIn ed (length vs) s)
+  unfolding numberIn whole readNumber _>>=_
+  number-said = ap (numberSaid (length s)) f-is ∙ number-read vs s (readExpression ed (length vs) 16 s) (ends ed (length vs) 16 s 0)
 
-    pub truth-said : truthSaid (length s) f ≡ truthAnswer vs (truthIn edition1 (length vs) s)
-    unfolding truthIn whole readTruth _>>=_
-    truth-said = ap (truthSaid (length s)) f-is ∙ truth-read (readExpression edition1 (length vs) 16 s) (ends edition1 (length vs) 16 s 0)
+  pub truth-said : truthSaid (length s) f ≡ truthAnswer vs (truthIn ed (length vs) s)
+  unfolding truthIn whole readTruth _>>=_
+  truth-said = ap (truthSaid (length s)) f-is ∙ truth-read vs s (readExpression ed (length vs) 16 s) (ends ed (length vs) 16 s 0)
 
 pub not-number-said : (n : ℕ) (f : Found) → NotNumber f → Numbers.Malformed ≡ numberSaid n f
 not-number-said n _ truth-found = refl
@@ -106,10 +106,10 @@ not-truth-said n _ number-fault = refl
 not-truth-said n _ no-truth = refl
 
 -- a truth found that ends where the bytes do is the answer
-pub truth-whole : (vs : List ℤ) (s : List ℕ) (b : Bool) (n : ℕ) → n ≡ length s → ATruth b n ≡ found vs s 0 16 → truthOf (ok b) ≡ truthAnswer vs (truthIn edition1 (length vs) s)
-truth-whole vs s b n e k =
+pub truth-whole : (ed : Edition) (vs : List ℤ) (s : List ℕ) (b : Bool) (n : ℕ) → n ≡ length s → ATruth b n ≡ found ed vs s 0 16 → truthOf (ok b) ≡ truthAnswer vs (truthIn ed (length vs) s)
+truth-whole ed vs s b n e k =
     let t : truthOf (ok b) ≡ truthSaid (length s) (ATruth b n) = rw (eq-eqb n (length s) e) refl in
-    t ∙ truth-said vs s (ATruth b n) k
+    t ∙ truth-said ed vs s (ATruth b n) k
 
 -- ---- an answer is not malformed
 pub yes-said : {t : Truth} → t ≡ Truths.Yes → t ≡ Truths.Malformed → ⊥

@@ -6,7 +6,7 @@ use Prim.Native.Nat.{ℕ, _-_}
 use lib.ListN.{length, drop}
 use lib.IntN.{ℤ}
 use Rattle.semantics.specs.Bytes.{Read, broken, read, fail}
-use Rattle.semantics.specs.Editions.{edition1}
+use Rattle.semantics.specs.Editions.{Edition}
 use Rattle.semantics.specs.Expressions.{Side, above, below, Value, ok, fault, operateValues, negateValue, compareValues, connectValues, opposeValue, valueOf, holds}
 use Rattle.semantics.specs.Expressions.{Operation, Comparison, Connective, Form, Expression, a-number, a-truth, readForm, readExpression}
 use Rattle.expression.specs.PaperNumbers.{expressionNumber, paperFound}
@@ -38,8 +38,8 @@ foundIn vs n (read (a-number e) t) = numberAt (n - length t) (valueOf vs e)
 foundIn vs n (read (a-truth e) t) = truthAt (n - length t) (holds vs e)
 
 -- the expression of at most this depth at a position
-abbrev pub found : List ℤ → List ℕ → ℕ → ℕ → Found
-found vs s at depth = foundIn vs (length s) (readExpression edition1 (length vs) depth (drop at s))
+abbrev pub found : Edition → List ℤ → List ℕ → ℕ → ℕ → Found
+found ed vs s at depth = foundIn vs (length s) (readExpression ed (length vs) depth (drop at s))
 
 -- what is found of n bytes, with the papers' number of it: 12 broken, 203 a fault above, 204 one below, 0 a value
 pub record FoundSays (vs : List ℤ) (n : ℕ) (o : Read Expression) (r : Found) : Type 0 where
@@ -70,12 +70,12 @@ ofTruth Broken k = Broken
 
 -- ---- the forms without operands
 -- at the position after the code
-abbrev pub formAt : List ℤ → List ℕ → Form → ℕ → Found
-formAt vs s f p = foundIn vs (length s) (readForm edition1 (length vs) fail f (drop p s))
+abbrev pub formAt : Edition → List ℤ → List ℕ → Form → ℕ → Found
+formAt ed vs s f p = foundIn vs (length s) (readForm ed (length vs) fail f (drop p s))
 
 -- a leaf, if one is given, is found whatever depth is left, but none; nothing is said of other bytes
 pub record LeafSays (vs : List ℤ) (s : List ℕ) (at : ℕ) (r : Found) : Type 0 where
-  pub is : (depth : ℕ) → (depth ≡ 0 → ⊥) → (r ≡ Broken → ⊥) → r ≡ found vs s at depth
+  pub is : (ed : Edition) (depth : ℕ) → (depth ≡ 0 → ⊥) → (r ≡ Broken → ⊥) → r ≡ found ed vs s at depth
 
 -- ---- the forms, from what their operands gave
 abbrev pub operated : Operation → Found → Found → Found

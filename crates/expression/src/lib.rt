@@ -5,7 +5,7 @@ ghost use Prim.Native.Nat.{_+_, _-_, _≤_};
 ghost use lib.ListN.{length, drop};
 ghost use lib.IntN.{ℤ, negℤ};
 ghost use Rattle.semantics.specs.Bytes.{be4, signed as signedOf, isSome, read, nat4};
-ghost use Rattle.semantics.specs.Editions.{edition1};
+ghost use Rattle.semantics.specs.Editions.{Edition};
 ghost use Rattle.semantics.specs.Expressions.{ok, fault, applied, compared, connected, result};
 ghost use Rattle.semantics.specs.Expressions.{a-constant, a-variable, depthLimit, readExpression, numberIn, truthIn};
 ghost use Rattle.semantics.specs.Sections.{variableLimit};
@@ -125,7 +125,7 @@ fn truth_form(code: u8) -> Form
 
 // The value of the bytes, which are one whole number.
 pub fn number_value(s: &[u8], vars: &[i32]) -> Number
-    ensures { λ r. ⌜ NumberSays (now (vars .entry)) (numberIn edition1 (length (now (vars .entry))) (now (s .entry))) r ⌝ }
+    ensures { λ r. ⌜ ((ed : Edition) → NumberSays (now (vars .entry)) (numberIn ed (length (now (vars .entry))) (now (s .entry))) r) ⌝ }
 {
     match whole(s, vars) {
         Found::ANumber(z, n) => {
@@ -148,7 +148,7 @@ pub fn number_value(s: &[u8], vars: &[i32]) -> Number
 
 // The value of the bytes, which are one whole truth. Most are a comparison of two leaves, or two of them joined: these take no recursion.
 pub fn truth_value(s: &[u8], vars: &[i32]) -> Truth
-    ensures { λ r. ⌜ TruthSays (now (vars .entry)) (truthIn edition1 (length (now (vars .entry))) (now (s .entry))) r ⌝ }
+    ensures { λ r. ⌜ ((ed : Edition) → TruthSays (now (vars .entry)) (truthIn ed (length (now (vars .entry))) (now (s .entry))) r) ⌝ }
 {
     match comparing(s, vars) {
         Truth::Yes => Truth::Yes,
@@ -160,7 +160,7 @@ pub fn truth_value(s: &[u8], vars: &[i32]) -> Truth
 // Condition 12 of a number, where so many variables are declared.
 pub fn number_reads(s: &[u8], variables: usize) -> bool
     requires { ⌜ variables ≤ variableLimit ⌝ }
-    ensures { λ r. ⌜ r ≡ isSome (numberIn edition1 variables (now (s .entry))) ⌝ }
+    ensures { λ r. ⌜ ((ed : Edition) → r ≡ isSome (numberIn ed variables (now (s .entry)))) ⌝ }
 {
     let zeros = [0i32; paper::VARIABLES];
     match number_value(s, &zeros[..variables]) {
@@ -172,7 +172,7 @@ pub fn number_reads(s: &[u8], variables: usize) -> bool
 // Condition 12 of a truth.
 pub fn truth_reads(s: &[u8], variables: usize) -> bool
     requires { ⌜ variables ≤ variableLimit ⌝ }
-    ensures { λ r. ⌜ r ≡ isSome (truthIn edition1 variables (now (s .entry))) ⌝ }
+    ensures { λ r. ⌜ ((ed : Edition) → r ≡ isSome (truthIn ed variables (now (s .entry)))) ⌝ }
 {
     let zeros = [0i32; paper::VARIABLES];
     match truth_value(s, &zeros[..variables]) {
@@ -184,7 +184,7 @@ pub fn truth_reads(s: &[u8], variables: usize) -> bool
 // A comparison of two leaves; malformed for any other bytes. It does not go through `compared_at`, so that LLVM inlines it. Its length is
 // tested at once, which spares a test at the first leaf.
 fn comparing(s: &[u8], vars: &[i32]) -> Truth
-    ensures { λ r. ⌜ ((r ≡ Truth.Malformed → ⊥) → r ≡ truthAnswer (now (vars .entry)) (truthIn edition1 (length (now (vars .entry))) (now (s .entry)))) ⌝ }
+    ensures { λ r. ⌜ ((ed : Edition) → (r ≡ Truth.Malformed → ⊥) → r ≡ truthAnswer (now (vars .entry)) (truthIn ed (length (now (vars .entry))) (now (s .entry)))) ⌝ }
 {
     if s.len() < TWO_LEAVES {
         return Truth::Malformed;
@@ -206,7 +206,7 @@ fn comparing(s: &[u8], vars: &[i32]) -> Truth
 
 // Two comparisons of leaves, joined; malformed for any other bytes.
 fn joining(s: &[u8], vars: &[i32]) -> Truth
-    ensures { λ r. ⌜ ((r ≡ Truth.Malformed → ⊥) → r ≡ truthAnswer (now (vars .entry)) (truthIn edition1 (length (now (vars .entry))) (now (s .entry)))) ⌝ }
+    ensures { λ r. ⌜ ((ed : Edition) → (r ≡ Truth.Malformed → ⊥) → r ≡ truthAnswer (now (vars .entry)) (truthIn ed (length (now (vars .entry))) (now (s .entry)))) ⌝ }
 {
     if s.len() == 0 {
         return Truth::Malformed;
@@ -228,7 +228,7 @@ fn joining(s: &[u8], vars: &[i32]) -> Truth
 
 // A comparison of two leaves at a position; broken for any other bytes.
 fn compared_at(s: &[u8], vars: &[i32], at: usize) -> Found
-    ensures { λ r. ⌜ ((r ≡ Found.Broken → ⊥) → r ≡ found (now (vars .entry)) (now (s .entry)) at (depthLimit - 1)) ⌝ }
+    ensures { λ r. ⌜ ((ed : Edition) → (r ≡ Found.Broken → ⊥) → r ≡ found ed (now (vars .entry)) (now (s .entry)) at (depthLimit - 1)) ⌝ }
 {
     if s.len() <= at {
         return Found::Broken;
@@ -242,7 +242,7 @@ fn compared_at(s: &[u8], vars: &[i32], at: usize) -> Found
 
 // A truth of any form: where it is no comparison of two leaves, `truth_value` asks here.
 fn no_comparison(s: &[u8], vars: &[i32]) -> Truth
-    ensures { λ r. ⌜ TruthSays (now (vars .entry)) (truthIn edition1 (length (now (vars .entry))) (now (s .entry))) r ⌝ }
+    ensures { λ r. ⌜ ((ed : Edition) → TruthSays (now (vars .entry)) (truthIn ed (length (now (vars .entry))) (now (s .entry))) r) ⌝ }
 {
     match joining(s, vars) {
         Truth::Yes => {
@@ -274,7 +274,7 @@ fn no_comparison(s: &[u8], vars: &[i32]) -> Truth
 
 // What stands at the front of the bytes. A leaf and an operation on two leaves take no recursion.
 fn whole(s: &[u8], vars: &[i32]) -> Found
-    ensures { λ r. ⌜ FoundSays (now (vars .entry)) (length (now (s .entry))) (readExpression edition1 (length (now (vars .entry))) depthLimit (now (s .entry))) r ⌝ }
+    ensures { λ r. ⌜ ((ed : Edition) → FoundSays (now (vars .entry)) (length (now (s .entry))) (readExpression ed (length (now (vars .entry))) depthLimit (now (s .entry))) r) ⌝ }
 {
     if s.len() == 0 {
         return Found::Broken;
@@ -311,7 +311,7 @@ fn leaf(s: &[u8], vars: &[i32], at: usize) -> Found
 
 // What stands at a position, of at most this depth. Both operands are evaluated, whatever the first one gives.
 fn eval(s: &[u8], vars: &[i32], at: usize, depth: usize) -> Found
-    ensures { λ r. ⌜ FoundSays (now (vars .entry)) (length (now (s .entry))) (readExpression edition1 (length (now (vars .entry))) depth (drop at (now (s .entry)))) r ⌝ }
+    ensures { λ r. ⌜ ((ed : Edition) → FoundSays (now (vars .entry)) (length (now (s .entry))) (readExpression ed (length (now (vars .entry))) depth (drop at (now (s .entry)))) r) ⌝ }
 {
     if depth == 0 {
         return Found::Broken;
@@ -487,7 +487,7 @@ fn connect(o: Connective, a: bool, b: bool) -> bool
 
 // The forms without operands.
 fn constant(s: &[u8], at: usize) -> Found
-    ensures { λ r. ⌜ ((vs : List ℤ) → r ≡ formAt vs (now (s .entry)) a-constant at) ⌝ }
+    ensures { λ r. ⌜ ((ed : Edition) (vs : List ℤ) → r ≡ formAt ed vs (now (s .entry)) a-constant at) ⌝ }
 {
     if s.len() < at {
         return Found::Broken;
@@ -499,7 +499,7 @@ fn constant(s: &[u8], at: usize) -> Found
 }
 
 fn variable(s: &[u8], vars: &[i32], at: usize) -> Found
-    ensures { λ r. ⌜ r ≡ formAt (now (vars .entry)) (now (s .entry)) a-variable at ⌝ }
+    ensures { λ r. ⌜ ((ed : Edition) → r ≡ formAt ed (now (vars .entry)) (now (s .entry)) a-variable at) ⌝ }
 {
     if s.len() <= at {
         return Found::Broken;

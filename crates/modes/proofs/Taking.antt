@@ -7,7 +7,7 @@ use Prim.Native.Nat.{ℕ, zero, suc, _+_, _*_, _-_, _≤_, _<_}
 use native.Mathlib.Omega.{arith}
 use lib.IntN.{ℤ}
 use lib.ListN.{length, getD, set, take, drop, getElem?}
-use Rattle.semantics.specs.Editions.{edition1}
+use Rattle.semantics.specs.Editions.{Edition}
 use Rattle.semantics.specs.Expressions.{Value, ok, fault, above, below, truthValue}
 use Rattle.semantics.specs.Sections.{Switch, Mode, readSwitch}
 use Rattle.semantics.specs.Run.{pass, _>>=_, _>>_, allow, find, valued, nobody, judgeSwitch}
@@ -53,20 +53,20 @@ module _ (es places ms : List ℕ) (s : ℕ) where
   no-mode h = past-end (modesFrom es places 0 ms) s (omega (arith, modes-length es places 0 ms))
 
 -- ---- what it does
-module _ (modes : List Mode) (vs : List ℤ) (ms : List ℕ) (s k : ℕ) where
-  pub no-selector-left : getElem? modes s ≡ none → Left (judgeSwitch edition1 modes vs ms s k) vs ms (Away 26) vs ms
+module _ (ed : Edition) (modes : List Mode) (vs : List ℤ) (ms : List ℕ) (s k : ℕ) where
+  pub no-selector-left : getElem? modes s ≡ none → Left (judgeSwitch ed modes vs ms s k) vs ms (Away 26) vs ms
   unfolding judgeSwitch find _>>=_
   no-selector-left e = rw e (left-away refl refl)
 
   module _ (m : Mode) (e : getElem? modes s ≡ some m) where
-    pub no-switch-left : getElem? (m .switches) k ≡ none → Left (judgeSwitch edition1 modes vs ms s k) vs ms (Away 26) vs ms
+    pub no-switch-left : getElem? (m .switches) k ≡ none → Left (judgeSwitch ed modes vs ms s k) vs ms (Away 26) vs ms
     unfolding judgeSwitch find _>>=_
     no-switch-left f = rw (e, f) (left-away refl refl)
 
-    module _ (w : Switch) (f : getElem? (m .switches) k ≡ some w) (r : Verdict) (g : r ≡ truthVerdict Stay (Away 30) (truthValue edition1 vs (w .truth))) where
-      pub not-taken-left : goesOn r ≡ false → Left (judgeSwitch edition1 modes vs ms s k) vs ms r vs ms
+    module _ (w : Switch) (f : getElem? (m .switches) k ≡ some w) (r : Verdict) (g : r ≡ truthVerdict Stay (Away 30) (truthValue ed vs (w .truth))) where
+      pub not-taken-left : goesOn r ≡ false → Left (judgeSwitch ed modes vs ms s k) vs ms r vs ms
       unfolding judgeSwitch find _>>=_ _>>_ valued allow truthVerdict goesOn
-      not-taken-left h = rw (e, f) (go (truthValue edition1 vs (w .truth)) g)
+      not-taken-left h = rw (e, f) (go (truthValue ed vs (w .truth)) g)
         where
           go : (u : Value Bool) → r ≡ truthVerdict Stay (Away 30) u → Left (valued u >>= (λ b. allow 30 b >> pass (record { moved = nobody; values = vs; modes = set ms s (w .target) }))) vs ms r vs ms
           go (ok true) g = true-not-false (sym (ap goesOn g) ∙ h)
@@ -74,9 +74,9 @@ module _ (modes : List Mode) (vs : List ℤ) (ms : List ℕ) (s k : ℕ) where
           go (fault above) g = left-above g refl
           go (fault below) g = left-below g refl
 
-      pub taken-left : goesOn r ≡ true → {t : ℕ} → t ≡ w .target → Left (judgeSwitch edition1 modes vs ms s k) vs ms r vs (set ms s t)
+      pub taken-left : goesOn r ≡ true → {t : ℕ} → t ≡ w .target → Left (judgeSwitch ed modes vs ms s k) vs ms r vs (set ms s t)
       unfolding judgeSwitch find _>>=_ _>>_ valued allow truthVerdict goesOn
-      taken-left h {t} q = rw (e, f) (go (truthValue edition1 vs (w .truth)) g)
+      taken-left h {t} q = rw (e, f) (go (truthValue ed vs (w .truth)) g)
         where
           go : (u : Value Bool) → r ≡ truthVerdict Stay (Away 30) u → Left (valued u >>= (λ b. allow 30 b >> pass (record { moved = nobody; values = vs; modes = set ms s (w .target) }))) vs ms r vs (set ms s t)
           go (ok true) g = left-stay g (ap (λ (n : ℕ). pass (record { moved = nobody; values = vs; modes = set ms s n })) (sym q))
@@ -85,9 +85,9 @@ module _ (modes : List Mode) (vs : List ℤ) (ms : List ℕ) (s k : ℕ) where
           go (fault below) g = true-not-false (sym h ∙ ap goesOn g)
 
 -- ---- a switch's truth, asked by the bytes from two past its place to its end
-pub asked-at : {vs : List ℤ} {es : List ℕ} {q : ℕ} {yes no r : Verdict} → r ≡ truthVerdict yes no (truthValue edition1 vs (take (q + 1 + getD es q 0 - (q + 2)) (drop (q + 2) es))) → Asked es q vs yes no r
+pub asked-at : {vs : List ℤ} {es : List ℕ} {q : ℕ} {yes no r : Verdict} → ((ed : Edition) → r ≡ truthVerdict yes no (truthValue ed vs (take (q + 1 + getD es q 0 - (q + 2)) (drop (q + 2) es)))) → Asked es q vs yes no r
 asked-at {vs} {es} {q} {yes} {no} h = record {
-  answer = λ w s.
+  answer = λ ed w s.
       let n : q + 1 + getD es q 0 - (q + 2) ≡ getD es q 0 - 1 = omega arith in
-      h ∙ ap (λ t. truthVerdict yes no (truthValue edition1 vs t)) (ap (λ j. take j (drop (q + 2) es)) n ∙ sym (switch-bytes s .truth));
+      h ed ∙ ap (λ t. truthVerdict yes no (truthValue ed vs t)) (ap (λ j. take j (drop (q + 2) es)) n ∙ sym (switch-bytes s .truth));
 }

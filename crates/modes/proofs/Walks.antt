@@ -12,7 +12,7 @@ use lib.IntN.{ℤ}
 use lib.ListN.{length, getD, set, drop, getElem?, length-set, drop-of-length-le}
 use lib.Seq.{drop-cons}
 use Rattle.semantics.specs.Bytes.{signed, every}
-use Rattle.semantics.specs.Editions.{edition1}
+use Rattle.semantics.specs.Editions.{Edition}
 use Rattle.semantics.specs.Expressions.{truthValue}
 use Rattle.semantics.specs.Sections.{Rate, Switch, Mode, readRate, readSwitch}
 use Rattle.semantics.specs.Plant.{rateNamed, switchTruths, currentTruths}
@@ -103,10 +103,10 @@ lay-end {zs = zs} l h = l .rest zs (rw (none-ahead (l .ahead) h) (laid-none zs))
 pub record Walking (n : ℕ) (vs : List ℤ) (es : List ℕ) (k p : ℕ) (ws : List Switch) : Type 0 where
   pub switches : List Switch
   pub ahead : Ahead readSwitch es k p switches
-  pub same : walk edition1 n vs (map (λ (w : Switch). w .truth) ws) ≡ walk edition1 n vs (map (λ (w : Switch). w .truth) switches)
+  pub same : (ed : Edition) → walk ed n vs (map (λ (w : Switch). w .truth) ws) ≡ walk ed n vs (map (λ (w : Switch). w .truth) switches)
 
 pub walk-start : (n : ℕ) (vs : List ℤ) {es : List ℕ} {at : ℕ} {m : Mode} → Stands es at m → (c : ℕ) → c ≡ at + 1 + 5 * getD es at 0 → Walking n vs es (getD es c 0) (c + 1) (m .switches)
-walk-start n vs {m = m} s c e = record { switches = m .switches; ahead = rw e (parts s .switches); same = refl }
+walk-start n vs {m = m} s c e = record { switches = m .switches; ahead = rw e (parts s .switches); same = λ ed. refl }
 
 module _ {n : ℕ} {vs : List ℤ} {es : List ℕ} {k p : ℕ} {ws : List Switch} (l : Walking n vs es k p ws) where
   module _ (h : 0 < k) where
@@ -119,22 +119,22 @@ module _ {n : ℕ} {vs : List ℤ} {es : List ℕ} {k p : ℕ} {ws : List Switch
     pub walk-here : SwitchHere es p
     walk-here = record { switch = head; stands = next-switch (l .ahead) h .here }
 
-    truths-are : walk edition1 n vs (map (λ (w : Switch). w .truth) ws) ≡ walk edition1 n vs (head .truth ∷ tail)
-    truths-are = l .same ∙ ap (λ z. walk edition1 n vs (map (λ (w : Switch). w .truth) z)) (next-switch (l .ahead) h .is)
+    truths-are : (ed : Edition) → walk ed n vs (map (λ (w : Switch). w .truth) ws) ≡ walk ed n vs (head .truth ∷ tail)
+    truths-are ed = l .same ed ∙ ap (λ z. walk ed n vs (map (λ (w : Switch). w .truth) z)) (next-switch (l .ahead) h .is)
 
     module _ {r : Verdict} (e : Asked es p vs (Away n) Stay r) where
-      told : r ≡ truthVerdict (Away n) Stay (truthValue edition1 vs (head .truth))
-      told = e .answer head (next-switch (l .ahead) h .here)
+      told : (ed : Edition) → r ≡ truthVerdict (Away n) Stay (truthValue ed vs (head .truth))
+      told ed = e .answer ed head (next-switch (l .ahead) h .here)
 
-      pub walk-stops : goesOn r ≡ false → r ≡ stepVerdict (walk edition1 n vs (map (λ (w : Switch). w .truth) ws))
-      walk-stops f = walk-out n vs (head .truth) tail r told f ∙ sym (ap stepVerdict truths-are)
+      pub walk-stops : (ed : Edition) → goesOn r ≡ false → r ≡ stepVerdict (walk ed n vs (map (λ (w : Switch). w .truth) ws))
+      walk-stops ed f = walk-out ed n vs (head .truth) tail r (told ed) f ∙ sym (ap stepVerdict (truths-are ed))
 
       pub walk-next : goesOn r ≡ true → Walking n vs es (k - 1) (p + 1 + getD es p 0) ws
-      walk-next f = record { switches = next-switch (l .ahead) h .tail; ahead = next-switch (l .ahead) h .ahead; same = truths-are ∙ walk-on n vs (head .truth) tail r told f }
+      walk-next f = record { switches = next-switch (l .ahead) h .tail; ahead = next-switch (l .ahead) h .ahead; same = λ ed. truths-are ed ∙ walk-on ed n vs (head .truth) tail r (told ed) f }
 
-  pub walk-end : k ≡ 0 → Stay ≡ stepVerdict (walk edition1 n vs (map (λ (w : Switch). w .truth) ws))
+  pub walk-end : (ed : Edition) → k ≡ 0 → Stay ≡ stepVerdict (walk ed n vs (map (λ (w : Switch). w .truth) ws))
   unfolding walk doneVerdict
-  walk-end h = sym (ap stepVerdict (l .same ∙ ap (λ z. walk edition1 n vs (map (λ (w : Switch). w .truth) z)) (none-ahead (l .ahead) h)))
+  walk-end ed h = sym (ap stepVerdict (l .same ed ∙ ap (λ z. walk ed n vs (map (λ (w : Switch). w .truth) z)) (none-ahead (l .ahead) h)))
 
 -- ---- one switch of a mode: i more are passed over
 pub record Seeking (es : List ℕ) (i p : ℕ) (ws : List Switch) (k : ℕ) : Type 0 where
@@ -186,28 +186,28 @@ module _ (es places ms : List ℕ) (j : ℕ) where
   modes-end h = ap (modesFrom es places j) (drop-of-length-le ms {i = j} h)
 
 -- one mode, then the others
-module _ (vs : List ℤ) (m : Mode) where
-  pub check-one : walk edition1 28 vs (map (λ (w : Switch). w .truth) (m .switches)) ≡ checkModes edition1 (m ∷ []) vs
+module _ (ed : Edition) (vs : List ℤ) (m : Mode) where
+  pub check-one : walk ed 28 vs (map (λ (w : Switch). w .truth) (m .switches)) ≡ checkModes ed (m ∷ []) vs
   unfolding checkModes currentTruths flatMap switchTruths
-  check-one = ap (walk edition1 28 vs) (sym (append-nil (map (λ (w : Switch). w .truth) (m .switches))))
+  check-one = ap (walk ed 28 vs) (sym (append-nil (map (λ (w : Switch). w .truth) (m .switches))))
 
-  check-cons : (l : List Mode) → checkModes edition1 (m ∷ l) vs ≡ (checkModes edition1 (m ∷ []) vs >> checkModes edition1 l vs)
+  check-cons : (l : List Mode) → checkModes ed (m ∷ l) vs ≡ (checkModes ed (m ∷ []) vs >> checkModes ed l vs)
   unfolding checkModes currentTruths flatMap switchTruths
-  check-cons l = walk-then 28 vs (switchTruths m) (currentTruths l) ∙ ap (λ v. v >> checkModes edition1 l vs) check-one
+  check-cons l = walk-then ed 28 vs (switchTruths m) (currentTruths l) ∙ ap (λ v. v >> checkModes ed l vs) check-one
 
-module _ (vs : List ℤ) (es places ms : List ℕ) where
+module _ (ed : Edition) (vs : List ℤ) (es places ms : List ℕ) where
   abbrev pub checkFrom : ℕ → Run.Verdict (Unit {0})
-  checkFrom j = checkModes edition1 (modesFrom es places j (drop j ms)) vs
+  checkFrom j = checkModes ed (modesFrom es places j (drop j ms)) vs
 
-  module _ (j : ℕ) (h : j < length ms) {i : ℕ} (at : i ≡ placeAt places ms j) {r : Verdict} (told : r ≡ stepVerdict (checkModes edition1 (modeAt es i ∷ []) vs)) where
+  module _ (j : ℕ) (h : j < length ms) {i : ℕ} (at : i ≡ placeAt places ms j) {r : Verdict} (told : r ≡ stepVerdict (checkModes ed (modeAt es i ∷ []) vs)) where
     abbrev one : Run.Verdict (Unit {0})
-    one = checkModes edition1 (modeAt es (placeAt places ms j) ∷ []) vs
+    one = checkModes ed (modeAt es (placeAt places ms j) ∷ []) vs
 
     here : r ≡ stepVerdict one
-    here = told ∙ ap (λ (i : ℕ). stepVerdict (checkModes edition1 (modeAt es i ∷ []) vs)) at
+    here = told ∙ ap (λ (i : ℕ). stepVerdict (checkModes ed (modeAt es i ∷ []) vs)) at
 
     check-more : checkFrom j ≡ (one >> checkFrom (j + 1))
-    check-more = ap (λ z. checkModes edition1 z vs) (modes-more es places ms j h) ∙ check-cons vs _ (modesFrom es places (j + 1) (drop (j + 1) ms))
+    check-more = ap (λ z. checkModes ed z vs) (modes-more es places ms j h) ∙ check-cons ed vs _ (modesFrom es places (j + 1) (drop (j + 1) ms))
 
     pub check-stops : goesOn r ≡ false → r ≡ stepVerdict (checkFrom j)
     check-stops f = then-out one (checkFrom (j + 1)) r here f ∙ sym (ap stepVerdict check-more)
@@ -217,7 +217,7 @@ module _ (vs : List ℤ) (es places ms : List ℕ) where
 
   pub check-end : (j : ℕ) → length ms ≤ j → Stay ≡ stepVerdict (checkFrom j)
   unfolding checkModes currentTruths walk flatMap doneVerdict
-  check-end j h = sym (ap (λ z. stepVerdict (checkModes edition1 z vs)) (modes-end es places ms j h))
+  check-end j h = sym (ap (λ z. stepVerdict (checkModes ed z vs)) (modes-end es places ms j h))
 
 -- ---- the rates of the current modes, one mode after the other
 abbrev pub modeRates : List ℕ → List ℕ → List ℕ → ℕ → List Rate

@@ -6,7 +6,7 @@ use Prim.Native.Nat.{ℕ, suc, _+_, _*_, _<_}
 use lib.IntN.{ℤ}
 use lib.ListN.{length, getD, drop}
 use Rattle.semantics.specs.Bytes.{every, read}
-use Rattle.semantics.specs.Editions.{edition1}
+use Rattle.semantics.specs.Editions.{Edition}
 use Rattle.semantics.specs.Expressions.{truthValue}
 use Rattle.semantics.specs.Sections.{Rate, Switch, Mode, Equation, modeLimit, readSwitch}
 use Rattle.semantics.specs.Plant.{rateNamed, drivenOnce, selectorsOf, currentOf, ratesOf}
@@ -29,7 +29,7 @@ pub record SwitchHere (es : List ℕ) (at : ℕ) : Type 0 where
 
 -- the answer of its truth
 pub record Asked (es : List ℕ) (at : ℕ) (vs : List ℤ) (yes no r : Verdict) : Type 0 where
-  pub answer : (w : Switch) → SwitchAt es at w → r ≡ truthVerdict yes no (truthValue edition1 vs (w .truth))
+  pub answer : (ed : Edition) (w : Switch) → SwitchAt es at w → r ≡ truthVerdict yes no (truthValue ed vs (w .truth))
 
 -- mode m of selector j stands at entry 8 * j + m
 abbrev pub placeAt : List ℕ → List ℕ → ℕ → ℕ
@@ -67,4 +67,4 @@ pub record InForce (es places ms : List ℕ) (old new : List ℤ) : Type 0 where
 
 -- a switch event on the modes at these places
 pub record Switched (es places : List ℕ) (s k : ℕ) (vs : List ℤ) (ms : List ℕ) (r : Verdict) (ms' : List ℕ) : Type 0 where
-  pub leaves : Left (judgeSwitch edition1 (modesFrom es places 0 ms) vs ms s k) vs ms r vs ms'
+  pub leaves : (ed : Edition) → Left (judgeSwitch ed (modesFrom es places 0 ms) vs ms s k) vs ms r vs ms'

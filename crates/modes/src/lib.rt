@@ -6,7 +6,7 @@ ghost use mathlib.Core.List.{[], _∷_, flatMap};
 ghost use mathlib.Core.Option.{some};
 ghost use Prim.Native.Nat.{_+_, _*_, _<_};
 ghost use lib.ListN.{length, getD, getElem?};
-ghost use Rattle.semantics.specs.Editions.{edition1};
+ghost use Rattle.semantics.specs.Editions.{Edition};
 ghost use Rattle.semantics.specs.Bytes.{every};
 ghost use Rattle.semantics.specs.Sections.{Mode, Switch, variableLimit, modeLimit};
 ghost use Rattle.semantics.specs.Plant.{rateNamed};
@@ -37,7 +37,7 @@ fn truth(es: &[u8], at: usize, values: &[i32], yes: Verdict, no: Verdict) -> Ver
 // The switches of the mode at a place, up to the first that is true or faults.
 fn mode_check(es: &[u8], at: usize, values: &[i32]) -> Verdict
     requires { ⌜ Stands (now es) at (modeAt (now es) at) ⌝ }
-    ensures { λ r. ⌜ r ≡ stepVerdict (checkModes edition1 (modeAt (now (es .entry)) at ∷ []) (now (values .entry))) ⌝ }
+    ensures { λ r. ⌜ ((ed : Edition) → r ≡ stepVerdict (checkModes ed (modeAt (now (es .entry)) at ∷ []) (now (values .entry)))) ⌝ }
 {
     let count = switches_at(es, at);
     let mut left = es[count] as usize;
@@ -72,7 +72,7 @@ pub fn switch_check(
     modes: &[u8],
 ) -> Verdict
     requires { ⌜ Current (now es) (now places) (now modes) ⌝ }
-    ensures { λ r. ⌜ r ≡ stepVerdict (checkModes edition1 (modesFrom (now (es .entry)) (now (places .entry)) 0 (now (modes .entry))) (now (values .entry))) ⌝ }
+    ensures { λ r. ⌜ ((ed : Edition) → r ≡ stepVerdict (checkModes ed (modesFrom (now (es .entry)) (now (places .entry)) 0 (now (modes .entry))) (now (values .entry)))) ⌝ }
 {
     let mut j = 0;
     while j < modes.len() {

@@ -7,7 +7,7 @@ use Prim.Native.Nat.{ℕ, _≤_, _<_}
 use native.Mathlib.Omega.{arith}
 use lib.Dec.{ltb}
 use lib.ListN.{length, getD, length-map}
-use Rattle.semantics.specs.Editions.{edition1}
+use Rattle.semantics.specs.Editions.{Edition}
 use Rattle.semantics.specs.Refusals.{accepted}
 use Rattle.semantics.specs.Sections.{Selector}
 use Rattle.semantics.specs.Plant.{Plant, selectors, modeExists, judgePlant}
@@ -34,15 +34,15 @@ module _ {counts : List ℕ} {n : ℕ} {cs : List Selector} (d : ModesAt counts 
       let x = at-exists cs c (omega (arith, d .counted)) in
       ap (ltb m) (d .entries c (x .1)) ∙ sym (ap (judged m) (x .1))
 
-module _ (vs es : List ℕ) {p : Plant} (h : judgePlant edition1 vs es ≡ accepted p) where
-  pub modes-held : ModesAt (plantOf vs es .modes) (plantOf vs es .selectors) (selectors p)
+module _ (ed : Edition) (vs es : List ℕ) {p : Plant} (h : judgePlant ed vs es ≡ accepted p) where
+  pub modes-held : ModesAt (plantOf ed vs es .modes) (plantOf ed vs es .selectors) (selectors p)
   unfolding selectors
-  modes-held = record { counted = sym (selectors-of vs es h); entries = λ j g. ap (λ l. getD l j 0) (modes-of vs es h) ∙ mode-count-at (p .equations) j g }
+  modes-held = record { counted = sym (selectors-of ed vs es h); entries = λ j g. ap (λ l. getD l j 0) (modes-of ed vs es h) ∙ mode-count-at (p .equations) j g }
 
-  pub modes-full : length (plantOf vs es .modes) ≡ 16
+  pub modes-full : length (plantOf ed vs es .modes) ≡ 16
   unfolding selectors
-  modes-full = ap length (modes-of vs es h) ∙ length-pad 16 0 (map modeCount (selectors p)) (omega (arith, few-selectors es (passed-all vs es h .equations), length-map (selectors p) modeCount))
+  modes-full = ap length (modes-of ed vs es h) ∙ length-pad 16 0 (map modeCount (selectors p)) (omega (arith, few-selectors es (passed-all ed vs es h .equations), length-map (selectors p) modeCount))
 
-  pub modes-room : plantOf vs es .selectors ≤ length (plantOf vs es .modes)
+  pub modes-room : plantOf ed vs es .selectors ≤ length (plantOf ed vs es .modes)
   unfolding selectors
-  modes-room = omega (arith, selectors-of vs es h, few-selectors es (passed-all vs es h .equations), modes-full)
+  modes-room = omega (arith, selectors-of ed vs es h, few-selectors es (passed-all ed vs es h .equations), modes-full)

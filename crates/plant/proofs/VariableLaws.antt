@@ -7,7 +7,7 @@ use native.Mathlib.Omega.{arith}
 use lib.IntN.{ℤ, pos}
 use lib.ListN.{length, getD, getElem?, take, length-map}
 use Rattle.semantics.specs.Bytes.{every}
-use Rattle.semantics.specs.Editions.{edition1}
+use Rattle.semantics.specs.Editions.{Edition}
 use Rattle.semantics.specs.Refusals.{Judged, refused, accepted, refusalOf}
 use Rattle.semantics.specs.Sections.{Variable}
 use Rattle.semantics.specs.Plant.{judgeVariables}
@@ -20,13 +20,13 @@ use Rattle.plant.proofs.VariableSection.{sized-of, length-is}
 use Rattle.plant.proofs.VariableAnswer.{accepted-as}
 
 -- the variables of a section that 4 and 5 let pass
-abbrev pub Accepted : List ℕ → List Variable → Type 0
-Accepted s vs = VariablesPassed edition1 s vs
+abbrev pub Accepted : (ed : Edition) → List ℕ → List Variable → Type 0
+Accepted ed s vs = VariablesPassed ed s vs
 
 -- no section is refused with 0
-pub accepted-of : (s : List ℕ) → variablesOf s .refusal ≡ 0 → (vs : List Variable) × (judgeVariables edition1 s ≡ accepted vs)
+pub accepted-of : (ed : Edition) (s : List ℕ) → variablesOf ed s .refusal ≡ 0 → (vs : List Variable) × (judgeVariables ed s ≡ accepted vs)
 unfolding every variablesOf variablesAnswer refusedBy answer refusalOf
-accepted-of s h = Judging.accepted-of (variables-first edition1 s []) (lacks 0 _ refl) (sym (number (judgeVariables edition1 s)) ∙ h)
+accepted-of ed s h = Judging.accepted-of (variables-first ed s []) (lacks 0 _ refl) (sym (number (judgeVariables ed s)) ∙ h)
   where
     number : (j : Judged (List Variable)) → variablesAnswer j .refusal ≡ refusalOf j
     number (refused n) = refl
@@ -46,41 +46,41 @@ pub column-front : (f : Variable → ℤ) (vs : List Variable) → take (length 
 unfolding column
 column-front f vs = take-pad 32 (pos 0) (map f vs) (length vs) (length-map vs f)
 
-module _ (s : List ℕ) {vs : List Variable} (a : Accepted s vs) where
-  answered : variablesOf s ≡ answer 0 vs
-  answered = accepted-as s a
+module _ (ed : Edition) (s : List ℕ) {vs : List Variable} (a : Accepted ed s vs) where
+  answered : variablesOf ed s ≡ answer 0 vs
+  answered = accepted-as ed s a
 
-  pub not-refused : variablesOf s .refusal ≡ 0
+  pub not-refused : variablesOf ed s .refusal ≡ 0
   unfolding answer
   not-refused = ap (λ v. v .refusal) answered
 
-  pub count-of : variablesOf s .count ≡ length vs
+  pub count-of : variablesOf ed s .count ≡ length vs
   unfolding answer
   count-of = ap (λ v. v .count) answered
 
-  pub count-low : 1 ≤ variablesOf s .count
-  count-low = omega (arith, count-of, length-is s (a .is), sized-of s (a .is) .low)
+  pub count-low : 1 ≤ variablesOf ed s .count
+  count-low = omega (arith, count-of, length-is ed s (a .is), sized-of ed s (a .is) .low)
 
-  pub count-high : variablesOf s .count ≤ 32
-  count-high = omega (arith, count-of, length-is s (a .is), sized-of s (a .is) .high)
+  pub count-high : variablesOf ed s .count ≤ 32
+  count-high = omega (arith, count-of, length-is ed s (a .is), sized-of ed s (a .is) .high)
 
-  pub lows-of : variablesOf s .lows ≡ column (λ (v : Variable). v .minimum) vs
+  pub lows-of : variablesOf ed s .lows ≡ column (λ (v : Variable). v .minimum) vs
   unfolding answer
   lows-of = ap (λ v. v .lows) answered
 
-  pub highs-of : variablesOf s .highs ≡ column (λ (v : Variable). v .maximum) vs
+  pub highs-of : variablesOf ed s .highs ≡ column (λ (v : Variable). v .maximum) vs
   unfolding answer
   highs-of = ap (λ v. v .highs) answered
 
-  pub initials-of : variablesOf s .initials ≡ column (λ (v : Variable). v .initial) vs
+  pub initials-of : variablesOf ed s .initials ≡ column (λ (v : Variable). v .initial) vs
   unfolding answer
   initials-of = ap (λ v. v .initials) answered
 
-  pub low-at : (k : ℕ) {x : Variable} → getElem? vs k ≡ some x → getD (variablesOf s .lows) k (pos 0) ≡ x .minimum
+  pub low-at : (k : ℕ) {x : Variable} → getElem? vs k ≡ some x → getD (variablesOf ed s .lows) k (pos 0) ≡ x .minimum
   low-at k h = ap (λ l. getD l k (pos 0)) lows-of ∙ column-at (λ (v : Variable). v .minimum) vs k h
 
-  pub high-at : (k : ℕ) {x : Variable} → getElem? vs k ≡ some x → getD (variablesOf s .highs) k (pos 0) ≡ x .maximum
+  pub high-at : (k : ℕ) {x : Variable} → getElem? vs k ≡ some x → getD (variablesOf ed s .highs) k (pos 0) ≡ x .maximum
   high-at k h = ap (λ l. getD l k (pos 0)) highs-of ∙ column-at (λ (v : Variable). v .maximum) vs k h
 
-  pub initial-at : (k : ℕ) {x : Variable} → getElem? vs k ≡ some x → getD (variablesOf s .initials) k (pos 0) ≡ x .initial
+  pub initial-at : (k : ℕ) {x : Variable} → getElem? vs k ≡ some x → getD (variablesOf ed s .initials) k (pos 0) ≡ x .initial
   initial-at k h = ap (λ l. getD l k (pos 0)) initials-of ∙ column-at (λ (v : Variable). v .initial) vs k h

@@ -14,7 +14,7 @@ use mir.Val.{toZ, ofZ}
 use mir.ValLaws.{toZ-ofZ}
 use lib.ListN.{length, getD, set, drop, length-append}
 use Rattle.semantics.specs.Bytes.{every, within, signed, read, andThen, _>>=_, give, guard, byte, times, just, whole}
-use Rattle.semantics.specs.Editions.{edition1}
+use Rattle.semantics.specs.Editions.{Edition}
 use Rattle.semantics.specs.Sections.{Variable, readVariable, readVariables, variablesIn}
 use Rattle.semantics.specs.Plant.{ordered}
 use Rattle.semantics.proofs.Facts.{some-is, true-not-false, within-low, within-high, within-both}
@@ -29,24 +29,17 @@ use Rattle.plant.proofs.Turns.{every-next, every-not}
 use Rattle.plant.proofs.Costs.{Costs, costs-give, costs-then, costs-int4, costs-times}
 
 -- ---- size
--- the bytes of n variables
-pub record Sized (s : List ℕ) (n : ℕ) : Type 0 where
-  pub first : getD s 0 0 ≡ n
-  pub low : 1 ≤ n
-  pub high : n ≤ 32
-  pub size : length s ≡ 1 + 12 * n
-
-costs-variable : Costs (readVariable edition1) 12
+costs-variable : (ed : Edition) → Costs (readVariable ed) 12
 unfolding readVariable
-costs-variable = costs-then costs-int4 (λ low. costs-then costs-int4 (λ high. costs-then costs-int4 (λ first. costs-give (record { minimum = low; maximum = high; initial = first }))))
+costs-variable ed = costs-then costs-int4 (λ low. costs-then costs-int4 (λ high. costs-then costs-int4 (λ first. costs-give (record { minimum = low; maximum = high; initial = first }))))
 
-pub sized-of : (s : List ℕ) {vs : List Variable} → variablesIn edition1 s ≡ some vs → Sized s (getD s 0 0)
+pub sized-of : (ed : Edition) (s : List ℕ) {vs : List Variable} → variablesIn ed s ≡ some vs → VariablesStand s (getD s 0 0)
 unfolding variablesIn readVariables
-sized-of s h =
-    let k = split byte _ (whole-read (readVariables edition1) s h) in
+sized-of ed s h =
+    let k = split byte _ (whole-read (readVariables ed) s h) in
     let g = guarded (within 1 32 (k .value)) _ (k .then) in
     let b = byte-read s (k .first) in
-    let z = costs-times (k .value) costs-variable .spent (k .rest) (g .1) in
+    let z = costs-times (k .value) (costs-variable ed) .spent (k .rest) (g .1) in
     let n : getD s 0 0 ≡ k .value = ap (λ l. getD l 0 0) b in
     record {
       first = refl;
@@ -63,59 +56,50 @@ none-if (some a) f = absurd (f a refl)
 abbrev pub variableAt : List ℕ → ℕ → Variable
 variableAt s p = record { minimum = signed (nat4At s p); maximum = signed (nat4At s (p + 4)); initial = signed (nat4At s (p + 4 + 4)) }
 
-pub variable-at : (s : List ℕ) (p : ℕ) → p + 12 ≤ length s → readVariable edition1 (drop p s) ≡ read (variableAt s p) (drop (p + 4 + 4 + 4) s)
+pub variable-at : (ed : Edition) (s : List ℕ) (p : ℕ) → p + 12 ≤ length s → readVariable ed (drop p s) ≡ read (variableAt s p) (drop (p + 4 + 4 + 4) s)
 unfolding readVariable _>>=_ andThen give
-variable-at s p h = rw (int4-at s p (omega arith), int4-at s (p + 4) (omega arith), int4-at s (p + 4 + 4) (omega arith)) refl
+variable-at ed s p h = rw (int4-at s p (omega arith), int4-at s (p + 4) (omega arith), int4-at s (p + 4 + 4) (omega arith)) refl
 
 -- n variables from a place on are there where their bytes are
-many : (s : List ℕ) (n p : ℕ) → p + 12 * n ≤ length s → (vs : List Variable) × (times n (readVariable edition1) (drop p s) ≡ read vs (drop (p + 12 * n) s))
+many : (ed : Edition) (s : List ℕ) (n p : ℕ) → p + 12 * n ≤ length s → (vs : List Variable) × (times n (readVariable ed) (drop p s) ≡ read vs (drop (p + 12 * n) s))
 unfolding times _>>=_ andThen give
-many s zero p h = ([], rw add-zero refl)
-many s (suc n) p h =
-    let m = many s n (p + 4 + 4 + 4) (omega arith) in
+many ed s zero p h = ([], rw add-zero refl)
+many ed s (suc n) p h =
+    let m = many ed s n (p + 4 + 4 + 4) (omega arith) in
     let e : p + 4 + 4 + 4 + 12 * n ≡ p + 12 * suc n = omega arith in
-    (variableAt s p ∷ m .0, rw (variable-at s p (omega arith), m .1, e) refl)
+    (variableAt s p ∷ m .0, rw (variable-at ed s p (omega arith), m .1, e) refl)
 
 -- all variables of a section that has the right size
-pub record Section (s : List ℕ) (n : ℕ) (vs : List Variable) : Type 0 where
-  pub got : times n (readVariable edition1) (drop 1 s) ≡ read vs []
-  pub is : variablesIn edition1 s ≡ some vs
+pub record Section (ed : Edition) (s : List ℕ) (n : ℕ) (vs : List Variable) : Type 0 where
+  pub got : times n (readVariable ed) (drop 1 s) ≡ read vs []
+  pub is : variablesIn ed s ≡ some vs
 
-section-is : (n : ℕ) (l : List ℕ) {vs : List Variable} → within 1 32 n ≡ true → times n (readVariable edition1) l ≡ read vs [] → variablesIn edition1 (n ∷ l) ≡ some vs
+section-is : (ed : Edition) (n : ℕ) (l : List ℕ) {vs : List Variable} → within 1 32 n ≡ true → times n (readVariable ed) l ≡ read vs [] → variablesIn ed (n ∷ l) ≡ some vs
 unfolding variablesIn readVariables whole just _>>=_ andThen byte guard
-section-is n l w g = rw (w, g) refl
+section-is ed n l w g = rw (w, g) refl
 
-pub section-of : (s : List ℕ) (n : ℕ) → Sized s n → (vs : List Variable) × Section s n vs
-section-of s n z =
+pub section-of : (ed : Edition) (s : List ℕ) (n : ℕ) → VariablesStand s n → (vs : List Variable) × Section ed s n vs
+section-of ed s n z =
     let i = z .size in
-    let m = many s n 1 (omega arith) in
+    let m = many ed s n 1 (omega arith) in
     let g = m .1 ∙ ap (read (m .0)) (drop-past (1 + 12 * n) s (omega arith)) in
     let e : s ≡ n ∷ drop 1 s = drop-some 0 s (omega arith) ∙ ap (λ b. b ∷ drop 1 s) (z .first) in
-    (m .0, record { got = g; is = ap (variablesIn edition1) e ∙ section-is n (drop 1 s) (within-both 1 32 n (z .low) (z .high)) g })
+    (m .0, record { got = g; is = ap (variablesIn ed) e ∙ section-is ed n (drop 1 s) (within-both 1 32 n (z .low) (z .high)) g })
 
 -- the first byte counts the variables
-pub length-is : (s : List ℕ) {vs : List Variable} → variablesIn edition1 s ≡ some vs → length vs ≡ getD s 0 0
-length-is s h =
-    let k = section-of s (getD s 0 0) (sized-of s h) in
-    ap length (some-is (sym h ∙ k .1 .is)) ∙ times-length (readVariable edition1) (getD s 0 0) (drop 1 s) (k .1 .got)
-
--- the section of n variables has their bytes
-pub sized-by : (s : List ℕ) (n : ℕ) → VariablesStand s n → Sized s n
-sized-by s n v =
-    let z = sized-of s (v .read) in
-    let e : getD s 0 0 ≡ n = sym (length-is s (v .read)) ∙ v .count in
-    record { first = e; low = omega (arith, z .low); high = omega (arith, z .high); size = omega (arith, z .size) }
+pub length-is : (ed : Edition) (s : List ℕ) {vs : List Variable} → variablesIn ed s ≡ some vs → length vs ≡ getD s 0 0
+length-is ed s h =
+    let k = section-of ed s (getD s 0 0) (sized-of ed s h) in
+    ap length (some-is (sym h ∙ k .1 .is)) ∙ times-length (readVariable ed) (getD s 0 0) (drop 1 s) (k .1 .got)
 
 -- ---- the count
-pub wrong : (s : List ℕ) → (Sized s (getD s 0 0) → ⊥) → Counted s 0
-wrong s f = record { wrong = λ e. none-if (variablesIn edition1 s) (λ vs h. f (sized-of s h)); right = λ h. absurd (omega arith) }
+pub wrong : (s : List ℕ) → (VariablesStand s (getD s 0 0) → ⊥) → Counted s 0
+wrong s f = record { wrong = λ e ed. none-if (variablesIn ed s) (λ vs h. f (sized-of ed s h)); right = λ h. absurd (omega arith) }
 
 pub right : (s : List ℕ) → getD s 0 0 ≤ 32 → length s ≡ 1 + 12 * getD s 0 0 → Counted s (getD s 0 0)
 right s h k = record {
-  wrong = λ e. none-if (variablesIn edition1 s) (λ vs i. let z = sized-of s i .low in omega arith);
-  right = λ l.
-      let v = section-of s (getD s 0 0) (record { first = refl; low = l; high = h; size = k }) in
-      record { variables = v .0; read = v .1 .is; count = length-is s (v .1 .is) };
+  wrong = λ e ed. none-if (variablesIn ed s) (λ vs i. let z = sized-of ed s i .low in omega arith);
+  right = λ l. record { first = refl; low = l; high = h; size = k };
 }
 
 -- ---- arrays
@@ -162,12 +146,12 @@ unfolding answer
 answer-is vs n lows highs initials a b c d = λ i. record { refusal = 0; count = a i; lows = b i; highs = c i; initials = d i }
 
 -- ---- the loop: i variables are noted, and the others stand from p on
-pub record Going (s : List ℕ) (n i p : ℕ) (lows highs initials : List ℤ) : Type 0 where
+pub record Going (ed : Edition) (s : List ℕ) (n i p : ℕ) (lows highs initials : List ℤ) : Type 0 where
   pub all : List Variable
-  pub is : variablesIn edition1 s ≡ some all
+  pub is : variablesIn ed s ≡ some all
   pub done : List Variable
   pub rest : List Variable
-  pub got : times (n - i) (readVariable edition1) (drop p s) ≡ read rest []
+  pub got : times (n - i) (readVariable ed) (drop p s) ≡ read rest []
   pub join : done ++ rest ≡ all
   pub so-far : every ordered all ≡ every ordered rest
   pub many : length done ≡ i
@@ -175,9 +159,9 @@ pub record Going (s : List ℕ) (n i p : ℕ) (lows highs initials : List ℤ) :
   pub highs-are : highs ≡ column (λ (v : Variable). v .maximum) done
   pub initials-are : initials ≡ column (λ (v : Variable). v .initial) done
 
-pub going-start : (s : List ℕ) (n : ℕ) → Sized s n → Going s n 0 1 (column (λ (v : Variable). v .minimum) []) (column (λ (v : Variable). v .maximum) []) (column (λ (v : Variable). v .initial) [])
-going-start s n z =
-    let k = section-of s n z in
+pub going-start : (ed : Edition) (s : List ℕ) (n : ℕ) → VariablesStand s n → Going ed s n 0 1 (column (λ (v : Variable). v .minimum) []) (column (λ (v : Variable). v .maximum) []) (column (λ (v : Variable). v .initial) [])
+going-start ed s n z =
+    let k = section-of ed s n z in
     record {
       all = k .0;
       is = k .1 .is;
@@ -192,24 +176,24 @@ going-start s n z =
       initials-are = refl;
     }
 
-module _ {s : List ℕ} {n i p : ℕ} {lows highs initials : List ℤ} (g : Going s n i p lows highs initials) (h : i < n) (k : p + 12 ≤ length s) where
+module _ (ed : Edition) {s : List ℕ} {n i p : ℕ} {lows highs initials : List ℤ} (g : Going ed s n i p lows highs initials) (h : i < n) (k : p + 12 ≤ length s) where
   -- the variable at p is the next one
   record Next : Type 0 where
     tail : List Variable
     rest-is : g .rest ≡ variableAt s p ∷ tail
-    tail-got : times (n - (i + 1)) (readVariable edition1) (drop (p + 4 + 4 + 4) s) ≡ read tail []
+    tail-got : times (n - (i + 1)) (readVariable ed) (drop (p + 4 + 4 + 4) s) ≡ read tail []
 
   next : Next
   next =
       let e : n - i ≡ suc (n - (i + 1)) = omega arith in
-      let c = cons (readVariable edition1) (n - (i + 1)) (ap (λ m. times m (readVariable edition1) (drop p s)) (sym e) ∙ g .got) in
-      let v = sym (c .first) ∙ variable-at s p k in
-      record { tail = c .tail; rest-is = sym (c .is) ∙ ap (λ x. x ∷ c .tail) (read-value v); tail-got = ap (times (n - (i + 1)) (readVariable edition1)) (sym (read-rest v)) ∙ c .rest }
+      let c = cons (readVariable ed) (n - (i + 1)) (ap (λ m. times m (readVariable ed) (drop p s)) (sym e) ∙ g .got) in
+      let v = sym (c .first) ∙ variable-at ed s p k in
+      record { tail = c .tail; rest-is = sym (c .is) ∙ ap (λ x. x ∷ c .tail) (read-value v); tail-got = ap (times (n - (i + 1)) (readVariable ed)) (sym (read-rest v)) ∙ c .rest }
 
-  pub stopped : ordered (variableAt s p) ≡ false → variablesOf s ≡ refusedBy 5
-  stopped o = refused-5 s (g .is) (g .so-far ∙ ap (every ordered) (next .rest-is) ∙ every-not ordered (variableAt s p) (next .tail) o)
+  pub stopped : ordered (variableAt s p) ≡ false → variablesOf ed s ≡ refusedBy 5
+  stopped o = refused-5 ed s (g .is) (g .so-far ∙ ap (every ordered) (next .rest-is) ∙ every-not ordered (variableAt s p) (next .tail) o)
 
-  pub going-next : ordered (variableAt s p) ≡ true → (low high first : ℤ) → low ≡ variableAt s p .minimum → high ≡ variableAt s p .maximum → first ≡ variableAt s p .initial → i < 32 → Going s n (i + 1) (p + 4 + 4 + 4) (set lows i low) (set highs i high) (set initials i first)
+  pub going-next : ordered (variableAt s p) ≡ true → (low high first : ℤ) → low ≡ variableAt s p .minimum → high ≡ variableAt s p .maximum → first ≡ variableAt s p .initial → i < 32 → Going ed s n (i + 1) (p + 4 + 4 + 4) (set lows i low) (set highs i high) (set initials i first)
   going-next o low high first a b d j = record {
     all = g .all;
     is = g .is;
@@ -224,11 +208,11 @@ module _ {s : List ℕ} {n i p : ℕ} {lows highs initials : List ℤ} (g : Goin
     initials-are = ap (λ l. set l i first) (g .initials-are) ∙ column-more (λ (v : Variable). v .initial) (g .done) (variableAt s p) i first d (g .many) j;
   }
 
-pub ended : {s : List ℕ} {n i p : ℕ} {lows highs initials : List ℤ} → Going s n i p lows highs initials → i ≡ n → _≡_ {A = Variables} (record { refusal = 0; count = n; lows = lows; highs = highs; initials = initials }) (variablesOf s)
+pub ended : (ed : Edition) {s : List ℕ} {n i p : ℕ} {lows highs initials : List ℤ} → Going ed s n i p lows highs initials → i ≡ n → _≡_ {A = Variables} (record { refusal = 0; count = n; lows = lows; highs = highs; initials = initials }) (variablesOf ed s)
 unfolding every times
-ended {s} {n} {i} {p} {lows} {highs} {initials} g e =
+ended ed {s} {n} {i} {p} {lows} {highs} {initials} g e =
     let z : n - i ≡ 0 = omega arith in
-    let r : g .rest ≡ [] = sym (given [] (drop p s) (ap (λ m. times m (readVariable edition1) (drop p s)) (sym z) ∙ g .got)) in
+    let r : g .rest ≡ [] = sym (given [] (drop p s) (ap (λ m. times m (readVariable ed) (drop p s)) (sym z) ∙ g .got)) in
     let o : every ordered (g .all) ≡ true = g .so-far ∙ ap (every ordered) r in
     let d : g .done ≡ g .all = sym (append-nil (g .done)) ∙ ap (λ l. g .done ++ l) (sym r) ∙ g .join in
-    answer-is (g .done) n lows highs initials (sym e ∙ sym (g .many)) (g .lows-are) (g .highs-are) (g .initials-are) ∙ ap (answer 0) d ∙ sym (accepted-as s (record { is = g .is; in-order = o }))
+    answer-is (g .done) n lows highs initials (sym e ∙ sym (g .many)) (g .lows-are) (g .highs-are) (g .initials-are) ∙ ap (answer 0) d ∙ sym (accepted-as ed s (record { is = g .is; in-order = o }))

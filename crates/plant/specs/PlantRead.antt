@@ -4,7 +4,7 @@ use mathlib.Core.List.{List}
 use Prim.Native.Nat.{ℕ, _*_}
 use lib.IntN.{pos}
 use lib.ListN.{length, replicate}
-use Rattle.semantics.specs.Editions.{edition1}
+use Rattle.semantics.specs.Editions.{Edition}
 use Rattle.semantics.specs.Refusals.{Judged, refused, accepted}
 use Rattle.semantics.specs.Sections.{Variable, variableLimit, equationLimit, modeLimit}
 use Rattle.semantics.specs.Plant.{Plant, selectors, judgePlant}
@@ -44,5 +44,5 @@ unfoldable pub plantAnswer : Judged Plant → PlantRead
 plantAnswer (refused n) = refusedPlant n
 plantAnswer (accepted p) = acceptedPlant p
 
-unfoldable pub plantOf : List ℕ → List ℕ → PlantRead
-plantOf vs es = plantAnswer (judgePlant edition1 vs es)
+unfoldable pub plantOf : Edition → List ℕ → List ℕ → PlantRead
+plantOf ed vs es = plantAnswer (judgePlant ed vs es)

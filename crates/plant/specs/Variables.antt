@@ -1,11 +1,11 @@
 -- Conditions 4 and 5: the variable section as the code answers it.
 use mathlib.Core.Path.{_≡_}
 use mathlib.Core.List.{List, [], map}
-use mathlib.Core.Option.{none, some}
-use Prim.Native.Nat.{ℕ, _≤_}
-use lib.ListN.{length}
+use mathlib.Core.Option.{none}
+use Prim.Native.Nat.{ℕ, _+_, _*_, _≤_}
+use lib.ListN.{length, getD}
 use lib.IntN.{ℤ, pos}
-use Rattle.semantics.specs.Editions.{edition1}
+use Rattle.semantics.specs.Editions.{Edition}
 use Rattle.semantics.specs.Refusals.{Judged, refused, accepted}
 use Rattle.semantics.specs.Sections.{Variable, variableLimit, variablesIn}
 use Rattle.semantics.specs.Plant.{judgeVariables}
@@ -35,16 +35,17 @@ variablesAnswer (refused n) = refusedBy n
 variablesAnswer (accepted vs) = answer 0 vs
 
 -- 4 and 5
-unfoldable pub variablesOf : List ℕ → Variables
-variablesOf s = variablesAnswer (judgeVariables edition1 s)
+unfoldable pub variablesOf : Edition → List ℕ → Variables
+variablesOf ed s = variablesAnswer (judgeVariables ed s)
 
 -- ---- for the parts of the code
--- the section holds n variables
+-- the section has the bytes of n variables, which are the same in every edition
 pub record VariablesStand (s : List ℕ) (n : ℕ) : Type 0 where
-  pub variables : List Variable
-  pub read : variablesIn edition1 s ≡ some variables
-  pub count : length variables ≡ n
+  pub first : getD s 0 0 ≡ n
+  pub low : 1 ≤ n
+  pub high : n ≤ variableLimit
+  pub size : length s ≡ 1 + 12 * n
 
 pub record Counted (s : List ℕ) (n : ℕ) : Type 0 where
-  pub wrong : n ≡ 0 → variablesIn edition1 s ≡ none
+  pub wrong : n ≡ 0 → (ed : Edition) → variablesIn ed s ≡ none
   pub right : 1 ≤ n → VariablesStand s n

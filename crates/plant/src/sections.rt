@@ -3,6 +3,7 @@ use crate::driven;
 use crate::equations;
 use crate::variables;
 ghost use mathlib.Core.Path.{_≡_};
+ghost use Rattle.semantics.specs.Editions.{Edition};
 ghost use Rattle.plant.specs.PlantRead.{refusedPlant, plantOf};
 
 pub struct PlantRead {
@@ -36,7 +37,7 @@ pub fn refused(n: u8) -> PlantRead
 
 // the first refusal of the two sections; where there is none, what a run and the checks of a schedule's nodes look up in them
 pub fn read(vs: &[u8], es: &[u8]) -> PlantRead
-    ensures { λ r. ⌜ r ≡ plantOf (now (vs .entry)) (now (es .entry)) ⌝ }
+    ensures { λ r. ⌜ ((ed : Edition) → r ≡ plantOf ed (now (vs .entry)) (now (es .entry))) ⌝ }
 {
     let v = variables::read(vs);
     let first = v.refusal;

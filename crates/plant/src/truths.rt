@@ -6,7 +6,7 @@ ghost use mathlib.Core.Option.{some};
 ghost use Prim.Native.Nat.{ℕ, _≤_};
 ghost use lib.ListN.{drop};
 ghost use Rattle.semantics.specs.Bytes.{every, read, times};
-ghost use Rattle.semantics.specs.Editions.{edition1};
+ghost use Rattle.semantics.specs.Editions.{Edition};
 ghost use Rattle.semantics.specs.Sections.{Switch, Mode, Equation, variableLimit, readSwitch, readMode, equationIn, equationsIn};
 ghost use Rattle.semantics.specs.Plant.{switchReads, modeReads, equationReads, equationsRead};
 ghost use Rattle.plant.specs.Sound.{Sound, There};
@@ -14,7 +14,7 @@ ghost use Rattle.plant.specs.Sound.{Sound, There};
 // k switches from a place on
 fn switches(s: &[u8], at: usize, k: usize, variables: usize) -> bool
     requires { ⌜ Sound (times k readSwitch) (now s) at × (variables ≤ variableLimit) ⌝ }
-    ensures { λ r. ⌜ ((ss : List Switch) (e : List ℕ) → times k readSwitch (drop at (now (s .entry))) ≡ read ss e → r ≡ every (switchReads edition1 variables) ss) ⌝ }
+    ensures { λ r. ⌜ ((ed : Edition) (ss : List Switch) (e : List ℕ) → times k readSwitch (drop at (now (s .entry))) ≡ read ss e → r ≡ every (switchReads ed variables) ss) ⌝ }
 {
     let mut p = at;
     let mut i = 0;
@@ -33,7 +33,7 @@ fn switches(s: &[u8], at: usize, k: usize, variables: usize) -> bool
 // n modes of a CASE
 fn modes(s: &[u8], at: usize, n: usize, variables: usize) -> bool
     requires { ⌜ Sound (times n readMode) (now s) at × (variables ≤ variableLimit) ⌝ }
-    ensures { λ r. ⌜ ((ms : List Mode) (e : List ℕ) → times n readMode (drop at (now (s .entry))) ≡ read ms e → r ≡ every (modeReads edition1 variables) ms) ⌝ }
+    ensures { λ r. ⌜ ((ed : Edition) (ms : List Mode) (e : List ℕ) → times n readMode (drop at (now (s .entry))) ≡ read ms e → r ≡ every (modeReads ed variables) ms) ⌝ }
 {
     let mut p = at;
     let mut i = 0;
@@ -52,7 +52,7 @@ fn modes(s: &[u8], at: usize, n: usize, variables: usize) -> bool
 // an equation's bytes
 fn equation(s: &[u8], variables: usize) -> bool
     requires { ⌜ There (equationIn (now s)) × (variables ≤ variableLimit) ⌝ }
-    ensures { λ r. ⌜ ((q : Equation) → equationIn (now (s .entry)) ≡ some q → r ≡ equationReads edition1 variables q) ⌝ }
+    ensures { λ r. ⌜ ((ed : Edition) (q : Equation) → equationIn (now (s .entry)) ≡ some q → r ≡ equationReads ed variables q) ⌝ }
 {
     if s[0] == 1 {
         return true;
@@ -63,7 +63,7 @@ fn equation(s: &[u8], variables: usize) -> bool
 // 12, of the switches of a section that 6 lets pass
 pub fn read(s: &[u8], variables: usize) -> bool
     requires { ⌜ There (equationsIn (now s)) × (variables ≤ variableLimit) ⌝ }
-    ensures { λ r. ⌜ ((es : List Equation) → equationsIn (now (s .entry)) ≡ some es → r ≡ equationsRead edition1 variables es) ⌝ }
+    ensures { λ r. ⌜ ((ed : Edition) (es : List Equation) → equationsIn (now (s .entry)) ≡ some es → r ≡ equationsRead ed variables es) ⌝ }
 {
     let n = s[0] as usize;
     let mut p = 1;

@@ -1,5 +1,8 @@
 // The variable section: its layout (4) and the order of each variable's values (5).
 ghost use mathlib.Core.Path.{_≡_};
+ghost use Prim.Native.Nat.{_≤_};
+ghost use Rattle.semantics.specs.Editions.{Edition};
+ghost use Rattle.semantics.specs.Sections.{variableLimit};
 ghost use Rattle.plant.specs.Variables.{refusedBy, variablesOf, VariablesStand, Counted};
 
 pub struct Variables {
@@ -42,7 +45,7 @@ fn counted(s: &[u8]) -> usize
 // n variables, from place 1 on
 fn values(s: &[u8], n: usize) -> Variables
     requires { ⌜ VariablesStand (now s) n ⌝ }
-    ensures { λ r. ⌜ r ≡ variablesOf (now (s .entry)) ⌝ }
+    ensures { λ r. ⌜ ((ed : Edition) → r ≡ variablesOf ed (now (s .entry))) × (r .count ≤ variableLimit) ⌝ }
 {
     let mut lows = [0i32; paper::VARIABLES];
     let mut highs = [0i32; paper::VARIABLES];
@@ -76,7 +79,7 @@ fn values(s: &[u8], n: usize) -> Variables
 
 // 4 and 5; where neither is refused, each variable's values
 pub fn read(s: &[u8]) -> Variables
-    ensures { λ r. ⌜ r ≡ variablesOf (now (s .entry)) ⌝ }
+    ensures { λ r. ⌜ ((ed : Edition) → r ≡ variablesOf ed (now (s .entry))) × (r .count ≤ variableLimit) ⌝ }
 {
     let n = counted(s);
     if n < 1 {

@@ -9,7 +9,7 @@ use lib.IntN.{ℤ, pos}
 use lib.ListN.{length, getD, getElem?, take, drop, length-append, length-drop, length-map, take-append-drop}
 use lib.Seq.{take-append-le, drop-at}
 use Rattle.semantics.specs.Bytes.{read}
-use Rattle.semantics.specs.Editions.{edition1}
+use Rattle.semantics.specs.Editions.{Edition, edition1}
 use Rattle.semantics.specs.Refusals.{accepted}
 use Rattle.semantics.specs.Sections.{Variable, Mode, Selector}
 use Rattle.semantics.specs.Plant.{Plant, selectors, noMode, ratesOf, judgePlant}
@@ -132,15 +132,17 @@ module _ (f : List ℕ) (small : length f < 2 ^ 64) (a b : ℕ) (vs : List ℕ) 
       once = passed-all vs (between a b f) h .once;
     }
 
-    -- ---- a node, whose operand stands in the section from o to c
-    pub node-lent : (c n : ℕ) {w : Action} → n < 64 → length ks ≡ 64 → length ss ≡ 64 → length es ≡ 64 → o ≤ length f → getD ss n 0 ≤ getD es n 0 → getD es n 0 ≤ length (between o c f)
-        → actionOfKind (actionKind (getD ks n 0)) (partAt (between o c f) ss es n) ≡ some w → operandFits edition1 (length (p .variables)) (selectors p) w ≡ true → NodeLent p w (lent f ix rs) n
-    node-lent c n {w} i kl sl el oi low high is fits =
-        let s : getD (startRow ix) n 0 ≡ getD ss n 0 + o = filled .starts n (omega arith) ∙ end-there f small o c oi (getD ss n 0) (omega arith) in
-        let t : getD (endRow ix) n 0 ≡ getD es n 0 + o = filled .ends n (omega arith) ∙ end-there f small o c oi (getD es n 0) high in
-        record {
-          below = i;
-          cut = record { low = omega arith; high = omega (arith, end-below f small o c oi (getD es n 0) high) };
-          is = rw (filled .kinds n (omega arith), s, t, ← part-there f o c (getD ss n 0) (getD es n 0) low high) is;
-          fits = fits;
-        }
+-- ---- a node, whose operand stands in the section from o to c
+module _ (ed : Edition) (f : List ℕ) (small : length f < 2 ^ 64) {x : PlantRead} {ks ss es : List ℕ} {a o : ℕ} {ix : List ℕ} (filled : Filled x ks ss es a o ix) {rs : List ℤ} {p : Plant} where
+  pub node-lent : (c n : ℕ) {w : Action} → n < ed .nodes → length ks ≡ 256 → length ss ≡ 256 → length es ≡ 256 → o ≤ length f → getD ss n 0 ≤ getD es n 0 → getD es n 0 ≤ length (between o c f)
+      → actionOfKind (actionKind (getD ks n 0)) (partAt (between o c f) ss es n) ≡ some w → operandFits ed (length (p .variables)) (selectors p) w ≡ true → NodeLent ed p w (lent f ix rs) n
+  node-lent c n {w} i kl sl el oi low high is fits =
+      let j : n < 256 = omega (arith, ed .entries-fit) in
+      let s : getD (startRow ix) n 0 ≡ getD ss n 0 + o = filled .starts n (omega arith) ∙ end-there f small o c oi (getD ss n 0) (omega arith) in
+      let t : getD (endRow ix) n 0 ≡ getD es n 0 + o = filled .ends n (omega arith) ∙ end-there f small o c oi (getD es n 0) high in
+      record {
+        below = i;
+        cut = record { low = omega arith; high = omega (arith, end-below f small o c oi (getD es n 0) high) };
+        is = rw (filled .kinds n (omega arith), s, t, ← part-there f o c (getD ss n 0) (getD es n 0) low high) is;
+        fits = fits;
+      }

@@ -7,7 +7,7 @@ use native.Mathlib.Omega.{arith}
 use lib.ListN.{length, take, drop, length-drop, take-append-drop}
 use lib.Seq.{take-append-le, drop-append-le, drop-drop}
 use Rattle.semantics.specs.Bytes.{Reader, read, andThen, _>>=_, give, guard, byte, nat2, nat4, int4, number, Width, one-byte, two-bytes, bytes, times}
-use Rattle.semantics.specs.Editions.{edition1}
+use Rattle.semantics.specs.Editions.{Edition}
 use Rattle.semantics.specs.Sections.{readRate, readSwitch, readMode}
 use Rattle.semantics.specs.TableFile.{readEntry, readLocation}
 use Rattle.semantics.proofs.Readers.{split, given, given-rest, guarded, byte-read, bytes-read, reads-bytes}
@@ -72,11 +72,11 @@ more-mode = more-then more-byte (λ n. more-then (more-times n rate) (λ rs. mor
     switch : More readSwitch
     switch = more-then more-byte (λ l. more-guard _ (more-then more-byte (λ m. more-then (more-bytes _) (λ t. more-give _))))
 
-pub more-location : More (readLocation edition1)
+pub more-location : (ed : Edition) → More (readLocation ed)
 unfolding readLocation readEntry
-more-location = more-then more-byte (λ n. more-guard _ (more-times n entry))
+more-location ed = more-then more-byte (λ n. more-guard _ (more-times n entry))
   where
-    entry : More (readEntry edition1)
+    entry : More (readEntry ed)
     entry = more-then (more-number _) (λ n. more-then more-nat2 (λ t. more-then more-nat2 (λ u. more-give _)))
 
 -- ---- a section of the file, from a to b

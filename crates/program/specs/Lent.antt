@@ -7,7 +7,7 @@ use Prim.Native.Nat.{ℕ, _+_, _*_, _≤_, _<_}
 use lib.IntN.{ℤ}
 use lib.ListN.{length, getD, getElem?, take, drop}
 use Rattle.semantics.specs.Bytes.{read}
-use Rattle.semantics.specs.Editions.{edition1}
+use Rattle.semantics.specs.Editions.{Edition}
 use Rattle.semantics.specs.Sections.{Variable, Rate, Mode, Selector, variableLimit, modeLimit, readMode}
 use Rattle.semantics.specs.Plant.{Plant, equationsNamed, drivenOnce, selectors, noMode, ratesOf}
 use Rattle.semantics.specs.Run.{Action}
@@ -85,8 +85,8 @@ pub record PlantLent (p : Plant) (l : Lent) : Type 0 where
 abbrev pub operandAt : Lent → ℕ → List ℕ
 operandAt l n = partAt (l .bytes) (l .starts) (l .ends) n
 
-pub record NodeLent (p : Plant) (a : Action) (l : Lent) (n : ℕ) : Type 0 where
-  pub below : n < 64
+pub record NodeLent (ed : Edition) (p : Plant) (a : Action) (l : Lent) (n : ℕ) : Type 0 where
+  pub below : n < ed .nodes
   pub cut : Cut (l .bytes) (l .starts) (l .ends) n
   pub is : actionOfKind (actionKind (getD (l .kinds) n 0)) (operandAt l n) ≡ some a
-  pub fits : operandFits edition1 (length (p .variables)) (selectors p) a ≡ true
+  pub fits : operandFits ed (length (p .variables)) (selectors p) a ≡ true

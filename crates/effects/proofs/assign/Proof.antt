@@ -4,7 +4,7 @@ use mathlib.Core.List.{List}
 use mathlib.Core.Option.{some}
 use Prim.Native.Nat.{ℕ}
 use lib.ListN.{length}
-use Rattle.semantics.specs.Editions.{edition1}
+use Rattle.semantics.specs.Editions.{Edition}
 use Rattle.semantics.specs.Expressions.{numberIn}
 use Rattle.semantics.specs.Run.{assign}
 use Rattle.semantics.specs.TableFile.{an-assignment, actionOfKind}
@@ -52,35 +52,35 @@ same-length : tie.Need-same-length
 same-length c = search needs
 
 -- what was asked is the number of the operand
-asked : (c : tie.After-number-value) {v : ℕ} {e : List ℕ} → actionOfKind an-assignment (c .before .before .before .before .before .args .t .now) ≡ some (assign v e)
-    → c .number-value .result ≡ numberAnswer (c .before .before .before .before .before .args .values .now) (numberIn edition1 (length (c .before .before .before .before .before .args .values .now)) e)
-asked c h = let a = c .before .before .before .before .before .args in
+asked : (ed : Edition) (c : tie.After-number-value) {v : ℕ} {e : List ℕ} → actionOfKind an-assignment (c .before .before .before .before .before .args .t .now) ≡ some (assign v e)
+    → c .number-value .result ≡ numberAnswer (c .before .before .before .before .before .args .values .now) (numberIn ed (length (c .before .before .before .before .before .args .values .now)) e)
+asked ed c h = let a = c .before .before .before .before .before .args in
     let vs = a .values .now in
-    c .number-value .ensures .is ∙ ap (λ l. numberAnswer vs (numberIn edition1 (length vs) l)) (operand-is (a .t .now) h .1)
+    c .number-value .ensures ed .is ∙ ap (λ l. numberAnswer vs (numberIn ed (length vs) l)) (operand-is (a .t .now) h .1)
 
 returns : tie.Need-returns
 returns c = let n = c .before .before .before .before .before .before in
     let F = c .before .before .before .before .z .given in
     let z = F .0 .0 in
-    record { gives = λ v e h. assigned-number _ _ _ _ e _ (asked n h) z _ _ (F .1) (stored-as _ _ _ (operand-is (n .before .before .before .before .before .args .t .now) h .0) (held z (c .before .before .before .known-told .given .0 .1)) (c .before .store .ensures)) }
+    record { gives = λ ed v e h. assigned-number _ _ _ _ ed e _ (asked ed n h) z _ _ (F .1) (stored-as _ _ _ (operand-is (n .before .before .before .before .before .args .t .now) h .0) (held z (c .before .before .before .known-told .given .0 .1)) (c .before .store .ensures)) }
 
 same-length-2 : tie.Need-same-length-2
 same-length-2 c = search needs
 
 returns-2 : tie.Need-returns-2
-returns-2 c = record { gives = λ v e h. assigned-above _ _ _ _ e _ (asked (c .before .before) h) (c .enum-told .given .1) }
+returns-2 c = record { gives = λ ed v e h. assigned-above _ _ _ _ ed e _ (asked ed (c .before .before) h) (c .enum-told .given .1) }
 
 same-length-3 : tie.Need-same-length-3
 same-length-3 c = search needs
 
 returns-3 : tie.Need-returns-3
-returns-3 c = record { gives = λ v e h. assigned-below _ _ _ _ e _ (asked (c .before .before) h) (c .enum-told2 .given .1) }
+returns-3 c = record { gives = λ ed v e h. assigned-below _ _ _ _ ed e _ (asked ed (c .before .before) h) (c .enum-told2 .given .1) }
 
 same-length-4 : tie.Need-same-length-4
 same-length-4 c = search needs
 
 returns-4 : tie.Need-returns-4
-returns-4 c = record { gives = λ v e h. assigned-malformed _ _ _ _ e _ (asked (c .before .before) h) (c .enum-told3 .given .1) }
+returns-4 c = record { gives = λ ed v e h. assigned-malformed _ _ _ _ ed e _ (asked ed (c .before .before) h) (c .enum-told3 .given .1) }
 
 pub assign-spec : {M : Type 1} → statement M
 assign-spec =

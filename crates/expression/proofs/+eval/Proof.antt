@@ -60,33 +60,33 @@ calls t = (
 )
 
 eval-returns : (t : ℕ) → eval-lts.Need-returns (calls t) (eval-at t) eval.Post
-eval-returns t c =
+eval-returns t c ed =
     let a = c .before .before .args in
-    found-says (no-depth (a .vars .now) (a .s .now) (a .at) (a .depth) (c .if1 .taken))
+    found-says (no-depth ed (a .vars .now) (a .s .now) (a .at) (a .depth) (c .if1 .taken))
 
 eval-returns-2 : (t : ℕ) → eval-lts.Need-returns-2 (calls t) (eval-at t) eval.Post
-eval-returns-2 t c =
+eval-returns-2 t c ed =
     let a = c .before .before .before .args in
-    found-says (past (a .vars .now) (a .s .now) (a .at) (a .depth) (c .before .if1 .left) (c .if2 .taken))
+    found-says (past ed (a .vars .now) (a .s .now) (a .at) (a .depth) (c .before .if1 .left) (c .if2 .taken))
 
 eval-returns-3 : (t : ℕ) → eval-lts.Need-returns-3 (calls t) (eval-at t) eval.Post
-eval-returns-3 t c =
+eval-returns-3 t c ed =
     let c7 = c .before .before .before .before .before .before .before in
     let a = c7 .before .args in
     let f = form-told (c .before .before .before .form-of .ensures) (c .before .enum-told .given .1) in
-    found-says (c .constant .ensures (a .vars .now)
-    ∙ step-constant (a .vars .now) (a .s .now) (a .at) (a .depth) (c .before .before .before .before .before .before .if1 .left) (c .before .before .before .before .before .if2 .left) f)
+    found-says (c .constant .ensures ed (a .vars .now)
+    ∙ step-constant ed (a .vars .now) (a .s .now) (a .at) (a .depth) (c .before .before .before .before .before .before .if1 .left) (c .before .before .before .before .before .if2 .left) f)
 
 eval-returns-4 : (t : ℕ) → eval-lts.Need-returns-4 (calls t) (eval-at t) eval.Post
-eval-returns-4 t c =
+eval-returns-4 t c ed =
     let c7 = c .before .before .before .before .before .before .before in
     let a = c7 .before .args in
     let f = form-told (c .before .before .before .form-of .ensures) (c .before .enum-told2 .given .1) in
-    found-says (c .variable .ensures
-    ∙ step-variable (a .vars .now) (a .s .now) (a .at) (a .depth) (c .before .before .before .before .before .before .if1 .left) (c .before .before .before .before .before .if2 .left) f)
+    found-says (c .variable .ensures ed
+    ∙ step-variable ed (a .vars .now) (a .s .now) (a .at) (a .depth) (c .before .before .before .before .before .before .if1 .left) (c .before .before .before .before .before .if2 .left) f)
 
 eval-returns-5 : (t : ℕ) → eval-lts.Need-returns-5 (calls t) (eval-at t) eval.Post
-eval-returns-5 t c =
+eval-returns-5 t c ed =
     let c7 = c .before .before .before .before .before .before .before in
     let a = c7 .before .before .before .before .before .args in
     let O = c .before .before .before .before .before .o .given in
@@ -94,20 +94,20 @@ eval-returns-5 t c =
     let l = c .before .before .before .eval in
     let n = c .before .before .next-of in
     let r = c .before .eval2 in
-    found-says (step-operation (a .vars .now) (a .s .now) (a .at) (a .depth) (c7 .before .before .before .if1 .left) (c7 .before .before .if2 .left) (c .operate .result)
-    (l .result) (l .ensures .is) (n .result) (r .result) (n .ensures) (r .ensures .is) (operationIs (O .0 .0)) f (c .operate .ensures))
+    found-says (step-operation ed (a .vars .now) (a .s .now) (a .at) (a .depth) (c7 .before .before .before .if1 .left) (c7 .before .before .if2 .left) (c .operate .result)
+    (l .result) (l .ensures ed .is) (n .result) (r .result) (n .ensures) (r .ensures ed .is) (operationIs (O .0 .0)) f (c .operate .ensures))
 
 eval-returns-6 : (t : ℕ) → eval-lts.Need-returns-6 (calls t) (eval-at t) eval.Post
-eval-returns-6 t c =
+eval-returns-6 t c ed =
     let c7 = c .before .before .before .before .before .before .before in
     let a = c7 .before .before .args in
     let f = form-told (c .before .before .before .before .form-of .ensures) (c .before .before .enum-told3 .given .1) in
     let l = c .before .eval3 in
-    found-says (step-negation (a .vars .now) (a .s .now) (a .at) (a .depth) (c .before .before .before .before .before .before .before .if1 .left)
-    (c .before .before .before .before .before .before .if2 .left) (c .negate .result) (l .result) (l .ensures .is) f (c .negate .ensures))
+    found-says (step-negation ed (a .vars .now) (a .s .now) (a .at) (a .depth) (c .before .before .before .before .before .before .before .if1 .left)
+    (c .before .before .before .before .before .before .if2 .left) (c .negate .result) (l .result) (l .ensures ed .is) f (c .negate .ensures))
 
 eval-returns-7 : (t : ℕ) → eval-lts.Need-returns-7 (calls t) (eval-at t) eval.Post
-eval-returns-7 t c =
+eval-returns-7 t c ed =
     let c7 = c .before .before .before .before .before .before .before in
     let a = c7 .before .before .before .before .before .args in
     let O = c .before .before .before .before .before .o2 .given in
@@ -115,11 +115,11 @@ eval-returns-7 t c =
     let l = c .before .before .before .eval4 in
     let n = c .before .before .next-of2 in
     let r = c .before .eval5 in
-    found-says (step-comparison (a .vars .now) (a .s .now) (a .at) (a .depth) (c7 .before .before .before .if1 .left) (c7 .before .before .if2 .left) (c .relate .result)
-    (l .result) (l .ensures .is) (n .result) (r .result) (n .ensures) (r .ensures .is) (comparisonIs (O .0 .0)) f (c .relate .ensures))
+    found-says (step-comparison ed (a .vars .now) (a .s .now) (a .at) (a .depth) (c7 .before .before .before .if1 .left) (c7 .before .before .if2 .left) (c .relate .result)
+    (l .result) (l .ensures ed .is) (n .result) (r .result) (n .ensures) (r .ensures ed .is) (comparisonIs (O .0 .0)) f (c .relate .ensures))
 
 eval-returns-8 : (t : ℕ) → eval-lts.Need-returns-8 (calls t) (eval-at t) eval.Post
-eval-returns-8 t c =
+eval-returns-8 t c ed =
     let c7 = c .before .before .before .before .before .before .before in
     let a = c7 .before .before .before .before .before .args in
     let O = c .before .before .before .before .before .o3 .given in
@@ -127,28 +127,28 @@ eval-returns-8 t c =
     let l = c .before .before .before .eval6 in
     let n = c .before .before .next-of3 in
     let r = c .before .eval7 in
-    found-says (step-connective (a .vars .now) (a .s .now) (a .at) (a .depth) (c7 .before .before .before .if1 .left) (c7 .before .before .if2 .left) (c .join .result)
-    (l .result) (l .ensures .is) (n .result) (r .result) (n .ensures) (r .ensures .is) (connectiveIs (O .0 .0)) f (c .join .ensures))
+    found-says (step-connective ed (a .vars .now) (a .s .now) (a .at) (a .depth) (c7 .before .before .before .if1 .left) (c7 .before .before .if2 .left) (c .join .result)
+    (l .result) (l .ensures ed .is) (n .result) (r .result) (n .ensures) (r .ensures ed .is) (connectiveIs (O .0 .0)) f (c .join .ensures))
 
 eval-returns-9 : (t : ℕ) → eval-lts.Need-returns-9 (calls t) (eval-at t) eval.Post
-eval-returns-9 t c =
+eval-returns-9 t c ed =
     let c7 = c .before .before .before .before .before .before .before in
     let a = c7 .before .before .args in
     let f = form-told (c .before .before .before .before .form-of .ensures) (c .before .before .enum-told4 .given .1) in
     let l = c .before .eval8 in
-    found-says (step-opposite (a .vars .now) (a .s .now) (a .at) (a .depth) (c .before .before .before .before .before .before .before .if1 .left)
-    (c .before .before .before .before .before .before .if2 .left) (c .oppose .result) (l .result) (l .ensures .is) f (c .oppose .ensures))
+    found-says (step-opposite ed (a .vars .now) (a .s .now) (a .at) (a .depth) (c .before .before .before .before .before .before .before .if1 .left)
+    (c .before .before .before .before .before .before .if2 .left) (c .oppose .result) (l .result) (l .ensures ed .is) f (c .oppose .ensures))
 
 eval-returns-10 : (t : ℕ) → eval-lts.Need-returns-10 (calls t) (eval-at t) eval.Post
-eval-returns-10 t c =
+eval-returns-10 t c ed =
     let a = c .before .before .before .before .before .before .before .args in
-    found-says (step-true (a .vars .now) (a .s .now) (a .at) (a .depth) (c .before .before .before .before .before .if1 .left) (c .before .before .before .before .if2 .left)
+    found-says (step-true ed (a .vars .now) (a .s .now) (a .at) (a .depth) (c .before .before .before .before .before .if1 .left) (c .before .before .before .before .if2 .left)
     (form-told (c .before .before .form-of .ensures) (c .enum-told5 .given .1)))
 
 eval-returns-11 : (t : ℕ) → eval-lts.Need-returns-11 (calls t) (eval-at t) eval.Post
-eval-returns-11 t c =
+eval-returns-11 t c ed =
     let a = c .before .before .before .before .before .before .before .args in
-    found-says (step-unknown (a .vars .now) (a .s .now) (a .at) (a .depth) (c .before .before .before .before .before .if1 .left) (c .before .before .before .before .if2 .left)
+    found-says (step-unknown ed (a .vars .now) (a .s .now) (a .at) (a .depth) (c .before .before .before .before .before .if1 .left) (c .before .before .before .before .if2 .left)
     (form-told (c .before .before .form-of .ensures) (c .enum-told6 .given .1)))
 
 pub +eval-spec : {M : Type 1} → statement M

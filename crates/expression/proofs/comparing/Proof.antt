@@ -15,7 +15,7 @@ use Rattle.expression.proofs.comparing.Statement.{statement}
 use Rattle.expression.proofs.comparing.Tie as tie
 
 returns-6 : tie.Need-returns-6
-returns-6 c =
+returns-6 c ed h =
     let c7 = c .before .before .before .before .before .before .before in
     let c14 = c7 .before .before .before .before .before .before .before in
     let s = c14 .before .before .before .before .args in
@@ -26,14 +26,13 @@ returns-6 c =
     let y = toZ-ofZ w32 (D .0 .0) (record { sfits = c .before .before .before .known-told3 .given .0 .1 }) in
     let t = c .before .compare .ensures ∙ ap₂ (compared (comparisonIs (O .0 .0))) x y in
     let f = form-told (c14 .form-of .ensures) (O .1) in
-    λ h.
     c .plain-truth .ensures ∙ ap (λ (b : Bool). truthOf (ok b)) t
-    ∙ truth-whole (s .vars .now) (s .s .now) _ (D .0 .1 .0) (c .before .before .if2 .left)
-    (two-related (s .vars .now) (s .s .now) (omega (arith, c14 .before .before .if1 .left))
+    ∙ truth-whole ed (s .vars .now) (s .s .now) _ (D .0 .1 .0) (c .before .before .if2 .left)
+    (two-related ed (s .vars .now) (s .s .now) (omega (arith, c14 .before .before .if1 .left))
     (c7 .before .before .before .leaf .ensures) (A .1) (c .before .before .before .before .before .before .leaf2 .ensures) (D .1) (comparisonIs (O .0 .0)) f)
 
 pub comparing-spec : {M : Type 1} → statement M
 comparing-spec =
     tie.close
-    (tie.spec (λ c h. absurd (h refl)) (λ c. search needs) (λ c κs. search needs) (λ c. search needs) (λ c h. absurd (h refl)) (λ c κs. search needs) (λ c. search needs)
-    (λ c h. absurd (h refl)) (λ c κs. search needs) (λ c. search needs) (λ c h. absurd (h refl)) (λ c h. absurd (h refl)) (λ c κs. search needs) (λ c κs. search needs) returns-6)
+    (tie.spec (λ c ed h. absurd (h refl)) (λ c. search needs) (λ c κs. search needs) (λ c. search needs) (λ c ed h. absurd (h refl)) (λ c κs. search needs) (λ c. search needs)
+    (λ c ed h. absurd (h refl)) (λ c κs. search needs) (λ c. search needs) (λ c ed h. absurd (h refl)) (λ c ed h. absurd (h refl)) (λ c κs. search needs) (λ c κs. search needs) returns-6)

@@ -10,16 +10,16 @@ returns-2 : tie.Need-returns-2
 returns-2 c =
     let a = c .before .before .before .before .before .before .before .args in
     let f = form-told (c .before .before .before .form-of .ensures) (c .before .enum-told .given .1) in
-    record { is = λ d deep h. c .constant .ensures (a .vars .now) ∙ step-constant (a .vars .now) (a .s .now) (a .at) d deep (c .before .before .before .before .before .if1 .left) f }
+    record { is = λ ed d deep h. c .constant .ensures ed (a .vars .now) ∙ step-constant ed (a .vars .now) (a .s .now) (a .at) d deep (c .before .before .before .before .before .if1 .left) f }
 
 returns-3 : tie.Need-returns-3
 returns-3 c =
     let a = c .before .before .before .before .before .before .before .args in
     let f = form-told (c .before .before .before .form-of .ensures) (c .before .enum-told2 .given .1) in
-    record { is = λ d deep h. c .variable .ensures ∙ step-variable (a .vars .now) (a .s .now) (a .at) d deep (c .before .before .before .before .before .if1 .left) f }
+    record { is = λ ed d deep h. c .variable .ensures ed ∙ step-variable ed (a .vars .now) (a .s .now) (a .at) d deep (c .before .before .before .before .before .if1 .left) f }
 
 pub leaf-spec : {M : Type 1} → statement M
 leaf-spec =
     tie.close
-    (tie.spec (λ c. record { is = λ d deep h. absurd (h refl) }) (λ c. search needs) (λ c κs. search needs) (λ c. search needs) (λ c. search needs) (λ c κs. search needs)
-    (λ c. search needs) (λ c. search needs) (λ c κs. search needs) returns-2 returns-3 (λ c. record { is = λ d deep h. absurd (h refl) }))
+    (tie.spec (λ c. record { is = λ ed d deep h. absurd (h refl) }) (λ c. search needs) (λ c κs. search needs) (λ c. search needs) (λ c. search needs) (λ c κs. search needs)
+    (λ c. search needs) (λ c. search needs) (λ c κs. search needs) returns-2 returns-3 (λ c. record { is = λ ed d deep h. absurd (h refl) }))

@@ -27,15 +27,15 @@ enum-told c = search needs
 
 returns : tie.Need-returns
 unfolding isSome
-returns c =
+returns c ed =
     let s = c .before .before .before .before .before in
-    number-decides (take (s .args .variables) zeros) (s .args .s .now) (c .before .before .number-value .ensures .is) (length-take-le (s .args .variables) zeros (s .pre)) (ap (λ a. isSome (numberTold a)) (c .enum-told .given .1))
+    number-decides ed (take (s .args .variables) zeros) (s .args .s .now) (c .before .before .number-value .ensures ed .is) (length-take-le (s .args .variables) zeros (s .pre)) (ap (λ a. isSome (numberTold a)) (c .enum-told .given .1))
 
 returns-2 : tie.Need-returns-2
-returns-2 c =
+returns-2 c ed =
     let s = c .before .before .before .before in
     let v = c .before .number-value in
-    number-decides (take (s .args .variables) zeros) (s .args .s .now) (v .ensures .is) (length-take-le (s .args .variables) zeros (s .pre)) (number-tells (v .result) (c .match .keys2))
+    number-decides ed (take (s .args .variables) zeros) (s .args .s .now) (v .ensures ed .is) (length-take-le (s .args .variables) zeros (s .pre)) (number-tells (v .result) (c .match .keys2))
 
 pub number-reads-spec : {M : Type 1} → statement M
 number-reads-spec =

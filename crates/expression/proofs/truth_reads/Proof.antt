@@ -27,15 +27,15 @@ enum-told c = search needs
 
 returns : tie.Need-returns
 unfolding isSome
-returns c =
+returns c ed =
     let s = c .before .before .before .before .before in
-    truth-decides (take (s .args .variables) zeros) (s .args .s .now) (c .before .before .truth-value .ensures .is) (length-take-le (s .args .variables) zeros (s .pre)) (ap (λ a. isSome (truthTold a)) (c .enum-told .given .1))
+    truth-decides ed (take (s .args .variables) zeros) (s .args .s .now) (c .before .before .truth-value .ensures ed .is) (length-take-le (s .args .variables) zeros (s .pre)) (ap (λ a. isSome (truthTold a)) (c .enum-told .given .1))
 
 returns-2 : tie.Need-returns-2
-returns-2 c =
+returns-2 c ed =
     let s = c .before .before .before .before in
     let v = c .before .truth-value in
-    truth-decides (take (s .args .variables) zeros) (s .args .s .now) (v .ensures .is) (length-take-le (s .args .variables) zeros (s .pre)) (truth-tells (v .result) (c .match .keys2))
+    truth-decides ed (take (s .args .variables) zeros) (s .args .s .now) (v .ensures ed .is) (length-take-le (s .args .variables) zeros (s .pre)) (truth-tells (v .result) (c .match .keys2))
 
 pub truth-reads-spec : {M : Type 1} → statement M
 truth-reads-spec =

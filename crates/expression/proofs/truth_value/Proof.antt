@@ -18,10 +18,10 @@ no-comparison-requires : tie.Need-no-comparison-requires
 no-comparison-requires c κs = search needs
 
 returns : tie.Need-returns
-returns c = truth-says (sym (c .enum-told .given .1) ∙ c .before .before .comparing .ensures (yes-said (c .enum-told .given .1)))
+returns c ed = truth-says (sym (c .enum-told .given .1) ∙ c .before .before .comparing .ensures ed (yes-said (c .enum-told .given .1)))
 
 returns-2 : tie.Need-returns-2
-returns-2 c = truth-says (sym (c .enum-told2 .given .1) ∙ c .before .before .comparing .ensures (no-said (c .enum-told2 .given .1)))
+returns-2 c ed = truth-says (sym (c .enum-told2 .given .1) ∙ c .before .before .comparing .ensures ed (no-said (c .enum-told2 .given .1)))
 
 returns-3 : tie.Need-returns-3
 returns-3 c = search needs

@@ -15,7 +15,7 @@ use Rattle.expression.proofs.variable.Statement.{statement}
 use Rattle.expression.proofs.variable.Tie as tie
 
 returns : tie.Need-returns
-returns c = let a = c .before .args in variable-cut (a .vars .now) (a .s .now) (a .at) (c .if1 .taken)
+returns c ed = let a = c .before .args in variable-cut ed (a .vars .now) (a .s .now) (a .at) (c .if1 .taken)
 
 shared-slice-read-i : tie.Need-shared-slice-read-i
 shared-slice-read-i c = search needs
@@ -24,7 +24,7 @@ cast-i : tie.Need-cast-i
 cast-i c = omega (arith, c .shared-slice-known .given (c .before .before .args .at))
 
 returns-2 : tie.Need-returns-2
-returns-2 c = let a = c .before .before .before .args in variable-missing (a .vars .now) (a .s .now) (a .at) (c .before .before .if1 .left) (c .if2 .taken)
+returns-2 c ed = let a = c .before .before .before .args in variable-missing ed (a .vars .now) (a .s .now) (a .at) (c .before .before .if1 .left) (c .if2 .taken)
 
 mul-t5 : tie.Need-mul-t5
 mul-t5 c = search needs
@@ -36,12 +36,12 @@ add-t11 : tie.Need-add-t11
 add-t11 c = search needs
 
 returns-3 : tie.Need-returns-3
-returns-3 c =
+returns-3 c ed =
     let a = c .before .before .before .before .args in
     let x = getD (a .vars .now) (getD (a .s .now) (a .at) 0) (pos 0) in
     ap (λ (z : ℤ). ANumber z (a .at + 1)) (toZ-ofZ w32 x (record { sfits = c .t10 .given }))
     ∙ sym (ap (numberAt (a .at + 1)) (result-fits x (record { sfits = c .t10 .given })))
-    ∙ variable-there (a .vars .now) (a .s .now) (a .at) (c .before .before .before .if1 .left) (c .before .if2 .left)
+    ∙ variable-there ed (a .vars .now) (a .s .now) (a .at) (c .before .before .before .if1 .left) (c .before .if2 .left)
 
 pub variable-spec : {M : Type 1} → statement M
 variable-spec =

@@ -38,7 +38,7 @@ goes-on-requires : tie.Need-goes-on-requires Inv-loop μ-loop
 goes-on-requires c κs = search needs
 
 returns : tie.Need-returns Inv-loop μ-loop
-returns c = let l = c .before .before .before in walk-stops (l .before .loop .inv) (l .loop-test .taken) (c .before .before .truth .ensures) (sym (c .before .goes-on .ensures) ∙ not-true _ (c .if1 .taken)) ∙ ap stepVerdict (check-one _ _)
+returns c ed = let l = c .before .before .before in walk-stops (l .before .loop .inv) (l .loop-test .taken) (c .before .before .truth .ensures) ed (sym (c .before .goes-on .ensures) ∙ not-true _ (c .if1 .taken)) ∙ ap stepVerdict (check-one ed _ _)
 
 add-p-2 : tie.Need-add-p-2 Inv-loop μ-loop
 add-p-2 c = let x = switch-bytes (walk-here (c .before .before .before .before .loop .inv) (c .before .before .before .loop-test .taken) .stands) in omega (arith, x .long, x .inside)
@@ -62,7 +62,7 @@ loop-again : tie.Need-loop-again Inv-loop μ-loop
 loop-again c = let l = c .before .before .before .before in walk-next (l .before .loop .inv) (l .loop-test .taken) (c .before .before .before .truth .ensures) (sym (c .before .before .goes-on .ensures) ∙ not-false _ (c .before .if1 .left))
 
 returns-2 : tie.Need-returns-2 Inv-loop μ-loop
-returns-2 c = walk-end (c .before .loop .inv) (omega arith) ∙ ap stepVerdict (check-one _ _)
+returns-2 c ed = walk-end (c .before .loop .inv) ed (omega arith) ∙ ap stepVerdict (check-one ed _ _)
 
 pub mode-check-spec : {M : Type 1} → statement M
 mode-check-spec =

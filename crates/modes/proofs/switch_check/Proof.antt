@@ -4,6 +4,7 @@ use Prim.Native.Nat.{_-_, _≤_}
 use native.Mathlib.Omega.{arith}
 use lib.ListN.{length}
 use borrow.Author.Tests.{not-true, not-false}
+use Rattle.semantics.specs.Editions.{Edition}
 use Rattle.effects.specs.Verdicts.{stepVerdict}
 use Rattle.modes.proofs.Walks.{stands-at, checkFrom, check-stops, check-next, check-end}
 use borrow.Author.Needs.{needs}
@@ -11,13 +12,13 @@ use Rattle.modes.proofs.switch_check.Statement.{statement}
 use Rattle.modes.proofs.switch_check.Tie as tie
 
 abbrev Inv-loop : tie.InvT-loop
-Inv-loop es places values modes j₀ j = (j ≤ length modes) × (checkFrom values es places modes 0 ≡ checkFrom values es places modes j)
+Inv-loop es places values modes j₀ j = (j ≤ length modes) × ((ed : Edition) → checkFrom ed values es places modes 0 ≡ checkFrom ed values es places modes j)
 
 abbrev μ-loop : tie.MeasureT-loop
 μ-loop es places values modes j₀ j = length modes - j
 
 loop-holds : tie.Need-loop-holds Inv-loop μ-loop
-loop-holds c = (omega arith, refl)
+loop-holds c = (omega arith, λ ed. refl)
 
 place-requires : tie.Need-place-requires Inv-loop μ-loop
 place-requires c κs = (c .loop-test .taken, c .before .before .before .before .pre .row (c .before .loop .j) (c .loop-test .taken))
@@ -29,7 +30,7 @@ goes-on-requires : tie.Need-goes-on-requires Inv-loop μ-loop
 goes-on-requires c κs = search needs
 
 returns : tie.Need-returns Inv-loop μ-loop
-returns c = let m = c .before .before in let l = m .before .before .before in check-stops _ _ _ _ (l .loop .j) (m .before .before .loop-test .taken) (m .before .place .ensures) (m .mode-check .ensures) (sym (c .before .goes-on .ensures) ∙ not-true _ (c .if1 .taken)) ∙ sym (ap stepVerdict (l .loop .inv .1))
+returns c ed = let m = c .before .before in let l = m .before .before .before in check-stops ed _ _ _ _ (l .loop .j) (m .before .before .loop-test .taken) (m .before .place .ensures) (m .mode-check .ensures ed) (sym (c .before .goes-on .ensures) ∙ not-true _ (c .if1 .taken)) ∙ sym (ap stepVerdict (l .loop .inv .1 ed))
 
 add-j : tie.Need-add-j Inv-loop μ-loop
 add-j c = omega arith
@@ -38,10 +39,10 @@ loop-less : tie.Need-loop-less Inv-loop μ-loop
 loop-less c = omega arith
 
 loop-again : tie.Need-loop-again Inv-loop μ-loop
-loop-again c = let m = c .before .before in let l = m .before .before .before in (omega arith, l .loop .inv .1 ∙ check-next _ _ _ _ (l .loop .j) (m .before .before .loop-test .taken) (m .before .place .ensures) (m .mode-check .ensures) (sym (c .before .goes-on .ensures) ∙ not-false _ (c .if1 .left)))
+loop-again c = let m = c .before .before in let l = m .before .before .before in (omega arith, λ ed. l .loop .inv .1 ed ∙ check-next ed _ _ _ _ (l .loop .j) (m .before .before .loop-test .taken) (m .before .place .ensures) (m .mode-check .ensures ed) (sym (c .before .goes-on .ensures) ∙ not-false _ (c .if1 .left)))
 
 returns-2 : tie.Need-returns-2 Inv-loop μ-loop
-returns-2 c = check-end _ _ _ _ (c .before .loop .j) (c .loop-test .left) ∙ sym (ap stepVerdict (c .before .loop .inv .1))
+returns-2 c ed = check-end ed _ _ _ _ (c .before .loop .j) (c .loop-test .left) ∙ sym (ap stepVerdict (c .before .loop .inv .1 ed))
 
 pub switch-check-spec : {M : Type 1} → statement M
 switch-check-spec =

@@ -32,7 +32,7 @@ here : (c : tie.After-switch-at) → let p = c .before .before .before .before i
 here c = c .switch-at .ensures (there c .0) (there c .1)
 
 returns : tie.Need-returns
-returns c = let a = c .before .before .before .args in record { leaves = no-selector-left _ _ _ _ _ (no-mode (a .es .now) (a .places .now) (a .modes .now) (a .s) (c .if1 .taken)) }
+returns c = let a = c .before .before .before .args in record { leaves = λ ed. no-selector-left ed _ _ _ _ _ (no-mode (a .es .now) (a .places .now) (a .modes .now) (a .s) (c .if1 .taken)) }
 
 place-requires : tie.Need-place-requires
 place-requires c κs = let s = c .before .before .before .before in (c .before .if1 .left, s .pre .row (s .args .s) (c .before .if1 .left))
@@ -50,7 +50,7 @@ same-length : tie.Need-same-length
 same-length c = search needs
 
 returns-2 : tie.Need-returns-2
-returns-2 c = let p = c .before .before .before in record { leaves = no-switch-left _ _ _ _ _ _ (current p) (no-switch (mode p) (c .before .before .switches-at .result) (p .before .before .before .before .before .args .k) (c .before .before .switches-at .ensures) (c .if2 .taken)) }
+returns-2 c = let p = c .before .before .before in record { leaves = λ ed. no-switch-left ed _ _ _ _ _ _ (current p) (no-switch (mode p) (c .before .before .switches-at .result) (p .before .before .before .before .before .args .k) (c .before .before .switches-at .ensures) (c .if2 .taken)) }
 
 switch-at-requires : tie.Need-switch-at-requires
 switch-at-requires c κs = (mode (c .before .before .before), c .before .before .switches-at .ensures, c .if2 .left)
@@ -76,7 +76,7 @@ same-length-2 c = search needs
 returns-3 : tie.Need-returns-3
 returns-3 c = let q = c .before .before .before .before in
     let w = there q in
-    record { leaves = taken-left _ _ _ _ _ _ (current (q .before .before .before .before)) (w .0) (w .1) _ (c .before .before .before .truth .ensures .answer (w .0) (here q)) (sym (c .before .before .goes-on .ensures) ∙ c .before .if3 .taken) (sym (switch-bytes (here q) .target)) }
+    record { leaves = λ ed. taken-left ed _ _ _ _ _ _ (current (q .before .before .before .before)) (w .0) (w .1) _ (c .before .before .before .truth .ensures .answer ed (w .0) (here q)) (sym (c .before .before .goes-on .ensures) ∙ c .before .if3 .taken) (sym (switch-bytes (here q) .target)) }
 
 same-length-3 : tie.Need-same-length-3
 same-length-3 c = search needs
@@ -84,7 +84,7 @@ same-length-3 c = search needs
 returns-4 : tie.Need-returns-4
 returns-4 c = let q = c .before .before .before in
     let w = there q in
-    record { leaves = not-taken-left _ _ _ _ _ _ (current (q .before .before .before .before)) (w .0) (w .1) _ (c .before .before .truth .ensures .answer (w .0) (here q)) (sym (c .before .goes-on .ensures) ∙ c .if3 .left) }
+    record { leaves = λ ed. not-taken-left ed _ _ _ _ _ _ (current (q .before .before .before .before)) (w .0) (w .1) _ (c .before .before .truth .ensures .answer ed (w .0) (here q)) (sym (c .before .goes-on .ensures) ∙ c .if3 .left) }
 
 pub take-switch-spec : {M : Type 1} → statement M
 take-switch-spec =

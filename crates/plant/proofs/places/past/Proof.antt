@@ -36,7 +36,7 @@ loop-less : tie.Need-loop-less Inv-loop μ-loop
 loop-less c = omega arith
 
 loop-again : tie.Need-loop-again Inv-loop μ-loop
-loop-again c = (omega arith, switches-next (c .before .before .loop .inv .1) (omega arith) refl)
+loop-again c = (omega arith, switches-next (c .before .before .loop .inv .1) (omega arith) (λ ed. refl))
 
 returns : tie.Need-returns Inv-loop μ-loop
 returns c = turns-place (c .before .loop .inv .1) (omega arith)

@@ -14,7 +14,7 @@ refused-requires : tie.Need-refused-requires
 refused-requires c κs = search needs
 
 returns : tie.Need-returns
-returns c = c .refused .ensures ∙ by-variables (c .before .before .before .before .before .args .vs .now) (c .before .before .before .before .before .args .es .now) (c .before .before .read .ensures) (omega (arith, c .before .if1 .taken))
+returns c ed = c .refused .ensures ∙ by-variables ed (c .before .before .before .before .before .args .vs .now) (c .before .before .before .before .before .args .es .now) (c .before .before .read .ensures .0 ed) (omega (arith, c .before .if1 .taken))
 
 read-requires-2 : tie.Need-read-requires-2
 read-requires-2 c κs = search needs
@@ -23,33 +23,33 @@ refused-requires-2 : tie.Need-refused-requires-2
 refused-requires-2 c κs = search needs
 
 returns-2 : tie.Need-returns-2
-returns-2 c = c .refused2 .ensures ∙ by-equations (c .before .before .before .before .before .before .before .args .vs .now) (c .before .before .before .before .before .before .before .args .es .now) (c .before .before .before .before .read .ensures) (c .before .before .before .if1 .left) (c .before .before .read2 .ensures) (c .before .if2 .taken)
+returns-2 c ed = c .refused2 .ensures ∙ by-equations ed (c .before .before .before .before .before .before .before .args .vs .now) (c .before .before .before .before .before .before .before .args .es .now) (c .before .before .before .before .read .ensures .0 ed) (c .before .before .before .if1 .left) (c .before .before .read2 .ensures) (c .before .if2 .taken)
 
 read-requires-3 : tie.Need-read-requires-3
 read-requires-3 c κs =
     let r = c .before .before .before in
     let a = r .before .before .before .args in
-    named (a .vs .now) (a .es .now) (r .read .ensures) (c .before .before .if1 .left) (c .before .read2 .ensures) (c .if2 .left)
+    named (a .es .now) (r .read .ensures .1) (c .before .read2 .ensures) (c .if2 .left)
 
 refused-requires-3 : tie.Need-refused-requires-3
 refused-requires-3 c κs = search needs
 
 returns-3 : tie.Need-returns-3
-returns-3 c =
+returns-3 c ed =
     let d = c .before .before .before in
     let r = d .before .before .before .before in
     let a = r .before .before .before .args in
     c .refused3 .ensures
-    ∙ by-8 (a .vs .now) (a .es .now) (r .read .ensures) (d .before .before .before .if1 .left) (d .before .before .read2 .ensures) (d .before .if2 .left)
+    ∙ by-8 ed (a .vs .now) (a .es .now) (r .read .ensures .0 ed) (d .before .before .before .if1 .left) (d .before .before .read2 .ensures) (d .before .if2 .left)
     (d .read3 .ensures) (not-true _ (c .before .if3 .taken))
 
 returns-4 : tie.Need-returns-4
-returns-4 c =
+returns-4 c ed =
     let t = c .before .before .before .before .before .before in
     let d = t .before .before in
     let r = d .before .before .before .before in
     let a = r .before .before .before .args in
-    passed (a .vs .now) (a .es .now) (r .read .ensures) (d .before .before .before .if1 .left) (d .before .before .read2 .ensures) (d .before .if2 .left)
+    passed ed (a .vs .now) (a .es .now) (r .read .ensures .0 ed) (d .before .before .before .if1 .left) (d .before .before .read2 .ensures) (d .before .if2 .left)
     (d .read3 .ensures) (not-false _ (t .if3 .left))
 
 pub read-spec : {M : Type 1} → statement M

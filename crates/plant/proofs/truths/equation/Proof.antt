@@ -9,7 +9,7 @@ shared-slice-read-if1 : tie.Need-shared-slice-read-if1
 shared-slice-read-if1 c = equation-inside _ (c .before .before .pre .0)
 
 returns : tie.Need-returns
-returns c = steady-reads _ _ (c .if1 .taken)
+returns c ed = steady-reads ed _ _ (c .if1 .taken)
 
 add-modes : tie.Need-add-modes
 add-modes c = search needs
@@ -27,7 +27,7 @@ modes-requires : tie.Need-modes-requires
 modes-requires c κs = (choice-sound _ (c .before .before .before .before .pre .0) (c .before .if1 .left), c .before .before .before .before .pre .1)
 
 returns-2 : tie.Need-returns-2
-returns-2 c = choice-reads _ _ (c .before .before .if1 .left) (c .modes .ensures)
+returns-2 c ed = choice-reads ed _ _ (c .before .before .if1 .left) (c .modes .ensures ed)
 
 pub equation-spec : {M : Type 1} → statement M
 equation-spec =

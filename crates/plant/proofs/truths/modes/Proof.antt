@@ -4,7 +4,6 @@ use Prim.Native.Nat.{_+_, _-_, _*_, _≤_}
 use native.Mathlib.Omega.{arith}
 use lib.ListN.{getD}
 use borrow.Author.Tests.{not-true, not-false}
-use Rattle.semantics.specs.Editions.{edition1}
 use Rattle.semantics.specs.Plant.{modeReads}
 use Rattle.semantics.specs.Sections.{readMode}
 use Rattle.plant.proofs.Turns.{Turns, turns-start, turns-false, turns-true}
@@ -13,7 +12,7 @@ use Rattle.plant.proofs.truths.modes.Statement.{statement}
 use Rattle.plant.proofs.truths.modes.Tie as tie
 
 abbrev Inv-loop : tie.InvT-loop
-Inv-loop s at n variables p₀ i₀ p i = (i ≤ n) × Turns readMode (modeReads edition1 variables) s at n p i
+Inv-loop s at n variables p₀ i₀ p i = (i ≤ n) × Turns readMode (λ ed. modeReads ed variables) s at n p i
 
 abbrev μ-loop : tie.MeasureT-loop
 μ-loop s at n variables p₀ i₀ p i = n - i
@@ -49,7 +48,7 @@ switches-requires : tie.Need-switches-requires Inv-loop μ-loop
 switches-requires c κs = (mode-switches (c .before .before .before .loop .inv .1) (omega arith), c .before .before .before .before .before .pre .1)
 
 returns : tie.Need-returns Inv-loop μ-loop
-returns c = let t = c .before .before .before .before .before .loop .inv .1 in turns-false t (omega arith) (sym (mode-reads t (omega arith) _ (c .before .switches .ensures)) ∙ not-true _ (c .if1 .taken))
+returns c ed = let t = c .before .before .before .before .before .loop .inv .1 in turns-false t (omega arith) ed (sym (mode-reads t (omega arith) ed _ (c .before .switches .ensures ed)) ∙ not-true _ (c .if1 .taken))
 
 add-past : tie.Need-add-past Inv-loop μ-loop
 add-past c = omega (arith, mode-between (c .before .before .before .before .before .loop .inv .1) (omega arith))
@@ -64,7 +63,7 @@ loop-less : tie.Need-loop-less Inv-loop μ-loop
 loop-less c = omega arith
 
 loop-again : tie.Need-loop-again Inv-loop μ-loop
-loop-again c = let t = c .before .before .before .before .before .before .loop .inv .1 in (omega arith, modes-next t (omega arith) (sym (mode-reads t (omega arith) _ (c .before .before .switches .ensures)) ∙ not-false _ (c .before .if1 .left)) _ (c .past .ensures))
+loop-again c = let t = c .before .before .before .before .before .before .loop .inv .1 in (omega arith, modes-next t (omega arith) (λ ed. sym (mode-reads t (omega arith) ed _ (c .before .before .switches .ensures ed)) ∙ not-false _ (c .before .if1 .left)) _ (c .past .ensures))
 
 returns-2 : tie.Need-returns-2 Inv-loop μ-loop
 returns-2 c = turns-true (c .before .loop .inv .1) (omega arith)

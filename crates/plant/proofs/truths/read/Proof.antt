@@ -4,7 +4,6 @@ use Prim.Native.Nat.{_-_, _≤_}
 use native.Mathlib.Omega.{arith}
 use lib.ListN.{getD}
 use borrow.Author.Tests.{not-true, not-false}
-use Rattle.semantics.specs.Editions.{edition1}
 use Rattle.semantics.specs.Sections.{readEquation}
 use Rattle.semantics.specs.Plant.{equationReads}
 use Rattle.plant.proofs.Walks.{section-at}
@@ -14,7 +13,7 @@ use Rattle.plant.proofs.truths.read.Statement.{statement}
 use Rattle.plant.proofs.truths.read.Tie as tie
 
 abbrev Inv-loop : tie.InvT-loop
-Inv-loop s variables n p₀ i₀ p i = (i ≤ getD s 0 0) × Turns readEquation (equationReads edition1 variables) s 1 (getD s 0 0) p i
+Inv-loop s variables n p₀ i₀ p i = (i ≤ getD s 0 0) × Turns readEquation (λ ed. equationReads ed variables) s 1 (getD s 0 0) p i
 
 abbrev μ-loop : tie.MeasureT-loop
 μ-loop s variables n p₀ i₀ p i = n - i
@@ -50,7 +49,7 @@ equation-requires : tie.Need-equation-requires Inv-loop μ-loop
 equation-requires c κs = (slice-there (c .before .before .before .loop .inv .1) (omega arith) (c .before .nat2 .ensures), c .before .before .before .before .before .before .pre .1)
 
 returns : tie.Need-returns Inv-loop μ-loop
-returns c = λ es h. equations-false (c .before .before .before .before .before .loop .inv .1) (omega arith) (c .before .before .before .nat2 .ensures) (c .before .equation .ensures) (not-true _ (c .if1 .taken)) es [] (section-at _ h .got)
+returns c ed es h = equations-false (c .before .before .before .before .before .loop .inv .1) (omega arith) (c .before .before .before .nat2 .ensures) (c .before .equation .ensures) (not-true _ (c .if1 .taken)) ed es [] (section-at _ h .got)
 
 add-i : tie.Need-add-i Inv-loop μ-loop
 add-i c = omega (arith, c .before .before .before .before .before .before .shared-slice-known2 .given 0)
@@ -62,7 +61,7 @@ loop-again : tie.Need-loop-again Inv-loop μ-loop
 loop-again c = (omega arith, equations-next (c .before .before .before .before .before .loop .inv .1) (omega arith) (c .before .before .before .nat2 .ensures) (c .before .equation .ensures) (not-false _ (c .if1 .left)))
 
 returns-2 : tie.Need-returns-2 Inv-loop μ-loop
-returns-2 c = λ es h. turns-true (c .before .loop .inv .1) (omega arith) es [] (section-at _ h .got)
+returns-2 c ed es h = turns-true (c .before .loop .inv .1) (omega arith) ed es [] (section-at _ h .got)
 
 pub read-spec : {M : Type 1} → statement M
 read-spec =

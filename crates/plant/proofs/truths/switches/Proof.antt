@@ -3,7 +3,6 @@ use mathlib.Core.Path.{sym, _∙_}
 use Prim.Native.Nat.{_-_, _≤_}
 use native.Mathlib.Omega.{arith}
 use borrow.Author.Tests.{not-true, not-false}
-use Rattle.semantics.specs.Editions.{edition1}
 use Rattle.semantics.specs.Sections.{readSwitch}
 use Rattle.semantics.specs.Plant.{switchReads}
 use Rattle.plant.proofs.Turns.{Turns, turns-start, turns-false, turns-true}
@@ -12,7 +11,7 @@ use Rattle.plant.proofs.truths.switches.Statement.{statement}
 use Rattle.plant.proofs.truths.switches.Tie as tie
 
 abbrev Inv-loop : tie.InvT-loop
-Inv-loop s at k variables p₀ i₀ p i = (i ≤ k) × Turns readSwitch (switchReads edition1 variables) s at k p i
+Inv-loop s at k variables p₀ i₀ p i = (i ≤ k) × Turns readSwitch (λ ed. switchReads ed variables) s at k p i
 
 abbrev μ-loop : tie.MeasureT-loop
 μ-loop s at k variables p₀ i₀ p i = k - i
@@ -51,7 +50,7 @@ truth-reads-requires : tie.Need-truth-reads-requires Inv-loop μ-loop
 truth-reads-requires c κs = c .before .before .before .before .before .pre .1
 
 returns : tie.Need-returns Inv-loop μ-loop
-returns c = let t = c .before .before .before .before .before .loop .inv .1 in turns-false t (omega arith) (sym (switch-reads t (omega arith) _ (c .before .truth-reads .ensures)) ∙ not-true _ (c .if1 .taken))
+returns c ed = let t = c .before .before .before .before .before .loop .inv .1 in turns-false t (omega arith) ed (sym (switch-reads t (omega arith) ed _ (c .before .truth-reads .ensures ed)) ∙ not-true _ (c .if1 .taken))
 
 add-i : tie.Need-add-i Inv-loop μ-loop
 add-i c = omega arith
@@ -60,7 +59,7 @@ loop-less : tie.Need-loop-less Inv-loop μ-loop
 loop-less c = omega arith
 
 loop-again : tie.Need-loop-again Inv-loop μ-loop
-loop-again c = let t = c .before .before .before .before .before .loop .inv .1 in (omega arith, switches-next t (omega arith) (sym (switch-reads t (omega arith) _ (c .before .truth-reads .ensures)) ∙ not-false _ (c .if1 .left)))
+loop-again c = let t = c .before .before .before .before .before .loop .inv .1 in (omega arith, switches-next t (omega arith) (λ ed. sym (switch-reads t (omega arith) ed _ (c .before .truth-reads .ensures ed)) ∙ not-false _ (c .if1 .left)))
 
 returns-2 : tie.Need-returns-2 Inv-loop μ-loop
 returns-2 c = turns-true (c .before .loop .inv .1) (omega arith)

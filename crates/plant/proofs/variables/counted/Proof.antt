@@ -1,4 +1,4 @@
--- A wrong length or a count that is too high contradicts `Sized`; else both are as it asks.
+-- A wrong length or a count that is too high contradicts `VariablesStand`; else both are as it asks.
 use native.Mathlib.Omega.{arith}
 use Rattle.plant.proofs.VariableSection.{wrong, right}
 use borrow.Author.Needs.{needs}

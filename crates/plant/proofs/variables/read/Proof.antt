@@ -1,7 +1,7 @@
 use mathlib.Core.Path.{sym, _∙_}
 use native.Mathlib.Omega.{arith}
 use borrow.Author.Needs.{needs}
-use Rattle.plant.proofs.VariableAnswer.{refused-4}
+use Rattle.plant.proofs.VariableAnswer.{refused-4, few-refused}
 use Rattle.plant.proofs.variables.read.Statement.{statement}
 use Rattle.plant.proofs.variables.read.Tie as tie
 
@@ -12,7 +12,7 @@ refused-requires : tie.Need-refused-requires
 refused-requires c κs = search needs
 
 returns : tie.Need-returns
-returns c = c .refused .ensures ∙ sym (refused-4 _ (c .before .before .counted .ensures .wrong (omega arith)))
+returns c = (λ ed. c .refused .ensures ∙ sym (refused-4 ed _ (c .before .before .counted .ensures .wrong (omega arith) ed)), few-refused 4 (c .refused .ensures))
 
 values-requires : tie.Need-values-requires
 values-requires c κs = c .before .counted .ensures .right (omega arith)

@@ -4,13 +4,15 @@ use native.Mathlib.Omega.{arith}
 use mathlib.Core.Path.{_≡_, sym, _∙_}
 use Prim.Native.Nat.{_-_, _+_, _*_, _≤_}
 use Rattle.codec.specs.Padding.{pad}
-use Rattle.plant.proofs.VariableSection.{Sized, sized-by, Going, going-start, going-next, stopped, ended, variableAt, below-minimum, above-maximum, in-order, lt-as, value}
-use Rattle.plant.specs.Variables.{column}
+use Rattle.plant.proofs.VariableAnswer.{few-refused}
+use Rattle.plant.proofs.VariableSection.{Going, going-start, going-next, stopped, ended, variableAt, below-minimum, above-maximum, in-order, lt-as, value}
+use Rattle.semantics.specs.Editions.{Edition}
+use Rattle.plant.specs.Variables.{column, VariablesStand}
 use Rattle.plant.proofs.variables.values.Statement.{statement}
 use Rattle.plant.proofs.variables.values.Tie as tie
 
 abbrev Inv-loop : tie.InvT-loop
-Inv-loop s n lows₀ highs₀ initials₀ p₀ i₀ lows highs initials p i = (i ≤ n) × (p ≡ 1 + 12 * i) × Sized s n × Going s n i p lows highs initials
+Inv-loop s n lows₀ highs₀ initials₀ p₀ i₀ lows highs initials p i = (i ≤ n) × (p ≡ 1 + 12 * i) × VariablesStand s n × ((ed : Edition) → Going ed s n i p lows highs initials)
 
 abbrev μ-loop : tie.MeasureT-loop
 μ-loop s n lows₀ highs₀ initials₀ p₀ i₀ lows highs initials p i = n - i
@@ -18,8 +20,8 @@ abbrev μ-loop : tie.MeasureT-loop
 loop-holds : tie.Need-loop-holds Inv-loop μ-loop
 unfolding column pad
 loop-holds c =
-    let z = sized-by (c .before .args .s .now) (c .before .args .n) (c .before .pre) in
-    (omega arith, omega arith, z, going-start (c .before .args .s .now) (c .before .args .n) z)
+    let z = c .before .pre in
+    (omega arith, omega arith, z, λ ed. going-start ed (c .before .args .s .now) (c .before .args .n) z)
 
 int4-requires : tie.Need-int4-requires Inv-loop μ-loop
 int4-requires c κs = search needs
@@ -49,7 +51,7 @@ returns c =
     let l = c .before .before .before .before .before .before .loop in
     let c7 = c .before .before .before .before .before .before .before in
     let a = c7 .before .args in
-    c .refused .ensures ∙ sym (stopped (l .inv .3) (omega arith) (omega arith) (below-minimum (variableAt (a .s .now) (l .p)) (lt-as first low (c .before .if1 .taken))))
+    (λ ed. c .refused .ensures ∙ sym (stopped ed (l .inv .3 ed) (omega arith) (omega arith) (below-minimum (variableAt (a .s .now) (l .p)) (lt-as first low (c .before .if1 .taken)))), few-refused 5 (c .refused .ensures))
 
 refused-requires-2 : tie.Need-refused-requires-2 Inv-loop μ-loop
 refused-requires-2 c κs = search needs
@@ -61,7 +63,7 @@ returns-2 c =
     let l = c .before .before .before .before .before .before .before .loop in
     let c7 = c .before .before .before .before .before .before .before in
     let a = c7 .before .before .args in
-    c .refused2 .ensures ∙ sym (stopped (l .inv .3) (omega arith) (omega arith) (above-maximum (variableAt (a .s .now) (l .p)) (lt-as high first (c .before .if2 .taken))))
+    (λ ed. c .refused2 .ensures ∙ sym (stopped ed (l .inv .3 ed) (omega arith) (omega arith) (above-maximum (variableAt (a .s .now) (l .p)) (lt-as high first (c .before .if2 .taken)))), few-refused 5 (c .refused2 .ensures))
 
 mul-lows : tie.Need-mul-lows Inv-loop μ-loop
 mul-lows c = omega arith
@@ -105,12 +107,12 @@ loop-again c =
     let c7 = c .before .before .before .before .before .before .before in
     let a = c7 .before .args in
     let o = in-order (variableAt (a .s .now) (l .p)) (lt-as first low (c .before .if1 .left)) (lt-as high first (c .if2 .left)) in
-    (omega arith, omega arith, l .inv .2, going-next (l .inv .3) (omega arith) (omega arith) o _ _ _ low high first (omega arith))
+    (omega arith, omega arith, l .inv .2, λ ed. going-next ed (l .inv .3 ed) (omega arith) (omega arith) o _ _ _ low high first (omega arith))
 
 returns-3 : tie.Need-returns-3 Inv-loop μ-loop
 returns-3 c =
     let l = c .before .loop in
-    ended (l .inv .3) (omega arith)
+    (λ ed. ended ed (l .inv .3 ed) (omega arith), l .inv .2 .high)
 
 pub values-spec : {M : Type 1} → statement M
 values-spec =
