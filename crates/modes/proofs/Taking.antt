@@ -85,7 +85,8 @@ module _ (ed : Edition) (modes : List Mode) (vs : List ℤ) (ms : List ℕ) (s k
           go (fault below) g = true-not-false (sym h ∙ ap goesOn g)
 
 -- ---- a switch's truth, asked by the bytes from two past its place to its end
-pub asked-at : {vs : List ℤ} {es : List ℕ} {q : ℕ} {yes no r : Verdict} → ((ed : Edition) → r ≡ truthVerdict yes no (truthValue ed vs (take (q + 1 + getD es q 0 - (q + 2)) (drop (q + 2) es)))) → Asked es q vs yes no r
+pub asked-at : {vs : List ℤ} {es : List ℕ} {q : ℕ} {yes no r : Verdict}
+    → ((ed : Edition) → r ≡ truthVerdict yes no (truthValue ed vs (take (q + 1 + getD es q 0 - (q + 2)) (drop (q + 2) es)))) → Asked es q vs yes no r
 asked-at {vs} {es} {q} {yes} {no} h = record {
   answer = λ ed w s.
       let n : q + 1 + getD es q 0 - (q + 2) ≡ getD es q 0 - 1 = omega arith in

@@ -9,7 +9,7 @@ use lib.IntN.{ℤ, pos}
 use lib.ListN.{length, getD, getElem?, take, drop, length-append, length-drop, length-map, take-append-drop}
 use lib.Seq.{take-append-le, drop-at}
 use Rattle.semantics.specs.Bytes.{read}
-use Rattle.semantics.specs.Editions.{Edition, edition1}
+use Rattle.semantics.specs.Editions.{Edition}
 use Rattle.semantics.specs.Refusals.{accepted}
 use Rattle.semantics.specs.Sections.{Variable, Mode, Selector}
 use Rattle.semantics.specs.Plant.{Plant, selectors, noMode, ratesOf, judgePlant}
@@ -74,33 +74,33 @@ module _ (xs ys zs : List ℤ) (i : length xs ≡ 32) where
   steady-row k = ap (drop 64) (sym (append-assoc xs ys zs)) ∙ drop-at (xs ++ ys) zs 64 (length-append xs ys ∙ omega arith)
 
 -- ---- the plant: its equations stand from a to b
-module _ (f : List ℕ) (small : length f < 2 ^ 64) (a b : ℕ) (vs : List ℕ) {p : Plant} (h : judgePlant edition1 vs (between a b f) ≡ accepted p)
-    {x : PlantRead} (e : x ≡ plantOf vs (between a b f)) where
+module _ (ed : Edition) (f : List ℕ) (small : length f < 2 ^ 64) (a b : ℕ) (vs : List ℕ) {p : Plant} (h : judgePlant ed vs (between a b f) ≡ accepted p)
+    {x : PlantRead} (e : x ≡ plantOf ed vs (between a b f)) where
   places-are : x .«mode_offsets» ≡ pad 128 0 (modePlaces 1 (p .equations))
-  places-are = ap (λ (x : PlantRead). x .«mode_offsets») e ∙ places-of vs (between a b f) h
+  places-are = ap (λ (x : PlantRead). x .«mode_offsets») e ∙ places-of ed vs (between a b f) h
 
   lows-are : x .lows ≡ column (λ (v : Variable). v .minimum) (p .variables)
-  lows-are = ap (λ (x : PlantRead). x .lows) e ∙ lows-of vs (between a b f) h
+  lows-are = ap (λ (x : PlantRead). x .lows) e ∙ lows-of ed vs (between a b f) h
 
   highs-are : x .highs ≡ column (λ (v : Variable). v .maximum) (p .variables)
-  highs-are = ap (λ (x : PlantRead). x .highs) e ∙ highs-of vs (between a b f) h
+  highs-are = ap (λ (x : PlantRead). x .highs) e ∙ highs-of ed vs (between a b f) h
 
   column-full : (g : Variable → ℤ) → length (column g (p .variables)) ≡ 32
   unfolding column
-  column-full g = length-pad 32 (pos 0) (map g (p .variables)) (omega (arith, length-map (p .variables) g, variables-high vs (between a b f) h))
+  column-full g = length-pad 32 (pos 0) (map g (p .variables)) (omega (arith, length-map (p .variables) g, variables-high ed vs (between a b f) h))
 
   -- a row that begins with a column
   in-front : (g : Variable → ℤ) {xs : List ℤ} (ys : List ℤ) → xs ≡ column g (p .variables) → take (length (p .variables)) (xs ++ ys) ≡ map g (p .variables)
-  in-front g ys i = ap (λ z. take (length (p .variables)) (z ++ ys)) i ∙ take-append-le (length (p .variables)) (column g (p .variables)) ys (omega (arith, column-full g, variables-high vs (between a b f) h)) ∙ column-front g (p .variables)
+  in-front g ys i = ap (λ z. take (length (p .variables)) (z ++ ys)) i ∙ take-append-le (length (p .variables)) (column g (p .variables)) ys (omega (arith, column-full g, variables-high ed vs (between a b f) h)) ∙ column-front g (p .variables)
 
   steady-are : x .steady ≡ ratesFrom (ratesOf (p .equations) []) 0 32
-  steady-are = ap (λ (x : PlantRead). x .steady) e ∙ steady-of vs (between a b f) h
+  steady-are = ap (λ (x : PlantRead). x .steady) e ∙ steady-of ed vs (between a b f) h
 
   module _ {ks ss es : List ℕ} {o : ℕ} {ix : List ℕ} {rs : List ℤ} (filled : Filled x ks ss es a o ix) (ranges : rs ≡ x .lows ++ (x .highs ++ x .steady)) where
     mode-lent : (j : ℕ) (c : Selector) → getElem? (selectors p) j ≡ some c → (m : ℕ) → m < length (c .modes) → ModeLent (lent f ix rs) j c m
     unfolding selectors
     mode-lent j c g m i =
-        let q = passed-all vs (between a b f) h .equations in
+        let q = passed-all ed vs (between a b f) h .equations in
         let y = at-exists (c .modes) m i in
         let at : getD (c .modes) m noMode ≡ y .0 = getD-at (c .modes) m noMode (y .1) in
         let low : 8 * j + m < 128 = omega (arith, few-selectors (between a b f) q, few-modes-each (between a b f) q j g, at-below (selectors p) j g) in
@@ -124,25 +124,24 @@ module _ (f : List ℕ) (small : length f < 2 ^ 64) (a b : ℕ) (vs : List ℕ) 
     plant-lent = record {
       lows = ap (take (length (p .variables))) ranges ∙ in-front (λ (v : Variable). v .minimum) (x .highs ++ x .steady) lows-are;
       highs = ap (take (length (p .variables))) high-rows ∙ in-front (λ (v : Variable). v .maximum) (x .steady) highs-are;
-      few = variables-high vs (between a b f) h;
+      few = variables-high ed vs (between a b f) h;
       long = steady-long;
       steady = record { are = steady-rows ∙ ap (ratesFrom (ratesOf (p .equations) []) 0) (sym steady-long) };
       modes = mode-lent;
-      named = passed-all vs (between a b f) h .named;
-      once = passed-all vs (between a b f) h .once;
+      named = passed-all ed vs (between a b f) h .named;
+      once = passed-all ed vs (between a b f) h .once;
     }
 
 -- ---- a node, whose operand stands in the section from o to c
 module _ (ed : Edition) (f : List ℕ) (small : length f < 2 ^ 64) {x : PlantRead} {ks ss es : List ℕ} {a o : ℕ} {ix : List ℕ} (filled : Filled x ks ss es a o ix) {rs : List ℤ} {p : Plant} where
-  pub node-lent : (c n : ℕ) {w : Action} → n < ed .nodes → length ks ≡ 256 → length ss ≡ 256 → length es ≡ 256 → o ≤ length f → getD ss n 0 ≤ getD es n 0 → getD es n 0 ≤ length (between o c f)
+  pub node-lent : (c n : ℕ) {w : Action} → n < ed .nodes → n < length ks → n < length ss → n < length es → o ≤ length f → getD ss n 0 ≤ getD es n 0 → getD es n 0 ≤ length (between o c f)
       → actionOfKind (actionKind (getD ks n 0)) (partAt (between o c f) ss es n) ≡ some w → operandFits ed (length (p .variables)) (selectors p) w ≡ true → NodeLent ed p w (lent f ix rs) n
-  node-lent c n {w} i kl sl el oi low high is fits =
-      let j : n < 256 = omega (arith, ed .entries-fit) in
-      let s : getD (startRow ix) n 0 ≡ getD ss n 0 + o = filled .starts n (omega arith) ∙ end-there f small o c oi (getD ss n 0) (omega arith) in
-      let t : getD (endRow ix) n 0 ≡ getD es n 0 + o = filled .ends n (omega arith) ∙ end-there f small o c oi (getD es n 0) high in
+  node-lent c n {w} i jk js je oi low high is fits =
+      let s : getD (startRow ix) n 0 ≡ getD ss n 0 + o = filled .starts n js ∙ end-there f small o c oi (getD ss n 0) (omega arith) in
+      let t : getD (endRow ix) n 0 ≡ getD es n 0 + o = filled .ends n je ∙ end-there f small o c oi (getD es n 0) high in
       record {
         below = i;
         cut = record { low = omega arith; high = omega (arith, end-below f small o c oi (getD es n 0) high) };
-        is = rw (filled .kinds n (omega arith), s, t, ← part-there f o c (getD ss n 0) (getD es n 0) low high) is;
+        is = rw (filled .kinds n jk, s, t, ← part-there f o c (getD ss n 0) (getD es n 0) low high) is;
         fits = fits;
       }

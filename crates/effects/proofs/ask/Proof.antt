@@ -24,19 +24,19 @@ enum-told-5 : tie.Need-enum-told-5
 enum-told-5 c = search needs
 
 returns : tie.Need-returns
-returns c ed = let s = c .before .before .before .before .args in asked (s .yes) (s .no) ed (s .values .now) (s .t .now) _ Yes (c .before .before .truth-value .ensures ed .is) (c .enum-told .given .1)
+returns c ed = let s = c .before .before .before .before .args in asked (s .yes) (s .no) ed _ _ _ Yes (c .before .before .truth-value .ensures ed .is) (c .enum-told .given .1)
 
 returns-2 : tie.Need-returns-2
-returns-2 c ed = let s = c .before .before .before .before .args in asked (s .yes) (s .no) ed (s .values .now) (s .t .now) _ No (c .before .before .truth-value .ensures ed .is) (c .enum-told2 .given .1)
+returns-2 c ed = let s = c .before .before .before .before .args in asked (s .yes) (s .no) ed _ _ _ No (c .before .before .truth-value .ensures ed .is) (c .enum-told2 .given .1)
 
 returns-3 : tie.Need-returns-3
-returns-3 c ed = let s = c .before .before .before .before .args in asked (s .yes) (s .no) ed (s .values .now) (s .t .now) _ Above (c .before .before .truth-value .ensures ed .is) (c .enum-told3 .given .1)
+returns-3 c ed = let s = c .before .before .before .before .args in asked (s .yes) (s .no) ed _ _ _ Above (c .before .before .truth-value .ensures ed .is) (c .enum-told3 .given .1)
 
 returns-4 : tie.Need-returns-4
-returns-4 c ed = let s = c .before .before .before .before .args in asked (s .yes) (s .no) ed (s .values .now) (s .t .now) _ Below (c .before .before .truth-value .ensures ed .is) (c .enum-told4 .given .1)
+returns-4 c ed = let s = c .before .before .before .before .args in asked (s .yes) (s .no) ed _ _ _ Below (c .before .before .truth-value .ensures ed .is) (c .enum-told4 .given .1)
 
 returns-5 : tie.Need-returns-5
-returns-5 c ed = let s = c .before .before .before .before .args in asked (s .yes) (s .no) ed (s .values .now) (s .t .now) _ Malformed (c .before .before .truth-value .ensures ed .is) (c .enum-told5 .given .1)
+returns-5 c ed = let s = c .before .before .before .before .args in asked (s .yes) (s .no) ed _ _ _ Malformed (c .before .before .truth-value .ensures ed .is) (c .enum-told5 .given .1)
 
 pub ask-spec : {M : Type 1} → statement M
 ask-spec =

@@ -3,6 +3,7 @@ use mathlib.Core.Path.{sym, _∙_}
 use native.Mathlib.Omega.{arith}
 use borrow.Author.Tests.{not-true, not-false}
 use borrow.Author.Needs.{needs}
+use Rattle.edition.specs.Editions.{editionOf}
 use Rattle.table_read.proofs.TableStages.{by-plant, few-variables, counts-full, counts-room, equations-there, by-switches, by-actions, by-operands, by-locations, all-passed}
 use Rattle.table_read.proofs.call.sections.Statement.{statement}
 use Rattle.table_read.proofs.call.sections.Tie as tie
@@ -18,9 +19,10 @@ returns c = c .refused .ensures ∙ by-plant _ _ _ _ _ _ (c .before .before .bef
 
 read-requires-2 : tie.Need-read-requires-2
 read-requires-2 c κs =
-    let r1 = c .before .before .before .read .ensures _ in
+    let r1 = c .before .before .before in
+    let p = r1 .read .ensures (editionOf (r1 .before .before .before .before .before .args .ed)) in
     let z = c .before .if1 .left in
-    (equations-there _ _ _ r1 z, omega (arith, few-variables _ _ _ r1 z))
+    (equations-there _ _ _ p z, omega (arith, few-variables _ _ _ p z))
 
 refused-requires-2 : tie.Need-refused-requires-2
 refused-requires-2 c κs = search needs
@@ -47,15 +49,17 @@ returns-3 c =
 slice-aggregate-read : tie.Need-slice-aggregate-read
 slice-aggregate-read c =
     let r2 = c .before .before .before .before .before in
-    sym (counts-full _ _ _ (r2 .before .before .before .before .read .ensures _) (r2 .before .before .if1 .left))
+    let r1 = r2 .before .before .before .before in
+    sym (counts-full _ _ _ (r1 .read .ensures (editionOf (r1 .before .before .before .before .before .args .ed))) (r2 .before .before .if1 .left))
 
 read-requires-4 : tie.Need-read-requires-4
 read-requires-4 c κs =
     let r3 = c .before .before .before in
     let r2 = r3 .before .before in
-    let r1 = r2 .before .before .before .before .read .ensures _ in
+    let r1 = r2 .before .before .before .before in
+    let p = r1 .read .ensures (editionOf (r1 .before .before .before .before .before .args .ed)) in
     let z = r2 .before .before .if1 .left in
-    (r3 .read3 .ensures, c .before .if3 .left, few-variables _ _ _ r1 z, counts-room _ _ _ r1 z)
+    (r3 .read3 .ensures, c .before .if3 .left, few-variables _ _ _ p z, counts-room _ _ _ p z)
 
 refused-requires-4 : tie.Need-refused-requires-4
 refused-requires-4 c κs = search needs
