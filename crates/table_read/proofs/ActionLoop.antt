@@ -20,7 +20,7 @@ use Rattle.semantics.proofs.Readers.{broken-not-read, read-rest, guarded, given
 use Rattle.codec.specs.Numbers.{wide, numAt}
 use Rattle.codec.specs.Reading.{Took}
 use Rattle.codec.specs.Places.{placesFrom}
-use Rattle.codec.proofs.Reading.{lost, number-front, no-front, within-below, within-above, drop-past, either}
+use Rattle.codec.proofs.Reading.{number-front, no-front, within-below, within-above, drop-past, either}
 use Rattle.codec.proofs.Known.{after-front, not-lost, snoc}
 use Rattle.codec.proofs.Loops.{counted as as-many}
 use Rattle.codec.proofs.Places.{places-more, places-count}

@@ -73,7 +73,8 @@ module _ (ed : Edition) (f : List ℕ) (small : length f < 2 ^ 64) {x : TableInd
     unfolding sectionsAt
     node-of n a e =
         let p = moved (λ p. ActionPromised ed (sectionsAt f p .actions) (x .actions) (t .plant) n a) (action-promised ed f open-of (actions-read ed f h j) n e) in
-        node-lent ed f small filled (x .parts .«actions_end») n (p .below) (long .0) (long .1) (long .2)
+        let here : n < 256 = omega (arith, p .below, ed .entries-fit) in
+        node-lent ed f small filled (x .parts .«actions_end») n (p .below) (omega (arith, here, long .0)) (omega (arith, here, long .1)) (omega (arith, here, long .2))
         (omega (arith, actions-stand .ordered, actions-stand .inside)) (p .ordered) (p .inside) (p .is) (p .fits)
 
     location-of : (k : ℕ) → k < length (t .locations) → LocationLent ed t (lent f ix rs) k

@@ -98,7 +98,7 @@ fn next(s: &[u8], at: usize, low: usize, ed: Edition) -> usize
     q
 }
 
-// how many actions there are; 0 where that is outside 1..64 or 1..256
+// how many actions there are; 0 where there are more than the edition has nodes
 fn count(s: &[u8], ed: Edition) -> usize
     ensures { λ r. ⌜ r ≡ orZero (readActionCount (editionOf ed) (now (s .entry))) ⌝ }
 {

@@ -53,7 +53,14 @@ fn fits(k: u8, b: &[u8], variables: usize, selectors: usize, modes: &[usize]) ->
 }
 
 // acts is the index of s; modes[j] is how many modes selector j has
-pub fn read(s: &[u8], acts: Actions, variables: usize, selectors: usize, modes: &[usize], ed: Edition) -> bool
+pub fn read(
+    s: &[u8],
+    acts: Actions,
+    variables: usize,
+    selectors: usize,
+    modes: &[usize],
+    ed: Edition,
+) -> bool
     requires { ⌜ (acts ≡ actionsOf (editionOf ed) (now s)) × (acts .refusal ≡ 0) × (variables ≤ 32) × (selectors ≤ length (now modes)) ⌝ }
     ensures { λ r. ⌜ AllFit (editionOf ed) (now (s .entry)) variables selectors (now (modes .entry)) r ⌝ }
 {

@@ -48,7 +48,7 @@ fits-requires : tie.Need-fits-requires Inv-loop μ-loop
 fits-requires c κs = search needs
 
 returns : tie.Need-returns Inv-loop μ-loop
-returns c = 
+returns c =
     let t = c .before .before .before in
     let l = t .before in
     let g = l .before .before .before .before .before .before .before in
@@ -64,7 +64,7 @@ loop-again : tie.Need-loop-again Inv-loop μ-loop
 loop-again c = (omega arith, fit-next _ _ _ _ _ _ _ (c .before .fits2 .ensures) (not-false _ (c .if1 .left)) (c .before .before .before .before .loop .inv .1))
 
 returns-2 : tie.Need-returns-2 Inv-loop μ-loop
-returns-2 c = 
+returns-2 c =
     let l = c .before in
     let g = l .before .before .before .before .before .before .before in
     fit-end _ (g .args .s .now) (g .pre .0) (g .pre .1) _ _ _ (omega (arith, l .before .node-limit .ensures)) (l .loop .inv .1)

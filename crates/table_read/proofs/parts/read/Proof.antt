@@ -1,6 +1,5 @@
 -- One law of PartsStand for each return. x, y, w, u: where the ends of the sections stand, from the first to the last.
 use mathlib.Core.Path.{sym, _∙_}
-use native.Mathlib.Omega.{arith}
 use borrow.Author.Tests.{not-true, not-false}
 use Rattle.table_read.proofs.Ended.{ends2, ends4, ended, not-ended}
 use Rattle.table_read.proofs.PartsStand.{header-room, refused-15, refused-16, no-variables, no-equations, no-actions, no-locations, left-over, parts-found, ends-apart}
