@@ -11,6 +11,7 @@ use borrow.Author.Tests.{eq-eqb, ne-eqb}
 use lib.ListN.{length, getD, getElem?, take, drop, set, replicate, length-set, length-replicate}
 use lib.Seq.{getD-set-same, getD-set-other}
 use Rattle.semantics.specs.Bytes.{noBytes, twoBytes, byteAndRest}
+use Rattle.semantics.specs.Editions.{Edition}
 use Rattle.semantics.specs.Run.{Action}
 use Rattle.semantics.specs.TableFile.{TEST, WAIT, ASSIGN, SWITCH, STOP, kindNumber, actionKind}
 use Rattle.semantics.specs.TableFile as TableFile
@@ -115,10 +116,10 @@ no-action k a b c d e f g =
 
 -- ---- the array of kinds
 module _ (kinds : List ℕ) where
-  pub kinds-start : ActionKinds kinds 0 (replicate 64 0)
-  kinds-start = record { full = length-replicate {A = ℕ} 64 0; each = λ n h. absurd (omega arith); behind = λ n h. repeated 0 64 n }
+  pub kinds-start : ActionKinds kinds 0 (replicate 256 0)
+  kinds-start = record { full = length-replicate {A = ℕ} 256 0; each = λ n h. absurd (omega arith); behind = λ n h. repeated 0 256 n }
 
-  pub kinds-next : {acts : List ℕ} (i : ℕ) {v : ℕ} → i < 64 → ActionKinds kinds i acts → ActsAs (getD kinds i 0) v → ActionKinds kinds (i + 1) (set acts i v)
+  pub kinds-next : {acts : List ℕ} (i : ℕ) {v : ℕ} → i < 256 → ActionKinds kinds i acts → ActsAs (getD kinds i 0) v → ActionKinds kinds (i + 1) (set acts i v)
   kinds-next {acts} i {v} l a h = record {
     full = length-set acts i v ∙ a .full;
     each = λ n k. go n k (decLt n i);
@@ -133,7 +134,7 @@ module _ (kinds : List ℕ) where
   kinds-end i count e a = rw e at a
 
 -- what stands at a node that is there, and at any other number
-module _ {s kinds starts ends : List ℕ} {count : ℕ} {ns : List Node} (d : NodesAt s kinds starts ends count ns) where
+module _ {ed : Edition} {s kinds starts ends : List ℕ} {count : ℕ} {ns : List Node} (d : NodesAt ed s kinds starts ends count ns) where
   pub action-by : (n : ℕ) {k : ℕ} → n < count → ActsAs (getD kinds n 0) k →
       TableFile.actionOfKind (actionKind k) (take (getD ends n 0 - getD starts n 0) (drop (getD starts n 0) s)) ≡ actionAt (actionsOf ns) n
   unfolding bind

@@ -8,6 +8,7 @@ use native.Mathlib.Numerals.{add-one}
 use native.Mathlib.Omega.{arith}
 use lib.ListN.{length, getD, take, drop, getElem?}
 use Rattle.semantics.specs.Bytes.{every}
+use Rattle.semantics.specs.Editions.{Edition}
 use Rattle.semantics.proofs.Facts.{none-not-some, some-is, at-exists}
 use Rattle.schedules.specs.Nodes.{Node}
 use Rattle.tree_read.specs.declared.nodes.Nodes.{Nodes}
@@ -40,21 +41,21 @@ made i h d =
     record { node = x .0; is = d .at .entries i h .node ∙ x .1 }
 
 -- ---- a test of each, and t beside it, told so far by r
-pub record Telling (P : Node → Bool) (s : List ℕ) (n : Nodes) (i : ℕ) (t r : Bool) : Type 0 where
-  pub of : (ns : List Node) → NodesIn s n ns → (every P ns && t) ≡ (every P (drop i ns) && r)
+pub record Telling (ed : Edition) (P : Node → Bool) (s : List ℕ) (n : Nodes) (i : ℕ) (t r : Bool) : Type 0 where
+  pub of : (ns : List Node) → NodesIn ed s n ns → (every P ns && t) ≡ (every P (drop i ns) && r)
 
-module _ {s : List ℕ} {n : Nodes} (P : Node → Bool) {t : Bool} where
-  pub tell-start : Telling P s n 0 t t
+module _ {ed : Edition} {s : List ℕ} {n : Nodes} (P : Node → Bool) {t : Bool} where
+  pub tell-start : Telling ed P s n 0 t t
   tell-start = record { of = λ ns d. refl }
 
-  pub tell-end : {i : ℕ} {r : Bool} → n .count ≤ i → Telling P s n i t r → (ns : List Node) → NodesIn s n ns → (every P ns && t) ≡ r
+  pub tell-end : {i : ℕ} {r : Bool} → n .count ≤ i → Telling ed P s n i t r → (ns : List Node) → NodesIn ed s n ns → (every P ns && t) ≡ r
   tell-end {i} {r} h k ns d = k .of ns d ∙ ap (λ b. b && r) (every-end P ns i (omega (arith, d .counted)))
 
-  pub tell-next : {i : ℕ} {r x q : Bool} → i < n .count → Telling P s n i t r →
-      Tells P (getD (n .kinds) i 0) (take (getD (n .ends) i 0 - getD (n .starts) i 0) (drop (getD (n .starts) i 0) s)) x → q ≡ (r && x) → Telling P s n (i + 1) t q
+  pub tell-next : {i : ℕ} {r x q : Bool} → i < n .count → Telling ed P s n i t r →
+      Tells P (getD (n .kinds) i 0) (take (getD (n .ends) i 0 - getD (n .starts) i 0) (drop (getD (n .starts) i 0) s)) x → q ≡ (r && x) → Telling ed P s n (i + 1) t q
   tell-next {i} {r} {x} {q} h k u e = record { of = λ ns d. k .of ns d ∙ (let y = node-at ns d in step (every P (drop i ns)) (every P (drop (i + 1) ns)) x r (λ z. rw add-one (every-next P ns i (y .1) (y .2 ∙ z))) (λ z. every-stop P ns i (y .1) (y .2 ∙ z))) ∙ ap (λ b. every P (drop (i + 1) ns) && b) (sym e) }
     where
-      node-at : (ns : List Node) → NodesIn s n ns → (y : Node) × (getElem? ns i ≡ some y) × (P y ≡ x)
+      node-at : (ns : List Node) → NodesIn ed s n ns → (y : Node) × (getElem? ns i ≡ some y) × (P y ≡ x)
       node-at ns d =
           let y = at-exists ns i (omega (arith, d .counted)) in
           (y .0, y .1, sym (u .of (y .0) (d .entries i h .node ∙ y .1)))

@@ -10,7 +10,7 @@ use lib.Dec.{leb, eqb}
 use lib.ListN.{length, getD, take, drop}
 use lib.Seq.{take-all}
 use Rattle.semantics.specs.Bytes.{noBytes, twoBytes, byteAndRest}
-use Rattle.semantics.specs.Editions.{edition1}
+use Rattle.semantics.specs.Editions.{Edition}
 use Rattle.semantics.specs.Sections.{Selector, Equation}
 use Rattle.semantics.proofs.Facts.{none-not-some, some-is}
 use Rattle.schedules.specs.Nodes.{Node, sequence, parallel, while-do, if-else, continue-until, reset, reinitial, switch-to, stop-all, Kind, a-sequence, a-parallel, a-while, an-if, a-continue, a-reset, a-reinitial, a-switch, a-stop, no-kind, kindOf, childCount, nodeOf, nodeReads, nodeNamed, nodeParted}
@@ -127,14 +127,14 @@ module _ {k : ℕ} {b : List ℕ} where
         (λ _. stop-passes (nodeParted es) stop-all refl b) (λ e. none-not-some e);
   }
 
-  pub reads-nothing : (variables : ℕ) → (k ≡ 3 → ⊥) → (k ≡ 4 → ⊥) → (k ≡ 5 → ⊥) → (k ≡ 6 → ⊥) → (k ≡ 7 → ⊥) → Tells (nodeReads edition1 variables) k b true
+  pub reads-nothing : (ed : Edition) (variables : ℕ) → (k ≡ 3 → ⊥) → (k ≡ 4 → ⊥) → (k ≡ 5 → ⊥) → (k ≡ 6 → ⊥) → (k ≡ 7 → ⊥) → Tells (nodeReads ed variables) k b true
   unfolding nodeOf nodeReads
-  reads-nothing variables c d f g h = record {
-    of = λ x. by-kind (λ j. nodeOf j b ≡ some x → true ≡ nodeReads edition1 variables x) k
-        (λ _. count-passes (nodeReads edition1 variables) sequence (λ n. refl) b) (λ _. count-passes (nodeReads edition1 variables) parallel (λ n. refl) b)
+  reads-nothing ed variables c d f g h = record {
+    of = λ x. by-kind (λ j. nodeOf j b ≡ some x → true ≡ nodeReads ed variables x) k
+        (λ _. count-passes (nodeReads ed variables) sequence (λ n. refl) b) (λ _. count-passes (nodeReads ed variables) parallel (λ n. refl) b)
         (λ i. absurd (c i)) (λ i. absurd (d i)) (λ i. absurd (f i)) (λ i. absurd (g i)) (λ i. absurd (h i))
-        (λ _ e. ap (nodeReads edition1 variables) (paired switch-to b e .is))
-        (λ _. stop-passes (nodeReads edition1 variables) stop-all refl b) (λ e. none-not-some e);
+        (λ _ e. ap (nodeReads ed variables) (paired switch-to b e .is))
+        (λ _. stop-passes (nodeReads ed variables) stop-all refl b) (λ e. none-not-some e);
   }
 
 -- all after the first byte, as code slices it out

@@ -19,6 +19,6 @@ pub record ActsAs (k r : ℕ) : Type 0 where
 
 -- acts has it of the first nodes, by their kinds in the file, and 0 behind them
 pub record ActionKinds (kinds : List ℕ) (count : ℕ) (acts : List ℕ) : Type 0 where
-  pub full : length acts ≡ 64
+  pub full : length acts ≡ 256
   pub each : (n : ℕ) → n < count → ActsAs (getD kinds n 0) (getD acts n 0)
   pub behind : (n : ℕ) → count ≤ n → getD acts n 0 ≡ 0

@@ -2,7 +2,7 @@
 use mathlib.Core.List.{List}
 use Prim.Native.Nat.{ℕ, _+_}
 use lib.ListN.{length}
-use Rattle.semantics.specs.Editions.{edition1}
+use Rattle.semantics.specs.Editions.{Edition}
 use Rattle.semantics.specs.Refusals.{Judged, refused, accepted}
 use Rattle.schedules.specs.FileSections.{FileSections}
 use Rattle.schedules.specs.Files.{judgeFileLayout}
@@ -44,8 +44,8 @@ partsRead (refused n) = noParts n
 partsRead (accepted s) = partsIn s
 
 -- the first number of the layout that applies, or where the sections stand
-unfoldable pub partsOf : List ℕ → Parts
-partsOf f = partsRead (judgeFileLayout edition1 f)
+unfoldable pub partsOf : Edition → List ℕ → Parts
+partsOf ed f = partsRead (judgeFileLayout ed f)
 
 -- the sections that stand there
 unfoldable pub sectionsAt : List ℕ → Parts → FileSections

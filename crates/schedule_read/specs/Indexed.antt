@@ -3,18 +3,20 @@ use mathlib.Core.Path.{_≡_}
 use mathlib.Core.List.{List}
 use mathlib.Core.Option.{some}
 use Prim.Native.Nat.{ℕ}
+use Rattle.semantics.specs.Editions.{Edition}
 use Rattle.schedules.specs.Nodes.{Node, kindOf, nodeOf}
 use Rattle.tree_read.specs.Index.{NodesAt}
 use Rattle.tree_read.specs.declared.nodes.Nodes.{Nodes}
 
 -- n is the index of these nodes, which stand in s
-abbrev pub NodesIn : List ℕ → Nodes → List Node → Type 0
-NodesIn s n ns = NodesAt s (n .kinds) (n .starts) (n .ends) (n .count) ns
+abbrev pub NodesIn : Edition → List ℕ → Nodes → List Node → Type 0
+NodesIn ed s n ns = NodesAt ed s (n .kinds) (n .starts) (n .ends) (n .count) ns
 
--- it is the index of some nodes
+-- it is the index of some nodes, of some edition
 pub record Indexed (s : List ℕ) (n : Nodes) : Type 0 where
+  pub edition : Edition
   pub nodes : List Node
-  pub at : NodesIn s n nodes
+  pub at : NodesIn edition s n nodes
 
 -- a kind and a payload make a node
 pub record Made (k : ℕ) (b : List ℕ) : Type 0 where

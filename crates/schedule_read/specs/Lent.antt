@@ -4,7 +4,7 @@ use mathlib.Core.Bool.{true}
 use mathlib.Core.List.{List}
 use Prim.Native.Nat.{ℕ, _^_, _<_}
 use lib.ListN.{length}
-use Rattle.semantics.specs.Editions.{edition1}
+use Rattle.semantics.specs.Editions.{Edition}
 use Rattle.semantics.specs.Refusals.{accepted}
 use Rattle.semantics.specs.Plant.{among}
 use Rattle.schedules.specs.Nodes.{nodeAction}
@@ -17,10 +17,11 @@ use Rattle.schedule_read.specs.declared.call.ScheduleIndex.{ScheduleInde
 use Rattle.schedule_read.specs.ScheduleFile.{ScheduleIndexed}
 
 -- the arrays hold the schedule: its plant, and what each node does that acts in a residual of its tree
-pub record ScheduleLent (s : Schedule) (l : Lent) : Type 0 where
+pub record ScheduleLent (ed : Edition) (s : Schedule) (l : Lent) : Type 0 where
   pub plant : PlantLent (s .plant) l
-  pub nodes : (r : Residual) → Of (s .root) r → (n : ℕ) → among n (acting r) ≡ true → NodeLent (s .plant) (nodeAction (s .nodes) n) l n
+  pub nodes : (r : Residual) → Of (s .root) r → (n : ℕ) → among n (acting r) ≡ true → NodeLent ed (s .plant) (nodeAction (s .nodes) n) l n
 
--- where x is the index of an accepted file, of a length that a slice can have, r lends it together with the file's bytes
+-- where x is the index of an accepted file of some edition, of a length that a slice can have, r lends it together with the file's bytes
 abbrev pub SchedulePrograms : ScheduleIndex → Program → Type 0
-SchedulePrograms x r = (f : List ℕ) (s : Schedule) → ScheduleIndexed f x → length f < 2 ^ 64 → judgeFile edition1 f ≡ accepted s → ScheduleLent s (lent f (r .index) (r .ranges))
+SchedulePrograms x r =
+    (ed : Edition) (f : List ℕ) (s : Schedule) → ScheduleIndexed ed f x → length f < 2 ^ 64 → judgeFile ed f ≡ accepted s → ScheduleLent ed s (lent f (r .index) (r .ranges))

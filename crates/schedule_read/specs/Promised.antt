@@ -3,7 +3,7 @@ use mathlib.Core.Path.{_≡_}
 use mathlib.Core.List.{List}
 use Prim.Native.Nat.{ℕ, _≤_}
 use lib.ListN.{length}
-use Rattle.semantics.specs.Editions.{edition1}
+use Rattle.semantics.specs.Editions.{Edition}
 use Rattle.semantics.specs.Refusals.{accepted}
 use Rattle.semantics.specs.Plant.{judgePlant}
 use Rattle.schedules.specs.Laid.{Laid, Lies}
@@ -24,14 +24,14 @@ pub record Slice (f : List ℕ) (start stop : ℕ) (x : List ℕ) : Type 0 where
   pub is : between start stop f ≡ x
 
 -- ix is the index of an accepted file, and s its schedule
-pub record Promised (f : List ℕ) (ix : ScheduleIndex) (s : Schedule) : Type 0 where
-  pub judged : judgeFile edition1 f ≡ accepted s
+pub record Promised (ed : Edition) (f : List ℕ) (ix : ScheduleIndex) (s : Schedule) : Type 0 where
+  pub judged : judgeFile ed f ≡ accepted s
   pub variables : Slice f (ix .parts .«variables_from») (ix .parts .«variables_to») (s .sections .variables)
   pub equations : Slice f (ix .parts .«equations_from») (ix .parts .«equations_to») (s .sections .equations)
   pub schedule : Slice f (ix .parts .«schedule_from») (ix .parts .«schedule_to») (s .sections .schedule)
-  pub plant : ix .plant ≡ plantOf (s .sections .variables) (s .sections .equations)
-  pub plant-judged : judgePlant edition1 (s .sections .variables) (s .sections .equations) ≡ accepted (s .plant)
-  pub nodes : NodesAt (s .sections .schedule) (ix .nodes .kinds) (ix .nodes .starts) (ix .nodes .ends) (ix .nodes .count) (s .nodes)
+  pub plant : ix .plant ≡ plantOf ed (s .sections .variables) (s .sections .equations)
+  pub plant-judged : judgePlant ed (s .sections .variables) (s .sections .equations) ≡ accepted (s .plant)
+  pub nodes : NodesAt ed (s .sections .schedule) (ix .nodes .kinds) (ix .nodes .starts) (ix .nodes .ends) (ix .nodes .count) (s .nodes)
   pub tree : Lies (ix .nodes .kinds) (ix .subtrees .ends) (s .root)
   pub tree-laid : Laid (ix .nodes .kinds) (ix .subtrees .ends) (s .root) 0 (ix .nodes .count)
-  pub ends-full : length (ix .subtrees .ends) ≡ 64
+  pub ends-full : length (ix .subtrees .ends) ≡ 256

@@ -5,7 +5,7 @@ use mathlib.Core.List.{List}
 use mathlib.Core.Option.{some}
 use Prim.Native.Nat.{ℕ, _≤_}
 use lib.ListN.{length}
-use Rattle.semantics.specs.Editions.{edition1}
+use Rattle.semantics.specs.Editions.{Edition}
 use Rattle.semantics.specs.Refusals.{Judged, refused, accepted, refusalOf}
 use Rattle.semantics.specs.Sections.{equationsIn}
 use Rattle.semantics.specs.Plant.{Plant, selectors}
@@ -29,29 +29,29 @@ unfoldable pub numbers : ScheduleRead → FileRead
 numbers r = record { refusal = r .refusal; variables = r .variables; selectors = r .selectors; nodes = r .nodes }
 
 -- a refusal
-abbrev pub noSchedule : ℕ → ScheduleIndex
-noSchedule n = record { refusal = n; parts = noParts n; plant = refusedPlant 0; nodes = notNodes; subtrees = noTree }
+abbrev pub noSchedule : Edition → ℕ → ScheduleIndex
+noSchedule ed n = record { refusal = n; parts = noParts n; plant = refusedPlant 0; nodes = notNodes ed; subtrees = noTree }
 
 -- an accepted file of which the sections stand there: its plant, nodes and subtrees
-pub record Opened (p : Parts) (s : Schedule) (ix : ScheduleIndex) : Type 0 where
+pub record Opened (ed : Edition) (p : Parts) (s : Schedule) (ix : ScheduleIndex) : Type 0 where
   pub refusal : ix .refusal ≡ 0
   pub parts : ix .parts ≡ p
-  pub plant : ix .plant ≡ plantOf (s .sections .variables) (s .sections .equations)
-  pub nodes : ix .nodes ≡ nodesOf (s .sections .schedule)
+  pub plant : ix .plant ≡ plantOf ed (s .sections .variables) (s .sections .equations)
+  pub nodes : ix .nodes ≡ nodesOf ed (s .sections .schedule)
   pub subtrees : TreeAt (ix .nodes .kinds) (ix .nodes .count) (s .root) (ix .subtrees)
 
-abbrev pub IndexAt : Parts → Judged Schedule → ScheduleIndex → Type 0
-IndexAt p (refused n) ix = ix ≡ noSchedule n
-IndexAt p (accepted s) ix = Opened p s ix
+abbrev pub IndexAt : Edition → Parts → Judged Schedule → ScheduleIndex → Type 0
+IndexAt ed p (refused n) ix = ix ≡ noSchedule ed n
+IndexAt ed p (accepted s) ix = Opened ed p s ix
 
 -- a schedule file: refused, or where its parts stand
-pub record ScheduleIndexed (f : List ℕ) (ix : ScheduleIndex) : Type 0 where
-  pub at : IndexAt (partsOf f) (judgeFile edition1 f) ix
+pub record ScheduleIndexed (ed : Edition) (f : List ℕ) (ix : ScheduleIndex) : Type 0 where
+  pub at : IndexAt ed (partsOf ed f) (judgeFile ed f) ix
 
 -- ---- for the code's own contracts
 -- 4 to 11, 34 and 12, of the sections that stand there
-pub record SectionsIndexed (p : Parts) (vs es s : List ℕ) (ix : ScheduleIndex) : Type 0 where
-  pub at : IndexAt p (judgeFileSections edition1 (record { variables = vs; equations = es; schedule = s })) ix
+pub record SectionsIndexed (ed : Edition) (p : Parts) (vs es s : List ℕ) (ix : ScheduleIndex) : Type 0 where
+  pub at : IndexAt ed p (judgeFileSections ed (record { variables = vs; equations = es; schedule = s })) ix
 
 -- p is a plant of v variables and c selectors with these equations and mode counts, and these variables are driven
 pub record PlantAt (es : List ℕ) (v c : ℕ) (modes : List ℕ) (driven : List Bool) (p : Plant) : Type 0 where
@@ -68,5 +68,5 @@ pub record Planted (es : List ℕ) (v c : ℕ) (modes : List ℕ) (driven : List
   pub room : c ≤ length modes
 
 -- r is the number of 11, 34 and 12, of whatever nodes and plant the code's arrays stand for
-abbrev pub NodesJudged : List ℕ → List ℕ → Nodes → ℕ → ℕ → List ℕ → List Bool → ℕ → Type 0
-NodesJudged es s n v c modes driven r = (ns : List Node) → NodesIn s n ns → (p : Plant) → PlantAt es v c modes driven p → r ≡ refusalOf (judgeNodes edition1 p ns)
+abbrev pub NodesJudged : Edition → List ℕ → List ℕ → Nodes → ℕ → ℕ → List ℕ → List Bool → ℕ → Type 0
+NodesJudged ed es s n v c modes driven r = (ns : List Node) → NodesIn ed s n ns → (p : Plant) → PlantAt es v c modes driven p → r ≡ refusalOf (judgeNodes ed p ns)

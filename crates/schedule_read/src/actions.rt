@@ -2,6 +2,7 @@
 ghost use Prim.Native.Nat.{_≤_};
 ghost use lib.ListN.{length};
 ghost use Rattle.schedule_read.specs.Actions.{ActsAs, ActionKinds};
+use tree_read::NODES;
 
 // of a node of kind k; 0 where it has no action
 fn kind(k: u8) -> u8
@@ -19,11 +20,11 @@ fn kind(k: u8) -> u8
     }
 }
 
-pub fn kinds(kinds: &[u8], count: usize) -> [u8; paper::NODES]
-    requires { ⌜ (count ≤ 64) × (count ≤ length (now kinds)) ⌝ }
+pub fn kinds(kinds: &[u8], count: usize) -> [u8; NODES]
+    requires { ⌜ (count ≤ 256) × (count ≤ length (now kinds)) ⌝ }
     ensures { λ r. ⌜ ActionKinds (now (kinds .entry)) count r ⌝ }
 {
-    let mut acts = [0u8; paper::NODES];
+    let mut acts = [0u8; NODES];
     let mut i = 0;
     while i < count {
         acts[i] = kind(kinds[i]);

@@ -1,6 +1,9 @@
 // The call "reading a schedule": conditions 1 to 11, 34 and 12, in order.
 ghost use mathlib.Core.Path.{_≡_};
+ghost use Prim.Native.Nat.{_≤_};
 ghost use Rattle.semantics.specs.Editions.{edition1};
+ghost use Rattle.semantics.specs.Editions as papers;
+ghost use Rattle.edition.specs.Editions.{editionOf};
 ghost use Rattle.schedules.specs.Calls.{readSchedule};
 ghost use Rattle.schedule_read.specs.Indexed.{Indexed};
 ghost use Rattle.schedule_read.specs.ScheduleFile.{numbers, noSchedule, SectionsIndexed, ScheduleIndexed, Planted, NodesJudged};
@@ -11,10 +14,12 @@ use super::names;
 use super::operands;
 use super::parts;
 use super::parts::Parts;
+use edition::Edition;
 use plant::equations::both;
 use plant::sections::PlantRead;
 use program::Program;
 use program::fill;
+use tree_read::NODES;
 use tree_read::nodes;
 use tree_read::nodes::Nodes;
 use tree_read::tree;
@@ -39,7 +44,7 @@ pub struct ScheduleIndex {
 }
 
 fn refused(n: u8) -> ScheduleIndex
-    ensures { λ r. ⌜ r ≡ noSchedule n ⌝ }
+    ensures { λ r. ⌜ ((ed : papers.Edition) → r ≡ noSchedule ed n) ⌝ }
 {
     let parts = parts::refused(n);
     let plant = plant::sections::refused(0);
@@ -66,7 +71,7 @@ fn checked(
     driven: &[bool],
 ) -> u8
     requires { ⌜ Indexed (now s) n × Planted (now es) variables selectors (now modes) (now driven) ⌝ }
-    ensures { λ r. ⌜ NodesJudged (now (es .entry)) (now (s .entry)) n variables selectors (now (modes .entry)) (now (driven .entry)) r ⌝ }
+    ensures { λ r. ⌜ ((ed : papers.Edition) → NodesJudged ed (now (es .entry)) (now (s .entry)) n variables selectors (now (modes .entry)) (now (driven .entry)) r) ⌝ }
 {
     let mut named = true;
     let mut parted = true;
@@ -91,15 +96,15 @@ fn checked(
 }
 
 // 4 to 11, 34 and 12, of the three sections that stand at these places
-fn sections(parts: Parts, vs: &[u8], es: &[u8], s: &[u8]) -> ScheduleIndex
-    ensures { λ r. ⌜ SectionsIndexed parts (now (vs .entry)) (now (es .entry)) (now (s .entry)) r ⌝ }
+fn sections(parts: Parts, vs: &[u8], es: &[u8], s: &[u8], ed: Edition) -> ScheduleIndex
+    ensures { λ r. ⌜ SectionsIndexed (editionOf ed) parts (now (vs .entry)) (now (es .entry)) (now (s .entry)) r ⌝ }
 {
     let p = plant::sections::read(vs, es);
     let first = p.refusal;
     if first != 0 {
         return refused(first);
     }
-    let n = nodes::read(s);
+    let n = nodes::read(s, ed);
     if n.refusal != 0 {
         return refused(9);
     }
@@ -124,10 +129,10 @@ fn sections(parts: Parts, vs: &[u8], es: &[u8], s: &[u8]) -> ScheduleIndex
     }
 }
 
-pub fn index(file: &[u8]) -> ScheduleIndex
-    ensures { λ r. ⌜ ScheduleIndexed (now (file .entry)) r ⌝ }
+pub fn index(file: &[u8], ed: Edition) -> ScheduleIndex
+    ensures { λ r. ⌜ ScheduleIndexed (editionOf ed) (now (file .entry)) r ⌝ }
 {
-    let p = parts::read(file);
+    let p = parts::read(file, ed);
     let first = p.refusal;
     if first != 0 {
         return refused(first);
@@ -138,13 +143,13 @@ pub fn index(file: &[u8]) -> ScheduleIndex
     let d = p.equations_to;
     let e = p.schedule_from;
     let f = p.schedule_to;
-    sections(p, &file[a..b], &file[c..d], &file[e..f])
+    sections(p, &file[a..b], &file[c..d], &file[e..f], ed)
 }
 
 pub fn read(file: &[u8]) -> FileRead
     ensures { λ r. ⌜ r ≡ numbers (readSchedule edition1 (now (file .entry))) ⌝ }
 {
-    let x = index(file);
+    let x = index(file, Edition::First);
     let plant = x.plant;
     let nodes = x.nodes;
     FileRead {
@@ -153,6 +158,16 @@ pub fn read(file: &[u8]) -> FileRead
         selectors: plant.selectors,
         nodes: nodes.count,
     }
+}
+
+// as many entries as there are nodes; every index that was read has room for them
+fn entries(nodes: usize) -> usize
+    ensures { λ r. ⌜ (r ≤ 256) × (nodes ≤ 256 → r ≡ nodes) ⌝ }
+{
+    if nodes > NODES {
+        return NODES;
+    }
+    nodes
 }
 
 // an index as a run looks things up in it, with places in the whole file
@@ -165,12 +180,13 @@ pub fn program(x: ScheduleIndex) -> Program
     let kinds = nodes.kinds;
     let starts = nodes.starts;
     let ends = nodes.ends;
-    let acts = actions::kinds(&kinds, paper::NODES);
+    let m = entries(nodes.count);
+    let acts = actions::kinds(&kinds, m);
     let index = fill::index(
         plant,
-        &acts,
-        &starts,
-        &ends,
+        &acts[..m],
+        &starts[..m],
+        &ends[..m],
         parts.equations_from,
         parts.schedule_from,
     );

@@ -2,10 +2,11 @@
 ghost use mathlib.Core.Path.{_≡_};
 ghost use Prim.Native.Nat.{_≤_};
 ghost use lib.ListN.{length};
-ghost use Rattle.semantics.specs.Editions.{edition1};
+ghost use Rattle.edition.specs.Editions.{editionOf};
 ghost use Rattle.schedules.specs.Files.{fileHeader, fileLength};
 ghost use Rattle.schedule_read.specs.FileParts.{noParts, partsOf};
 use super::reader;
+use edition::Edition;
 
 // 0, or the first number that applies; each section from its start to its end
 pub struct Parts {
@@ -32,13 +33,13 @@ pub fn refused(n: u8) -> Parts
     }
 }
 
-fn header(file: &[u8]) -> bool
-    ensures { λ r. ⌜ r ≡ fileHeader edition1 (now (file .entry)) ⌝ }
+fn header(file: &[u8], ed: Edition) -> bool
+    ensures { λ r. ⌜ r ≡ fileHeader (editionOf ed) (now (file .entry)) ⌝ }
 {
     if file.len() < 3 {
         return false;
     }
-    file[0] == paper::VERSION
+    file[0] == edition::version(ed)
 }
 
 fn length_field(file: &[u8]) -> bool
@@ -48,10 +49,10 @@ fn length_field(file: &[u8]) -> bool
     codec::nat2(file, 1) == file.len()
 }
 
-pub fn read(file: &[u8]) -> Parts
-    ensures { λ r. ⌜ r ≡ partsOf (now (file .entry)) ⌝ }
+pub fn read(file: &[u8], ed: Edition) -> Parts
+    ensures { λ r. ⌜ r ≡ partsOf (editionOf ed) (now (file .entry)) ⌝ }
 {
-    if !header(file) {
+    if !header(file, ed) {
         return refused(1);
     }
     if !length_field(file) {

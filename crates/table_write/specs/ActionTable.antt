@@ -5,7 +5,8 @@ use mathlib.Core.List.{List, [], _∷_, _++_}
 use mathlib.Core.Option.{some}
 use Prim.Native.Nat.{ℕ, zero, suc, _+_, _*_, _≤_, _<_}
 use lib.ListN.{length, getD}
-use Rattle.semantics.specs.Editions.{edition1}
+use Rattle.semantics.specs.Bytes.{widthOf}
+use Rattle.semantics.specs.Editions.{Edition}
 use Rattle.semantics.specs.Run.{Action}
 use Rattle.semantics.specs.TableFile.{NodeAction, actionKind, actionOfKind, actionBytes, writeActionRows}
 use Rattle.schedules.specs.Nodes.{listed}
@@ -21,11 +22,17 @@ module _ (s acts starts ends : List ℕ) where
   actionsTo zero = []
   actionsTo (suc n) = actionsTo n ++ actionHere n (getD acts n 0) (partAt s starts ends n)
 
+module _ (ed : Edition) (s acts starts ends : List ℕ) where
+  -- the row of node n, and those of the first n nodes
   abbrev pub rowHere : ℕ → List ℕ
-  rowHere n = writeActionRows edition1 (actionHere n (getD acts n 0) (partAt s starts ends n))
+  rowHere n = writeActionRows ed (actionHere n (getD acts n 0) (partAt s starts ends n))
 
   abbrev pub rowsTo : ℕ → List ℕ
-  rowsTo n = writeActionRows edition1 (actionsTo n)
+  rowsTo n = writeActionRows ed (actionsTo s acts starts ends n)
+
+-- the bytes of a row before its operand: length, node and kind
+abbrev pub rowHead : Edition → ℕ
+rowHead ed = 2 * widthOf (ed .width) + 1
 
 -- kind and operand are the bytes of an action, and no more than a row may hold
 pub record Coded (k : ℕ) (b : List ℕ) : Type 0 where
@@ -44,18 +51,18 @@ pub record OperandOf (s acts starts ends : List ℕ) (n : ℕ) : Type 0 where
   pub coded : (getD acts n 0 ≡ 0 → ⊥) → Coded (getD acts n 0) (partAt s starts ends n)
 
 -- so many nodes do
-pub record Operands (s acts starts ends : List ℕ) (count : ℕ) : Type 0 where
-  pub few : count ≤ 64
+pub record Operands (ed : Edition) (s acts starts ends : List ℕ) (count : ℕ) : Type 0 where
+  pub few : count ≤ ed .nodes
   pub each : (i : ℕ) → i < count → OperandOf s acts starts ends i
 
 -- in some section
-pub record Listed (acts starts ends : List ℕ) (count : ℕ) : Type 0 where
+pub record Listed (ed : Edition) (acts starts ends : List ℕ) (count : ℕ) : Type 0 where
   pub section : List ℕ
-  pub operands : Operands section acts starts ends count
+  pub operands : Operands ed section acts starts ends count
 
 -- how many of the first n nodes have an action, and how many bytes their rows take, whatever the operands are
-pub record Measured (acts starts ends : List ℕ) (n count size : ℕ) : Type 0 where
+pub record Measured (ed : Edition) (acts starts ends : List ℕ) (n count size : ℕ) : Type 0 where
   pub few : count ≤ n
-  pub short : size ≤ n * 202
+  pub short : size ≤ n * 204
   pub counts : (s : List ℕ) → ((i : ℕ) → i < n → OperandOf s acts starts ends i) → count ≡ length (actionsTo s acts starts ends n)
-  pub sizes : (s : List ℕ) → ((i : ℕ) → i < n → OperandOf s acts starts ends i) → size ≡ length (rowsTo s acts starts ends n)
+  pub sizes : (s : List ℕ) → ((i : ℕ) → i < n → OperandOf s acts starts ends i) → size ≡ length (rowsTo ed s acts starts ends n)

@@ -8,7 +8,7 @@ use native.Mathlib.Numerals.{add-one}
 use native.Mathlib.Omega.{arith}
 use lib.ListN.{length, getD, take, drop, set, getElem?, replicate, length-take, length-drop}
 use lib.Seq.{getD-take, getD-drop, take-all, length-take-le}
-use Rattle.semantics.specs.Editions.{edition1}
+use Rattle.semantics.specs.Editions.{Edition}
 use Rattle.semantics.proofs.Facts.{none-not-some, some-is, at-exists}
 use Rattle.schedules.specs.Nodes.{Node, nodesIn}
 use Rattle.schedules.specs.Trees.{children}
@@ -27,27 +27,27 @@ pub record Known (s : List ℕ) (r : Nodes) (ns : List Node) (i : ℕ) : Type 0 
   pub is : getElem? ns i ≡ some node
   pub made : Makes s (getD (r .kinds) i 0) (getD (r .starts) i 0) node
 
-pub known : (s : List ℕ) {ns : List Node} → nodesIn edition1 s ≡ some ns → (i : ℕ) → i < length ns → Known s (nodesOf s) ns i
-known s {ns} h i l =
-    let x = indexed s h in
+pub known : (ed : Edition) (s : List ℕ) {ns : List Node} → nodesIn ed s ≡ some ns → (i : ℕ) → i < length ns → Known s (nodesOf ed s) ns i
+known ed s {ns} h i l =
+    let x = indexed ed s h in
     let n = x .counted in
     let y = at-exists ns i l in
     record { node = y .0; is = y .1; made = record { stop = _; is = x .entries i (omega arith) .node ∙ y .1 } }
 
 -- where the index counts a node there are nodes
-present : (s : List ℕ) (i : ℕ) → i < nodesOf s .count → (ns : List Node) × (nodesIn edition1 s ≡ some ns)
-present s i l = go (nodesIn edition1 s) refl
+present : (ed : Edition) (s : List ℕ) (i : ℕ) → i < nodesOf ed s .count → (ns : List Node) × (nodesIn ed s ≡ some ns)
+present ed s i l = go (nodesIn ed s) refl
   where
-    go : (o : Option (List Node)) → nodesIn edition1 s ≡ o → (ns : List Node) × (o ≡ some ns)
-    go none e = let z : nodesOf s .count ≡ 0 = ap (λ (r : Nodes). r .count) (nodes-none s e) in absurd (omega arith)
+    go : (o : Option (List Node)) → nodesIn ed s ≡ o → (ns : List Node) × (o ≡ some ns)
+    go none e = let z : nodesOf ed s .count ≡ 0 = ap (λ (r : Nodes). r .count) (nodes-none ed s e) in absurd (omega arith)
     go (some ns) e = (ns, refl)
 
-few-nodes : (s : List ℕ) → nodesOf s .count ≤ 64
-few-nodes s = go (nodesIn edition1 s) refl
+few-nodes : (ed : Edition) (s : List ℕ) → nodesOf ed s .count ≤ 256
+few-nodes ed s = go (nodesIn ed s) refl
   where
-    go : (o : Option (List Node)) → nodesIn edition1 s ≡ o → nodesOf s .count ≤ 64
-    go none e = let z : nodesOf s .count ≡ 0 = ap (λ (r : Nodes). r .count) (nodes-none s e) in omega arith
-    go (some ns) e = indexed s e .few
+    go : (o : Option (List Node)) → nodesIn ed s ≡ o → nodesOf ed s .count ≤ 256
+    go none e = let z : nodesOf ed s .count ≡ 0 = ap (λ (r : Nodes). r .count) (nodes-none ed s e) in omega arith
+    go (some ns) e = omega (arith, indexed ed s e .few, ed .entries-fit)
 
 -- ---- a payload's first byte
 part-begins : (s : List ℕ) (b e : ℕ) → 1 ≤ length (between b e s) → (0 < e - b) × (b < length s)
@@ -73,33 +73,35 @@ take-next [] i e = none-not-some e
 take-next (y ∷ l) zero e = ap (λ z. z ∷ []) (some-is e)
 take-next (y ∷ l) (suc i) e = ap (λ z. y ∷ z) (take-next l i e)
 
-pub counts-start : (ns : List Node) → replicate 64 0 ≡ pad 64 0 (map children (take 0 ns))
-counts-start ns = pad-none 64 0
+pub counts-start : (ns : List Node) → replicate 256 0 ≡ pad 256 0 (map children (take 0 ns))
+counts-start ns = pad-none 256 0
 
-counts-more : (s cs : List ℕ) (i v : ℕ) {ns : List Node} (h : nodesIn edition1 s ≡ some ns) → i < nodesOf s .count → cs ≡ pad 64 0 (map children (take i ns)) →
-    ((x : Node) → Makes s (getD (nodesOf s .kinds) i 0) (getD (nodesOf s .starts) i 0) x → v ≡ children x) → set cs i v ≡ pad 64 0 (map children (take (i + 1) ns))
-counts-more s cs i v {ns} h l e k =
-    let n = indexed s h .counted in
-    let b = indexed s h .few in
+counts-more : (ed : Edition) (s cs : List ℕ) (i v : ℕ) {ns : List Node} (h : nodesIn ed s ≡ some ns) → i < nodesOf ed s .count → cs ≡ pad 256 0 (map children (take i ns)) →
+    ((x : Node) → Makes s (getD (nodesOf ed s .kinds) i 0) (getD (nodesOf ed s .starts) i 0) x → v ≡ children x) → set cs i v ≡ pad 256 0 (map children (take (i + 1) ns))
+counts-more ed s cs i v {ns} h l e k =
+    let n = indexed ed s h .counted in
+    let b = indexed ed s h .few in
+    let f = ed .entries-fit in
     let j : i < length ns = omega arith in
-    let x = known s h i j in
+    let x = known ed s h i j in
     let m : length (take i ns) ≡ i = length-take-le i ns (omega arith) in
-    rw (e, k (x .node) (x .made), add-one i, take-next ns i (x .is)) (pad-map-snoc 64 0 children (take i ns) i (x .node) m (omega arith))
+    rw (e, k (x .node) (x .made), add-one i, take-next ns i (x .is)) (pad-map-snoc 256 0 children (take i ns) i (x .node) m (omega arith))
 
-counts-all : (s cs : List ℕ) (i : ℕ) {ns : List Node} → nodesIn edition1 s ≡ some ns → nodesOf s .count ≤ i → cs ≡ pad 64 0 (map children (take i ns)) → cs ≡ pad 64 0 (map children ns)
-counts-all s cs i {ns} h l e = let n = indexed s h .counted in e ∙ ap (λ z. pad 64 0 (map children z)) (take-all i ns (omega arith))
+counts-all : (ed : Edition) (s cs : List ℕ) (i : ℕ) {ns : List Node} → nodesIn ed s ≡ some ns → nodesOf ed s .count ≤ i → cs ≡ pad 256 0 (map children (take i ns)) → cs ≡ pad 256 0 (map children ns)
+counts-all ed s cs i {ns} h l e = let n = indexed ed s h .counted in e ∙ ap (λ z. pad 256 0 (map children z)) (take-all i ns (omega arith))
 
--- as the code has them: the index is a parameter
-module _ (s : List ℕ) (r : Nodes) (e : r ≡ nodesOf s) where
-  pub few : r .count ≤ 64
-  few = rw e (few-nodes s)
+-- as the code has them: the index is a parameter, of some edition
+module _ (s : List ℕ) (r : Nodes) (k : (ed : Edition) × (r ≡ nodesOf ed s)) where
+  pub few : r .count ≤ 256
+  few = rw (k .1) (few-nodes (k .0) s)
 
   pub node-made : (i : ℕ) → i < r .count → (x : Node) × Makes s (getD (r .kinds) i 0) (getD (r .starts) i 0) x
-  node-made i = rw e (λ l. let p = present s i l in let x = known s (p .1) i (omega (arith, indexed s (p .1) .counted)) in (x .node, x .made))
+  node-made i = rw (k .1) (λ l. let p = present (k .0) s i l in let x = known (k .0) s (p .1) i (omega (arith, indexed (k .0) s (p .1) .counted)) in (x .node, x .made))
 
-  pub counts-next : (cs : List ℕ) (i v : ℕ) (ns : List Node) → nodesIn edition1 s ≡ some ns → i < r .count → cs ≡ pad 64 0 (map children (take i ns)) →
-      ((x : Node) → Makes s (getD (r .kinds) i 0) (getD (r .starts) i 0) x → v ≡ children x) → set cs i v ≡ pad 64 0 (map children (take (i + 1) ns))
-  counts-next cs i v ns h = rw e (counts-more s cs i v h)
+module _ (ed : Edition) (s : List ℕ) (r : Nodes) (e : r ≡ nodesOf ed s) where
+  pub counts-next : (cs : List ℕ) (i v : ℕ) (ns : List Node) → nodesIn ed s ≡ some ns → i < r .count → cs ≡ pad 256 0 (map children (take i ns)) →
+      ((x : Node) → Makes s (getD (r .kinds) i 0) (getD (r .starts) i 0) x → v ≡ children x) → set cs i v ≡ pad 256 0 (map children (take (i + 1) ns))
+  counts-next cs i v ns h = rw e (counts-more ed s cs i v h)
 
-  pub counts-end : (cs : List ℕ) (i : ℕ) (ns : List Node) → nodesIn edition1 s ≡ some ns → r .count ≤ i → cs ≡ pad 64 0 (map children (take i ns)) → cs ≡ pad 64 0 (map children ns)
-  counts-end cs i ns h = rw e (counts-all s cs i h)
+  pub counts-end : (cs : List ℕ) (i : ℕ) (ns : List Node) → nodesIn ed s ≡ some ns → r .count ≤ i → cs ≡ pad 256 0 (map children (take i ns)) → cs ≡ pad 256 0 (map children ns)
+  counts-end cs i ns h = rw e (counts-all ed s cs i h)

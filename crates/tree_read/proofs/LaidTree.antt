@@ -4,7 +4,7 @@ use mathlib.Core.Bool.{true, false}
 use mathlib.Core.List.{List}
 use mathlib.Core.Option.{Option, none, some}
 use Prim.Native.Nat.{ℕ}
-use Rattle.semantics.specs.Editions.{edition1}
+use Rattle.semantics.specs.Editions.{Edition}
 use Rattle.semantics.specs.Refusals.{need}
 use Rattle.semantics.proofs.Facts.{true-not-false}
 use Rattle.schedules.specs.Nodes.{Node, nodesIn}
@@ -14,11 +14,11 @@ use Rattle.tree_read.specs.Ends.{TreeAt, TreeRead, TreeIn}
 use Rattle.tree_read.specs.declared.tree.Subtrees.{Subtrees}
 use Rattle.tree_read.proofs.WholeTree.{of-tree}
 
-module _ (s : List ℕ) {ns : List Node} (h : nodesIn edition1 s ≡ some ns) {r : Subtrees} (w : TreeIn s r) where
-  judged : {o : Option Tree} → treeOf ns ≡ o → TreeRead s (need 10 o) r
-  judged e = rw e at (of-tree s h w)
+module _ (ed : Edition) (s : List ℕ) {ns : List Node} (h : nodesIn ed s ≡ some ns) {r : Subtrees} (w : TreeIn ed s r) where
+  judged : {o : Option Tree} → treeOf ns ≡ o → TreeRead ed s (need 10 o) r
+  judged e = rw e at (of-tree ed s h w)
 
-  pub tree-at : {t : Tree} → treeOf ns ≡ some t → TreeAt (nodesOf s .kinds) (nodesOf s .count) t r
+  pub tree-at : {t : Tree} → treeOf ns ≡ some t → TreeAt (nodesOf ed s .kinds) (nodesOf ed s .count) t r
   unfolding need
   tree-at e = judged e
 

@@ -7,7 +7,7 @@ use Prim.Native.Nat.{ℕ, zero, suc, _+_, _≤_, _<_}
 use native.Mathlib.Omega.{arith}
 use lib.ListN.{length, getD, take, drop, replicate, length-drop, length-map, length-replicate}
 use lib.Seq.{take-at}
-use Rattle.semantics.specs.Editions.{edition1}
+use Rattle.semantics.specs.Editions.{Edition}
 use Rattle.semantics.specs.Refusals.{refusalOf, need, _>>=_}
 use Rattle.semantics.proofs.Facts.{none-not-some, some-is, at-below}
 use Rattle.semantics.proofs.Judging.{go-need}
@@ -30,35 +30,35 @@ use Rattle.tree_read.proofs.LaidSteps.{laid-end}
 use Rattle.tree_read.proofs.WalkSteps.{no-next, not-10, next-same}
 
 -- ---- the answer, by the nodes
-module _ (s : List ℕ) {r : Subtrees} where
-  no-nodes : nodesIn edition1 s ≡ none → r ≡ noTree → TreeIn s r
+module _ (ed : Edition) (s : List ℕ) {r : Subtrees} where
+  no-nodes : nodesIn ed s ≡ none → r ≡ noTree → TreeIn ed s r
   unfolding need _>>=_
-  no-nodes e q = record { read = subst (λ o. TreeRead s (need 9 o >>= judgeTree) r) (sym e) q }
+  no-nodes e q = record { read = subst (λ o. TreeRead ed s (need 9 o >>= judgeTree) r) (sym e) q }
 
-  module _ {ns : List Node} (e : nodesIn edition1 s ≡ some ns) where
-    of-nodes : TreeRead s (judgeTree ns) r → TreeIn s r
-    of-nodes h = record { read = subst (λ j. TreeRead s j r) (sym (go-need 9 judgeTree e)) h }
+  module _ {ns : List Node} (e : nodesIn ed s ≡ some ns) where
+    of-nodes : TreeRead ed s (judgeTree ns) r → TreeIn ed s r
+    of-nodes h = record { read = subst (λ j. TreeRead ed s j r) (sym (go-need 9 judgeTree e)) h }
 
-    pub of-tree : TreeIn s r → TreeRead s (judgeTree ns) r
-    of-tree h = subst (λ j. TreeRead s j r) (go-need 9 judgeTree e) (h .read)
+    pub of-tree : TreeIn ed s r → TreeRead ed s (judgeTree ns) r
+    of-tree h = subst (λ j. TreeRead ed s j r) (go-need 9 judgeTree e) (h .read)
 
-    none-made : treeOf ns ≡ none → r ≡ noTree → TreeIn s r
+    none-made : treeOf ns ≡ none → r ≡ noTree → TreeIn ed s r
     unfolding need
-    none-made g q = of-nodes (subst (λ o. TreeRead s (need 10 o) r) (sym g) q)
+    none-made g q = of-nodes (subst (λ o. TreeRead ed s (need 10 o) r) (sym g) q)
 
 -- ---- the child counts that the walk is given, and the nodes' kinds
-counts-of : (s cs : List ℕ) {ns : List Node} → nodesIn edition1 s ≡ some ns → cs ≡ pad 64 0 (map children ns) → Counts (take (nodesOf s .count) cs) ns
+counts-of : (ed : Edition) (s cs : List ℕ) {ns : List Node} → nodesIn ed s ≡ some ns → cs ≡ pad 256 0 (map children ns) → Counts (take (nodesOf ed s .count) cs) ns
 unfolding pad
-counts-of s cs {ns} h e = record {
-  is = ap (take (nodesOf s .count)) e ∙ take-at (map children ns) _ (nodesOf s .count) (length-map ns children ∙ indexed s h .counted);
-  parents = λ i g. subst Parent (some-is (sym (known s h i (at-below ns i g) .is) ∙ g)) (said (known s h i (at-below ns i g) .made) .parent);
+counts-of ed s cs {ns} h e = record {
+  is = ap (take (nodesOf ed s .count)) e ∙ take-at (map children ns) _ (nodesOf ed s .count) (length-map ns children ∙ indexed ed s h .counted);
+  parents = λ i g. subst Parent (some-is (sym (known ed s h i (at-below ns i g) .is) ∙ g)) (said (known ed s h i (at-below ns i g) .made) .parent);
 }
 
-kinds-of : (s : List ℕ) {ns : List Node} → nodesIn edition1 s ≡ some ns → KindsOf (nodesOf s .kinds) ns
-kinds-of s {ns} h =
-    let x = indexed s h in
+kinds-of : (ed : Edition) (s : List ℕ) {ns : List Node} → nodesIn ed s ≡ some ns → KindsOf (nodesOf ed s .kinds) ns
+kinds-of ed s {ns} h =
+    let x = indexed ed s h in
     record {
-      inside = omega (arith, x .counted, x .few, x .kinds-full);
+      inside = omega (arith, x .counted, x .few, x .kinds-full, ed .entries-fit);
       made = λ i g. (_, x .entries i (omega (arith, x .counted, at-below ns i g)) .node ∙ g);
     }
 
@@ -68,95 +68,95 @@ getD-zeros zero i = refl
 getD-zeros (suc n) zero = refl
 getD-zeros (suc n) (suc i) = getD-zeros n i
 
-lies-over : {kinds e : List ℕ} {t : Tree} {count : ℕ} → length kinds ≡ 64 → Kept (replicate 64 0) e 0 count → Laid kinds e t 0 count → TreeAt kinds count t (record { ok = true; ends = e })
+lies-over : {kinds e : List ℕ} {t : Tree} {count : ℕ} → length kinds ≡ 256 → Kept (replicate 256 0) e 0 count → Laid kinds e t 0 count → TreeAt kinds count t (record { ok = true; ends = e })
 lies-over {kinds} {e} {t} {count} k p l = record {
   ok = refl;
-  full = p .long ∙ length-replicate {A = ℕ} 64 0;
+  full = p .long ∙ length-replicate {A = ℕ} 256 0;
   lies = record { laid = subst (Laid kinds e t 0) (sym (laid-end l)) l; small = omega arith };
   whole = laid-end l;
-  behind = λ i h. p .behind i h ∙ getD-zeros 64 i;
+  behind = λ i h. p .behind i h ∙ getD-zeros 256 i;
 }
 
 -- what the walk of node 0 says of any nodes with these child counts
 abbrev Root : List ℕ → List ℕ → Walk → Type 0
-Root ks e w = (ns : List Node) → Counts ks ns → (f : ℕ) → length ks ≤ 0 + f → TreeWalked ns 0 (replicate 64 0) e (readTree f 0 (drop 0 ns)) w
+Root ks e w = (ns : List Node) → Counts ks ns → (f : ℕ) → length ks ≤ 0 + f → TreeWalked ns 0 (replicate 256 0) e (readTree f 0 (drop 0 ns)) w
 
-module _ (s cs e : List ℕ) (w : Walk) (c : (ns : List Node) → nodesIn edition1 s ≡ some ns → cs ≡ pad 64 0 (map children ns)) (p : Root (take (nodesOf s .count) cs) e w) where
+module _ (ed : Edition) (s cs e : List ℕ) (w : Walk) (c : (ns : List Node) → nodesIn ed s ≡ some ns → cs ≡ pad 256 0 (map children ns)) (p : Root (take (nodesOf ed s .count) cs) e w) where
   -- the walk from node 0 on, where there are nodes
-  root : {ns : List Node} → nodesIn edition1 s ≡ some ns → TreeWalked ns 0 (replicate 64 0) e (readTree (length ns) 0 ns) w
+  root : {ns : List Node} → nodesIn ed s ≡ some ns → TreeWalked ns 0 (replicate 256 0) e (readTree (length ns) 0 ns) w
   root {ns} h =
-      let k = counts-of s cs h (c ns h) in
+      let k = counts-of ed s cs h (c ns h) in
       p ns k (length ns) (omega (arith, ap length (k .is) ∙ length-map ns children))
 
   -- without nodes nothing is read
-  empty : nodesIn edition1 s ≡ none → paperWalk w ≡ refusalOf (judgeTree [])
+  empty : nodesIn ed s ≡ none → paperWalk w ≡ refusalOf (judgeTree [])
   unfolding readTree
   empty h =
-      let z : nodesOf s .count ≡ 0 = ap (λ (r : Nodes). r .count) (nodes-none s h) in
-      let k : take (nodesOf s .count) cs ≡ [] = ap (λ n. take n cs) z in
+      let z : nodesOf ed s .count ≡ 0 = ap (λ (r : Nodes). r .count) (nodes-none ed s h) in
+      let k : take (nodesOf ed s .count) cs ≡ [] = ap (λ n. take n cs) z in
       p [] (record { is = k; parents = λ i g. none-not-some g }) 0 (omega (arith, ap length k))
 
-  is-lost : {ns : List Node} → nodesIn edition1 s ≡ some ns → w ≡ Lost → treeOf ns ≡ none
+  is-lost : {ns : List Node} → nodesIn ed s ≡ some ns → w ≡ Lost → treeOf ns ≡ none
   unfolding treeOf noneLeft
   is-lost {ns} h q = go (readTree (length ns) 0 ns) (root h)
     where
-      go : (o : Walked Tree) → TreeWalked ns 0 (replicate 64 0) e o w → noneLeft o ≡ none
+      go : (o : Walked Tree) → TreeWalked ns 0 (replicate 256 0) e o w → noneLeft o ≡ none
       go lost k = refl
       go (walked t m ms) k = no-next q (k .0 .answer)
 
-  is-over : {ns : List Node} {m : ℕ} → nodesIn edition1 s ≡ some ns → w ≡ Next m → m < length ns → treeOf ns ≡ none
+  is-over : {ns : List Node} {m : ℕ} → nodesIn ed s ≡ some ns → w ≡ Next m → m < length ns → treeOf ns ≡ none
   unfolding treeOf noneLeft
   is-over {ns} {m} h q l = go (readTree (length ns) 0 ns) (root h)
     where
-      go : (o : Walked Tree) → TreeWalked ns 0 (replicate 64 0) e o w → noneLeft o ≡ none
+      go : (o : Walked Tree) → TreeWalked ns 0 (replicate 256 0) e o w → noneLeft o ≡ none
       go lost k = refl
       go (walked t j []) k =
           let same : m ≡ j = next-same q (k .0 .answer) in
           absurd (omega (arith, ap length (k .0 .rest) ∙ length-drop j ns))
       go (walked t j (x ∷ ms)) k = refl
 
-  is-tree : {ns : List Node} → nodesIn edition1 s ≡ some ns → w ≡ Next (length ns) → TreeRead s (judgeTree ns) (record { ok = true; ends = e })
+  is-tree : {ns : List Node} → nodesIn ed s ≡ some ns → w ≡ Next (length ns) → TreeRead ed s (judgeTree ns) (record { ok = true; ends = e })
   unfolding treeOf noneLeft need
   is-tree {ns} h q = go (readTree (length ns) 0 ns) (root h)
     where
-      go : (o : Walked Tree) → TreeWalked ns 0 (replicate 64 0) e o w → TreeRead s (need 10 (noneLeft o)) (record { ok = true; ends = e })
+      go : (o : Walked Tree) → TreeWalked ns 0 (replicate 256 0) e o w → TreeRead ed s (need 10 (noneLeft o)) (record { ok = true; ends = e })
       go lost k = not-10 q k
       go (walked t j []) k =
-          let same : j ≡ nodesOf s .count = sym (next-same q (k .0 .answer)) ∙ indexed s h .counted in
-          lies-over (indexed s h .kinds-full) (subst (Kept (replicate 64 0) e 0) same (k .0 .kept)) (subst (Laid (nodesOf s .kinds) e t 0) same (k .1 (nodesOf s .kinds) (kinds-of s h)))
+          let same : j ≡ nodesOf ed s .count = sym (next-same q (k .0 .answer)) ∙ indexed ed s h .counted in
+          lies-over (indexed ed s h .kinds-full) (subst (Kept (replicate 256 0) e 0) same (k .0 .kept)) (subst (Laid (nodesOf ed s .kinds) e t 0) same (k .1 (nodesOf ed s .kinds) (kinds-of ed s h)))
       go (walked t j (x ∷ ms)) k =
           let same : length ns ≡ j = next-same q (k .0 .answer) in
           absurd (omega (arith, ap length (k .0 .rest) ∙ length-drop j ns))
 
 -- ---- as the code has them: the index is a parameter
-module _ (s cs e : List ℕ) (w : Walk) (r : Nodes) (i : r ≡ nodesOf s) (c : (ns : List Node) → nodesIn edition1 s ≡ some ns → cs ≡ pad 64 0 (map children ns)) (p : Root (take (r .count) cs) e w) where
-  given : Root (take (nodesOf s .count) cs) e w
+module _ (ed : Edition) (s cs e : List ℕ) (w : Walk) (r : Nodes) (i : r ≡ nodesOf ed s) (c : (ns : List Node) → nodesIn ed s ≡ some ns → cs ≡ pad 256 0 (map children ns)) (p : Root (take (r .count) cs) e w) where
+  given : Root (take (nodesOf ed s .count) cs) e w
   given = rw i at p
 
-  counted : {ns : List Node} → nodesIn edition1 s ≡ some ns → r .count ≡ length ns
-  counted h = ap (λ (x : Nodes). x .count) i ∙ sym (indexed s h .counted)
+  counted : {ns : List Node} → nodesIn ed s ≡ some ns → r .count ≡ length ns
+  counted h = ap (λ (x : Nodes). x .count) i ∙ sym (indexed ed s h .counted)
 
-  pub tree-found : {m : ℕ} → w ≡ Next m → m ≡ r .count → TreeIn s (record { ok = true; ends = e })
-  tree-found {m} q g = go (nodesIn edition1 s) refl
+  pub tree-found : {m : ℕ} → w ≡ Next m → m ≡ r .count → TreeIn ed s (record { ok = true; ends = e })
+  tree-found {m} q g = go (nodesIn ed s) refl
     where
-      go : (o : Option (List Node)) → nodesIn edition1 s ≡ o → TreeIn s (record { ok = true; ends = e })
-      go none h = not-10 q (empty s cs e w c given h)
-      go (some ns) h = of-nodes s h (is-tree s cs e w c given h (q ∙ ap Next (g ∙ counted h)))
+      go : (o : Option (List Node)) → nodesIn ed s ≡ o → TreeIn ed s (record { ok = true; ends = e })
+      go none h = not-10 q (empty ed s cs e w c given h)
+      go (some ns) h = of-nodes ed s h (is-tree ed s cs e w c given h (q ∙ ap Next (g ∙ counted h)))
 
   module _ {t : Subtrees} (n : t ≡ noTree) where
-    pub tree-over : {m : ℕ} → w ≡ Next m → (m ≡ r .count → ⊥) → m ≤ r .count → TreeIn s t
-    tree-over {m} q g b = go (nodesIn edition1 s) refl
+    pub tree-over : {m : ℕ} → w ≡ Next m → (m ≡ r .count → ⊥) → m ≤ r .count → TreeIn ed s t
+    tree-over {m} q g b = go (nodesIn ed s) refl
       where
-        go : (o : Option (List Node)) → nodesIn edition1 s ≡ o → TreeIn s t
-        go none h = no-nodes s h n
+        go : (o : Option (List Node)) → nodesIn ed s ≡ o → TreeIn ed s t
+        go none h = no-nodes ed s h n
         go (some ns) h =
             let z = counted h in
             let l : m < length ns = omega arith in
-            none-made s h (is-over s cs e w c given h q l) n
+            none-made ed s h (is-over ed s cs e w c given h q l) n
 
-    pub tree-lost : w ≡ Lost → TreeIn s t
-    tree-lost q = go (nodesIn edition1 s) refl
+    pub tree-lost : w ≡ Lost → TreeIn ed s t
+    tree-lost q = go (nodesIn ed s) refl
       where
-        go : (o : Option (List Node)) → nodesIn edition1 s ≡ o → TreeIn s t
-        go none h = no-nodes s h n
-        go (some ns) h = none-made s h (is-lost s cs e w c given h q) n
+        go : (o : Option (List Node)) → nodesIn ed s ≡ o → TreeIn ed s t
+        go none h = no-nodes ed s h n
+        go (some ns) h = none-made ed s h (is-lost ed s cs e w c given h q) n

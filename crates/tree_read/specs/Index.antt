@@ -5,53 +5,54 @@ use mathlib.Core.List.{List, [], map}
 use Prim.Native.Nat.{ℕ, _+_, _≤_, _<_}
 use lib.ListN.{length, getD, drop, replicate, getElem?}
 use Rattle.semantics.specs.Bytes.{Read, broken, read}
-use Rattle.semantics.specs.Editions.{edition1}
+use Rattle.semantics.specs.Editions.{Edition}
 use Rattle.semantics.specs.Refusals.{Judged, refused, accepted}
 use Rattle.schedules.specs.Nodes.{Node, kindOf, nodeOf, readNode}
 use Rattle.schedules.specs.Files.{judgeNodeSection}
+use Rattle.codec.specs.Numbers.{wide, numAt}
 use Rattle.codec.specs.Parts.{partAt}
 use Rattle.codec.specs.Places.{placesFrom}
 use Rattle.codec.specs.Padding.{pad}
 use Rattle.tree_read.specs.declared.nodes.Nodes.{Nodes}
 
 -- ---- what stands at a place where a node stands: its length, its kind and its payload
-unfoldable pub kindAt : List ℕ → ℕ → ℕ
-kindAt s p = getD s (p + 1) 0
+unfoldable pub kindAt : Edition → List ℕ → ℕ → ℕ
+kindAt ed s p = getD s (p + wide ed) 0
 
-unfoldable pub startAt : ℕ → ℕ
-startAt p = p + 2
+unfoldable pub startAt : Edition → ℕ → ℕ
+startAt ed p = p + wide ed + 1
 
-unfoldable pub endAt : List ℕ → ℕ → ℕ
-endAt s p = p + 1 + getD s p 0
+unfoldable pub endAt : Edition → List ℕ → ℕ → ℕ
+endAt ed s p = p + wide ed + numAt ed s p
 
 -- the places of n nodes; the node count stands before them
-unfoldable pub nodePlaces : List ℕ → ℕ → List ℕ
-nodePlaces s n = placesFrom (length s) (readNode edition1) n (drop 1 s)
+unfoldable pub nodePlaces : Edition → List ℕ → ℕ → List ℕ
+nodePlaces ed s n = placesFrom (length s) (readNode ed) n (drop (wide ed) s)
 
--- ---- the answer
+-- ---- the answer: its arrays hold the most nodes of any edition
 -- a refusal
 abbrev pub noNodes : ℕ → Nodes
-noNodes n = record { refusal = n; count = 0; kinds = replicate 64 0; starts = replicate 64 0; ends = replicate 64 0 }
+noNodes n = record { refusal = n; count = 0; kinds = replicate 256 0; starts = replicate 256 0; ends = replicate 256 0 }
 
-unfoldable pub index : List ℕ → ℕ → Nodes
-index s n = record {
+unfoldable pub index : Edition → List ℕ → ℕ → Nodes
+index ed s n = record {
   refusal = 0;
   count = n;
-  kinds = pad 64 0 (map (kindAt s) (nodePlaces s n));
-  starts = pad 64 0 (map startAt (nodePlaces s n));
-  ends = pad 64 0 (map (endAt s) (nodePlaces s n));
+  kinds = pad 256 0 (map (kindAt ed s) (nodePlaces ed s n));
+  starts = pad 256 0 (map (startAt ed) (nodePlaces ed s n));
+  ends = pad 256 0 (map (endAt ed s) (nodePlaces ed s n));
 }
 
-unfoldable pub nodesRead : List ℕ → Judged (List Node) → Nodes
-nodesRead s (refused n) = noNodes n
-nodesRead s (accepted ns) = index s (length ns)
+unfoldable pub nodesRead : Edition → List ℕ → Judged (List Node) → Nodes
+nodesRead ed s (refused n) = noNodes n
+nodesRead ed s (accepted ns) = index ed s (length ns)
 
-unfoldable pub nodesOf : List ℕ → Nodes
-nodesOf s = nodesRead s (judgeNodeSection edition1 s)
+unfoldable pub nodesOf : Edition → List ℕ → Nodes
+nodesOf ed s = nodesRead ed s (judgeNodeSection ed s)
 
 -- the answer to every section that breaks its layout: that to one without bytes
-abbrev pub notNodes : Nodes
-notNodes = nodesOf []
+abbrev pub notNodes : Edition → Nodes
+notNodes ed = nodesOf ed []
 
 -- ---- what the index says of the nodes
 -- entry i has the kind of node i, and where its payload starts and ends in s
@@ -61,12 +62,12 @@ pub record NodeAt (s kinds starts ends : List ℕ) (ns : List Node) (i : ℕ) : 
   pub inside : getD ends i 0 ≤ length s
 
 -- ns are the nodes of which this is the index
-pub record NodesAt (s kinds starts ends : List ℕ) (count : ℕ) (ns : List Node) : Type 0 where
+pub record NodesAt (ed : Edition) (s kinds starts ends : List ℕ) (count : ℕ) (ns : List Node) : Type 0 where
   pub counted : length ns ≡ count
-  pub few : count ≤ 64
-  pub kinds-full : length kinds ≡ 64
-  pub starts-full : length starts ≡ 64
-  pub ends-full : length ends ≡ 64
+  pub few : count ≤ ed .nodes
+  pub kinds-full : length kinds ≡ 256
+  pub starts-full : length starts ≡ 256
+  pub ends-full : length ends ≡ 256
   pub entries : (i : ℕ) → i < count → NodeAt s kinds starts ends ns i
 
 -- ---- for the code's own contracts

@@ -1,25 +1,27 @@
 // The layout of the schedule section (9), and its nodes by number.
+use edition::Edition;
 ghost use mathlib.Core.Path.{_≡_};
-ghost use Prim.Native.Nat.{ℕ};
-ghost use lib.ListN.{drop};
+ghost use Prim.Native.Nat.{ℕ, _≤_};
+ghost use lib.ListN.{length, drop};
 ghost use Rattle.semantics.specs.Bytes.{isSome};
-ghost use Rattle.semantics.specs.Editions.{edition1};
+ghost use Rattle.semantics.specs.Editions as papers;
+ghost use Rattle.edition.specs.Editions.{editionOf};
 ghost use Rattle.schedules.specs.Nodes.{Node, kindOf, childCount, nodeOf, readNode};
 ghost use Rattle.tree_read.specs.Index.{isRead, notNodes, nodesOf};
 
 pub struct Nodes {
     pub refusal: u8,
     pub count: usize,
-    pub kinds: [u8; paper::NODES],
-    pub starts: [usize; paper::NODES],
-    pub ends: [usize; paper::NODES],
+    pub kinds: [u8; crate::NODES],
+    pub starts: [usize; crate::NODES],
+    pub ends: [usize; crate::NODES],
 }
 
 pub fn refused() -> Nodes
-    ensures { λ r. ⌜ r ≡ notNodes ⌝ }
+    ensures { λ r. ⌜ ((ed : papers.Edition) → r ≡ notNodes ed) ⌝ }
 {
-    let kinds = [0u8; paper::NODES];
-    let places = [0usize; paper::NODES];
+    let kinds = [0u8; crate::NODES];
+    let places = [0usize; crate::NODES];
     Nodes {
         refusal: 9,
         count: 0,
@@ -57,52 +59,55 @@ fn payload(k: u8, b: &[u8]) -> bool
 }
 
 // a node stands at this place
-fn node(s: &[u8], at: usize) -> bool
-    ensures { λ r. ⌜ r ≡ isRead (readNode edition1 (drop at (now (s .entry)))) ⌝ }
+fn node(s: &[u8], at: usize, ed: Edition) -> bool
+    requires { ⌜ at ≤ length (now s) ⌝ }
+    ensures { λ r. ⌜ r ≡ isRead (readNode (editionOf ed) (drop at (now (s .entry)))) ⌝ }
 {
-    if s.len() <= at {
+    let w = edition::width(ed);
+    if s.len() - at < w {
         return false;
     }
-    let l = s[at] as usize;
+    let l = codec::number(s, at, ed);
     if l < 1 {
         return false;
     }
     if l > paper::NODE_BYTES {
         return false;
     }
-    if s.len() - at - 1 < l {
+    if s.len() - at - w < l {
         return false;
     }
-    let b = at + 2;
-    let e = at + 1 + l;
-    payload(s[at + 1], &s[b..e])
+    let b = at + w + 1;
+    let e = at + w + l;
+    payload(s[at + w], &s[b..e])
 }
 
-pub fn read(s: &[u8]) -> Nodes
-    ensures { λ r. ⌜ r ≡ nodesOf (now (s .entry)) ⌝ }
+pub fn read(s: &[u8], ed: Edition) -> Nodes
+    ensures { λ r. ⌜ r ≡ nodesOf (editionOf ed) (now (s .entry)) ⌝ }
 {
-    if s.len() < 1 {
+    let w = edition::width(ed);
+    if s.len() < w {
         return refused();
     }
-    let n = s[0] as usize;
+    let n = codec::number(s, 0, ed);
     if n < 1 {
         return refused();
     }
-    if n > paper::NODES {
+    if n > edition::node_limit(ed) {
         return refused();
     }
-    let mut kinds = [0u8; paper::NODES];
-    let mut starts = [0usize; paper::NODES];
-    let mut ends = [0usize; paper::NODES];
-    let mut p = 1;
+    let mut kinds = [0u8; crate::NODES];
+    let mut starts = [0usize; crate::NODES];
+    let mut ends = [0usize; crate::NODES];
+    let mut p = w;
     let mut i = 0;
     while i < n {
-        if !node(s, p) {
+        if !node(s, p, ed) {
             return refused();
         }
-        let e = p + 1 + s[p] as usize;
-        kinds[i] = s[p + 1];
-        starts[i] = p + 2;
+        let e = p + w + codec::number(s, p, ed);
+        kinds[i] = s[p + w];
+        starts[i] = p + w + 1;
         ends[i] = e;
         p = e;
         i += 1;

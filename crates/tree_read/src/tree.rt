@@ -5,7 +5,7 @@ ghost use mathlib.Core.List.{List, map};
 ghost use mathlib.Core.Option.{some};
 ghost use Prim.Native.Nat.{_≤_};
 ghost use lib.ListN.{length};
-ghost use Rattle.semantics.specs.Editions.{edition1};
+ghost use Rattle.semantics.specs.Editions.{Edition};
 ghost use Rattle.schedules.specs.Nodes.{Node, nodesIn};
 ghost use Rattle.schedules.specs.Trees.{children};
 ghost use Rattle.codec.specs.Padding.{pad};
@@ -15,7 +15,7 @@ ghost use Rattle.tree_read.specs.Walks.{Makes, NodeWalked, NodesWalked};
 
 pub struct Subtrees {
     pub ok: bool,
-    pub ends: [usize; paper::NODES],
+    pub ends: [usize; crate::NODES],
 }
 
 enum Walk {
@@ -27,7 +27,7 @@ enum Walk {
 pub fn no_tree() -> Subtrees
     ensures { λ r. ⌜ r ≡ noTree ⌝ }
 {
-    let ends = [0usize; paper::NODES];
+    let ends = [0usize; crate::NODES];
     Subtrees {
         ok: false,
         ends: ends,
@@ -51,18 +51,16 @@ fn children_of(s: &[u8], k: u8, start: usize) -> u8
     0
 }
 
-// the child counts of the nodes
-fn child_counts(s: &[u8], n: Nodes) -> [u8; paper::NODES]
-    requires { ⌜ n ≡ nodesOf (now s) ⌝ }
-    ensures { λ r. ⌜ ((ns : List Node) → nodesIn edition1 (now (s .entry)) ≡ some ns → r ≡ pad 64 0 (map children ns)) ⌝ }
+// the child counts of the nodes, whatever edition they were read in
+fn child_counts(s: &[u8], n: Nodes) -> [u8; crate::NODES]
+    requires { ⌜ ((ed : Edition) × (n ≡ nodesOf ed (now s))) ⌝ }
+    ensures { λ r. ⌜ ((ed : Edition) (ns : List Node) → n ≡ nodesOf ed (now (s .entry)) → nodesIn ed (now (s .entry)) ≡ some ns → r ≡ pad 256 0 (map children ns)) ⌝ }
 {
     let m = n.count;
-    let kinds = n.kinds;
-    let starts = n.starts;
-    let mut counts = [0u8; paper::NODES];
+    let mut counts = [0u8; crate::NODES];
     let mut i = 0;
     while i < m {
-        counts[i] = children_of(s, kinds[i], starts[i]);
+        counts[i] = children_of(s, n.kinds[i], n.starts[i]);
         i += 1;
     }
     counts
@@ -101,14 +99,14 @@ fn forest(counts: &[u8], ends: &mut [usize], n: usize, k: u8) -> Walk
     }
 }
 
-// n is the index of the nodes of s
+// n is the index of the nodes of s, whatever edition they were read in
 pub fn read(s: &[u8], n: Nodes) -> Subtrees
-    requires { ⌜ n ≡ nodesOf (now s) ⌝ }
-    ensures { λ r. ⌜ TreeIn (now (s .entry)) r ⌝ }
+    requires { ⌜ ((ed : Edition) × (n ≡ nodesOf ed (now s))) ⌝ }
+    ensures { λ r. ⌜ ((ed : Edition) → n ≡ nodesOf ed (now (s .entry)) → TreeIn ed (now (s .entry)) r) ⌝ }
 {
     let m = n.count;
     let counts = child_counts(s, n);
-    let mut ends = [0usize; paper::NODES];
+    let mut ends = [0usize; crate::NODES];
     let w = node(&counts[..m], &mut ends, 0);
     match w {
         Walk::Next(e) => {

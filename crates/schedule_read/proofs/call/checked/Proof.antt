@@ -1,12 +1,11 @@
 -- The pass over the nodes: 11, 34 and 12 by Telling; 12 starts with the switches' answer.
-use mathlib.Core.Path.{refl}
 use mathlib.Core.Bool.{true}
 use mathlib.Core.List.{List}
 use Prim.Native.Nat.{_-_, _≤_}
 use native.Mathlib.Omega.{arith}
 use borrow.Author.Needs.{needs}
 use borrow.Author.Tests.{not-true, not-false}
-use Rattle.semantics.specs.Editions.{edition1}
+use Rattle.semantics.specs.Editions.{Edition}
 use Rattle.semantics.specs.Sections.{Selector, Equation}
 use Rattle.schedules.specs.Nodes.{nodeNamed, nodeParted, nodeReads}
 use Rattle.plant.specs.ModeCounts.{ModesAt}
@@ -19,9 +18,9 @@ use Rattle.schedule_read.proofs.call.checked.Tie as tie
 abbrev Inv-loop : tie.InvT-loop
 Inv-loop es s variables selectors modes driven n named₀ parted₀ read₀ i₀ named parted read i =
     (i ≤ n .count)
-    × (((cs : List Selector) → ModesAt modes selectors cs → Telling (nodeNamed variables cs) s n i true named)
-    × (((qs : List Equation) → DrivenAt driven qs → Telling (nodeParted qs) s n i true parted)
-    × Telling (nodeReads edition1 variables) s n i read₀ read))
+    × (((ed : Edition) (cs : List Selector) → ModesAt modes selectors cs → Telling ed (nodeNamed variables cs) s n i true named)
+    × (((ed : Edition) (qs : List Equation) → DrivenAt driven qs → Telling ed (nodeParted qs) s n i true parted)
+    × ((ed : Edition) → Telling ed (nodeReads ed variables) s n i read₀ read)))
 
 abbrev μ-loop : tie.MeasureT-loop
 μ-loop es s variables selectors modes driven n named₀ parted₀ read₀ i₀ named parted read i = n .count - i
@@ -30,25 +29,25 @@ read-requires : tie.Need-read-requires Inv-loop μ-loop
 read-requires c κs = let p = c .before .before .before .before .pre .1 in (equations-there p, p .at .few)
 
 loop-holds : tie.Need-loop-holds Inv-loop μ-loop
-loop-holds c = (omega arith, (λ cs d. tell-start _, (λ qs d. tell-start _, tell-start _)))
+loop-holds c = (omega arith, (λ ed cs d. tell-start _, (λ ed qs d. tell-start _, λ ed. tell-start _)))
 
 element-copy-out-k : tie.Need-element-copy-out-k Inv-loop μ-loop
 element-copy-out-k c =
     let l = c .before in
-    let d = l .before .before .before .before .before .before .pre .0 .at in
-    omega (arith, d .few)
+    let d = l .before .before .before .before .before .before .pre .0 in
+    omega (arith, d .at .few, d .edition .entries-fit)
 
 element-copy-out-b : tie.Need-element-copy-out-b Inv-loop μ-loop
 element-copy-out-b c =
     let l = c .before .before in
-    let d = l .before .before .before .before .before .before .pre .0 .at in
-    omega (arith, d .few)
+    let d = l .before .before .before .before .before .before .pre .0 in
+    omega (arith, d .at .few, d .edition .entries-fit)
 
 element-copy-out-e : tie.Need-element-copy-out-e Inv-loop μ-loop
 element-copy-out-e c =
     let l = c .before .before .before in
-    let d = l .before .before .before .before .before .before .pre .0 .at in
-    omega (arith, d .few)
+    let d = l .before .before .before .before .before .before .pre .0 in
+    omega (arith, d .at .few, d .edition .entries-fit)
 
 sub-one : tie.Need-sub-one Inv-loop μ-loop
 sub-one c =
@@ -115,10 +114,10 @@ loop-again c =
     let g = t .before .loop .inv .1 in (
       omega arith,
       (
-        λ cs d. tell-next _ (t .loop-test .taken) (g .0 cs d) (m .before .one .ensures cs d) (m .both .ensures),
+        λ ed cs d. tell-next _ (t .loop-test .taken) (g .0 ed cs d) (m .before .one .ensures cs d) (m .both .ensures),
         (
-          λ qs d. tell-next _ (t .loop-test .taken) (g .1 .0 qs d) (p .before .one2 .ensures qs d) (p .both2 .ensures),
-          tell-next _ (t .loop-test .taken) (g .1 .1) (c .before .one3 .ensures) (c .both3 .ensures),
+          λ ed qs d. tell-next _ (t .loop-test .taken) (g .1 .0 ed qs d) (p .before .one2 .ensures qs d) (p .both2 .ensures),
+          λ ed. tell-next _ (t .loop-test .taken) (g .1 .1 ed) (c .before .one3 .ensures ed) (c .both3 .ensures),
         ),
       ),
     )
@@ -128,7 +127,8 @@ returns c =
     let l = c .before .before in
     let g = l .loop .inv .1 in
     let n = l .before .before .before .before .before .before .args .t3 in
-    by-11 n (told n (λ cs d. tell-end _ (omega arith) (g .0 cs d)) (λ qs d. tell-end _ (omega arith) (g .1 .0 qs d)) (l .before .read .ensures) (tell-end _ (omega arith) (g .1 .1)))
+    λ ed. by-11 ed n (told ed n (λ cs d. tell-end _ (omega arith) (g .0 ed cs d)) (λ qs d. tell-end _ (omega arith) (g .1 .0 ed qs d)) (l .before .read .ensures ed)
+    (tell-end _ (omega arith) (g .1 .1 ed)))
     (not-true _ (c .if1 .taken))
 
 returns-2 : tie.Need-returns-2 Inv-loop μ-loop
@@ -136,7 +136,8 @@ returns-2 c =
     let l = c .before .before .before in
     let g = l .loop .inv .1 in
     let n = l .before .before .before .before .before .before .args .t3 in
-    by-34 n (told n (λ cs d. tell-end _ (omega arith) (g .0 cs d)) (λ qs d. tell-end _ (omega arith) (g .1 .0 qs d)) (l .before .read .ensures) (tell-end _ (omega arith) (g .1 .1)))
+    λ ed. by-34 ed n (told ed n (λ cs d. tell-end _ (omega arith) (g .0 ed cs d)) (λ qs d. tell-end _ (omega arith) (g .1 .0 ed qs d)) (l .before .read .ensures ed)
+    (tell-end _ (omega arith) (g .1 .1 ed)))
     (not-false _ (c .before .if1 .left)) (not-true _ (c .if2 .taken))
 
 returns-3 : tie.Need-returns-3 Inv-loop μ-loop
@@ -144,7 +145,8 @@ returns-3 c =
     let l = c .before .before .before .before in
     let g = l .loop .inv .1 in
     let n = l .before .before .before .before .before .before .args .t3 in
-    nodes-passed n (told n (λ cs d. tell-end _ (omega arith) (g .0 cs d)) (λ qs d. tell-end _ (omega arith) (g .1 .0 qs d)) (l .before .read .ensures) (tell-end _ (omega arith) (g .1 .1)))
+    λ ed. nodes-passed ed n (told ed n (λ cs d. tell-end _ (omega arith) (g .0 ed cs d)) (λ qs d. tell-end _ (omega arith) (g .1 .0 ed qs d)) (l .before .read .ensures ed)
+    (tell-end _ (omega arith) (g .1 .1 ed)))
     (not-false _ (c .before .before .if1 .left)) (not-false _ (c .before .if2 .left)) (c .if3 .taken)
 
 returns-4 : tie.Need-returns-4 Inv-loop μ-loop
@@ -152,7 +154,8 @@ returns-4 c =
     let l = c .before .before .before .before in
     let g = l .loop .inv .1 in
     let n = l .before .before .before .before .before .before .args .t3 in
-    by-12 n (told n (λ cs d. tell-end _ (omega arith) (g .0 cs d)) (λ qs d. tell-end _ (omega arith) (g .1 .0 qs d)) (l .before .read .ensures) (tell-end _ (omega arith) (g .1 .1)))
+    λ ed. by-12 ed n (told ed n (λ cs d. tell-end _ (omega arith) (g .0 ed cs d)) (λ qs d. tell-end _ (omega arith) (g .1 .0 ed qs d)) (l .before .read .ensures ed)
+    (tell-end _ (omega arith) (g .1 .1 ed)))
     (not-false _ (c .before .before .if1 .left)) (not-false _ (c .before .if2 .left)) (c .if3 .left)
 
 pub checked-spec : {M : Type 1} → statement M

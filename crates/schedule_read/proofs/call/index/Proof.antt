@@ -11,40 +11,40 @@ refused-requires : tie.Need-refused-requires
 refused-requires c κs = search needs
 
 returns : tie.Need-returns
-returns c = by-parts (c .before .before .before .before .args .file .now) (c .before .before .read .ensures) (c .before .if1 .taken) (c .refused .ensures)
+returns c = by-parts _ (c .before .before .before .before .args .file .now) (c .before .before .read .ensures) (c .before .if1 .taken) (c .refused .ensures _)
 
 sub-sections : tie.Need-sub-sections
-sub-sections c = parts-stand (c .before .before .before .args .file .now) (c .before .read .ensures) (c .if1 .left) .variables .ordered
+sub-sections c = parts-stand _ (c .before .before .before .args .file .now) (c .before .read .ensures) (c .if1 .left) .variables .ordered
 
 part-sections-start : tie.Need-part-sections-start
-part-sections-start c = parts-stand (c .before .before .before .args .file .now) (c .before .read .ensures) (c .if1 .left) .variables .ordered
+part-sections-start c = parts-stand _ (c .before .before .before .args .file .now) (c .before .read .ensures) (c .if1 .left) .variables .ordered
 
 part-sections-end : tie.Need-part-sections-end
-part-sections-end c = parts-stand (c .before .before .before .args .file .now) (c .before .read .ensures) (c .if1 .left) .variables .inside
+part-sections-end c = parts-stand _ (c .before .before .before .args .file .now) (c .before .read .ensures) (c .if1 .left) .variables .inside
 
 sub-sections-2 : tie.Need-sub-sections-2
-sub-sections-2 c = parts-stand (c .before .before .before .before .args .file .now) (c .before .before .read .ensures) (c .before .if1 .left) .equations .ordered
+sub-sections-2 c = parts-stand _ (c .before .before .before .before .args .file .now) (c .before .before .read .ensures) (c .before .if1 .left) .equations .ordered
 
 part-sections-start-2 : tie.Need-part-sections-start-2
-part-sections-start-2 c = parts-stand (c .before .before .before .before .args .file .now) (c .before .before .read .ensures) (c .before .if1 .left) .equations .ordered
+part-sections-start-2 c = parts-stand _ (c .before .before .before .before .args .file .now) (c .before .before .read .ensures) (c .before .if1 .left) .equations .ordered
 
 part-sections-end-2 : tie.Need-part-sections-end-2
-part-sections-end-2 c = parts-stand (c .before .before .before .before .args .file .now) (c .before .before .read .ensures) (c .before .if1 .left) .equations .inside
+part-sections-end-2 c = parts-stand _ (c .before .before .before .before .args .file .now) (c .before .before .read .ensures) (c .before .if1 .left) .equations .inside
 
 sub-sections-3 : tie.Need-sub-sections-3
-sub-sections-3 c = parts-stand (c .before .before .before .before .before .args .file .now) (c .before .before .before .read .ensures) (c .before .before .if1 .left) .schedule .ordered
+sub-sections-3 c = parts-stand _ (c .before .before .before .before .before .args .file .now) (c .before .before .before .read .ensures) (c .before .before .if1 .left) .schedule .ordered
 
 part-sections-start-3 : tie.Need-part-sections-start-3
-part-sections-start-3 c = parts-stand (c .before .before .before .before .before .args .file .now) (c .before .before .before .read .ensures) (c .before .before .if1 .left) .schedule .ordered
+part-sections-start-3 c = parts-stand _ (c .before .before .before .before .before .args .file .now) (c .before .before .before .read .ensures) (c .before .before .if1 .left) .schedule .ordered
 
 part-sections-end-3 : tie.Need-part-sections-end-3
-part-sections-end-3 c = parts-stand (c .before .before .before .before .before .args .file .now) (c .before .before .before .read .ensures) (c .before .before .if1 .left) .schedule .inside
+part-sections-end-3 c = parts-stand _ (c .before .before .before .before .before .args .file .now) (c .before .before .before .read .ensures) (c .before .before .if1 .left) .schedule .inside
 
 sections-requires : tie.Need-sections-requires
 sections-requires c κs = search needs
 
 returns-2 : tie.Need-returns-2
-returns-2 c = by-sections (c .before .before .before .before .before .before .before .args .file .now) (c .before .before .before .before .before .read .ensures) (c .before .before .before .before .if1 .left) (c .sections .ensures)
+returns-2 c = by-sections _ (c .before .before .before .before .before .before .before .args .file .now) (c .before .before .before .before .before .read .ensures) (c .before .before .before .before .if1 .left) (c .sections .ensures)
 
 pub index-spec : {M : Type 1} → statement M
 index-spec =

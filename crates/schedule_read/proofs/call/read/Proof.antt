@@ -7,7 +7,7 @@ index-requires : tie.Need-index-requires
 index-requires c κs = search needs
 
 returns : tie.Need-returns
-returns c = counted _ (c .before .before .index .ensures)
+returns c = counted _ _ (c .before .before .index .ensures)
 
 pub read-spec : {M : Type 1} → statement M
 read-spec = tie.close (tie.spec index-requires returns)

@@ -16,7 +16,7 @@ no-tree-requires : tie.Need-no-tree-requires
 no-tree-requires c κs = search needs
 
 returns : tie.Need-returns
-returns c = nothing-else _ (c .before .before .before .refused .ensures) (c .before .before .refused2 .ensures) (c .before .refused3 .ensures) (c .no-tree .ensures)
+returns c = λ ed. nothing-else ed _ (c .before .before .before .refused .ensures) (c .before .before .refused2 .ensures) (c .before .refused3 .ensures ed) (c .no-tree .ensures)
 
 pub refused-spec : {M : Type 1} → statement M
 refused-spec =

@@ -1,7 +1,6 @@
 -- A case for each kind: what its payload is (`head-reset` ..) and what the reader of a truth or number promises of it.
 use mathlib.Core.Path.{ap, _∙_}
 use Rattle.semantics.specs.Bytes.{isSome}
-use Rattle.semantics.specs.Editions.{edition1}
 use Rattle.semantics.specs.Expressions.{numberIn}
 use Rattle.schedules.specs.Nodes.{nodeReads}
 use Rattle.schedule_read.proofs.Payloads.{head-reset, head-reinitial, tells-while, tells-if, tells-continue, tells-reset, tells-reinitial, reads-nothing, rest-part}
@@ -44,30 +43,30 @@ number-reads-requires-2 c κs = search needs
 
 returns : tie.Need-returns
 unfolding nodeReads
-returns c = tells-while (nodeReads edition1 _) (c .before .match .keys1) (c .truth-reads .ensures)
+returns c = λ ed. tells-while (nodeReads ed _) (c .before .match .keys1) (c .truth-reads .ensures ed)
 
 returns-2 : tie.Need-returns-2
 unfolding nodeReads
-returns-2 c = tells-if (nodeReads edition1 _) (c .before .match .keys2) (c .truth-reads2 .ensures)
+returns-2 c = λ ed. tells-if (nodeReads ed _) (c .before .match .keys2) (c .truth-reads2 .ensures ed)
 
 returns-3 : tie.Need-returns-3
 unfolding nodeReads
-returns-3 c = tells-continue (nodeReads edition1 _) (c .before .match .keys3) (c .truth-reads3 .ensures)
+returns-3 c = λ ed. tells-continue (nodeReads ed _) (c .before .match .keys3) (c .truth-reads3 .ensures ed)
 
 returns-4 : tie.Need-returns-4
 unfolding nodeReads
 returns-4 c =
     let a = c .before .before .before .before .args in
-    tells-reset (nodeReads edition1 (a .variables)) (c .before .before .match .keys4) (c .number-reads .ensures ∙ ap (λ e. isSome (numberIn edition1 (a .variables) e)) (rest-part (a .b .now)))
+    λ ed. tells-reset (nodeReads ed (a .variables)) (c .before .before .match .keys4) (c .number-reads .ensures ed ∙ ap (λ e. isSome (numberIn ed (a .variables) e)) (rest-part (a .b .now)))
 
 returns-5 : tie.Need-returns-5
 unfolding nodeReads
 returns-5 c =
     let a = c .before .before .before .before .args in
-    tells-reinitial (nodeReads edition1 (a .variables)) (c .before .before .match .keys5) (c .number-reads2 .ensures ∙ ap (λ e. isSome (numberIn edition1 (a .variables) e)) (rest-part (a .b .now)))
+    λ ed. tells-reinitial (nodeReads ed (a .variables)) (c .before .before .match .keys5) (c .number-reads2 .ensures ed ∙ ap (λ e. isSome (numberIn ed (a .variables) e)) (rest-part (a .b .now)))
 
 returns-6 : tie.Need-returns-6
-returns-6 c = reads-nothing _ (c .match .rest .0 .0 .0 .0 .1) (c .match .rest .0 .0 .0 .1) (c .match .rest .0 .0 .1) (c .match .rest .0 .1) (c .match .rest .1)
+returns-6 c = λ ed. reads-nothing ed _ (c .match .rest .0 .0 .0 .0 .1) (c .match .rest .0 .0 .0 .1) (c .match .rest .0 .0 .1) (c .match .rest .0 .1) (c .match .rest .1)
 
 pub one-spec : {M : Type 1} → statement M
 one-spec =

@@ -15,16 +15,16 @@ refused-requires : tie.Need-refused-requires
 refused-requires c κs = search needs
 
 returns : tie.Need-returns
-returns c = c .refused .ensures ∙ refused-1 _ (sym (c .before .before .header .ensures) ∙ not-true _ (c .before .if1 .taken))
+returns c = c .refused .ensures ∙ refused-1 _ _ (sym (c .before .before .header .ensures) ∙ not-true _ (c .before .if1 .taken))
 
 length-field-requires : tie.Need-length-field-requires
-length-field-requires c κs = header-room _ (sym (c .before .header .ensures) ∙ not-false _ (c .if1 .left))
+length-field-requires c κs = header-room _ _ (sym (c .before .header .ensures) ∙ not-false _ (c .if1 .left))
 
 refused-requires-2 : tie.Need-refused-requires-2
 refused-requires-2 c κs = search needs
 
 returns-2 : tie.Need-returns-2
-returns-2 c = c .refused2 .ensures ∙ refused-2 _ (sym (c .before .before .before .before .header .ensures) ∙ not-false _ (c .before .before .before .if1 .left)) (sym (c .before .before .length-field .ensures) ∙ not-true _ (c .before .if2 .taken))
+returns-2 c = c .refused2 .ensures ∙ refused-2 _ _ (sym (c .before .before .before .before .header .ensures) ∙ not-false _ (c .before .before .before .if1 .left)) (sym (c .before .before .length-field .ensures) ∙ not-true _ (c .before .if2 .taken))
 
 ends-requires : tie.Need-ends-requires
 ends-requires c κs = search needs
@@ -37,15 +37,15 @@ returns-3 c =
     let i = c .before in
     let o = i .before .before in
     let f = o .before .before .before .before .before .args .file .now in
-    let a = opened f (o .before .before .before .header .ensures) (o .before .before .if1 .left) (o .before .length-field .ensures) (o .if2 .left) in
-    c .refused3 .ensures ∙ refused-3 f a (one-missing f (room f a) (i .before .ends .ensures) (i .if3 .taken))
+    let a = opened _ f (o .before .before .before .header .ensures) (o .before .before .if1 .left) (o .before .length-field .ensures) (o .if2 .left) in
+    c .refused3 .ensures ∙ refused-3 _ f a (one-missing f (room _ f a) (i .before .ends .ensures) (i .if3 .taken))
 
 sub-if4 : tie.Need-sub-if4
 sub-if4 c =
     let o = c .before .before in
     let f = o .before .before .before .before .before .args .file .now in
-    let a = opened f (o .before .before .before .header .ensures) (o .before .before .if1 .left) (o .before .length-field .ensures) (o .if2 .left) in
-    all-stand f (room f a) (c .before .ends .ensures) (c .if3 .left) .schedule .inside
+    let a = opened _ f (o .before .before .before .header .ensures) (o .before .before .if1 .left) (o .before .length-field .ensures) (o .if2 .left) in
+    all-stand f (room _ f a) (c .before .ends .ensures) (c .if3 .left) .schedule .inside
 
 refused-requires-4 : tie.Need-refused-requires-4
 refused-requires-4 c κs = search needs
@@ -55,26 +55,26 @@ returns-4 c =
     let i = c .before .before in
     let o = i .before .before in
     let f = o .before .before .before .before .before .args .file .now in
-    let a = opened f (o .before .before .before .header .ensures) (o .before .before .if1 .left) (o .before .length-field .ensures) (o .if2 .left) in
-    let t = all-stand f (room f a) (i .before .ends .ensures) (i .if3 .left) in
-    c .refused4 .ensures ∙ refused-3 f a (left-over f (t .variables) (t .equations) (t .schedule) (some-left _ _ (c .before .if4 .taken)))
-
-add-t8 : tie.Need-add-t8
-add-t8 c =
-    let i = c .before in
-    let o = i .before .before in
-    let f = o .before .before .before .before .before .args .file .now in
-    let a = opened f (o .before .before .before .header .ensures) (o .before .before .if1 .left) (o .before .length-field .ensures) (o .if2 .left) in
-    let t = all-stand f (room f a) (i .before .ends .ensures) (i .if3 .left) in
-    omega (arith, t .equations .is, t .equations .inside)
+    let a = opened _ f (o .before .before .before .header .ensures) (o .before .before .if1 .left) (o .before .length-field .ensures) (o .if2 .left) in
+    let t = all-stand f (room _ f a) (i .before .ends .ensures) (i .if3 .left) in
+    c .refused4 .ensures ∙ refused-3 _ f a (left-over f (t .variables) (t .equations) (t .schedule) (some-left _ _ (c .before .if4 .taken)))
 
 add-t9 : tie.Need-add-t9
 add-t9 c =
     let i = c .before in
     let o = i .before .before in
     let f = o .before .before .before .before .before .args .file .now in
-    let a = opened f (o .before .before .before .header .ensures) (o .before .before .if1 .left) (o .before .length-field .ensures) (o .if2 .left) in
-    let t = all-stand f (room f a) (i .before .ends .ensures) (i .if3 .left) in
+    let a = opened _ f (o .before .before .before .header .ensures) (o .before .before .if1 .left) (o .before .length-field .ensures) (o .if2 .left) in
+    let t = all-stand f (room _ f a) (i .before .ends .ensures) (i .if3 .left) in
+    omega (arith, t .equations .is, t .equations .inside)
+
+add-t10 : tie.Need-add-t10
+add-t10 c =
+    let i = c .before in
+    let o = i .before .before in
+    let f = o .before .before .before .before .before .args .file .now in
+    let a = opened _ f (o .before .before .before .header .ensures) (o .before .before .if1 .left) (o .before .length-field .ensures) (o .if2 .left) in
+    let t = all-stand f (room _ f a) (i .before .ends .ensures) (i .if3 .left) in
     omega (arith, t .schedule .is, t .schedule .inside)
 
 returns-5 : tie.Need-returns-5
@@ -82,12 +82,12 @@ returns-5 c =
     let i = c .before in
     let o = i .before .before in
     let f = o .before .before .before .before .before .args .file .now in
-    let a = opened f (o .before .before .before .header .ensures) (o .before .before .if1 .left) (o .before .length-field .ensures) (o .if2 .left) in
-    let t = all-stand f (room f a) (i .before .ends .ensures) (i .if3 .left) in
-    parts-found f (t .variables) (t .equations) (t .schedule) a (c .if4 .left)
+    let a = opened _ f (o .before .before .before .header .ensures) (o .before .before .if1 .left) (o .before .length-field .ensures) (o .if2 .left) in
+    let t = all-stand f (room _ f a) (i .before .ends .ensures) (i .if3 .left) in
+    parts-found f (t .variables) (t .equations) (t .schedule) _ a (c .if4 .left)
 
 pub read-spec : {M : Type 1} → statement M
 read-spec =
     tie.close
     (tie.spec header-requires refused-requires returns length-field-requires refused-requires-2 returns-2 ends-requires refused-requires-3 returns-3 sub-if4
-    refused-requires-4 returns-4 add-t8 add-t9 returns-5)
+    refused-requires-4 returns-4 add-t9 add-t10 returns-5)

@@ -5,20 +5,23 @@ use borrow.Author.Needs.{needs}
 use Rattle.tree_read.proofs.nodes.node.Statement.{statement}
 use Rattle.tree_read.proofs.nodes.node.Tie as tie
 
+width-requires : tie.Need-width-requires
+width-requires c κs = search needs
+
+sub-if1 : tie.Need-sub-if1
+sub-if1 c = search needs
+
 returns : tie.Need-returns
-returns c = past-end (c .before .before .args .s .now) (c .before .before .args .at) (omega arith)
+returns c = past-end _ (c .before .before .before .args .s .now) (c .before .before .before .args .at) (omega arith)
 
-shared-slice-read-l : tie.Need-shared-slice-read-l
-shared-slice-read-l c = search needs
-
-cast-l : tie.Need-cast-l
-cast-l c = omega (arith, c .shared-slice-known2 .given (c .before .before .before .args .at))
+number-requires : tie.Need-number-requires
+number-requires c κs = search needs
 
 returns-2 : tie.Need-returns-2
-returns-2 c = too-short (c .before .before .before .before .args .s .now) (c .before .before .before .before .args .at) (omega arith) (omega arith)
+returns-2 c = too-short _ (c .before .before .before .before .before .args .s .now) (c .before .before .before .before .before .args .at) (omega arith) (omega arith)
 
 returns-3 : tie.Need-returns-3
-returns-3 c = too-long (c .before .before .before .before .before .args .s .now) (c .before .before .before .before .before .args .at) (omega arith) (omega arith)
+returns-3 c = too-long _ (c .before .before .before .before .before .before .args .s .now) (c .before .before .before .before .before .before .args .at) (omega arith) (omega arith)
 
 sub-if4 : tie.Need-sub-if4
 sub-if4 c = search needs
@@ -27,10 +30,15 @@ sub-if4-2 : tie.Need-sub-if4-2
 sub-if4-2 c = search needs
 
 returns-4 : tie.Need-returns-4
-returns-4 c = cut-off (c .before .before .before .before .before .before .args .s .now) (c .before .before .before .before .before .before .args .at) (omega arith) (omega arith) (omega arith) (omega arith)
+returns-4 c =
+    let c7 = c .before .before .before .before .before .before .before in
+    cut-off _ (c7 .args .s .now) (c7 .args .at) (omega arith) (omega arith) (omega arith) (omega arith)
 
 add-b : tie.Need-add-b
 add-b c = search needs
+
+add-b-2 : tie.Need-add-b-2
+add-b-2 c = search needs
 
 add-e : tie.Need-add-e
 add-e c = search needs
@@ -59,10 +67,10 @@ payload-requires c κs = search needs
 returns-5 : tie.Need-returns-5
 returns-5 c =
     let c7 = c .before .before .before .before .before .before .before in
-    has-payload (c7 .before .before .args .s .now) (c7 .before .before .args .at) (omega arith) (omega arith) (omega arith) (omega arith) (c .payload .ensures)
+    has-payload _ (c7 .before .before .before .args .s .now) (c7 .before .before .before .args .at) (omega arith) (omega arith) (omega arith) (omega arith) (c7 .before .width .ensures) (c .before .before .before .before .before .before .number .ensures) (c .payload .ensures)
 
 pub node-spec : {M : Type 1} → statement M
 node-spec =
     tie.close
-    (tie.spec returns shared-slice-read-l cast-l returns-2 returns-3 sub-if4 sub-if4-2 returns-4 add-b add-e add-e-2 add-payload shared-slice-read-payload
-    sub-payload part-payload-start part-payload-end payload-requires returns-5)
+    (tie.spec width-requires sub-if1 returns number-requires returns-2 returns-3 sub-if4 sub-if4-2 returns-4 add-b add-b-2 add-e add-e-2 add-payload
+    shared-slice-read-payload sub-payload part-payload-start part-payload-end payload-requires returns-5)

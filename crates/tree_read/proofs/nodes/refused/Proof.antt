@@ -5,7 +5,7 @@ use Rattle.tree_read.proofs.nodes.refused.Statement.{statement}
 use Rattle.tree_read.proofs.nodes.refused.Tie as tie
 
 returns : tie.Need-returns
-returns c = sym not-nodes
+returns c = λ ed. sym (not-nodes ed)
 
 pub refused-spec : {M : Type 1} → statement M
 refused-spec =

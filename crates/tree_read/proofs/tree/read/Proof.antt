@@ -14,16 +14,16 @@ child-counts-requires : tie.Need-child-counts-requires
 child-counts-requires c κs = search needs
 
 array-share-prefix-counts : tie.Need-array-share-prefix-counts
-array-share-prefix-counts c = let q : length (c .child-counts .result) ≡ 64 = search needs in omega (arith, few (c .before .before .args .s .now) (c .before .before .args .n) (c .before .before .pre))
+array-share-prefix-counts c = let q : length (c .child-counts .result) ≡ 256 = search needs in omega (arith, few (c .before .before .args .s .now) (c .before .before .args .n) (c .before .before .pre))
 
 slice-aggregate-node : tie.Need-slice-aggregate-node
-slice-aggregate-node c = let q : length (c .before .child-counts .result) ≡ 64 = search needs in sym (length-take-le (c .before .before .before .args .n .count) (c .before .child-counts .result) (omega (arith, few (c .before .before .before .args .s .now) (c .before .before .before .args .n) (c .before .before .before .pre))))
+slice-aggregate-node c = let q : length (c .before .child-counts .result) ≡ 256 = search needs in sym (length-take-le (c .before .before .before .args .n .count) (c .before .child-counts .result) (omega (arith, few (c .before .before .before .args .s .now) (c .before .before .before .args .n) (c .before .before .before .pre))))
 
 slice-aggregate-node-2 : tie.Need-slice-aggregate-node-2
 slice-aggregate-node-2 c = search needs
 
 node-requires : tie.Need-node-requires
-node-requires c κs = let q : length (c .before .before .child-counts .result) ≡ 64 = search needs in omega (arith, length-take (c .before .before .before .before .args .n .count) (c .before .before .child-counts .result), few (c .before .before .before .before .args .s .now) (c .before .before .before .before .args .n) (c .before .before .before .before .pre))
+node-requires c κs = let q : length (c .before .before .child-counts .result) ≡ 256 = search needs in omega (arith, length-take (c .before .before .before .before .args .n .count) (c .before .before .child-counts .result), few (c .before .before .before .before .args .s .now) (c .before .before .before .before .args .n) (c .before .before .before .before .pre))
 
 enum-known-w : tie.Need-enum-known-w
 enum-known-w c = search needs
@@ -40,17 +40,18 @@ no-tree-requires-2 c κs = search needs
 returns : tie.Need-returns
 returns c =
     let c7 = c .before .before .before .before .before .before .before in
-    tree-found _ _ _ _ (c7 .before .before .before .args .n) (c7 .before .before .before .pre) (c7 .before .child-counts .ensures) (c .before .before .before .before .before .node .ensures .1) (c .before .before .w .given .1) (c .if1 .taken)
+    λ ed e. tree-found ed _ _ _ _ (c7 .before .before .before .args .n) e (λ ns. c7 .before .child-counts .ensures ed ns e) (c .before .before .before .before .before .node .ensures .1) (c .before .before .w .given .1) (c .if1 .taken)
 
 returns-2 : tie.Need-returns-2
 returns-2 c =
     let c7 = c .before .before .before .before .before .before .before in
-    let b = c .before .before .before .before .before .before .node .ensures .0 .within _ (next-is (c .before .before .before .w .given .1)) in tree-over _ _ _ _ (c7 .before .before .before .before .args .n) (c7 .before .before .before .before .pre) (c7 .before .before .child-counts .ensures) (c .before .before .before .before .before .before .node .ensures .1) (c .no-tree .ensures) (c .before .before .before .w .given .1) (c .before .if1 .left) (omega (arith, length-take (c7 .before .before .before .before .args .n .count) (c7 .before .before .child-counts .result)))
+    let b = c .before .before .before .before .before .before .node .ensures .0 .within _ (next-is (c .before .before .before .w .given .1)) in
+    λ ed e. tree-over ed _ _ _ _ (c7 .before .before .before .before .args .n) e (λ ns. c7 .before .before .child-counts .ensures ed ns e) (c .before .before .before .before .before .before .node .ensures .1) (c .no-tree .ensures) (c .before .before .before .w .given .1) (c .before .if1 .left) (omega (arith, length-take (c7 .before .before .before .before .args .n .count) (c7 .before .before .child-counts .result)))
 
 returns-3 : tie.Need-returns-3
 returns-3 c =
     let c7 = c .before .before .before .before .before .before .before in
-    tree-lost _ _ _ _ (c7 .before .before .args .n) (c7 .before .before .pre) (c .before .before .before .before .before .before .before .child-counts .ensures) (c .before .before .before .before .node .ensures .1) (c .no-tree2 .ensures) (c .before .enum-told .given .1)
+    λ ed e. tree-lost ed _ _ _ _ (c7 .before .before .args .n) e (λ ns. c .before .before .before .before .before .before .before .child-counts .ensures ed ns e) (c .before .before .before .before .node .ensures .1) (c .no-tree2 .ensures) (c .before .enum-told .given .1)
 
 pub read-spec : {M : Type 1} → statement M
 read-spec =
