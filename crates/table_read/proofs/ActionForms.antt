@@ -15,6 +15,7 @@ use Rattle.semantics.specs.TableFile.{NodeAction, ActionKind, a-test, a-wait, a
 use Rattle.semantics.proofs.Facts.{within-both, within-low, true-not-false, none-not-some}
 use Rattle.semantics.proofs.Readers.{guarded, from-some, split, given, given-rest}
 use Rattle.codec.specs.Numbers.{wide, numAt}
+use Rattle.codec.specs.Parts.{between}
 use Rattle.codec.specs.Reading.{Took, Reads}
 use Rattle.codec.proofs.Reading.{taken, lost, then, broke, gives, lifts, no-lift, then-guard, no-guard, then-byte, no-byte, then-number, no-number, then-bytes, no-bytes, either, within-below, within-above}
 use Rattle.codec.proofs.Known.{after-number, not-number, after-byte, not-past, after-bytes, not-short}
@@ -60,7 +61,8 @@ module _ (ed : Edition) (s : List ℕ) (p : ℕ) (i : p + wide ed ≤ length s) 
         (either (length s) (p + wide ed + wide ed) (λ m. no-number _ _ m) (λ m. then-number _ _ m
         (either (p + wide ed + wide ed) (length s) (λ k. then-byte _ k (no-bytes _ _ (omega arith) (omega arith))) (λ k. no-byte _ k)))))) refl)
 
-    module _ (j : p + wide ed + numAt ed s p ≤ length s) {x : Bool} (e : x ≡ isSome (actionOfKind (actionKind (getD s (p + wide ed + wide ed) 0)) (take (p + wide ed + wide ed + 1 + (numAt ed s p - (wide ed + 1)) - (p + wide ed + wide ed + 1)) (drop (p + wide ed + wide ed + 1) s)))) where
+    module _ (j : p + wide ed + numAt ed s p ≤ length s) {x : Bool}
+        (e : x ≡ isSome (actionOfKind (actionKind (getD s (p + wide ed + wide ed) 0)) (between (p + wide ed + wide ed + 1) (p + wide ed + wide ed + 1 + (numAt ed s p - (wide ed + 1))) s))) where
       part : p + wide ed + wide ed + 1 + (numAt ed s p - (wide ed + 1)) - (p + wide ed + wide ed + 1) ≡ numAt ed s p - (wide ed + 1)
       part = omega arith
 
@@ -76,17 +78,21 @@ module _ (ed : Edition) (s : List ℕ) (p : ℕ) (i : p + wide ed ≤ length s) 
 
       action-ok : x ≡ true → Ends (readAction ed) s p (p + wide ed + wide ed + 1 + (numAt ed s p - (wide ed + 1)))
       unfolding readAction
-      action-ok t = ends-at {q = p + wide ed + wide ed + 1 + (numAt ed s p - (wide ed + 1))} (omega arith) (taken (then-number _ _ i (then-guard _ _ (within-both (wide ed + 1) (wide ed + 200) _ g h) (then-number _ _ (omega arith) (then-byte _ (omega arith) (then-bytes _ _ (omega arith)
+      action-ok t =
+          ends-at {q = p + wide ed + wide ed + 1 + (numAt ed s p - (wide ed + 1))} (omega arith)
+          (taken (then-number _ _ i (then-guard _ _ (within-both (wide ed + 1) (wide ed + 200) _ g h) (then-number _ _ (omega arith) (then-byte _ (omega arith) (then-bytes _ _ (omega arith)
           (lift-true _ _ (sym t ∙ rw part at e) _ (omega arith) (λ a. gives _ (omega arith) tt))))))) refl)
 
       action-bad : x ≡ false → Ends (readAction ed) s p 0
       unfolding readAction
-      action-bad t = ends-none refl (lost {K = anything} (then-number _ _ i (then-guard _ _ (within-both (wide ed + 1) (wide ed + 200) _ g h) (then-number _ _ (omega arith) (then-byte _ (omega arith) (then-bytes _ _ (omega arith)
+      action-bad t =
+          ends-none refl (lost {K = anything} (then-number _ _ i (then-guard _ _ (within-both (wide ed + 1) (wide ed + 200) _ g h)
+          (then-number _ _ (omega arith) (then-byte _ (omega arith) (then-bytes _ _ (omega arith)
           (lift-false _ _ (sym t ∙ rw part at e) _)))))) refl)
 
 -- w and l are what code holds
 module _ (ed : Edition) (s : List ℕ) (p : ℕ) {w l : ℕ} (ew : w ≡ wide ed) (el : l ≡ numAt ed s p) (i : p + w ≤ length s) (g : w + 1 ≤ l) (h : l ≤ w + 200) (j : p + w + l ≤ length s)
-    {x : Bool} (e : x ≡ isSome (actionOfKind (actionKind (getD s (p + w + w) 0)) (take (p + w + w + 1 + (l - (w + 1)) - (p + w + w + 1)) (drop (p + w + w + 1) s)))) where
+    {x : Bool} (e : x ≡ isSome (actionOfKind (actionKind (getD s (p + w + w) 0)) (between (p + w + w + 1) (p + w + w + 1 + (l - (w + 1))) s))) where
   pub action-here : x ≡ true → Ends (readAction ed) s p (p + w + w + 1 + (l - (w + 1)))
   action-here t = rw (ew, el) (action-ok ed s p (omega arith) (omega arith) (omega arith) (omega arith) (rw (ew, el) at e) t)
 
@@ -112,7 +118,8 @@ was ed s p {a} {e} h = either (length s) (p + wide ed) (λ i. not-number _ s p _
     let d = after-byte _ s (p + wide ed + wide ed) k b in
     either (length s) (p + wide ed + wide ed + 1 + (numAt ed s p - (wide ed + 1))) (λ l. not-short _ s (p + wide ed + wide ed + 1) (numAt ed s p - (wide ed + 1)) (omega arith) l d)
     (λ l.
-    let f = split (from (actionOfKind (actionKind (getD s (p + wide ed + wide ed) 0)) (take (numAt ed s p - (wide ed + 1)) (drop (p + wide ed + wide ed + 1) s)))) _ (after-bytes _ s (p + wide ed + wide ed + 1) (numAt ed s p - (wide ed + 1)) l d) in
+    let f = split (from (actionOfKind (actionKind (getD s (p + wide ed + wide ed) 0)) (take (numAt ed s p - (wide ed + 1)) (drop (p + wide ed + wide ed + 1) s)))) _
+    (after-bytes _ s (p + wide ed + wide ed + 1) (numAt ed s p - (wide ed + 1)) l d) in
     let m = from-some _ (f .first) in
     record {
       low = low;

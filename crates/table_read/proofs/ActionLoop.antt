@@ -65,7 +65,8 @@ many ed s i h = rw (number-front (ed .width) s i, within-above 1 (ed .nodes) (nu
 
 pub count-is : (ed : Edition) (s : List ℕ) {n : ℕ} → n ≡ numAt ed s 0 → wide ed ≤ length s → n ≤ ed .nodes → n ≡ orZero (readActionCount ed s)
 unfolding readActionCount orZero _>>=_ andThen guard give fail
-count-is ed s {n} e i h = rw (number-front (ed .width) s i, ← e) (either 0 n (λ k. rw (within-both 1 (ed .nodes) n (omega arith) h) refl) (λ k. rw (within-below 1 (ed .nodes) n (omega arith)) (omega arith)))
+count-is ed s {n} e i h = rw (number-front (ed .width) s i, ← e) (either 0 n (λ k. rw (within-both 1 (ed .nodes) n (omega arith) h) refl)
+    (λ k. rw (within-below 1 (ed .nodes) n (omega arith)) (omega arith)))
 
 pub record Count (ed : Edition) (s : List ℕ) (n : ℕ) : Type 0 where
   pub some-bytes : wide ed ≤ length s
@@ -146,14 +147,16 @@ pub node-inside : (ed : Edition) {K : NodeAction → Unit {0} → Type 0} {s : L
 node-inside ed {s = s} {p = p} e u = let a = was ed s p (u .got) in omega (arith, a .low, a .inside)
 
 -- one more in the lists
-kinds-more : (l : List NodeAction) (a : NodeAction) (n k : ℕ) (ks : List ℕ) → ks ≡ byNode (kindAt l) → n ≡ a .node → actionAt l (a .node) ≡ none → kindCode (some (a .action)) ≡ k → n < 256 → set ks n k ≡ byNode (kindAt (l ++ (a ∷ [])))
+kinds-more : (l : List NodeAction) (a : NodeAction) (n k : ℕ) (ks : List ℕ) → ks ≡ byNode (kindAt l) → n ≡ a .node → actionAt l (a .node) ≡ none →
+    kindCode (some (a .action)) ≡ k → n < 256 → set ks n k ≡ byNode (kindAt (l ++ (a ∷ [])))
 unfolding byNode kindAt
 kinds-more l a n k ks e m new c h =
     ap (λ z. set z n k) e ∙ listed-set 256 (kindAt l) (kindAt (l ++ (a ∷ []))) n k h
     (ap (kindAt (l ++ (a ∷ []))) m ∙ ap kindCode (action-new a l new) ∙ c)
     (λ j o. ap kindCode (action-other a l j (λ i. o (m ∙ i))))
 
-places-more-by : (f : Option ℕ → ℕ) (l : List NodeAction) (ps : List ℕ) (a : NodeAction) (n p v : ℕ) (ss : List ℕ) → ss ≡ byNode (λ m. f (placeAt l ps m)) → n ≡ a .node → actionAt l (a .node) ≡ none → length ps ≡ length l → f (some p) ≡ v → n < 256 → set ss n v ≡ byNode (λ m. f (placeAt (l ++ (a ∷ [])) (ps ++ (p ∷ [])) m))
+places-more-by : (f : Option ℕ → ℕ) (l : List NodeAction) (ps : List ℕ) (a : NodeAction) (n p v : ℕ) (ss : List ℕ) → ss ≡ byNode (λ m. f (placeAt l ps m)) → n ≡ a .node →
+    actionAt l (a .node) ≡ none → length ps ≡ length l → f (some p) ≡ v → n < 256 → set ss n v ≡ byNode (λ m. f (placeAt (l ++ (a ∷ [])) (ps ++ (p ∷ [])) m))
 unfolding byNode
 places-more-by f l ps a n p v ss e m new b c h =
     ap (λ z. set z n v) e ∙ listed-set 256 (λ m. f (placeAt l ps m)) (λ m. f (placeAt (l ++ (a ∷ [])) (ps ++ (p ∷ [])) m)) n v h
@@ -185,7 +188,13 @@ module _ (ed : Edition) (s : List ℕ) (p low : ℕ) {w n : ℕ} (ew : w ≡ wid
   next-found {q} z t h k =
       let a = t .value .node in
       let node = node-is (t .got) in
-      good-at {q = q} (omega arith) (record { value = t .value; got = t .got; inside = t .inside; means = and-both (rising-one low a ∙ le-leb low a (subst (λ n. low ≤ n) node h)) (lt-ltb a (ed .nodes) (subst (λ n. n < ed .nodes) node k)) })
+      good-at {q = q} (omega arith) (record {
+        value = t .value;
+        got = t .got;
+        inside = t .inside;
+        means = and-both (rising-one low a ∙ le-leb low a (subst (λ n. low ≤ n) node h))
+            (lt-ltb a (ed .nodes) (subst (λ n. n < ed .nodes) node k));
+      })
 
   -- it is the next one, and there is one
   pub next-node : {q : ℕ} → Next ed s p q low → (low ≤ n) × (n < ed .nodes)
@@ -216,8 +225,10 @@ module _ (ed : Edition) {s : List ℕ} {i p low : ℕ} {ks ss es : List ℕ} (x 
         took = record { value = done ++ (a ∷ []); got = rw add-one (snoc (readAction ed) i (drop (wide ed) s) (x .took .got) (u .got)); inside = u .inside; means = tt };
         sound = subst (λ n. Laid nodeOf (nodeExists ed) (done ++ (a ∷ [])) (n + 1)) (sym node) (laid-more nodeOf (nodeExists ed) a (x .sound) (u .means));
         kinds = kinds-more done a n _ ks (x .kinds) node new (kind-is _ _ (is .is)) k;
-        starts = places-more-by (operandStart ed) done (placesTo ed s i) a n p _ ss (x .starts) node new counts refl k ∙ ap (λ ps. byNode (λ m. operandStart ed (placeAt (done ++ (a ∷ [])) ps m))) (sym more);
-        stops = places-more-by (operandEnd ed s) done (placesTo ed s i) a n p _ es (x .stops) node new counts (sym (ends ed u is)) k ∙ ap (λ ps. byNode (λ m. operandEnd ed s (placeAt (done ++ (a ∷ [])) ps m))) (sym more);
+        starts = places-more-by (operandStart ed) done (placesTo ed s i) a n p _ ss (x .starts) node new counts refl k ∙ ap
+            (λ ps. byNode (λ m. operandStart ed (placeAt (done ++ (a ∷ [])) ps m))) (sym more);
+        stops = places-more-by (operandEnd ed s) done (placesTo ed s i) a n p _ es (x .stops) node new counts (sym (ends ed u is)) k ∙ ap
+            (λ ps. byNode (λ m. operandEnd ed s (placeAt (done ++ (a ∷ [])) ps m))) (sym more);
       })
 
 -- ---- a loop that stops early
@@ -225,9 +236,11 @@ laid-is : (ed : Edition) (l : List NodeAction) → actionsNumbered ed l ≡ laid
 unfolding actionsNumbered actionNodes laid
 laid-is ed l = refl
 
-pub index-stop : (ed : Edition) {s : List ℕ} {i p low n : ℕ} {ks ss es : List ℕ} (x : Indexing ed s i p low ks ss es) → Count ed s n → i < n → ((a : NodeAction) (e : List ℕ) → readAction ed (drop p s) ≡ read a e → follows nodeOf (nodeExists ed) low a ≡ false) → noActions 18 ≡ actionsOf ed s
+pub index-stop : (ed : Edition) {s : List ℕ} {i p low n : ℕ} {ks ss es : List ℕ} (x : Indexing ed s i p low ks ss es) → Count ed s n → i < n →
+    ((a : NodeAction) (e : List ℕ) → readAction ed (drop p s) ≡ read a e → follows nodeOf (nodeExists ed) low a ≡ false) → noActions 18 ≡ actionsOf ed s
 index-stop ed {s} {i} x c h bad =
-    refuse ed s (λ l e g. early (readAction ed) (laid nodeOf (nodeExists ed)) (laid-fronts nodeOf (nodeExists ed)) i (x .took) h (λ a r k. not-laid nodeOf (nodeExists ed) a (x .sound) (bad a r k)) (in-times ed c e) (sym (laid-is ed l) ∙ g))
+    refuse ed s (λ l e g. early (readAction ed) (laid nodeOf (nodeExists ed)) (laid-fronts nodeOf (nodeExists ed)) i (x .took) h
+    (λ a r k. not-laid nodeOf (nodeExists ed) a (x .sound) (bad a r k)) (in-times ed c e) (sym (laid-is ed l) ∙ g))
 
 -- ---- after the last turn
 module _ (ed : Edition) {s : List ℕ} {i p low n : ℕ} {ks ss es : List ℕ} (x : Indexing ed s i p low ks ss es) (c : Count ed s n) (e : i ≡ n) where

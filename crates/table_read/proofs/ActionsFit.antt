@@ -34,7 +34,8 @@ both-all f all-nil all-nil = all-nil
 both-all f (all-cons {x = x} h p) (all-cons i q) = all-cons (f x h i) (both-all f p q)
 
 -- a test of actions that each node's action passes, all of them pass
-pub every-by-node : (ed : Edition) (fits : Action → Bool) (l : List NodeAction) → actionsNumbered ed l ≡ true → ((n : ℕ) (a : Action) → n < ed .nodes → actionAt l n ≡ some a → fits a ≡ true) → every (λ a. fits (a .action)) l ≡ true
+pub every-by-node : (ed : Edition) (fits : Action → Bool) (l : List NodeAction) → actionsNumbered ed l ≡ true →
+    ((n : ℕ) (a : Action) → n < ed .nodes → actionAt l n ≡ some a → fits a ≡ true) → every (λ a. fits (a .action)) l ≡ true
 unfolding actionsNumbered actionNodes nodeExists
 every-by-node ed fits l h f =
     all-every (λ a. fits (a .action)) (both-all (λ x p q. f (x .node) (x .action) (ltb-true (x .node) (ed .nodes) q) (p .1))

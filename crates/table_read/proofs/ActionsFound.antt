@@ -34,7 +34,8 @@ pub accepted-actions : (ed : Edition) (s : List ℕ) → actionsOf ed s .refusal
 unfolding actionsOf judgeActions indexRead
 accepted-actions ed s h = go (fitted 18 (actionsIn ed s) (actionsNumbered ed)) h
   where
-    go : {j : Judged (List NodeAction)} → Fitted 18 (actionsIn ed s) (actionsNumbered ed) j → indexRead ed s j .refusal ≡ 0 → (l : List NodeAction) × (actionsIn ed s ≡ some l) × (actionsNumbered ed l ≡ true)
+    go : {j : Judged (List NodeAction)} → Fitted 18 (actionsIn ed s) (actionsNumbered ed) j → indexRead ed s j .refusal ≡ 0 →
+        (l : List NodeAction) × (actionsIn ed s ≡ some l) × (actionsNumbered ed l ≡ true)
     go (fit {a = l} e k) h = (l, e, k)
     go (unfit k) h = absurd (omega arith)
 
@@ -67,7 +68,9 @@ data Looked (ed : Edition) (s : List ℕ) (l : List NodeAction) (ps : List ℕ) 
 
 takes-action : (ed : Edition) → Takes (readAction ed)
 unfolding readAction
-takes-action ed = takes-then (takes-number _) (λ l. takes-guard _ (takes-then (takes-number _) (λ n. takes-then takes-byte (λ k. takes-then (takes-bytes _) (λ b. takes-then (takes-from _) (λ a. takes-give _))))))
+takes-action ed =
+    takes-then (takes-number _) (λ l. takes-guard _ (takes-then (takes-number _)
+    (λ n. takes-then takes-byte (λ k. takes-then (takes-bytes _) (λ b. takes-then (takes-from _) (λ a. takes-give _))))))
 
 module _ (ed : Edition) (s : List ℕ) (n : ℕ) where
   look-next : (a : NodeAction) (l : List NodeAction) (p : ℕ) (ps : List ℕ) {e : List ℕ} → readAction ed (drop p s) ≡ read a e → Looked ed s l ps n → Looked ed s (a ∷ l) (p ∷ ps) n
@@ -82,7 +85,8 @@ module _ (ed : Edition) (s : List ℕ) (n : ℕ) where
       go false k (nowhere i j) = nowhere (rw (actionAt, k) i) (rw (placeAt, k) j)
       go false k (at-place {a = b} {p = q} i j r) = at-place {a = b} {p = q} (rw (actionAt, k) i) (rw (placeAt, k) j) r
 
-  look : (k from : ℕ) (m : List ℕ) {l : List NodeAction} {e : List ℕ} → from ≤ length s → m ≡ drop from s → times k (readAction ed) m ≡ read l e → Looked ed s l (placesFrom (length s) (readAction ed) k m) n
+  look : (k from : ℕ) (m : List ℕ) {l : List NodeAction} {e : List ℕ} → from ≤ length s → m ≡ drop from s → times k (readAction ed) m ≡ read l e →
+      Looked ed s l (placesFrom (length s) (readAction ed) k m) n
   unfolding times give actionAt placeAt
   look zero from m b q h = subst (λ l. Looked ed s l (placesFrom (length s) (readAction ed) zero m) n) (read-value h) (nowhere refl refl)
   look (suc k) from m b q h =
@@ -178,10 +182,12 @@ module _ (ed : Edition) (s : List ℕ) {l : List NodeAction} (e : actionsIn ed s
       go (one-action {a = a} j z b c o) = absurd (omega (arith, code-some a))
 
   -- and else the action of its kind and its operand
-  pub operand-is : (getD (actionsOf ed s .kinds) n 0 ≡ 0 → ⊥) → actionOfKind (actionKind (getD (actionsOf ed s .kinds) n 0)) (take (getD (actionsOf ed s .ends) n 0 - getD (actionsOf ed s .starts) n 0) (drop (getD (actionsOf ed s .starts) n 0) s)) ≡ actionAt l n
+  pub operand-is : (getD (actionsOf ed s .kinds) n 0 ≡ 0 → ⊥) → actionOfKind (actionKind (getD (actionsOf ed s .kinds) n 0))
+      (take (getD (actionsOf ed s .ends) n 0 - getD (actionsOf ed s .starts) n 0) (drop (getD (actionsOf ed s .starts) n 0) s)) ≡ actionAt l n
   operand-is i = go (action-here ed s e h n k)
     where
-      go : Here s (actionsOf ed s) (actionAt l n) n → actionOfKind (actionKind (getD (actionsOf ed s .kinds) n 0)) (take (getD (actionsOf ed s .ends) n 0 - getD (actionsOf ed s .starts) n 0) (drop (getD (actionsOf ed s .starts) n 0) s)) ≡ actionAt l n
+      go : Here s (actionsOf ed s) (actionAt l n) n → actionOfKind (actionKind (getD (actionsOf ed s .kinds) n 0))
+          (take (getD (actionsOf ed s .ends) n 0 - getD (actionsOf ed s .starts) n 0) (drop (getD (actionsOf ed s .starts) n 0) s)) ≡ actionAt l n
       go (no-action j z st en) = absurd (i z)
       go (one-action j z b c o) = o ∙ sym j
 
@@ -220,4 +226,6 @@ kinds-say ed s {l} e h = record {
     above k = omega (arith, ed .entries-fit)
 
     said : (n : ℕ) → getD (actionsOf ed s .kinds) n 0 ≡ kindAt l n
-    said n = ap (λ x. getD (x .kinds) n 0) (index-is ed s e h) ∙ either n 256 (λ k. listed-at 256 (kindAt l) n k) (λ k. List·getD-eq-default (byNode (kindAt l)) 0 (size k) ∙ sym (ap kindCode (nowhere-above ed l n exist (above k))))
+    said n =
+        ap (λ x. getD (x .kinds) n 0) (index-is ed s e h) ∙ either n 256 (λ k. listed-at 256 (kindAt l) n k)
+        (λ k. List·getD-eq-default (byNode (kindAt l)) 0 (size k) ∙ sym (ap kindCode (nowhere-above ed l n exist (above k))))

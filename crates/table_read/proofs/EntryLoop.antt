@@ -101,10 +101,12 @@ module _ (ed : Edition) (n : ℕ) (ks s : List ℕ) (p : ℕ) where
   unfolding times give
   entries-start h = record { took = record { value = []; got = refl; inside = omega arith; means = tt }; sound = laid-none entryNode (entryFits n (actionsLike ks)) }
 
-  pub entries-next : {i q r low : ℕ} → Entries ed n ks s p i q low → Took (readEntry ed) (λ a (x : Unit {0}). follows entryNode (entryFits n (actionsLike ks)) low a ≡ true) s q r tt → {m : ℕ} → m ≡ numAt ed s q → Entries ed n ks s p (i + 1) r (m + 1)
+  pub entries-next : {i q r low : ℕ} → Entries ed n ks s p i q low → Took (readEntry ed)
+      (λ a (x : Unit {0}). follows entryNode (entryFits n (actionsLike ks)) low a ≡ true) s q r tt → {m : ℕ} → m ≡ numAt ed s q → Entries ed n ks s p (i + 1) r (m + 1)
   entries-next {i} {q} x u e = record {
     took = record { value = x .took .value ++ (u .value ∷ []); got = rw (add-one i) (snoc (readEntry ed) i (drop (p + 1) s) (x .took .got) (u .got)); inside = u .inside; means = tt };
-    sound = subst (λ m. Laid entryNode (entryFits n (actionsLike ks)) (x .took .value ++ (u .value ∷ [])) (m + 1)) (entry-node ed s q (u .got) ∙ sym e) (laid-more entryNode (entryFits n (actionsLike ks)) (u .value) (x .sound) (u .means));
+    sound = subst (λ m. Laid entryNode (entryFits n (actionsLike ks)) (x .took .value ++ (u .value ∷ [])) (m + 1)) (entry-node ed s q (u .got) ∙ sym e)
+        (laid-more entryNode (entryFits n (actionsLike ks)) (u .value) (x .sound) (u .means));
   }
 
   -- whatever actions have these kinds
@@ -127,7 +129,8 @@ module _ (ed : Edition) (n : ℕ) (ks s : List ℕ) (p : ℕ) where
     pub location-empty : getD s p 0 < 1 → LocationEnds 0
     location-empty i l said = good-none refl (λ a e k. true-not-false (sym (counted-entries k .0) ∙ lt-leb 1 (getD s p 0) i))
 
-    pub location-stop : {i q low : ℕ} → Entries ed n ks s p i q low → i < getD s p 0 → ((a : Entry) (e : List ℕ) → readEntry ed (drop q s) ≡ read a e → follows entryNode (entryFits n (actionsLike ks)) low a ≡ false) → LocationEnds 0
+    pub location-stop : {i q low : ℕ} → Entries ed n ks s p i q low → i < getD s p 0 →
+        ((a : Entry) (e : List ℕ) → readEntry ed (drop q s) ≡ read a e → follows entryNode (entryFits n (actionsLike ks)) low a ≡ false) → LocationEnds 0
     unfolding locationFits entryNodes laid
     location-stop {i} x k bad = for-all 0 (good-none refl (λ es e g. by-cases (locationFits n (actionsLike ks) es)
         (λ fit. absurd (early (readEntry ed) (laid entryNode (entryFits n (actionsLike ks))) (laid-fronts entryNode (entryFits n (actionsLike ks))) i (x .took) k

@@ -38,7 +38,8 @@ location-before ed s p e =
     let a = split byte _ e in
     omega (arith, ap length (byte-read (drop p s) (a .first)), length-drop p s)
 
-promised-there : (ed : Edition) (f : List ℕ) → length f < 2 ^ 64 → (a b p n : ℕ) {acts : List NodeAction} {es : List Entry} → LocationPromised ed (between a b f) p n acts es → LocationPromised ed f (shiftedBy a p) n acts es
+promised-there : (ed : Edition) (f : List ℕ) → length f < 2 ^ 64 → (a b p n : ℕ) {acts : List NodeAction} {es : List Entry} → LocationPromised ed (between a b f) p n acts es →
+    LocationPromised ed f (shiftedBy a p) n acts es
 promised-there ed f small a b p n l =
     let i = location-before ed (between a b f) p (l .reads) in
     rw (place-there f small a b p i) (record { rest = l .rest ++ drop (b - a) (drop a f); reads = read-there f a b (more-location ed) p (omega arith) (l .reads); fits = l .fits })
@@ -61,7 +62,9 @@ module _ (ed : Edition) (f : List ℕ) (small : length f < 2 ^ 64) {x : TableInd
   actions-stand = moved (λ p. Stands f (p .actions) (p .«actions_end») (sectionsAt f p .actions)) (open-of .stand .actions)
 
   long : (length (x .actions .kinds) ≡ 256) × (length (x .actions .starts) ≡ 256) × (length (x .actions .ends) ≡ 256)
-  long = subst (λ (a : Actions). (length (a .kinds) ≡ 256) × (length (a .starts) ≡ 256) × (length (a .ends) ≡ 256)) (sym (actions-read ed f h j)) (lengths-of ed _ (open-of .actions) (open-of .actions-passed))
+  long =
+      subst (λ (a : Actions). (length (a .kinds) ≡ 256) × (length (a .starts) ≡ 256) × (length (a .ends) ≡ 256)) (sym (actions-read ed f h j))
+      (lengths-of ed _ (open-of .actions) (open-of .actions-passed))
 
   locations-held : LocationsPromised (x .locations) t
   locations-held = locations-promised ed f open-of (locations-read ed f h j)
@@ -80,7 +83,8 @@ module _ (ed : Edition) (f : List ℕ) (small : length f < 2 ^ 64) {x : TableInd
     location-of : (k : ℕ) → k < length (t .locations) → LocationLent ed t (lent f ix rs) k
     unfolding sectionsAt entriesAt
     location-of k i =
-        let p = moved (λ p. LocationPromised ed (sectionsAt f p .locations) (getD (x .locations .places) k 0) (length (t .locations)) (t .actions) (entriesAt t k)) (location-promised ed f open-of (locations-read ed f h j) k i) in
+        let p = moved (λ p. LocationPromised ed (sectionsAt f p .locations) (getD (x .locations .places) k 0) (length (t .locations)) (t .actions) (entriesAt t k))
+        (location-promised ed f open-of (locations-read ed f h j) k i) in
         record {
           row = omega (arith, locations-held .high);
           promised = rw (places k (omega (arith, locations-held .high, locations-held .full))) (promised-there ed f small (x .parts .locations) (x .parts .«locations_end») _ _ p);

@@ -25,11 +25,13 @@ use Rattle.table_read.proofs.EntryLoop.{entryAt, entry-is, entry-took}
 use Rattle.table_read.proofs.LocationLoop.{accept, count-was, in-times}
 
 -- ---- where nothing is refused
-pub accepted-locations : (ed : Edition) (acts : List NodeAction) (s : List ℕ) → locationsOf ed acts s .refusal ≡ 0 → (ls : List (List Entry)) × (locationsIn ed s ≡ some ls) × (locationsFit acts ls ≡ true)
+pub accepted-locations : (ed : Edition) (acts : List NodeAction) (s : List ℕ) → locationsOf ed acts s .refusal ≡ 0 →
+    (ls : List (List Entry)) × (locationsIn ed s ≡ some ls) × (locationsFit acts ls ≡ true)
 unfolding locationsOf judgeLocations locationsRead
 accepted-locations ed acts s h = go (fitted 19 (locationsIn ed s) (locationsFit acts)) h
   where
-    go : {j : Judged (List (List Entry))} → Fitted 19 (locationsIn ed s) (locationsFit acts) j → locationsRead ed s j .refusal ≡ 0 → (ls : List (List Entry)) × (locationsIn ed s ≡ some ls) × (locationsFit acts ls ≡ true)
+    go : {j : Judged (List (List Entry))} → Fitted 19 (locationsIn ed s) (locationsFit acts) j → locationsRead ed s j .refusal ≡ 0 →
+        (ls : List (List Entry)) × (locationsIn ed s ≡ some ls) × (locationsFit acts ls ≡ true)
     go (fit {a = ls} e k) h = (ls, e, k)
     go (unfit k) h = absurd (omega arith)
 
@@ -48,10 +50,12 @@ fit-locations ed acts s {ls} e h =
     subst (λ ls. locationsFit acts ls ≡ true) (some-is (sym (k .1) ∙ e)) (k .2)
 
 -- the index is that of the locations
-pub index-is : (ed : Edition) (acts : List NodeAction) (s : List ℕ) {ls : List (List Entry)} → locationsIn ed s ≡ some ls → locationsOf ed acts s .refusal ≡ 0 → locationsOf ed acts s ≡ locationIndex ed s (length ls)
+pub index-is : (ed : Edition) (acts : List NodeAction) (s : List ℕ) {ls : List (List Entry)} → locationsIn ed s ≡ some ls → locationsOf ed acts s .refusal ≡ 0 →
+    locationsOf ed acts s ≡ locationIndex ed s (length ls)
 index-is ed acts s e h = accept ed acts s e (fit-locations ed acts s e h)
 
-times-of : (ed : Edition) (s : List ℕ) {ls : List (List Entry)} → locationsIn ed s ≡ some ls → (2 ≤ length s) × (1 ≤ length ls) × (length ls ≤ 1024) × (times (length ls) (readLocation ed) (drop 2 s) ≡ read ls [])
+times-of : (ed : Edition) (s : List ℕ) {ls : List (List Entry)} → locationsIn ed s ≡ some ls →
+    (2 ≤ length s) × (1 ≤ length ls) × (length ls ≤ 1024) × (times (length ls) (readLocation ed) (drop 2 s) ≡ read ls [])
 unfolding locationsIn readLocations
 times-of ed s {ls} e =
     let k = split readLocationCount _ (whole-read (readLocations ed) s e) in
@@ -112,7 +116,8 @@ module _ (ed : Edition) (acts : List NodeAction) (s : List ℕ) {ls : List (List
       let j : k < length ls = omega arith in
       let m : length ps ≡ length ls = places-length (length s) (readLocation ed) (length ls) (drop 2 s) (t .3) in
       let x = placed (takes-location ed) s (length ls) k 2 (t .0) (t .3) j in
-      let at : getD (locationsOf ed acts s .places) k 0 ≡ getD ps k 0 = ap (λ z. getD (z .places) k 0) (index-is ed acts s e h) ∙ List·getD-append ps (replicate (1024 - length ps) 0) 0 k (omega arith) in
+      let at : getD (locationsOf ed acts s .places) k 0 ≡ getD ps k 0 = ap (λ z. getD (z .places) k 0) (index-is ed acts s e h) ∙
+      List·getD-append ps (replicate (1024 - length ps) 0) 0 k (omega arith) in
       subst (LocationAt ed s ls k) (sym at) (record {
         rest = x .nth .end;
         reads = x .nth .got ∙ ap (λ z. read z (x .nth .end)) (getD-of ls k [] (x .nth .is));

@@ -126,8 +126,12 @@ pub record Fitting (s ks ss es : List ℕ) (v n : ℕ) (counts : List ℕ) (i : 
 pub fit-start : {s ks ss es counts : List ℕ} {v n : ℕ} → Fitting s ks ss es v n counts 0
 fit-start = record { at = λ m h. absurd (omega arith) }
 
-pub fit-next : (s ks ss es : List ℕ) (v n : ℕ) (counts : List ℕ) {i : ℕ} {r : Bool} → FitAt s ks ss es v n counts i r → r ≡ true → Fitting s ks ss es v n counts i → Fitting s ks ss es v n counts (i + 1)
-fit-next s ks ss es v n counts {i} t h f = record { at = λ m b. either m i (λ j. f .at m j) (λ j. let y : i ≡ m = omega arith in subst (λ m. FitAt s ks ss es v n counts m true) y (λ ed cs d. sym h ∙ t ed cs d)) }
+pub fit-next : (s ks ss es : List ℕ) (v n : ℕ) (counts : List ℕ) {i : ℕ} {r : Bool} → FitAt s ks ss es v n counts i r → r ≡ true → Fitting s ks ss es v n counts i →
+    Fitting s ks ss es v n counts (i + 1)
+fit-next s ks ss es v n counts {i} t h f = record {
+  at = λ m b. either m i (λ j. f .at m j)
+      (λ j. let y : i ≡ m = omega arith in subst (λ m. FitAt s ks ss es v n counts m true) y (λ ed cs d. sym h ∙ t ed cs d));
+}
 
 -- by any selectors
 abbrev AllFitted : Edition → List ℕ → ℕ → ℕ → List ℕ → Bool → Type 0
@@ -138,7 +142,8 @@ unfolding operandsFit
 of-plant ed s v n counts f p w d l e = f (selectors p) d l e ∙ ap (λ n. every (λ (a : NodeAction). operandFits ed n (selectors p) (a .action)) l) w
 
 module _ (ed : Edition) (s : List ℕ) {x : Actions} (q : x ≡ actionsOf ed s) (z : x .refusal ≡ 0) (v n : ℕ) (counts : List ℕ) where
-  told : {i : ℕ} {r : Bool} → i < 256 → FitAt s (x .kinds) (x .starts) (x .ends) v n counts i r → (cs : List Selector) → ModesAt counts n cs → {l : List NodeAction} → actionsIn ed s ≡ some l → r ≡ fitsHere ed v cs (actionAt l i)
+  told : {i : ℕ} {r : Bool} → i < 256 → FitAt s (x .kinds) (x .starts) (x .ends) v n counts i r → (cs : List Selector) → ModesAt counts n cs → {l : List NodeAction} →
+      actionsIn ed s ≡ some l → r ≡ fitsHere ed v cs (actionAt l i)
   told {i} k t cs d e = t ed cs d ∙ ap (fitsHere ed v cs) (operand-of ed s q z i k e)
 
   unfit : {i : ℕ} → i < 256 → FitAt s (x .kinds) (x .starts) (x .ends) v n counts i false → AllFitted ed s v n counts false

@@ -183,11 +183,13 @@ accepted-parts : (ed : Edition) (t : List ℕ) → partsOf ed t .refusal ≡ 0 �
 unfolding partsOf partsRead judgeTableLayout ensure need _>>_
 accepted-parts ed t h = header (tableHeader ed t) refl h
   where
-    sections-of : (o : Option TableSections) → tableHeader ed t ≡ true → tableSectionsIn (drop 5 t) ≡ o → partsRead (need 16 o) .refusal ≡ 0 → (s : TableSections) × (judgeTableLayout ed t ≡ accepted s) × AllStand t (partsOf ed t) s
+    sections-of : (o : Option TableSections) → tableHeader ed t ≡ true → tableSectionsIn (drop 5 t) ≡ o → partsRead (need 16 o) .refusal ≡ 0 →
+        (s : TableSections) × (judgeTableLayout ed t ≡ accepted s) × AllStand t (partsOf ed t) s
     sections-of none e k i = absurd (omega arith)
     sections-of (some s) e k i = let l = layout-is ed t e k in (s, l, rw (read-parts ed t l) (sections-stand t (header-room ed t e) k))
 
-    header : (b : Bool) → tableHeader ed t ≡ b → partsRead (ensure 15 b >> need 16 (tableSectionsIn (drop 5 t))) .refusal ≡ 0 → (s : TableSections) × (judgeTableLayout ed t ≡ accepted s) × AllStand t (partsOf ed t) s
+    header : (b : Bool) → tableHeader ed t ≡ b → partsRead (ensure 15 b >> need 16 (tableSectionsIn (drop 5 t))) .refusal ≡ 0 →
+        (s : TableSections) × (judgeTableLayout ed t ≡ accepted s) × AllStand t (partsOf ed t) s
     header true e k = sections-of (tableSectionsIn (drop 5 t)) e refl k
     header false e k = absurd (omega arith)
 
@@ -196,7 +198,8 @@ unfolding sectionsAt
 parts-are ed t h =
     let k = accepted-parts ed t h in
     let st = k .2 in
-    subst (λ s. (judgeTableLayout ed t ≡ accepted s) × AllStand t (partsOf ed t) s) (same (sym (st .variables .is)) (sym (st .equations .is)) (sym (st .actions .is)) (sym (st .locations .is))) (k .1, st)
+    subst (λ s. (judgeTableLayout ed t ≡ accepted s) × AllStand t (partsOf ed t) s)
+    (same (sym (st .variables .is)) (sym (st .equations .is)) (sym (st .actions .is)) (sym (st .locations .is))) (k .1, st)
   where
     same : {x x′ y y′ z z′ w w′ : List ℕ} → x ≡ x′ → y ≡ y′ → z ≡ z′ → w ≡ w′ → _≡_ {A = TableSections} (record { variables = x; equations = y; actions = z; locations = w }) (record { variables = x′; equations = y′; actions = z′; locations = w′ })
     same h i j k = cc

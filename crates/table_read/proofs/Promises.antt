@@ -54,7 +54,9 @@ unfolding tableConditions
 never-0 ed t {n} e = go (table-first ed t) e
   where
     all : All (λ (c : Condition). 1 ≤ c .refusal) (tableConditions ed t)
-    all = all-cons {x = 15 if is15 ed t} (omega arith) (all-cons {x = 16 if is16 ed t} (omega arith) (all-cons {x = 17 if is17 ed t} (omega arith) (all-cons {x = 18 if is18 ed t} (omega arith) (all-cons {x = 19 if is19 ed t} (omega arith) all-nil))))
+    all =
+        all-cons {x = 15 if is15 ed t} (omega arith) (all-cons {x = 16 if is16 ed t} (omega arith)
+        (all-cons {x = 17 if is17 ed t} (omega arith) (all-cons {x = 18 if is18 ed t} (omega arith) (all-cons {x = 19 if is19 ed t} (omega arith) all-nil))))
 
     go : {j : Judged Table} → Firsts j (tableConditions ed t) → j ≡ refused n → 1 ≤ n
     go (refuses {n = m} f) e = let i : m ≡ n = refused-is e in omega (arith, first-some all f)
@@ -130,7 +132,13 @@ opened ed t {tb} e =
 
 -- the index of an accepted table, field by field
 module _ (ed : Edition) (t : List ℕ) {ix : TableIndex} (h : ix ≡ tableIndex ed t) {tb : Table} (e : judgeTable ed t ≡ accepted tb) where
-  index-of : ix ≡ record { refusal = 0; parts = partsOf ed t; plant = plantOf ed (sectionsAt t (partsOf ed t) .variables) (sectionsAt t (partsOf ed t) .equations); actions = actionsOf ed (sectionsAt t (partsOf ed t) .actions); locations = locationsOf ed (tb .actions) (sectionsAt t (partsOf ed t) .locations) }
+  index-of : ix ≡ record {
+    refusal = 0;
+    parts = partsOf ed t;
+    plant = plantOf ed (sectionsAt t (partsOf ed t) .variables) (sectionsAt t (partsOf ed t) .equations);
+    actions = actionsOf ed (sectionsAt t (partsOf ed t) .actions);
+    locations = locationsOf ed (tb .actions) (sectionsAt t (partsOf ed t) .locations);
+  }
   unfolding tableIndex indexOf
   index-of = h ∙ rw e refl
 
@@ -158,9 +166,11 @@ nodes-below : (ed : Edition) (l : List NodeAction) (n : ℕ) {a : Action} → ac
 unfolding actionsNumbered
 nodes-below ed l n h e = either n (ed .nodes) (λ i. i) (λ i. none-not-some (sym (nowhere-above ed l n (and-right (risingFrom 0 (actionNodes l)) (every (nodeExists ed) l) h) i) ∙ e))
 
-pub action-promised : (ed : Edition) (t : List ℕ) {tb : Table} → Opened ed t tb → {x : Actions} → x ≡ actionsOf ed (sectionsAt t (partsOf ed t) .actions) → (n : ℕ) {a : Action} → actionAt (tb .actions) n ≡ some a → ActionPromised ed (sectionsAt t (partsOf ed t) .actions) x (tb .plant) n a
+pub action-promised : (ed : Edition) (t : List ℕ) {tb : Table} → Opened ed t tb → {x : Actions} → x ≡ actionsOf ed (sectionsAt t (partsOf ed t) .actions) → (n : ℕ) {a : Action} →
+    actionAt (tb .actions) n ≡ some a → ActionPromised ed (sectionsAt t (partsOf ed t) .actions) x (tb .plant) n a
 unfolding operandsFit
-action-promised ed t {tb} o {x} q n {a} e = subst (λ x. ActionPromised ed s x (tb .plant) n a) (sym q) (go (action-here ed s (o .actions) (o .actions-passed) n (omega (arith, below, ed .entries-fit))))
+action-promised ed t {tb} o {x} q n {a} e = subst (λ x. ActionPromised ed s x (tb .plant) n a) (sym q)
+    (go (action-here ed s (o .actions) (o .actions-passed) n (omega (arith, below, ed .entries-fit))))
   where
     s : List ℕ
     s = sectionsAt t (partsOf ed t) .actions
@@ -170,11 +180,24 @@ action-promised ed t {tb} o {x} q n {a} e = subst (λ x. ActionPromised ed s x (
 
     go : Here s (actionsOf ed s) (actionAt (tb .actions) n) n → ActionPromised ed s (actionsOf ed s) (tb .plant) n a
     go (no-action i j st en) = none-not-some (sym i ∙ e)
-    go (one-action i j b c k) = record { below = below; ordered = b; inside = c; is = k ∙ sym i ∙ e; fits = by-node-every (operandFits ed (length (tb .plant .variables)) (selectors (tb .plant))) (tb .actions) n (o .operands) e }
+    go (one-action i j b c k) =
+        record {
+          below = below;
+          ordered = b;
+          inside = c;
+          is = k ∙ sym i ∙ e;
+          fits = by-node-every (operandFits ed (length (tb .plant .variables)) (selectors (tb .plant)))
+              (tb .actions) n (o .operands) e;
+        }
 
-pub lengths-of : (ed : Edition) (s : List ℕ) {l : List NodeAction} → actionsIn ed s ≡ some l → actionsOf ed s .refusal ≡ 0 → (length (actionsOf ed s .kinds) ≡ 256) × (length (actionsOf ed s .starts) ≡ 256) × (length (actionsOf ed s .ends) ≡ 256)
+pub lengths-of : (ed : Edition) (s : List ℕ) {l : List NodeAction} → actionsIn ed s ≡ some l → actionsOf ed s .refusal ≡ 0 →
+    (length (actionsOf ed s .kinds) ≡ 256) × (length (actionsOf ed s .starts) ≡ 256) × (length (actionsOf ed s .ends) ≡ 256)
 unfolding actionIndex byNode
-lengths-of ed s e h = let i = index-is ed s e h in (ap (λ (x : Actions). length (x .kinds)) i ∙ listed-length 256 _, ap (λ (x : Actions). length (x .starts)) i ∙ listed-length 256 _, ap (λ (x : Actions). length (x .ends)) i ∙ listed-length 256 _)
+lengths-of ed s e h =
+    let i = index-is ed s e h in
+    let kinds = ap (λ (x : Actions). length (x .kinds)) i ∙ listed-length 256 _ in
+    let starts = ap (λ (x : Actions). length (x .starts)) i ∙ listed-length 256 _ in
+    (kinds, starts, ap (λ (x : Actions). length (x .ends)) i ∙ listed-length 256 _)
 
 -- ---- a location
 getD-all : {A : Type 0} {P : A → Type 0} (l : List A) (k : ℕ) (d : A) → k < length l → All P l → P (getD l k d)
@@ -182,7 +205,9 @@ getD-all [] k d h a = absurd (omega arith)
 getD-all (x ∷ l) zero d h (all-cons i a) = i
 getD-all (x ∷ l) (suc k) d h (all-cons i a) = getD-all l k d (omega arith) a
 
-pub location-promised : (ed : Edition) (t : List ℕ) {tb : Table} → Opened ed t tb → {x : Locations} → x ≡ locationsOf ed (tb .actions) (sectionsAt t (partsOf ed t) .locations) → (k : ℕ) → k < length (tb .locations) → LocationPromised ed (sectionsAt t (partsOf ed t) .locations) (getD (x .places) k 0) (length (tb .locations)) (tb .actions) (getD (tb .locations) k [])
+pub location-promised : (ed : Edition) (t : List ℕ) {tb : Table} → Opened ed t tb → {x : Locations} → x ≡ locationsOf ed (tb .actions) (sectionsAt t (partsOf ed t) .locations) →
+    (k : ℕ) → k < length (tb .locations) → LocationPromised ed (sectionsAt t (partsOf ed t) .locations) (getD (x .places) k 0) (length (tb .locations)) (tb .actions)
+    (getD (tb .locations) k [])
 unfolding locationsFit
 location-promised ed t {tb} o {x} q k h = subst (λ x. LocationPromised ed s (getD (x .places) k 0) (length (tb .locations)) (tb .actions) (getD (tb .locations) k [])) (sym q)
     (let n = count-is ed (tb .actions) s (o .locations) (o .locations-passed) in
@@ -203,7 +228,8 @@ pub record LocationsPromised (x : Locations) (tb : Table) : Type 0 where
   pub high : length (tb .locations) ≤ 1024
   pub full : length (x .places) ≡ 1024
 
-pub locations-promised : (ed : Edition) (t : List ℕ) {tb : Table} → Opened ed t tb → {x : Locations} → x ≡ locationsOf ed (tb .actions) (sectionsAt t (partsOf ed t) .locations) → LocationsPromised x tb
+pub locations-promised : (ed : Edition) (t : List ℕ) {tb : Table} → Opened ed t tb → {x : Locations} → x ≡ locationsOf ed (tb .actions) (sectionsAt t (partsOf ed t) .locations) →
+    LocationsPromised x tb
 locations-promised ed t {tb} o q = subst (λ x. LocationsPromised x tb) (sym q)
     (let n = count-is ed (tb .actions) _ (o .locations) (o .locations-passed) in
     let b = count-bounds ed (tb .actions) _ (o .locations) (o .locations-passed) in

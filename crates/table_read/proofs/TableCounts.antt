@@ -31,7 +31,8 @@ index-counts ed t = go (judgeTable ed t) refl
     go (accepted tb) e =
         let o = opened ed t e in
         let s = sectionsAt t (partsOf ed t) in
-        rw e (counts (variables-of ed (s .variables) (s .equations) (o .plant)) (selectors-of ed (s .variables) (s .equations) (o .plant)) (actions-count ed (s .actions) (o .actions) (o .actions-passed)) (locations-count ed (tb .actions) (s .locations) (o .locations) (o .locations-passed)))
+        rw e (counts (variables-of ed (s .variables) (s .equations) (o .plant)) (selectors-of ed (s .variables) (s .equations) (o .plant))
+        (actions-count ed (s .actions) (o .actions) (o .actions-passed)) (locations-count ed (tb .actions) (s .locations) (o .locations) (o .locations-passed)))
 
 pub counts-are : (ed : Edition) (t : List ℕ) {x : TableIndex} → x ≡ tableIndex ed t → countsOf x ≡ tableNumbers (readTable ed t)
 counts-are ed t e = ap countsOf e ∙ index-counts ed t

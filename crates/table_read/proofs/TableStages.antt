@@ -64,7 +64,8 @@ module _ (ed : Edition) (t : List ℕ) {p : Parts} (h : p ≡ partsOf ed t) wher
     unfolding judgeTable
     after-16 = go-then _ (parts-are ed t not-refused .0)
 
-    pub by-sections : sectionsIndex ed p (take (p .«variables_end» - p .variables) (drop (p .variables) t)) (take (p .«equations_end» - p .equations) (drop (p .equations) t)) (take (p .«actions_end» - p .actions) (drop (p .actions) t)) (take (p .«locations_end» - p .locations) (drop (p .locations) t)) ≡ tableIndex ed t
+    pub by-sections : sectionsIndex ed p (take (p .«variables_end» - p .variables) (drop (p .variables) t)) (take (p .«equations_end» - p .equations) (drop (p .equations) t))
+        (take (p .«actions_end» - p .actions) (drop (p .actions) t)) (take (p .«locations_end» - p .locations) (drop (p .locations) t)) ≡ tableIndex ed t
     unfolding sectionsIndex tableIndex sectionsAt
     by-sections = ap (λ (p : Parts). indexOf ed p (sectionsAt t p) (judgeTableSections ed (sectionsAt t p))) h ∙ ap (indexOf ed (partsOf ed t) (sectionsAt t (partsOf ed t))) (sym after-16)
 
@@ -176,7 +177,9 @@ module _ (ed : Edition) (p : Parts) (vs es ops locs : List ℕ) {q : PlantRead} 
                 unfolding sectionsIndex indexOf judgeTableSections
                 all-passed x =
                     let g = accepted-locations ed acts locs (sym (ap (λ (l : Locations). l .refusal) locations-are) ∙ x) in
-                    found h i locations-are ∙ sym (ap (indexOf ed p (sectionsFrom vs es ops locs)) (go-then _ (go-only 17 passed-plant) ∙ go-ensure 17 _ passed-17 ∙ go-then _ acts-judged ∙ go-ensure 18 _ (sym operands-are ∙ f) ∙ go-then _ (locations-judged ed acts locs (g .1) (g .2))))
+                    found h i locations-are ∙ sym (ap (indexOf ed p (sectionsFrom vs es ops locs))
+                    (go-then _ (go-only 17 passed-plant) ∙ go-ensure 17 _ passed-17 ∙ go-then _ acts-judged ∙ go-ensure 18 _ (sym operands-are ∙ f) ∙ go-then _
+                    (locations-judged ed acts locs (g .1) (g .2))))
 
 -- ---- the answers
 pub refused-is : {n : ℕ} {p : Parts} {q : PlantRead} {a : Actions} {l : Locations} → p ≡ noParts n → q ≡ refusedPlant n → a ≡ noActions n → l ≡ noLocations n → record { refusal = n; parts = p; plant = q; actions = a; locations = l } ≡ noTable n

@@ -30,7 +30,8 @@ fn assigns(b: &[u8], variables: usize) -> bool
 // a selector, then a mode
 fn switches(b: &[u8], selectors: usize, modes: &[usize]) -> bool
     requires { ⌜ selectors ≤ length (now modes) ⌝ }
-    ensures { λ r. ⌜ ((ed : editions.Edition) (cs : List Selector) → ModesAt (now (modes .entry)) selectors cs → (variables : ℕ) → r ≡ fitsHere ed variables cs (actionOfKind a-switch (now (b .entry)))) ⌝ }
+    ensures { λ r. ⌜ ((ed : editions.Edition) (cs : List Selector) → ModesAt (now (modes .entry)) selectors cs → (variables : ℕ) →
+        r ≡ fitsHere ed variables cs (actionOfKind a-switch (now (b .entry)))) ⌝ }
 {
     if b.len() != 2 {
         return true;

@@ -78,12 +78,17 @@ operand-requires : tie.Need-operand-requires
 operand-requires c κs = search needs
 
 returns-5 : tie.Need-returns-5
-returns-5 c = action-here _ _ _ (c .before .before .before .before .before .before .before .before .before .width .ensures) (c .before .before .before .before .before .before .before .number .ensures) (omega arith) (omega arith) (omega arith) (omega arith) (c .before .operand .ensures) (c .if5 .taken)
+returns-5 c =
+    let n = c .before .before .before .before .before .before .before in
+    action-here _ _ _ (n .before .before .width .ensures) (n .number .ensures) (omega arith) (omega arith) (omega arith) (omega arith) (c .before .operand .ensures) (c .if5 .taken)
 
 returns-6 : tie.Need-returns-6
-returns-6 c = no-action-here _ _ _ (c .before .before .before .before .before .before .before .before .before .width .ensures) (c .before .before .before .before .before .before .before .number .ensures) (omega arith) (omega arith) (omega arith) (omega arith) (c .before .operand .ensures) (c .if5 .left)
+returns-6 c =
+    let n = c .before .before .before .before .before .before .before in
+    no-action-here _ _ _ (n .before .before .width .ensures) (n .number .ensures) (omega arith) (omega arith) (omega arith) (omega arith) (c .before .operand .ensures) (c .if5 .left)
 
 pub end-spec : {M : Type 1} → statement M
 end-spec =
     tie.close
-    (tie.spec width-requires sub-if1 returns number-requires add-if2 returns-2 add-if3 returns-3 sub-if4 sub-if4-2 returns-4 add-b add-b-2 add-b-3 add-e sub-e add-e-2 add-operand add-operand-2 shared-slice-read-operand sub-operand part-operand-start part-operand-end operand-requires returns-5 returns-6)
+    (tie.spec width-requires sub-if1 returns number-requires add-if2 returns-2 add-if3 returns-3 sub-if4 sub-if4-2 returns-4 add-b add-b-2 add-b-3 add-e
+    sub-e add-e-2 add-operand add-operand-2 shared-slice-read-operand sub-operand part-operand-start part-operand-end operand-requires returns-5 returns-6)

@@ -44,7 +44,8 @@ returns-3 c =
     let r3 = c .before .before .before in
     let r2 = r3 .before .before in
     let r1 = r2 .before .before .before .before in
-    c .refused3 .ensures ∙ by-actions _ _ _ _ _ _ (r1 .read .ensures _) (r2 .before .before .if1 .left) (r2 .read2 .ensures _) (not-false _ (r3 .before .if2 .left)) (r3 .read3 .ensures) (c .before .if3 .taken)
+    c .refused3 .ensures ∙ by-actions _ _ _ _ _ _ (r1 .read .ensures _) (r2 .before .before .if1 .left) (r2 .read2 .ensures _) (not-false _ (r3 .before .if2 .left))
+    (r3 .read3 .ensures) (c .before .if3 .taken)
 
 slice-aggregate-read : tie.Need-slice-aggregate-read
 slice-aggregate-read c =
@@ -70,8 +71,8 @@ returns-4 c =
     let r3 = r4 .before .before .before .before in
     let r2 = r3 .before .before in
     let r1 = r2 .before .before .before .before in
-    c .refused4 .ensures ∙ by-operands _ _ _ _ _ _ (r1 .read .ensures _) (r2 .before .before .if1 .left) (r2 .read2 .ensures _) (not-false _ (r3 .before .if2 .left)) (r3 .read3 .ensures) (r4 .before .before .if3 .left)
-    (r4 .read4 .ensures) (not-true _ (c .before .if4 .taken))
+    c .refused4 .ensures ∙ by-operands _ _ _ _ _ _ (r1 .read .ensures _) (r2 .before .before .if1 .left) (r2 .read2 .ensures _) (not-false _ (r3 .before .if2 .left))
+    (r3 .read3 .ensures) (r4 .before .before .if3 .left) (r4 .read4 .ensures) (not-true _ (c .before .if4 .taken))
 
 slice-aggregate-read-2 : tie.Need-slice-aggregate-read-2
 slice-aggregate-read-2 c = search needs
@@ -89,8 +90,8 @@ returns-5 c =
     let r3 = r4 .before .before .before .before in
     let r2 = r3 .before .before in
     let r1 = r2 .before .before .before .before in
-    c .refused5 .ensures ∙ by-locations _ _ _ _ _ _ (r1 .read .ensures _) (r2 .before .before .if1 .left) (r2 .read2 .ensures _) (not-false _ (r3 .before .if2 .left)) (r3 .read3 .ensures) (r4 .before .before .if3 .left)
-    (r4 .read4 .ensures) (not-false _ (r5 .before .before .before .if4 .left)) (r5 .read5 .ensures) (c .before .if5 .taken)
+    c .refused5 .ensures ∙ by-locations _ _ _ _ _ _ (r1 .read .ensures _) (r2 .before .before .if1 .left) (r2 .read2 .ensures _) (not-false _ (r3 .before .if2 .left))
+    (r3 .read3 .ensures) (r4 .before .before .if3 .left) (r4 .read4 .ensures) (not-false _ (r5 .before .before .before .if4 .left)) (r5 .read5 .ensures) (c .before .if5 .taken)
 
 returns-6 : tie.Need-returns-6
 returns-6 c =
@@ -99,8 +100,8 @@ returns-6 c =
     let r3 = r4 .before .before .before .before in
     let r2 = r3 .before .before in
     let r1 = r2 .before .before .before .before in
-    all-passed _ _ _ _ _ _ (r1 .read .ensures _) (r2 .before .before .if1 .left) (r2 .read2 .ensures _) (not-false _ (r3 .before .if2 .left)) (r3 .read3 .ensures) (r4 .before .before .if3 .left)
-    (r4 .read4 .ensures) (not-false _ (r5 .before .before .before .if4 .left)) (r5 .read5 .ensures) (c .if5 .left)
+    all-passed _ _ _ _ _ _ (r1 .read .ensures _) (r2 .before .before .if1 .left) (r2 .read2 .ensures _) (not-false _ (r3 .before .if2 .left))
+    (r3 .read3 .ensures) (r4 .before .before .if3 .left) (r4 .read4 .ensures) (not-false _ (r5 .before .before .before .if4 .left)) (r5 .read5 .ensures) (c .if5 .left)
 
 pub sections-spec : {M : Type 1} → statement M
 sections-spec =

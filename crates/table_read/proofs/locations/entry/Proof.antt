@@ -60,17 +60,20 @@ add-result-3 c = search needs
 
 returns-4 : tie.Need-returns-4
 returns-4 c = λ l k.
-    let t = c .before .before .before .before in
+    let u = c .before .before .before in
+    let t = u .before in
     let n = t .before .before .before in
-    entry-ok _ _ k _ _ _ (n .before .before .width .ensures) (n .number .ensures) (c .before .fits2 .ensures) (t .nat2 .ensures) (c .before .before .before .nat22 .ensures) (c .if4 .taken) (omega arith) (omega arith)
+    entry-ok _ _ k _ _ _ (n .before .before .width .ensures) (n .number .ensures) (c .before .fits2 .ensures) (t .nat2 .ensures) (u .nat22 .ensures) (c .if4 .taken) (omega arith) (omega arith)
 
 returns-5 : tie.Need-returns-5
 returns-5 c = λ l k.
-    let t = c .before .before .before .before in
+    let u = c .before .before .before in
+    let t = u .before in
     let n = t .before .before .before in
-    entry-bad _ _ k _ _ _ (n .before .before .width .ensures) (n .number .ensures) (c .before .fits2 .ensures) (t .nat2 .ensures) (c .before .before .before .nat22 .ensures) (c .if4 .left)
+    entry-bad _ _ k _ _ _ (n .before .before .width .ensures) (n .number .ensures) (c .before .fits2 .ensures) (t .nat2 .ensures) (u .nat22 .ensures) (c .if4 .left)
 
 pub entry-spec : {M : Type 1} → statement M
 entry-spec =
     tie.close
-    (tie.spec width-requires sub-if1 add-if1 returns number-requires returns-2 returns-3 add-nat2 nat2-requires add-nat2-2 add-nat2-3 nat2-requires-2 shared-slice-read-fits fits-requires add-result add-result-2 add-result-3 returns-4 returns-5)
+    (tie.spec width-requires sub-if1 add-if1 returns number-requires returns-2 returns-3 add-nat2 nat2-requires add-nat2-2 add-nat2-3 nat2-requires-2
+    shared-slice-read-fits fits-requires add-result add-result-2 add-result-3 returns-4 returns-5)

@@ -38,7 +38,9 @@ entry-requires : tie.Need-entry-requires Inv-loop μ-loop
 entry-requires c κs = c .before .loop .inv .2 .took .inside
 
 returns-3 : tie.Need-returns-3 Inv-loop μ-loop
-returns-3 c = location-stop _ _ _ _ _ (omega arith) (c .before .before .before .loop .inv .2) (c .before .before .loop-test .taken) (not-found (c .before .entry .ensures _ (like-says _)) (c .if3 .taken))
+returns-3 c =
+    let l = c .before .before .before in
+    location-stop _ _ _ _ _ (omega arith) (l .loop .inv .2) (c .before .before .loop-test .taken) (not-found (c .before .entry .ensures _ (like-says _)) (c .if3 .taken))
 
 number-requires : tie.Need-number-requires Inv-loop μ-loop
 number-requires c κs = omega (arith, entry-inside _ (found (c .before .entry .ensures _ (like-says _)) (c .if3 .left)))
@@ -58,7 +60,10 @@ loop-less : tie.Need-loop-less Inv-loop μ-loop
 loop-less c = omega arith
 
 loop-again : tie.Need-loop-again Inv-loop μ-loop
-loop-again c = (omega arith, omega arith, entries-next _ _ _ _ _ (c .before .before .before .before .loop .inv .2) (found (c .before .before .entry .ensures _ (like-says _)) (c .before .if3 .left)) (c .number .ensures))
+loop-again c =
+    let l = c .before .before .before .before in
+    let e = found (c .before .before .entry .ensures _ (like-says _)) (c .before .if3 .left) in
+    (omega arith, omega arith, entries-next _ _ _ _ _ (l .loop .inv .2) e (c .number .ensures))
 
 returns-4 : tie.Need-returns-4 Inv-loop μ-loop
 returns-4 c = location-ok _ _ _ _ _ (omega arith) (c .before .loop .inv .2) (c .before .loop .inv .1) (omega arith) refl (omega arith)

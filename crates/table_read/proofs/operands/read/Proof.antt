@@ -36,13 +36,25 @@ array-read-fits : tie.Need-array-read-fits Inv-loop μ-loop
 array-read-fits c = omega (arith, few-nodes (editionOf (c .before .before .before .before .before .before .before .before .args .ed)) (c .before .before .node-limit .ensures) (c .loop-test .taken))
 
 sub-fits : tie.Need-sub-fits Inv-loop μ-loop
-sub-fits c = let l = c .before in let g = l .before .before .before .before .before .before .before in operand-inside _ (g .args .s .now) (g .pre .0) (g .pre .1) (l .loop .i) (few-nodes (editionOf (g .args .ed)) (l .before .node-limit .ensures) (c .loop-test .taken)) .0
+sub-fits c =
+    let l = c .before in
+    let g = l .before .before .before .before .before .before .before in
+    let k = few-nodes (editionOf (g .args .ed)) (l .before .node-limit .ensures) (c .loop-test .taken) in
+    operand-inside _ (g .args .s .now) (g .pre .0) (g .pre .1) (l .loop .i) k .0
 
 part-fits-start : tie.Need-part-fits-start Inv-loop μ-loop
-part-fits-start c = let l = c .before in let g = l .before .before .before .before .before .before .before in operand-inside _ (g .args .s .now) (g .pre .0) (g .pre .1) (l .loop .i) (few-nodes (editionOf (g .args .ed)) (l .before .node-limit .ensures) (c .loop-test .taken)) .0
+part-fits-start c =
+    let l = c .before in
+    let g = l .before .before .before .before .before .before .before in
+    let k = few-nodes (editionOf (g .args .ed)) (l .before .node-limit .ensures) (c .loop-test .taken) in
+    operand-inside _ (g .args .s .now) (g .pre .0) (g .pre .1) (l .loop .i) k .0
 
 part-fits-end : tie.Need-part-fits-end Inv-loop μ-loop
-part-fits-end c = let l = c .before in let g = l .before .before .before .before .before .before .before in operand-inside _ (g .args .s .now) (g .pre .0) (g .pre .1) (l .loop .i) (few-nodes (editionOf (g .args .ed)) (l .before .node-limit .ensures) (c .loop-test .taken)) .1
+part-fits-end c =
+    let l = c .before in
+    let g = l .before .before .before .before .before .before .before in
+    let k = few-nodes (editionOf (g .args .ed)) (l .before .node-limit .ensures) (c .loop-test .taken) in
+    operand-inside _ (g .args .s .now) (g .pre .0) (g .pre .1) (l .loop .i) k .1
 
 fits-requires : tie.Need-fits-requires Inv-loop μ-loop
 fits-requires c κs = search needs
@@ -52,7 +64,8 @@ returns c =
     let t = c .before .before .before in
     let l = t .before in
     let g = l .before .before .before .before .before .before .before in
-    fit-stop _ (g .args .s .now) (g .pre .0) (g .pre .1) _ _ _ (few-nodes (editionOf (g .args .ed)) (l .before .node-limit .ensures) (t .loop-test .taken)) (c .before .fits2 .ensures) (not-true _ (c .if1 .taken))
+    let k = few-nodes (editionOf (g .args .ed)) (l .before .node-limit .ensures) (t .loop-test .taken) in
+    fit-stop _ (g .args .s .now) (g .pre .0) (g .pre .1) _ _ _ k (c .before .fits2 .ensures) (not-true _ (c .if1 .taken))
 
 add-i : tie.Need-add-i Inv-loop μ-loop
 add-i c = omega arith
@@ -70,4 +83,7 @@ returns-2 c =
     fit-end _ (g .args .s .now) (g .pre .0) (g .pre .1) _ _ _ (omega (arith, l .before .node-limit .ensures)) (l .loop .inv .1)
 
 pub read-spec : {M : Type 1} → statement M
-read-spec = tie.close (tie.spec Inv-loop μ-loop node-limit-requires loop-holds mul-b array-read-b mul-e array-read-e array-read-fits sub-fits part-fits-start part-fits-end fits-requires returns add-i loop-less loop-again returns-2)
+read-spec =
+    tie.close
+    (tie.spec Inv-loop μ-loop node-limit-requires loop-holds mul-b array-read-b mul-e array-read-e array-read-fits sub-fits part-fits-start part-fits-end
+    fits-requires returns add-i loop-less loop-again returns-2)

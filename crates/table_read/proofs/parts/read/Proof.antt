@@ -23,7 +23,10 @@ refused-requires-2 : tie.Need-refused-requires-2
 refused-requires-2 c κs = search needs
 
 returns-2 : tie.Need-returns-2
-returns-2 c = c .refused2 .ensures ∙ sym (refused-16 _ _ (sym (c .before .before .before .before .header .ensures) ∙ not-false _ (c .before .before .before .if1 .left)) (no-variables (c .before .before .before .before .before .before .args .t .now) (not-ended (ends2 (c .before .before .end2 .ensures)) (c .before .if2 .taken))))
+returns-2 c =
+    let x = c .before .before in
+    let h = sym (x .before .before .header .ensures) ∙ not-false _ (x .before .if1 .left) in
+    c .refused2 .ensures ∙ sym (refused-16 _ _ h (no-variables (x .before .before .before .before .args .t .now) (not-ended (ends2 (x .end2 .ensures)) (c .before .if2 .taken))))
 
 end2-requires-2 : tie.Need-end2-requires-2
 end2-requires-2 c κs = (ended (ends2 (c .before .end2 .ensures)) (c .if2 .left)) .inside
@@ -32,7 +35,11 @@ refused-requires-3 : tie.Need-refused-requires-3
 refused-requires-3 c κs = search needs
 
 returns-3 : tie.Need-returns-3
-returns-3 c = c .refused3 .ensures ∙ sym (refused-16 _ _ (sym (c .before .before .before .before .before .before .header .ensures) ∙ not-false _ (c .before .before .before .before .before .if1 .left)) (no-equations _ (ended (ends2 (c .before .before .before .before .end2 .ensures)) (c .before .before .before .if2 .left)) (not-ended (ends2 (c .before .before .end22 .ensures)) (c .before .if3 .taken))))
+returns-3 c =
+    let x = c .before .before .before .before in
+    let h = sym (x .before .before .header .ensures) ∙ not-false _ (x .before .if1 .left) in
+    let vs = ended (ends2 (x .end2 .ensures)) (c .before .before .before .if2 .left) in
+    c .refused3 .ensures ∙ sym (refused-16 _ _ h (no-equations _ vs (not-ended (ends2 (c .before .before .end22 .ensures)) (c .before .if3 .taken))))
 
 end2-requires-3 : tie.Need-end2-requires-3
 end2-requires-3 c κs = (ended (ends2 (c .before .end22 .ensures)) (c .if3 .left)) .inside
@@ -62,8 +69,9 @@ returns-5 c =
     let x = y .before .before in
     let h = sym (x .before .before .header .ensures) ∙ not-false _ (x .before .if1 .left) in
     let vs = ended (ends2 (x .end2 .ensures)) (y .before .if2 .left) in
+    let es = ended (ends2 (y .end22 .ensures)) (w .before .if3 .left) in
     let acts = ended (ends2 (w .end23 .ensures)) (c .before .before .before .if4 .left) in
-    c .refused5 .ensures ∙ sym (refused-16 _ _ h (no-locations _ vs (ended (ends2 (y .end22 .ensures)) (w .before .if3 .left)) acts (not-ended (ends4 (c .before .before .end4 .ensures)) (c .before .if5 .taken))))
+    c .refused5 .ensures ∙ sym (refused-16 _ _ h (no-locations _ vs es acts (not-ended (ends4 (c .before .before .end4 .ensures)) (c .before .if5 .taken))))
 
 refused-requires-6 : tie.Need-refused-requires-6
 refused-requires-6 c κs = search needs
