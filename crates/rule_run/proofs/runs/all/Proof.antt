@@ -20,7 +20,7 @@ use Rattle.execution.proofs.Stepping.{shown, shown-words}
 use Rattle.execution.proofs.Loops.{events-counted, going-start, going-event, going-room, going-values, going-modes, going-records, going-counts, going-next, going-end}
 use Rattle.rule_step.specs.Situations.{StandsFor}
 use Rattle.rule_run.specs.Runs.{Asked}
-use Rattle.rule_step.proofs.Callers.{first-stands, acting-few}
+use Rattle.rule_step.proofs.Callers.{first-stands}
 use Rattle.rule_run.proofs.runs.all.Statement.{statement}
 use Rattle.rule_run.proofs.runs.all.Tie as tie
 
@@ -78,7 +78,7 @@ put-record-requires c κs =
     let g = c @loop .inv .3 (q .schedule) (q .asked) in
     let h = charted (q .asked .tree) (c @all .ensures) (c @all2 .ensures) in
     let r = c @step .ensures (q .schedule) (g .place) (q .asked .lent) h (g .stands) (g .so-far .fits) in
-    (going-room _ (programOf (q .schedule)) g (q .asked .may) (omega (arith, c @loop .inv .1, c @loop-test .taken)) (r .1), acting-few _ (q .asked .lent) (r .0 .stands), shown-words (r .0 .stands))
+    (going-room _ (programOf (q .schedule)) g (q .asked .may) (omega (arith, c @loop .inv .1, c @loop-test .taken)) (r .1), shown-words (r .0 .stands))
 
 booked-requires : tie.Need-booked-requires Inv-loop μ-loop
 booked-requires c κs =

@@ -13,7 +13,7 @@ use Rattle.execution.proofs.Stepping.{shown, shown-words}
 use Rattle.execution.proofs.Loops.{events-counted, going-start, going-event, going-room, going-values, going-modes, going-records, going-counts, going-next, going-end}
 use Rattle.table_step.specs.Situations.{StandsFor}
 use Rattle.table_run.specs.Runs.{Asked}
-use Rattle.table_step.proofs.Callers.{first-located, first-stands, at-start, acting-few}
+use Rattle.table_step.proofs.Callers.{first-located, first-stands, at-start}
 use Rattle.table_run.proofs.runs.all.Statement.{statement}
 use Rattle.table_run.proofs.runs.all.Tie as tie
 
@@ -48,7 +48,7 @@ put-record-requires c κs =
     let q = c @pre in
     let g = c @loop .inv .3 (q .table) (q .asked) in
     let r = c @step .ensures (q .table) (g .place) (q .asked .lent) (g .stands) (g .so-far .fits) in
-    (going-room _ (programOfTable (q .table)) g (q .asked .may) (omega (arith, c @loop .inv .1, c @loop-test .taken)) (r .1), acting-few _ (q .asked .lent) (r .0 .stands), shown-words (r .0 .stands .shows))
+    (going-room _ (programOfTable (q .table)) g (q .asked .may) (omega (arith, c @loop .inv .1, c @loop-test .taken)) (r .1), shown-words (r .0 .stands .shows))
 
 booked-requires : tie.Need-booked-requires Inv-loop μ-loop
 booked-requires c κs =
