@@ -10,7 +10,7 @@ use lib.Dec.{eqb}
 use lib.ListN.{length, getD, getElem?, take}
 use lib.Seq.{take-all, length-take-le}
 use Rattle.semantics.specs.Bytes.{noBytes, twoBytes, byteAndRest}
-use Rattle.semantics.specs.Editions.{edition1}
+use Rattle.semantics.specs.Editions.{Edition}
 use Rattle.semantics.specs.Run.{Action, stop, isTest, test}
 use Rattle.semantics.specs.TableFile.{NodeAction, TEST, actionBytes, kindNumber, operandBytes, actionKind, actionOfKind}
 use Rattle.semantics.specs.Tables.{actionAt, actionOrStop}
@@ -78,7 +78,7 @@ actions-next ns n {x} e h =
     ap (actionsFrom 0) (take-next ns n e) ∙ actions-append 0 (take n ns) (x ∷ [])
     ∙ ap (λ (i : ℕ). actionsFrom 0 (take n ns) ++ listed i (actionOf x) []) (zero-add (length (take n ns)) ∙ length-take-le n ns h)
 
-module _ {s kinds starts ends acts : List ℕ} {count : ℕ} {ns : List Node} (d : NodesAt s kinds starts ends count ns) (a : ActionKinds kinds count acts) where
+module _ {ed : Edition} {s kinds starts ends acts : List ℕ} {count : ℕ} {ns : List Node} (d : NodesAt ed s kinds starts ends count ns) (a : ActionKinds kinds count acts) where
   record Stood (n : ℕ) : Type 0 where
     node : Node
     is : getElem? ns n ≡ some node
@@ -103,16 +103,16 @@ module _ {s kinds starts ends acts : List ℕ} {count : ℕ} {ns : List Node} (d
   pub actions-listed : actionsTo s acts starts ends count ≡ actionsOf ns
   actions-listed = actions-are count (omega arith) ∙ ap actionsOf (take-all count ns (omega (arith, d .counted)))
 
-  pub operands : nodesIn edition1 s ≡ some ns → Operands s acts starts ends count
+  pub operands : nodesIn ed s ≡ some ns → Operands ed s acts starts ends count
   operands h = record {
     few = d .few;
     each = λ i q. let x = stood i q in record {
-      in-acts = omega (arith, a .full, d .few);
-      in-starts = omega (arith, d .few, d .starts-full);
-      in-ends = omega (arith, d .few, d .ends-full);
+      in-acts = omega (arith, a .full, d .few, ed .entries-fit);
+      in-starts = omega (arith, d .few, ed .entries-fit, d .starts-full);
+      in-ends = omega (arith, d .few, ed .entries-fit, d .ends-full);
       ordered = d .entries i q .ordered;
       inside = d .entries i q .inside;
-      coded = formed-coded (x .form) (x .read) (all-mem (nodes-counted edition1 s h .short-nodes) (at-mem ns i (x .is)));
+      coded = formed-coded (x .form) (x .read) (all-mem (nodes-counted ed s h .short-nodes) (at-mem ns i (x .is)));
     };
   }
 

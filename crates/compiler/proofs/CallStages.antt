@@ -5,7 +5,7 @@ use Prim.Native.Nat.{ℕ, _≤_, _<_}
 use native.Mathlib.Nat.{zero-add}
 use lib.ListN.{length}
 use borrow.Author.Tests.{le-leb, lt-leb}
-use Rattle.semantics.specs.Editions.{Edition, edition1}
+use Rattle.semantics.specs.Editions.{Edition}
 use Rattle.semantics.specs.Refusals.{refused, accepted, _>>=_, _>>_, ensure}
 use Rattle.semantics.proofs.Judging.{go-then, go-ensure}
 use Rattle.schedules.specs.Files.{judgeFile}
@@ -30,12 +30,12 @@ module _ (ed : Edition) (f room : List ℕ) where
   unfolding judgeCompile
   long-enough {t} e l = go-then _ e ∙ go-ensure 14 _ (le-leb (length t) (length room) l)
 
-pub compile-refused : (f room : List ℕ) {n m l k : ℕ} → judgeCompile edition1 f room ≡ refused n → ((j : ℕ) (d : List ℕ) → returned m l k d ≡ compiledInto j d (refused n)) →
-    returned m l k room ≡ compile edition1 f room
+pub compile-refused : (ed : Edition) (f room : List ℕ) {n m l k : ℕ} → judgeCompile ed f room ≡ refused n → ((j : ℕ) (d : List ℕ) → returned m l k d ≡ compiledInto j d (refused n)) →
+    returned m l k room ≡ compile ed f room
 unfolding compile
-compile-refused f room e p = p (fileComparisons (judgeFile edition1 f)) room ∙ ap (compiledInto (fileComparisons (judgeFile edition1 f)) room) (sym e)
+compile-refused ed f room e p = p (fileComparisons (judgeFile ed f)) room ∙ ap (compiledInto (fileComparisons (judgeFile ed f)) room) (sym e)
 
-pub compile-done : (f room : List ℕ) {t e : List ℕ} {r k : ℕ} → judgeCompile edition1 f room ≡ accepted t → Put room 0 t e r → k ≡ fileComparisons (judgeFile edition1 f) →
-    returned 0 r k e ≡ compile edition1 f room
+pub compile-done : (ed : Edition) (f room : List ℕ) {t e : List ℕ} {r k : ℕ} → judgeCompile ed f room ≡ accepted t → Put room 0 t e r → k ≡ fileComparisons (judgeFile ed f) →
+    returned 0 r k e ≡ compile ed f room
 unfolding compile compiledInto
-compile-done f room {t} h w c = rw (h, c, w .ends ∙ zero-add (length t), wrote-front (w .writes)) refl
+compile-done ed f room {t} h w c = rw (h, c, w .ends ∙ zero-add (length t), wrote-front (w .writes)) refl

@@ -5,7 +5,8 @@ use mathlib.Core.List.{List, [], _++_, append-assoc}
 use Prim.Native.Nat.{ℕ, _+_, _-_, _≤_, _<_}
 use native.Mathlib.Omega.{arith}
 use lib.ListN.{length, take, drop, length-append}
-use Rattle.semantics.specs.Editions.{edition1}
+use Rattle.semantics.specs.Bytes.{widthOf}
+use Rattle.semantics.specs.Editions.{Edition}
 use Rattle.semantics.specs.Refusals.{accepted}
 use Rattle.semantics.specs.TableFile.{NodeAction, inSection2, copiedThen, actionSection, writeActions, tableHead, tableBytes, tableBody}
 use Rattle.semantics.proofs.Judging.{accepted-is}
@@ -34,7 +35,7 @@ between-length g = ap length (g .is) ∙ slice-length g
 regroup : (h a b c d : List ℕ) → ((h ++ (a ++ (b ++ []))) ++ c) ++ d ≡ h ++ (a ++ (b ++ (c ++ d)))
 regroup h a b c d = simp append-assoc
 
-module _ {f : List ℕ} {p : Plan} (g : Planned f p) where
+module _ {ed : Edition} {f : List ℕ} {p : Plan} (g : Planned ed f p) where
   abbrev vs : List ℕ
   vs = between f (p .index .parts .«variables_from») (p .index .parts .«variables_to»)
 
@@ -45,7 +46,7 @@ module _ {f : List ℕ} {p : Plan} (g : Planned f p) where
   sch = between f (p .index .parts .«schedule_from») (p .index .parts .«schedule_to»)
 
   abbrev front : List ℕ
-  front = tableHead edition1 (p .length) ++ copiedThen vs es []
+  front = tableHead ed (p .length) ++ copiedThen vs es []
 
   abbrev acts : List NodeAction
   acts = actionsTo sch (p .acts) (p .index .nodes .starts) (p .index .nodes .ends) (p .index .nodes .count)
@@ -57,38 +58,39 @@ module _ {f : List ℕ} {p : Plan} (g : Planned f p) where
       let e = g .promise .equations in
       (omega (arith, between-length v, v .inside .inside, g .short), omega (arith, between-length e, e .inside .inside, g .short), g .fits)
 
-  pub operands : Operands sch (p .acts) (p .index .nodes .starts) (p .index .nodes .ends) (p .index .nodes .count)
+  pub operands : Operands ed sch (p .acts) (p .index .nodes .starts) (p .index .nodes .ends) (p .index .nodes .count)
   operands = rw (g .promise .schedule .is) (g .operands)
 
   -- where they stand
   pub front-planned : length front ≡ length vs + length es + 9
-  front-planned = front-long (p .length) vs es
+  front-planned = front-long ed (p .length) vs es
 
-  pub list-long : length (actionSection (writeActions edition1 acts)) ≡ p .list .at + 3
+  pub list-long : length (actionSection (writeActions ed acts)) ≡ p .list .at + widthOf (ed .width) + 2
   list-long = actions-long operands (g .list)
 
   -- all of them
-  table-is : (front ++ actionSection (writeActions edition1 acts))
-      ++ sectionOf (p .acts) (g .schedule .root) ≡
-      tableOf edition1 (g .schedule)
+  table-is : (front ++ actionSection (writeActions ed acts))
+      ++ sectionOf ed (p .acts) (g .schedule .root) ≡
+      tableOf ed (g .schedule)
   unfolding tableOf tableBytes tableBody scheduleLocations
   table-is =
-      let l = actionSection (writeActions edition1 acts) in
-      let k = sectionOf (p .acts) (g .schedule .root) in
-      let e : tableHead edition1 (p .length) ++ copiedThen vs es (l ++ k) ≡ tableOf edition1 (g .schedule) = rw (g .promise .variables .is, g .promise .equations .is, g .promise .schedule .is, g .actions, g .tests, g .whole ∙ table-length edition1 _ _ _ _) refl in
-      regroup (tableHead edition1 (p .length)) (inSection2 vs) (inSection2 es) l k ∙ e
+      let l = actionSection (writeActions ed acts) in
+      let k = sectionOf ed (p .acts) (g .schedule .root) in
+      let e : tableHead ed (p .length) ++ copiedThen vs es (l ++ k) ≡ tableOf ed (g .schedule)
+      = rw (g .promise .variables .is, g .promise .equations .is, g .promise .schedule .is, g .actions, g .tests, g .whole ∙ table-length ed _ _ _ _) refl in
+      regroup (tableHead ed (p .length)) (inSection2 vs) (inSection2 es) l k ∙ e
 
-  pub rows-long : length (sectionOf (p .acts) (g .schedule .root)) ≡ p .rows .at + 6
+  pub rows-long : length (sectionOf ed (p .acts) (g .schedule .root)) ≡ p .rows .at + 6
   rows-long = locations-long (g .rows)
 
-  pub planned-long : p .length ≡ length vs + length es + p .list .at + p .rows .at + 18
+  pub planned-long : p .length ≡ length vs + length es + p .list .at + p .rows .at + 17 + widthOf (ed .width)
   planned-long =
-      let l = actionSection (writeActions edition1 acts) in
+      let l = actionSection (writeActions ed acts) in
       omega (
         arith,
         g .whole,
         ap length table-is,
-        length-append (front ++ l) (sectionOf (p .acts) (g .schedule .root)),
+        length-append (front ++ l) (sectionOf ed (p .acts) (g .schedule .root)),
         length-append front l,
         front-planned,
         list-long,
@@ -96,15 +98,15 @@ module _ {f : List ℕ} {p : Plan} (g : Planned f p) where
       )
 
   -- where the locations stand
-  pub counted : {d : List ℕ} {i : ℕ} → i + (p .rows .at + 6) ≤ length d → Counted (p .index .nodes .kinds) (p .index .subtrees .ends) (p .acts) (p .rows .count) (p .rows .at) d i
+  pub counted : {d : List ℕ} {i : ℕ} → i + (p .rows .at + 6) ≤ length d → Counted ed (p .index .nodes .kinds) (p .index .subtrees .ends) (p .acts) (p .rows .count) (p .rows .at) d i
   counted h = record { tree = g .schedule .root; has = g .rows; room = omega (arith, rows-long) }
 
   pub table-written : {d d₁ d₂ d′ : List ℕ} {i j r : ℕ} → Put d 0 front d₁ i →
-      Put d₁ i (actionSection (writeActions edition1 acts)) d₂ j →
-      LocationsPut (p .index .nodes .kinds) (p .index .subtrees .ends) (p .acts) (p .rows .count) (p .rows .at) d₂ j d′ r →
-      (t : List ℕ) → judgeTableOf edition1 f ≡ accepted t → Put d 0 t d′ r
+      Put d₁ i (actionSection (writeActions ed acts)) d₂ j →
+      LocationsPut ed (p .index .nodes .kinds) (p .index .subtrees .ends) (p .acts) (p .rows .count) (p .rows .at) d₂ j d′ r →
+      (t : List ℕ) → judgeTableOf ed f ≡ accepted t → Put d 0 t d′ r
   table-written a b x t h = put-as (table-is ∙ accepted-is (sym (g .judged) ∙ h)) (put-then (put-then a b (omega arith)) (x .of (g .schedule .root) (g .rows)) (omega arith))
 
-  pub comparisons-made : {n : ℕ} → ComparisonsAre (p .index .nodes .kinds) (p .index .subtrees .ends) (p .acts) n → n ≡ fileComparisons (judgeFile edition1 f)
+  pub comparisons-made : {n : ℕ} → ComparisonsAre (p .index .nodes .kinds) (p .index .subtrees .ends) (p .acts) n → n ≡ fileComparisons (judgeFile ed f)
   unfolding fileComparisons scheduleComparisons
   comparisons-made x = x .is (g .schedule .root) (g .rows .lies) ∙ ap (λ (tests : ℕ → Bool). comparisons tests (g .schedule .root)) (g .tests) ∙ sym (ap fileComparisons (g .promise .judged))

@@ -3,7 +3,7 @@ use mathlib.Core.Path.{_≡_}
 use mathlib.Core.List.{List}
 use Prim.Native.Nat.{ℕ, _*_, _≤_, _<_}
 use lib.ListN.{length}
-use Rattle.semantics.specs.Editions.{edition1}
+use Rattle.semantics.specs.Editions.{Edition}
 use Rattle.semantics.specs.Refusals.{accepted}
 use Rattle.semantics.specs.TableFile.{locationLimit}
 use Rattle.schedules.specs.Nodes.{actionsOf}
@@ -19,32 +19,32 @@ use Rattle.table_write.specs.LocationTable.{Counts}
 use Rattle.compiler.specs.declared.call.Plan.{Plan}
 
 -- f is the file of a schedule that is not refused; ix is its index, and m has the numbers of its locations and entries
-pub record Found (f : List ℕ) (ix : ScheduleIndex) (m : Sizes) : Type 0 where
+pub record Found (ed : Edition) (f : List ℕ) (ix : ScheduleIndex) (m : Sizes) : Type 0 where
   pub schedule : Schedule
-  pub promise : Promised f ix schedule
-  pub judged : judgeTableOf edition1 f ≡ accepted (tableOf edition1 schedule)
+  pub promise : Promised ed f ix schedule
+  pub judged : judgeTableOf ed f ≡ accepted (tableOf ed schedule)
   pub short : length f < 65536
   pub locations : m .locations ≡ (sizeOf (schedule .root)) .locations
   pub entries : m .entries ≡ (sizeOf (schedule .root)) .entries
   pub few : m .locations ≤ locationLimit
-  pub light : m .entries ≤ locationLimit * 64
+  pub light : m .entries ≤ locationLimit * 256
 
 -- of some file
-pub record Ready (ix : ScheduleIndex) (m : Sizes) : Type 0 where
+pub record Ready (ed : Edition) (ix : ScheduleIndex) (m : Sizes) : Type 0 where
   pub file : List ℕ
-  pub found : Found file ix m
+  pub found : Found ed file ix m
 
 -- the table of a schedule that the file was read as: its parts counted, and its length
-pub record Planned (f : List ℕ) (p : Plan) : Type 0 where
+pub record Planned (ed : Edition) (f : List ℕ) (p : Plan) : Type 0 where
   pub schedule : Schedule
-  pub promise : Promised f (p .index) schedule
-  pub judged : judgeTableOf edition1 f ≡ accepted (tableOf edition1 schedule)
+  pub promise : Promised ed f (p .index) schedule
+  pub judged : judgeTableOf ed f ≡ accepted (tableOf ed schedule)
   pub short : length f < 65536
-  pub full : length (p .acts) ≡ 64
+  pub full : length (p .acts) ≡ 256
   pub tests : testsIn (p .acts) ≡ testsOf (schedule .nodes)
-  pub operands : Operands (schedule .sections .schedule) (p .acts) (p .index .nodes .starts) (p .index .nodes .ends) (p .index .nodes .count)
+  pub operands : Operands ed (schedule .sections .schedule) (p .acts) (p .index .nodes .starts) (p .index .nodes .ends) (p .index .nodes .count)
   pub actions : actionsTo (schedule .sections .schedule) (p .acts) (p .index .nodes .starts) (p .index .nodes .ends) (p .index .nodes .count) ≡ actionsOf (schedule .nodes)
-  pub list : Measured (p .acts) (p .index .nodes .starts) (p .index .nodes .ends) (p .index .nodes .count) (p .list .count) (p .list .at)
-  pub rows : Counts (p .index .nodes .kinds) (p .index .subtrees .ends) (p .acts) (p .rows .count) (p .rows .at) (schedule .root)
+  pub list : Measured ed (p .acts) (p .index .nodes .starts) (p .index .nodes .ends) (p .index .nodes .count) (p .list .count) (p .list .at)
+  pub rows : Counts ed (p .index .nodes .kinds) (p .index .subtrees .ends) (p .acts) (p .rows .count) (p .rows .at) (schedule .root)
   pub fits : p .length < 4294967296
-  pub whole : p .length ≡ length (tableOf edition1 schedule)
+  pub whole : p .length ≡ length (tableOf ed schedule)

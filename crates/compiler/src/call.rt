@@ -1,17 +1,21 @@
 // The call "compiling": conditions 1 to 11, 34 and 12 to 14, in order, and the table.
+use edition::Edition;
 use numbering::spot::Spot;
 use schedule_read::call::ScheduleIndex;
 use schedule_read::parts::Parts;
 use sizes::Measured;
 use table_write::actions;
 use table_write::table;
+use tree_read::NODES;
 ghost use mathlib.Core.Path.{_≡_};
 ghost use mathlib.Core.List.{List};
 ghost use Prim.Native.Nat.{ℕ, _+_, _-_, _≤_, _<_};
 ghost use lib.ListN.{length};
 ghost use Rattle.semantics.specs.Editions.{edition1};
+ghost use Rattle.semantics.specs.Bytes.{widthOf};
 ghost use Rattle.semantics.specs.Refusals.{refused, accepted};
 ghost use Rattle.semantics.specs.TableFile.{locationLimit};
+ghost use Rattle.edition.specs.Editions.{editionOf};
 ghost use Rattle.schedules.specs.Files.{judgeFile};
 ghost use Rattle.schedules.specs.Compiling.{judgeTableOf};
 ghost use Rattle.schedules.specs.Calls as calls;
@@ -39,7 +43,7 @@ struct Plan {
     refusal: u8,
     length: usize,
     index: ScheduleIndex,
-    acts: [u8; paper::NODES],
+    acts: [u8; NODES],
     list: Spot,
     rows: Spot,
 }
@@ -62,34 +66,39 @@ fn no_plan(n: u8, x: ScheduleIndex) -> Plan
         refusal: n,
         length: 0,
         index: x,
-        acts: [0; paper::NODES],
+        acts: [0; NODES],
         list: Spot { count: 0, at: 0 },
         rows: Spot { count: 0, at: 0 },
     }
 }
 
 // the bytes of the locations' rows
-fn row_bytes(locations: usize, entries: usize) -> usize
-    requires { ⌜ (locations ≤ locationLimit) × (entries ≤ 65536) ⌝ }
-    ensures { λ r. ⌜ (r ≡ rowsLength edition1 locations entries) × (r ≤ 328704) ⌝ }
+fn row_bytes(locations: usize, entries: usize, ed: Edition) -> usize
+    requires { ⌜ (locations ≤ locationLimit) × (entries ≤ 262144) ⌝ }
+    ensures { λ r. ⌜ (r ≡ rowsLength (editionOf ed) locations entries) × (r ≤ 1573888) ⌝ }
 {
-    locations + entries * 5
+    locations + entries * edition::entry_bytes(ed)
 }
 
 // the bytes of the table: the sections that are copied, the rows of the actions (list, without their count), the rows of the locations, and what stands around them
-fn table_length(q: Parts, list: usize, rows: usize) -> usize
+fn table_length(q: Parts, list: usize, rows: usize, ed: Edition) -> usize
     requires ordered { ⌜ (q .«variables_from» ≤ q .«variables_to») × (q .«equations_from» ≤ q .«equations_to») ⌝ }
-    requires short { ⌜ (q .«variables_to» < 65536) × (q .«equations_to» < 65536) × (list ≤ 12928) × (rows ≤ 328704) ⌝ }
-    ensures is { λ r. ⌜ r ≡ lengthOfParts (q .«variables_to» - q .«variables_from») (q .«equations_to» - q .«equations_from») (1 + list) rows ⌝ }
+    requires short { ⌜ (q .«variables_to» < 65536) × (q .«equations_to» < 65536) × (list ≤ 52224) × (rows ≤ 1573888) ⌝ }
+    ensures is { λ r. ⌜ r ≡ lengthOfParts (q .«variables_to» - q .«variables_from») (q .«equations_to» - q .«equations_from») (widthOf (editionOf ed .width) + list) rows ⌝ }
     ensures fits { λ r. ⌜ r < 4294967296 ⌝ }
 {
-    q.variables_to - q.variables_from + (q.equations_to - q.equations_from) + list + rows + 18
+    q.variables_to - q.variables_from
+        + (q.equations_to - q.equations_from)
+        + list
+        + rows
+        + 17
+        + edition::width(ed)
 }
 
 // what the table is made of
-fn made(x: ScheduleIndex, m: Measured) -> Plan
-    requires { ⌜ Ready x m ⌝ }
-    ensures { λ r. ⌜ (r .refusal ≡ 0) × (((f : List ℕ) → Found f x m → Planned f r)) ⌝ }
+fn made(x: ScheduleIndex, m: Measured, ed: Edition) -> Plan
+    requires { ⌜ Ready (editionOf ed) x m ⌝ }
+    ensures { λ r. ⌜ (r .refusal ≡ 0) × (((f : List ℕ) → Found (editionOf ed) f x m → Planned (editionOf ed) f r)) ⌝ }
 {
     let nodes = x.nodes;
     let kinds = nodes.kinds;
@@ -97,11 +106,11 @@ fn made(x: ScheduleIndex, m: Measured) -> Plan
     let ends = nodes.ends;
     let count = nodes.count;
     let acts = schedule_read::actions::kinds(&kinds, count);
-    let list = actions::measured(&acts, &starts, &ends, count);
-    let size = row_bytes(m.locations, m.entries);
+    let list = actions::measured(&acts, &starts, &ends, count, ed);
+    let size = row_bytes(m.locations, m.entries, ed);
     Plan {
         refusal: 0,
-        length: table_length(x.parts, list.at, size),
+        length: table_length(x.parts, list.at, size, ed),
         index: x,
         acts: acts,
         list: list,
@@ -113,11 +122,11 @@ fn made(x: ScheduleIndex, m: Measured) -> Plan
 }
 
 // 1 to 11, 34, 12 and 13, and what the table is made of
-fn planned(file: &[u8]) -> Plan
-    ensures told { λ r. ⌜ Told (judgeTableOf edition1 (now (file .entry))) (r .refusal) (r .length) ⌝ }
-    ensures planned { λ r. ⌜ (r .refusal ≡ 0 → Planned (now (file .entry)) r) ⌝ }
+fn planned(file: &[u8], ed: Edition) -> Plan
+    ensures told { λ r. ⌜ Told (judgeTableOf (editionOf ed) (now (file .entry))) (r .refusal) (r .length) ⌝ }
+    ensures planned { λ r. ⌜ (r .refusal ≡ 0 → Planned (editionOf ed) (now (file .entry)) r) ⌝ }
 {
-    let x = schedule_read::call::index(file);
+    let x = schedule_read::call::index(file, ed);
     let refusal = x.refusal;
     if refusal != 0 {
         return no_plan(refusal, x);
@@ -130,14 +139,14 @@ fn planned(file: &[u8]) -> Plan
     if m.over {
         return no_plan(13, x);
     }
-    made(x, m)
+    made(x, m, ed)
 }
 
 // The table that was planned, at the front of a buffer that has room for it; its length, and the comparisons of numbering.
-fn write(file: &[u8], table: &mut [u8], p: Plan, comparisons: &mut u64) -> usize
-    requires { ⌜ Planned (now file) p × (p .length ≤ length (now table)) ⌝ }
-    ensures written { λ r. ⌜ ((t : List ℕ) → judgeTableOf edition1 (now (file .entry)) ≡ accepted t → Put (now (table .entry)) 0 t (now (table .exit)) r) ⌝ }
-    ensures comparisons { λ _. ⌜ now (comparisons .exit) ≡ calls.fileComparisons (judgeFile edition1 (now (file .entry))) ⌝ }
+fn write(file: &[u8], table: &mut [u8], p: Plan, comparisons: &mut u64, ed: Edition) -> usize
+    requires { ⌜ Planned (editionOf ed) (now file) p × (p .length ≤ length (now table)) ⌝ }
+    ensures written { λ r. ⌜ ((t : List ℕ) → judgeTableOf (editionOf ed) (now (file .entry)) ≡ accepted t → Put (now (table .entry)) 0 t (now (table .exit)) r) ⌝ }
+    ensures comparisons { λ _. ⌜ now (comparisons .exit) ≡ calls.fileComparisons (judgeFile (editionOf ed) (now (file .entry))) ⌝ }
 {
     let x = p.index;
     let parts = x.parts;
@@ -156,7 +165,7 @@ fn write(file: &[u8], table: &mut [u8], p: Plan, comparisons: &mut u64) -> usize
     let acts = p.acts;
     let list = p.list;
     let rows = p.rows;
-    let i = table::put_front(&file[a..b], &file[c..d], table, p.length);
+    let i = table::put_front(&file[a..b], &file[c..d], table, p.length, ed);
     let j = table::put_actions(
         &file[e..f],
         &acts,
@@ -166,14 +175,15 @@ fn write(file: &[u8], table: &mut [u8], p: Plan, comparisons: &mut u64) -> usize
         list,
         table,
         i,
+        ed,
     );
-    table::put_locations(&kinds, &subs, &acts, rows, table, j, comparisons)
+    table::put_locations(&kinds, &subs, &acts, rows, table, j, comparisons, ed)
 }
 
 pub fn compile(file: &[u8], table: &mut [u8]) -> Compiled
     ensures { λ r. ⌜ returned (r .refusal) (r .length) (r .comparisons) (now (table .exit)) ≡ calls.compile edition1 (now (file .entry)) (now (table .entry)) ⌝ }
 {
-    let p = planned(file);
+    let p = planned(file, Edition::First);
     let refusal = p.refusal;
     if refusal != 0 {
         return refused(refusal);
@@ -182,7 +192,7 @@ pub fn compile(file: &[u8], table: &mut [u8]) -> Compiled
         return refused(14);
     }
     let mut made = 0;
-    let end = write(file, table, p, &mut made);
+    let end = write(file, table, p, &mut made, Edition::First);
     Compiled {
         refusal: 0,
         length: end,
@@ -194,7 +204,7 @@ pub fn compile(file: &[u8], table: &mut [u8]) -> Compiled
 pub fn measure(file: &[u8]) -> TableLength
     ensures { λ r. ⌜ Told (judgeTableOf edition1 (now (file .entry))) (r .refusal) (r .length) ⌝ }
 {
-    let p = planned(file);
+    let p = planned(file, Edition::First);
     TableLength {
         refusal: p.refusal,
         length: p.length,

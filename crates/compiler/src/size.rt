@@ -1,4 +1,5 @@
 // The call "size of a schedule": 1 to 11, 34 and 12 as for reading, or how many locations and entries its table has, without numbering them.
+use edition::Edition;
 use sizes::OVER;
 ghost use mathlib.Core.Path.{_≡_};
 ghost use Rattle.semantics.specs.Editions.{edition1};
@@ -15,7 +16,7 @@ pub struct TableSize {
 pub fn of(file: &[u8]) -> TableSize
     ensures { λ r. ⌜ sized (r .refusal) (r .locations) (r .entries) ≡ size edition1 (now (file .entry)) ⌝ }
 {
-    let x = schedule_read::call::index(file);
+    let x = schedule_read::call::index(file, Edition::First);
     let refusal = x.refusal;
     if refusal != 0 {
         return TableSize {

@@ -3,6 +3,7 @@ use mathlib.Core.Path.{_≡_, sym, ap, _∙_}
 use mathlib.Core.List.{List}
 use mathlib.Core.Option.{Option, some}
 use Prim.Native.Nat.{ℕ, _+_, _*_, _/_, _^_, _≤_, _<_}
+use native.Mathlib.Nat.{div-le-self}
 use lib.IntN.{ℤ}
 use lib.ListN.{length, take, drop}
 use Rattle.semantics.specs.Editions.{Edition}
@@ -26,6 +27,10 @@ use Rattle.execution.proofs.Runs.{run-start, run-counts, run-length, ru
 pub events-counted : (ed : Edition) (events : List ℕ) {w : ℕ} → w ≡ ed .event-bytes → length events / w ≡ eventCount ed events
 unfolding eventCount
 events-counted ed events e = ap (λ w. length events / w) e
+
+pub events-few : (ed : Edition) (events : List ℕ) → eventCount ed events ≤ length events
+unfolding eventCount
+events-few ed events = div-le-self (length events) (ed .event-bytes)
 
 abbrev begun : List ℤ → List ℕ → Start
 begun vs ms = record { values = vs; modes = ms }

@@ -12,7 +12,7 @@ ghost use Rattle.semantics.specs.Run.{setNumber, valueBytes, recordBytes, howMa
 ghost use Rattle.semantics.specs.Calls.{recordLength, report};
 ghost use Rattle.edition.specs.Editions.{editionOf};
 ghost use Rattle.codec.specs.Writing.{Wrote};
-ghost use Rattle.nodeset.specs.Sets.{mem, members, Words};
+ghost use Rattle.nodeset.specs.Sets.{members, Words};
 ghost use Rattle.records.specs.Booking.{Room};
 ghost use Rattle.records.specs.Reported.{told, ranWith};
 
@@ -120,9 +120,9 @@ fn put_word(d: &mut [u8], i: usize, word: u64) -> usize
     codec::put4(d, j, w % 4294967296)
 }
 
-// The bytes of a set of nodes at a place, its highest word first; the next place.
+// The bytes of a set of nodes at a place, its highest word first, of so many words as the edition has; the next place.
 fn put_set(d: &mut [u8], i: usize, acting: &[u64; 4], ed: Edition) -> usize
-    requires { ⌜ (i + editionOf ed .set-bytes ≤ length (now d)) × ((n : ℕ) → mem (now acting) n ≡ true → n < editionOf ed .nodes) × Words (now acting) ⌝ }
+    requires { ⌜ (i + editionOf ed .set-bytes ≤ length (now d)) × Words (now acting) ⌝ }
     ensures { λ r. ⌜ (r ≡ i + editionOf ed .set-bytes) × Wrote (now (d .entry)) i (bigEndian (editionOf ed .set-bytes) (setNumber (members (now (acting .entry))))) (now (d .exit)) ⌝ }
 {
     let mut k = edition::set_words(ed);
@@ -158,8 +158,7 @@ pub fn put_record(
     modes: &[u8],
     ed: Edition,
 ) -> usize
-    requires { ⌜ (i + recordLength (editionOf ed) (length (now values)) (length (now modes)) ≤ length (now d)) ×
-        ((n : ℕ) → mem (now acting) n ≡ true → n < editionOf ed .nodes) × Words (now acting) ⌝ }
+    requires { ⌜ (i + recordLength (editionOf ed) (length (now values)) (length (now modes)) ≤ length (now d)) × Words (now acting) ⌝ }
     ensures { λ r. ⌜ (r ≡ i + recordLength (editionOf ed) (length (now (values .entry))) (length (now (modes .entry)))) ×
         Wrote (now (d .entry)) i (recordBytes (editionOf ed) answer (setNumber (members (now (acting .entry)))) (now (values .entry)) (now (modes .entry))) (now (d .exit)) ⌝ }
 {

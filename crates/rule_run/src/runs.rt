@@ -34,7 +34,18 @@ pub fn all<'a>(
     let mut k = 0;
     while k < n {
         let e = event::at(events, at, ed);
-        let answer = steps::step(t, ix, ranges, &leads, &fresh, e, &mut acting, values, modes, ed);
+        let answer = steps::step(
+            t,
+            ix,
+            ranges,
+            &leads,
+            &fresh,
+            e,
+            &mut acting,
+            values,
+            modes,
+            ed,
+        );
         i = records::put_record(records, i, answer, &acting, values, modes, ed);
         counts = records::booked(counts, answer);
         at += edition::event_bytes(ed);

@@ -1,25 +1,22 @@
 -- For callers: what the first step asks comes from what the reader promises, and what the next one asks from what the step before gave.
 use mathlib.Core.Path.{_≡_, refl}
-use mathlib.Core.Bool.{true}
 use mathlib.Core.List.{List}
-use mathlib.Core.Option.{Option, some}
-use Prim.Native.Nat.{ℕ, _<_}
+use mathlib.Core.Option.{some}
+use Prim.Native.Nat.{ℕ}
 use lib.IntN.{ℤ}
 use lib.ListN.{getD}
 use Rattle.semantics.specs.Editions.{Edition}
-use Rattle.semantics.specs.Tables.{Table, actionOrStop, entriesAt, tableControl}
-use Rattle.nodeset.specs.Sets.{mem}
+use Rattle.semantics.specs.Tables.{Table, entriesAt, tableControl}
 use Rattle.program.specs.Rows.{locationRow}
 use Rattle.program.specs.Lent.{Lent, lent}
 use Rattle.table_read.specs.Lent.{TableLent}
 use Rattle.event.specs.declared.Event.{Event}
 use Rattle.execution.specs.Ready.{Fits}
 use Rattle.execution.specs.Runs.{at-place}
-use Rattle.execution.proofs.Stepping.{shown-member}
 use Rattle.table_step.specs.Entries.{Located, Gathered}
 use Rattle.table_step.specs.Situations.{StandsFor, Promised, StepsOn}
 use Rattle.table_step.specs.declared.steps.Stepped.{Stepped}
-use Rattle.table_step.proofs.EntryTurns.{listed-here, located-here, acting-action}
+use Rattle.table_step.proofs.EntryTurns.{listed-here, located-here}
 use Rattle.table_step.proofs.Settling.{gathered-at}
 
 -- ---- location 0, at the place that the index has
@@ -48,8 +45,3 @@ next-promised ed r p k =
 pub at-start : (t : Table) {ws : List ℕ} → StandsFor t 0 ws (some 0) → StandsFor t 0 ws (some (tableControl t .start))
 unfolding tableControl
 at-start t g = g
-
--- 18 has let only nodes below the edition's limit pass
-pub acting-few : (ed : Edition) {s ix : List ℕ} {rs : List ℤ} {t : Table} {x : ℕ} {ws : List ℕ} {o : Option ℕ} → TableLent ed t (lent s ix rs) → StandsFor t x ws o → (n : ℕ) → mem ws n ≡ true → n < ed .nodes
-unfolding tableControl
-acting-few ed {t = t} d g n m = let q = shown-member (g .shows) n m in d .nodes n (actionOrStop (t .actions) n) (acting-action ed (d .locations .at (q .0) (q .1 .1) .promised) n (q .1 .2)) .below

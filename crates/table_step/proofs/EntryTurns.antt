@@ -3,25 +3,21 @@ use mathlib.Core.Path.{_≡_, refl, sym, ap, _∙_}
 use mathlib.Core.Bool.{Bool, true, false, _||_, cond}
 use mathlib.Core.List.{List, [], _∷_, _++_}
 use mathlib.Core.Option.{none, some}
-use Prim.Native.Nat.{ℕ, zero, suc, _+_, _-_, _≤_, _<_}
-use native.Mathlib.Nat.{sub-zero}
+use Prim.Native.Nat.{ℕ, zero, suc, _+_, _≤_, _<_}
 use native.Mathlib.Numerals.{add-one}
 use native.Mathlib.Omega.{arith}
 use borrow.Author.Tests.{eq-eqb, ne-eqb, eqb-true}
 use lib.Dec.{eqb}
 use lib.IntN.{ℤ}
 use lib.ListN.{length, getD, getElem?, take, drop}
-use Rattle.semantics.specs.Bytes.{read, times}
 use Rattle.semantics.specs.Editions.{Edition}
 use Rattle.semantics.specs.Plant.{among}
 use Rattle.semantics.specs.Run.{Action, possible}
-use Rattle.semantics.specs.TableFile.{NodeAction, Entry, NONE, readEntry, readLocation}
+use Rattle.semantics.specs.TableFile.{NodeAction, Entry, NONE}
 use Rattle.semantics.specs.Tables.{Table, actionAt, actionOrStop, entryNodes, entryTarget, entriesAt}
 use Rattle.semantics.proofs.Facts.{All, all-nil, all-cons, none-not-some, some-is, true-not-false}
-use Rattle.semantics.proofs.Readers.{read-rest, guarded}
 use Rattle.codec.specs.Numbers.{wide, numAt}
 use Rattle.codec.proofs.Reading.{nat2At}
-use Rattle.codec.proofs.Known.{after-byte, cons}
 use Rattle.nodeset.specs.Sets.{mem, emptySet, inserted, Words}
 use Rattle.nodeset.proofs.Members.{members-are}
 use Rattle.nodeset.proofs.Membership.{mem-empty, mem-inserted, words-empty, words-inserted}
@@ -29,8 +25,8 @@ use Rattle.program.specs.Rows.{locationRow}
 use Rattle.program.specs.Lent.{lent}
 use Rattle.table_read.specs.Promised.{LocationPromised, Leads}
 use Rattle.table_read.specs.Lent.{TableLent}
-use Rattle.table_read.proofs.EntryLoop.{entryAt, entry-is, entry-took}
-use Rattle.table_read.proofs.LocationsFound.{LocationStands, location-stands}
+use Rattle.table_read.proofs.EntryLoop.{entryAt}
+use Rattle.table_read.proofs.LocationsFound.{EntriesAt, EntryHere, entry-here, LocationStands, location-stands}
 use Rattle.table_read.proofs.Promises.{EntryPromised, entries-promised, nodes-rise, leads}
 use Rattle.table_step.specs.Entries.{Listed, Located, Gathered, Found}
 
@@ -72,99 +68,63 @@ among-last k (x ∷ l) e = go (eqb (x .node) k) (eqb (e .node) k) (among k (entr
     go true false c h = refl
     go false b c h = h
 
--- ---- where the entries stand
--- those from entry j on are read at place q
-pub record Behind (ed : Edition) (s : List ℕ) (p j q : ℕ) (es : List Entry) : Type 0 where
-  pub rest : List ℕ
-  pub reads : times (getD s p 0 - j) (readEntry ed) (drop q s) ≡ read (drop j es) rest
-
--- entry j stands at place q, and those behind it at the next
-pub record EntryHere (ed : Edition) (s : List ℕ) (p j q : ℕ) (es : List Entry) : Type 0 where
-  pub inside : q + wide ed + 4 ≤ length s
-  pub is : getElem? es j ≡ some (entryAt ed s q)
-  pub behind : Behind ed s p (j + 1) (q + (wide ed + 4)) es
-
-tail : {A : Type 0} → List A → List A
-tail [] = []
-tail (x ∷ l) = l
-
-at-front : {A : Type 0} (l : List A) (j : ℕ) {x : A} {t : List A} → x ∷ t ≡ drop j l → getElem? l j ≡ some x
-at-front [] zero h = cc
-at-front [] (suc j) h = cc
-at-front (y ∷ l) zero h = cc
-at-front (y ∷ l) (suc j) h = at-front l j h
-
-stands : (ed : Edition) {s : List ℕ} {p : ℕ} {es : List Entry} → Listed ed s p es → LocationStands ed s p es
-stands ed {s} {p} l = location-stands ed s p (l .reads)
-
--- the first of them stands behind their count
-pub behind-start : (ed : Edition) {s : List ℕ} {p : ℕ} {es : List Entry} → Listed ed s p es → Behind ed s p 0 (p + 1) es
-unfolding readLocation
-behind-start ed {s} {p} {es} l =
-    let h = stands ed l .before-end in
-    let g = guarded _ _ (after-byte _ s p h (l .reads)) .1 in
-    record { rest = l .rest; reads = ap (λ n. times n (readEntry ed) (drop (p + 1) s)) (sub-zero (getD s p 0)) ∙ g ∙ ap (λ z. read z (l .rest)) (drop-none es) }
-  where
-    drop-none : (es : List Entry) → es ≡ drop 0 es
-    drop-none [] = refl
-    drop-none (x ∷ es) = refl
-
-pub behind-here : (ed : Edition) {s : List ℕ} {p j q : ℕ} {es : List Entry} → Behind ed s p j q es → j < getD s p 0 → EntryHere ed s p j q es
-behind-here ed {s} {p} {j} {q} {es} b h =
-    let n : getD s p 0 - j ≡ suc (getD s p 0 - (j + 1)) = omega arith in
-    let c = cons (readEntry ed) (getD s p 0 - (j + 1)) (ap (λ k. times k (readEntry ed) (drop q s)) (sym n) ∙ b .reads) in
-    let e = entry-is ed s q (c .first) in
-    let at : getElem? es j ≡ some (entryAt ed s q) = at-front es j (c .is) ∙ ap some (e .1) in
-    let to : q + wide ed + 2 + 2 ≡ q + (wide ed + 4) = omega arith in
-    let mid : c .mid ≡ drop (q + (wide ed + 4)) s = read-rest (sym (c .first) ∙ entry-took ed s q (e .0) .got) ∙ ap (λ k. drop k s) to in
-    record {
-      inside = e .0;
-      is = at;
-      behind = record { rest = b .rest; reads = ap (times (getD s p 0 - (j + 1)) (readEntry ed)) (sym mid) ∙ c .rest ∙ ap (λ z. read z (b .rest)) (after es j at (c .is)) };
-    }
-  where
-    after : (es : List Entry) (j : ℕ) {x y : Entry} {t : List Entry} → getElem? es j ≡ some x → y ∷ t ≡ drop j es → t ≡ drop (j + 1) es
-    after es j g i = go (split-here es j g)
-      where
-        go : Split es j _ → _ ≡ drop (j + 1) es
-        go (split-at a d) = ap tail (i ∙ d) ∙ ap (λ k. drop k es) (sym (add-one j))
-
-module _ (ed : Edition) {s : List ℕ} {p : ℕ} (l : Located ed s p) where
-  pub count-before-end : p < length s
-  count-before-end = stands ed (l .listed) .before-end
-
--- ---- the acting nodes: those of the first j entries
-pub record Gathering (ed : Edition) (s : List ℕ) (p : ℕ) (j q : ℕ) (ws : List ℕ) : Type 0 where
-  pub words : Words ws
-  pub behind : (es : List Entry) → Listed ed s p es → Behind ed s p j q es
-  pub are : (es : List Entry) → Listed ed s p es → (k : ℕ) → mem ws k ≡ among k (entryNodes (take j es))
-
 -- an entry that stands there is of an acting node
 among-here : (es : List Entry) (j : ℕ) {e : Entry} → getElem? es j ≡ some e → among (e .node) (entryNodes es) ≡ true
 unfolding among entryNodes
 among-here [] j h = none-not-some h
-among-here (x ∷ es) zero {e} h = rw (eq-eqb (x .node) (e .node) (ap (λ z. z .node) (some-is h))) refl
+among-here (x ∷ es) zero {e} h = go (eqb (x .node) (e .node)) (among (e .node) (entryNodes es)) (eq-eqb (x .node) (e .node) (ap (λ (z : Entry). z .node) (some-is h)))
+  where
+    go : (b d : Bool) → b ≡ true → elim b [ true ↦ true | false ↦ d ] ≡ true
+    go true d i = refl
+    go false d i = true-not-false (sym i)
 among-here (x ∷ es) (suc j) {e} h = go (eqb (x .node) (e .node)) (among-here es j h)
   where
     go : (b : Bool) {d : Bool} → d ≡ true → elim b [ true ↦ true | false ↦ d ] ≡ true
     go true i = refl
     go false i = i
 
-module _ (ed : Edition) {s : List ℕ} {p j q : ℕ} (l : Located ed s p) (b : (es : List Entry) → Listed ed s p es → Behind ed s p j q es) (h : j < getD s p 0) where
-  here : EntryHere ed s p j q (l .entries)
-  here = behind-here ed (b (l .entries) (l .listed)) h
+-- ---- where the entries stand
+stands : (ed : Edition) {s : List ℕ} {p : ℕ} {es : List Entry} → Listed ed s p es → LocationStands ed s p es
+stands ed {s} {p} l = location-stands ed s p (l .reads)
 
-  -- the entry's bytes
-  pub entry-inside : q + wide ed + 4 ≤ length s
-  entry-inside = here .inside
+pub count-before-end : (ed : Edition) {s : List ℕ} {p : ℕ} → Located ed s p → p < length s
+count-before-end ed l = stands ed (l .listed) .before-end
 
-  -- and its node
-  pub entry-small : numAt ed s q < 256
-  entry-small = l .listed .small (numAt ed s q) (among-here (l .entries) j (here .is))
+-- a walk over them has come to entry j, at place q
+pub record At (ed : Edition) (s : List ℕ) (p j q : ℕ) : Type 0 where
+  pub entries : (es : List Entry) → Listed ed s p es → EntriesAt ed s q (drop j es)
+
+at-start : (ed : Edition) (s : List ℕ) (p : ℕ) → At ed s p 0 (p + 1)
+at-start ed s p = record { entries = λ es l. from es (stands ed l .entries) }
+  where
+    from : (es : List Entry) → EntriesAt ed s (p + 1) es → EntriesAt ed s (p + 1) (drop 0 es)
+    from [] x = x
+    from (e ∷ es) x = x
+
+module _ (ed : Edition) {s : List ℕ} {p j q : ℕ} (at : At ed s p j q) (h : j < getD s p 0) where
+  here : (es : List Entry) → Listed ed s p es → EntryHere ed s es j q
+  here es l = entry-here ed s es j q (at .entries es l) (omega (arith, stands ed l .counted))
+
+  at-next : At ed s p (j + 1) (q + (wide ed + 4))
+  at-next = record { entries = λ es l. here es l .others }
+
+  -- its bytes, and its node
+  module _ (l : Located ed s p) where
+    pub entry-inside : q + (wide ed + 4) ≤ length s
+    entry-inside = here (l .entries) (l .listed) .inside
+
+    pub entry-small : numAt ed s q < 256
+    entry-small = l .listed .small (numAt ed s q) (among-here (l .entries) j (here (l .entries) (l .listed) .is))
+
+-- ---- the acting nodes: those of the first j entries
+pub record Gathering (ed : Edition) (s : List ℕ) (p : ℕ) (j q : ℕ) (ws : List ℕ) : Type 0 where
+  pub words : Words ws
+  pub at : At ed s p j q
+  pub are : (es : List Entry) → Listed ed s p es → (k : ℕ) → mem ws k ≡ among k (entryNodes (take j es))
 
 pub gather-start : (ed : Edition) (s : List ℕ) (p : ℕ) {ws : List ℕ} → ws ≡ emptySet → Gathering ed s p 0 (p + 1) ws
 unfolding among entryNodes
-gather-start ed s p e = rw e (record { words = words-empty; behind = λ es l. behind-start ed l; are = λ es l k. mem-empty k ∙ none es k })
+gather-start ed s p e = rw e (record { words = words-empty; at = at-start ed s p; are = λ es l k. mem-empty k ∙ none es k })
   where
     none : (es : List Entry) (k : ℕ) → false ≡ among k (entryNodes (take 0 es))
     none [] k = refl
@@ -172,10 +132,10 @@ gather-start ed s p e = rw e (record { words = words-empty; behind = λ es l. be
 
 pub gather-next : (ed : Edition) (s : List ℕ) (p : ℕ) {j q n r : ℕ} {ws ws' : List ℕ} → Gathering ed s p j q ws → j < getD s p 0 → n ≡ numAt ed s q → n < 256 → ws' ≡ inserted ws n → r ≡ q + (wide ed + 4) → Gathering ed s p (j + 1) r ws'
 gather-next ed s p {j} {q} {n} {ws = ws} {ws' = ws'} g h e b i z =
-    rw z (record { words = rw i (words-inserted (g .words) b); behind = λ es l. behind-here ed (g .behind es l) h .behind; are = more })
+    rw z (record { words = rw i (words-inserted (g .words) b); at = at-next ed (g .at) h; are = more })
   where
     more : (es : List Entry) → Listed ed s p es → (k : ℕ) → mem ws' k ≡ among k (entryNodes (take (j + 1) es))
-    more es l k = go (split-here es j (behind-here ed (g .behind es l) h .is))
+    more es l k = go (split-here es j (here ed (g .at) h es l .is))
       where
         go : Split es j (entryAt ed s q) → mem ws' k ≡ among k (entryNodes (take (j + 1) es))
         go (split-at a d) =
@@ -190,11 +150,11 @@ gather-end ed s p {j} {q} {ws} g h = record {
 
 -- ---- a node's entry: none among the first j
 pub record Looking (ed : Edition) (s : List ℕ) (p : ℕ) (n : ℕ) (b : Bool) (j q : ℕ) : Type 0 where
-  pub behind : (es : List Entry) → Listed ed s p es → Behind ed s p j q es
+  pub at : At ed s p j q
   pub later : (es : List Entry) → Listed ed s p es → entryTarget es n b ≡ entryTarget (drop j es) n b
 
 pub look-start : (ed : Edition) (s : List ℕ) (p n : ℕ) (b : Bool) → Looking ed s p n b 0 (p + 1)
-look-start ed s p n b = record { behind = λ es l. behind-start ed l; later = λ es l. all es }
+look-start ed s p n b = record { at = at-start ed s p; later = λ es l. all es }
   where
     all : (es : List Entry) → entryTarget es n b ≡ entryTarget (drop 0 es) n b
     all [] = refl
@@ -202,11 +162,11 @@ look-start ed s p n b = record { behind = λ es l. behind-start ed l; later = λ
 
 module _ (ed : Edition) (s : List ℕ) (p n : ℕ) (b : Bool) {j q m : ℕ} (g : Looking ed s p n b j q) (h : j < getD s p 0) (e : m ≡ numAt ed s q) where
   split-entry : (es : List Entry) → Listed ed s p es → Split es j (entryAt ed s q)
-  split-entry es l = split-here es j (behind-here ed (g .behind es l) h .is)
+  split-entry es l = split-here es j (here ed (g .at) h es l .is)
 
   pub look-next : (m ≡ n → ⊥) → {r : ℕ} → r ≡ q + (wide ed + 4) → Looking ed s p n b (j + 1) r
   unfolding entryTarget
-  look-next d z = rw z (record { behind = λ es l. behind-here ed (g .behind es l) h .behind; later = λ es l. go es l (split-entry es l) })
+  look-next d z = rw z (record { at = at-next ed (g .at) h; later = λ es l. go es l (split-entry es l) })
     where
       go : (es : List Entry) → Listed ed s p es → Split es j (entryAt ed s q) → entryTarget es n b ≡ entryTarget (drop (j + 1) es) n b
       go es l (split-at a f) = g .later es l ∙ ap (λ z. entryTarget z n b) f ∙ rw (entryTarget, ne-eqb (numAt ed s q) n (λ i. d (e ∙ i))) (ap (λ z. entryTarget (drop z es) n b) (sym (add-one j)))

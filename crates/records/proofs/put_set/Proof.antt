@@ -35,7 +35,7 @@ loop-again c =
     let p = c .before .before .put-word .ensures in
     let l = c .before .before .before .before .before .before in
     let s = l .before .before .before in
-    set-next (l .loop .inv) (omega (arith, l .before .set-words .ensures .0, s .pre .0)) (s .pre .2) (omega arith) (p .1) (p .0)
+    set-next (l .loop .inv) (omega (arith, l .before .set-words .ensures .0, s .pre .0)) (s .pre .1) (omega arith) (p .1) (p .0)
 
 same-length : tie.Need-same-length Inv-loop μ-loop
 same-length c =

@@ -10,13 +10,14 @@ use Rattle.compiler.proofs.call.compile.Tie as tie
 returns : tie.Need-returns
 returns c =
     let a = c .before .before .before .before .before .args in
-    compile-refused (a .file .now) (a .table .now) (refused-too edition1 (a .file .now) (a .table .now) (told-refuses (c .before .before .planned .ensures .0) (c .before .if1 .taken))) (c .refused .ensures)
+    let e = told-refuses (c .before .before .planned .ensures .0) (c .before .if1 .taken) in
+    compile-refused edition1 (a .file .now) (a .table .now) (refused-too edition1 (a .file .now) (a .table .now) e) (c .refused .ensures)
 
 returns-2 : tie.Need-returns-2
 returns-2 c =
     let a = c .before .before .before .before .before .before .before .args in
     let g = c .before .before .before .before .planned .ensures .1 (c .before .before .before .if1 .left) in
-    compile-refused (a .file .now) (a .table .now) (too-short edition1 (a .file .now) (a .table .now) (g .judged) (omega (arith, g .whole, c .before .if2 .taken))) (c .refused2 .ensures)
+    compile-refused edition1 (a .file .now) (a .table .now) (too-short edition1 (a .file .now) (a .table .now) (g .judged) (omega (arith, g .whole, c .before .if2 .taken))) (c .refused2 .ensures)
 
 write-requires : tie.Need-write-requires
 write-requires c κs = (c .before .before .before .before .before .planned .ensures .1 (c .before .before .before .before .if1 .left), c .before .before .if2 .left)
@@ -28,7 +29,7 @@ returns-3 c =
     let g = c7 .before .planned .ensures .1 (c7 .if1 .left) in
     let j = long-enough edition1 (a .file .now) (a .table .now) (g .judged) (omega (arith, g .whole, c .before .before .before .before .before .if2 .left)) in
     let w = c .before .before .write .ensures in
-    compile-done (a .file .now) (a .table .now) j (w .0 _ (g .judged)) (w .1)
+    compile-done edition1 (a .file .now) (a .table .now) j (w .0 _ (g .judged)) (w .1)
 
 pub compile-spec : {M : Type 1} → statement M
 compile-spec =

@@ -1,14 +1,33 @@
 -- The plan of what was found: its kinds of actions, and the two counts.
 use mathlib.Core.Path.{refl}
+use Prim.Native.Nat.{_≤_}
+use native.Mathlib.Omega.{arith}
+use Rattle.edition.specs.Editions.{editionOf}
 use Rattle.compiler.proofs.Planning.{listed, plan-made}
 use borrow.Author.Needs.{needs}
 use Rattle.compiler.proofs.call.made.Statement.{statement}
 use Rattle.compiler.proofs.call.made.Tie as tie
 
+kinds-requires : tie.Need-kinds-requires
+kinds-requires c κs =
+    let s = c .before .before .before .before .before in
+    let n = s .pre .found .promise .nodes in
+    let e = editionOf (s .args .ed) .entries-fit in
+    (omega (arith, n .few, e), omega (arith, n .few, e, n .kinds-full))
+
 measured-requires : tie.Need-measured-requires
 measured-requires c κs =
-    let c9 = c .before .before .before .before .before .before .before .before .before in
-    listed (c9 .pre .found) (c .before .before .before .kinds3 .ensures)
+    let s = c .before .before .before .before .before .before .before .before .before in
+    listed (s .pre .found) (c .before .before .before .kinds3 .ensures)
+
+table-length-requires : tie.Need-table-length-requires
+table-length-requires c κs =
+    let s = c .before .before .before .before .before .before .before .before .before .before .before in
+    let f = s .pre .found in
+    let v = f .promise .variables .inside in
+    let q = f .promise .equations .inside in
+    let l : c .before .measured .result .at ≤ 52224 = omega (arith, c .before .measured .ensures .short, f .promise .nodes .few, editionOf (s .args .ed) .entries-fit) in
+    ((v .ordered, q .ordered), (omega (arith, v .inside, f .short), omega (arith, q .inside, f .short), l, c .row-bytes .ensures .1))
 
 returns : tie.Need-returns
 returns c = (
@@ -22,11 +41,11 @@ made-spec =
     tie.close
     (tie.spec
     (λ c. search needs)
-    (λ c κs. search needs)
+    kinds-requires
     (λ c. search needs)
     (λ c. search needs)
     (λ c. search needs)
     measured-requires
     (λ c κs. search needs)
-    (λ c κs. search needs)
+    table-length-requires
     returns)

@@ -1,6 +1,7 @@
 -- The index and the size refuse, or what they found is planned.
 use mathlib.Core.Path.{sym, _∙_}
 use native.Mathlib.Omega.{arith}
+use Rattle.edition.specs.Editions.{editionOf}
 use Rattle.compiler.proofs.Indexes.{indexed, planted}
 use Rattle.compiler.proofs.Planning.{told-refused, told-planned, measure-refused, measure-over, found}
 use borrow.Author.Needs.{needs}
@@ -11,18 +12,24 @@ returns : tie.Need-returns
 returns c =
     let d = c .before .if1 .taken in
     let e = c .no-plan .ensures in
-    (told-refused d (measure-refused (c .before .before .before .before .args .file .now) (c .before .before .index .ensures) d) e, λ z. absurd (d (sym (e .0) ∙ z)))
+    let a = c .before .before .before .before .args in
+    (told-refused d (measure-refused (editionOf (a .ed)) (a .file .now) (c .before .before .index .ensures) d) e, λ z. absurd (d (sym (e .0) ∙ z)))
+
+slice-aggregate-of-2 : tie.Need-slice-aggregate-of-2
+slice-aggregate-of-2 c =
+    let d = c .before .before .before .before .before .before in
+    sym (indexed _ (d .before .before .before .args .file .now) (d .before .index .ensures) (d .if1 .left) .promise .ends-full)
 
 of-requires : tie.Need-of-requires
 of-requires c κs =
     let d = c .before .before .before .before .before .before in
-    planted (indexed (d .before .before .before .args .file .now) (d .before .index .ensures) (d .if1 .left))
+    planted (indexed _ (d .before .before .before .args .file .now) (d .before .index .ensures) (d .if1 .left))
 
 returns-2 : tie.Need-returns-2
 returns-2 c =
     let d = c .before .before .before .before .before .before .before .before .before in
     let e = c .no-plan2 .ensures in (
-      told-refused (λ z. omega arith) (measure-over (indexed (d .before .before .before .args .file .now) (d .before .index .ensures) (d .if1 .left)) (c .before .before .of .ensures)
+      told-refused (λ z. omega arith) (measure-over (indexed _ (d .before .before .before .args .file .now) (d .before .index .ensures) (d .if1 .left)) (c .before .before .of .ensures)
           (c .before .if2 .taken)) e,
       λ z. absurd (omega (arith, e .0)),
     )
@@ -33,7 +40,7 @@ made-requires c κs =
     let k = d .before .before .shared-slice-known .given in
     record {
       file = d .before .before .before .args .file .now;
-      found = found (indexed (d .before .before .before .args .file .now) (d .before .index .ensures) (d .if1 .left))
+      found = found (indexed _ (d .before .before .before .args .file .now) (d .before .index .ensures) (d .if1 .left))
           (c .before .of .ensures) (c .if2 .left) (omega (arith, k 1)) (omega (arith, k 2));
     }
 
@@ -42,9 +49,9 @@ returns-3 c =
     let d = c .before .before .before .before .before .before .before .before .before in
     let k = d .before .before .shared-slice-known .given in
     let m = c .made .ensures in
-    let p = m .1 _ (found (indexed (d .before .before .before .args .file .now) (d .before .index .ensures) (d .if1 .left)) (c .before .before .of .ensures) (c .before .if2 .left)
+    let p = m .1 _ (found (indexed _ (d .before .before .before .args .file .now) (d .before .index .ensures) (d .if1 .left)) (c .before .before .of .ensures) (c .before .if2 .left)
     (omega (arith, k 1)) (omega (arith, k 2))) in
-    (told-planned (m .0) p, λ z. p)
+    (told-planned _ (m .0) p, λ z. p)
 
 pub planned-spec : {M : Type 1} → statement M
 planned-spec =
@@ -54,7 +61,7 @@ planned-spec =
     (λ c κs. search needs)
     returns
     (λ c. search needs)
-    (λ c. search needs)
+    slice-aggregate-of-2
     of-requires
     (λ c κs. search needs)
     returns-2

@@ -10,29 +10,29 @@ use Rattle.rule_run.proofs.call.lend.Statement.{statement}
 use Rattle.rule_run.proofs.call.lend.Tie as tie
 
 slice-aggregate-all : tie.Need-slice-aggregate-all
-slice-aggregate-all c = sym (kinds-full _ (c @args .file .now) (c @pre .0) (c @pre .1 .admits))
+slice-aggregate-all c = sym (kinds-full _ (c .before .before .before .before .before .before .before .before .before .before .before .before .before .before .before .before .args .file .now) (c .before .before .before .before .before .before .before .before .before .before .before .before .before .before .before .before .pre .0) (c .before .before .before .before .before .before .before .before .before .before .before .before .before .before .before .before .pre .1 .admits))
 
 slice-aggregate-all-2 : tie.Need-slice-aggregate-all-2
-slice-aggregate-all-2 c = sym (subtrees-full _ (c @args .file .now) (c @pre .0) (c @pre .1 .admits))
+slice-aggregate-all-2 c = sym (subtrees-full _ (c .before .before .before .before .before .before .before .before .before .before .before .before .before .before .before .before .before .args .file .now) (c .before .before .before .before .before .before .before .before .before .before .before .before .before .before .before .before .before .pre .0) (c .before .before .before .before .before .before .before .before .before .before .before .before .before .before .before .before .before .pre .1 .admits))
 
 array-borrow-prefix-values : tie.Need-array-borrow-prefix-values
-array-borrow-prefix-values c = values-there _ (c @args .file .now) (c @pre .0) (c @pre .1 .admits)
+array-borrow-prefix-values c = values-there _ (c .before .before .before .before .before .before .before .before .before .before .before .before .before .before .before .before .before .args .file .now) (c .before .before .before .before .before .before .before .before .before .before .before .before .before .before .before .before .before .pre .0) (c .before .before .before .before .before .before .before .before .before .before .before .before .before .before .before .before .before .pre .1 .admits)
 
 slice-aggregate-all-3 : tie.Need-slice-aggregate-all-3
-slice-aggregate-all-3 c = sym (length-take-le _ _ (values-there _ (c @args .file .now) (c @pre .0) (c @pre .1 .admits)))
+slice-aggregate-all-3 c = sym (length-take-le _ _ (values-there _ (c .before .before .before .before .before .before .before .before .before .before .before .before .before .before .before .before .before .before .args .file .now) (c .before .before .before .before .before .before .before .before .before .before .before .before .before .before .before .before .before .before .pre .0) (c .before .before .before .before .before .before .before .before .before .before .before .before .before .before .before .before .before .before .pre .1 .admits)))
 
 array-borrow-prefix-modes : tie.Need-array-borrow-prefix-modes
-array-borrow-prefix-modes c = modes-there _ (c @args .file .now) (c @pre .0) (c @pre .1 .admits)
+array-borrow-prefix-modes c = modes-there _ (c .before .before .before .before .before .before .before .before .before .before .before .before .before .before .before .before .before .before .args .file .now) (c .before .before .before .before .before .before .before .before .before .before .before .before .before .before .before .before .before .before .pre .0) (c .before .before .before .before .before .before .before .before .before .before .before .before .before .before .before .before .before .before .pre .1 .admits)
 
 slice-aggregate-all-4 : tie.Need-slice-aggregate-all-4
-slice-aggregate-all-4 c = sym (length-take-le _ _ (modes-there _ (c @args .file .now) (c @pre .0) (c @pre .1 .admits)))
+slice-aggregate-all-4 c = sym (length-take-le _ _ (modes-there _ (c .before .before .before .before .before .before .before .before .before .before .before .before .before .before .before .before .before .before .before .args .file .now) (c .before .before .before .before .before .before .before .before .before .before .before .before .before .before .before .before .before .before .before .pre .0) (c .before .before .before .before .before .before .before .before .before .before .before .before .before .before .before .before .before .before .before .pre .1 .admits)))
 
 all-requires : tie.Need-all-requires
-all-requires c κs = asking-of _ (c @args .file .now) (c @pre .0) (omega (arith, c @good)) (c @program .ensures) (c @pre .1)
+all-requires c κs = asking-of _ (c .before .before .before .before .before .before .before .before .before .before .before .before .before .before .before .before .before .before .before .before .args .file .now) (c .before .before .before .before .before .before .before .before .before .before .before .before .before .before .before .before .before .before .before .before .pre .0) (omega (arith, c .before .before .before .before .before .before .before .before .before .before .before .before .before .before .before .before .before .before .before .before .good)) (c .before .before .before .before .before .before .before .before .before .before .before .program .ensures) (c .before .before .before .before .before .before .before .before .before .before .before .before .before .before .before .before .before .before .before .before .pre .1)
 
 returns : tie.Need-returns
 returns c =
-    λ t a. whole-of _ (c @args .file .now) (c @pre .0) a (c @all .ensures t (asked-of _ (c @args .file .now) (c @pre .0) a (omega (arith, c @good)) (c @program .ensures)))
+    λ t a. whole-of _ (c .before .before .before .before .before .before .before .before .before .before .before .before .before .before .before .before .before .before .before .before .before .before .before .before .before .args .file .now) (c .before .before .before .before .before .before .before .before .before .before .before .before .before .before .before .before .before .before .before .before .before .before .before .before .before .pre .0) a (c .before .before .before .before .all .ensures t (asked-of _ (c .before .before .before .before .before .before .before .before .before .before .before .before .before .before .before .before .before .before .before .before .before .before .before .before .before .args .file .now) (c .before .before .before .before .before .before .before .before .before .before .before .before .before .before .before .before .before .before .before .before .before .before .before .before .before .pre .0) a (omega (arith, c .before .before .before .before .before .before .before .before .before .before .before .before .before .before .before .before .before .before .before .before .before .before .before .before .before .good)) (c .before .before .before .before .before .before .before .before .before .before .before .before .before .before .before .before .program .ensures)))
 
 pub lend-spec : {M : Type 1} → statement M
 lend-spec =

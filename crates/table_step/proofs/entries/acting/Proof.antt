@@ -17,33 +17,33 @@ abbrev μ-loop : tie.MeasureT-loop
 μ-loop t at set₀ ed count p₀ j₀ set p j = count - j
 
 shared-slice-read-wide : tie.Need-shared-slice-read-wide Inv-loop μ-loop
-shared-slice-read-wide c = count-before-end _ (c @pre)
+shared-slice-read-wide c = count-before-end _ (c .before .before .before .before .pre)
 
 add-p : tie.Need-add-p Inv-loop μ-loop
-add-p c = omega (arith, count-before-end _ (c @pre))
+add-p c = omega (arith, count-before-end _ (c .before .before .before .before .before .pre))
 
 loop-holds : tie.Need-loop-holds Inv-loop μ-loop
-loop-holds c = (omega arith, c @wide .ensures, gather-start _ _ _ (c @clear .ensures))
+loop-holds c = (omega arith, c .wide .ensures, gather-start _ _ _ (c .before .before .clear .ensures))
 
 number-requires : tie.Need-number-requires Inv-loop μ-loop
-number-requires c κs = let l = c @loop in omega (arith, entry-inside _ (c @pre) (l .inv .2 .behind) (omega (arith, l .inv .1)))
+number-requires c κs = let l = c .before .before .loop in omega (arith, entry-inside _ (l .inv .2 .at) (omega (arith, l .inv .1)) (c .before .before .before .before .before .before .before .before .pre))
 
 put-requires : tie.Need-put-requires Inv-loop μ-loop
-put-requires c κs = let l = c @loop in (omega (arith, c @number .ensures, entry-small _ (c @pre) (l .inv .2 .behind) (omega (arith, l .inv .1))), l .inv .2 .words)
+put-requires c κs = let l = c .before .before .before .loop in (omega (arith, c .number .ensures, entry-small _ (l .inv .2 .at) (omega (arith, l .inv .1)) (c .before .before .before .before .before .before .before .before .before .pre)), l .inv .2 .words)
 
 add-p-2 : tie.Need-add-p-2 Inv-loop μ-loop
-add-p-2 c = let l = c @loop in omega (arith, c @entry-bytes .ensures, entry-inside _ (c @pre) (l .inv .2 .behind) (omega (arith, l .inv .1)))
+add-p-2 c = let l = c .before .before .before .before .before .loop in omega (arith, c .entry-bytes .ensures, entry-inside _ (l .inv .2 .at) (omega (arith, l .inv .1)) (c .before .before .before .before .before .before .before .before .before .before .before .pre))
 
 loop-again : tie.Need-loop-again Inv-loop μ-loop
 loop-again c =
-    let l = c @loop in (
+    let l = c .before .before .before .before .before .loop in (
       omega arith,
       l .inv .1,
-      gather-next _ (c @args .t .now) (c @args .at) (l .inv .2) (omega (arith, l .inv .1)) (c @number .ensures) (omega (arith, c @number .ensures, entry-small _ (c @pre) (l .inv .2 .behind) (omega (arith, l .inv .1)))) (c @put .ensures) (omega (arith, c @entry-bytes .ensures)),
+      gather-next _ (c .before .before .before .before .before .before .before .before .before .before .before .args .t .now) (c .before .before .before .before .before .before .before .before .before .before .before .args .at) (l .inv .2) (omega (arith, l .inv .1)) (c .before .before .number .ensures) (omega (arith, c .before .before .number .ensures, entry-small _ (l .inv .2 .at) (omega (arith, l .inv .1)) (c .before .before .before .before .before .before .before .before .before .before .before .pre))) (c .before .put .ensures) (omega (arith, c .entry-bytes .ensures)),
     )
 
 returns : tie.Need-returns Inv-loop μ-loop
-returns c = let l = c @loop in gather-end _ (c @args .t .now) (c @args .at) (l .inv .2) (omega (arith, l .inv .1))
+returns c = let l = c .before .loop in gather-end _ (c .before .before .before .before .before .before .before .args .t .now) (c .before .before .before .before .before .before .before .args .at) (l .inv .2) (omega (arith, l .inv .1))
 
 pub acting-spec : {M : Type 1} → statement M
 acting-spec =
