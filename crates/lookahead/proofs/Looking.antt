@@ -156,4 +156,6 @@ module _ (ed : Edition) (f start : List ℕ) (a b c : Event) {x : TableIndex} (h
 
       pub by-events : asked .refusal ≡ 0 → {r : Answers} → AnswersStart ed f x asked a b c r → r ≡ threeAnswers ed f start a b c
       unfolding told _>>=_
-      by-events y k = k (table ed f h z) (admits ed f h z start g y) ∙ ap (λ st. answersFrom ed (table ed f h z) st a b c) (held ed f h z start g y) ∙ sym (started (start-accepted ed f h z start g y .1))
+      by-events y k =
+          k (table ed f h z) (admits ed f h z start g y)
+          ∙ ap (λ st. answersFrom ed (table ed f h z) st a b c) (held ed f h z start g y) ∙ sym (started (start-accepted ed f h z start g y .1))

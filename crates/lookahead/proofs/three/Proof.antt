@@ -21,7 +21,8 @@ returns-2 c =
     let i = m .before .before .before in
     let s = i .before .before .before in
     c .refused2 .ensures
-    ∙ by-start edition1 (s .args .table .now) (s .args .start .now) (s .args .a) (s .args .b) (s .args .c) (i .index .ensures) (m .before .before .if1 .left) (m .admit .ensures) (c .before .if2 .taken)
+    ∙ by-start edition1 (s .args .table .now) (s .args .start .now) (s .args .a) (s .args .b) (s .args .c) (i .index .ensures) (m .before .before .if1 .left) (m .admit .ensures)
+    (c .before .if2 .taken)
 
 lend-requires : tie.Need-lend-requires
 lend-requires c κs =
