@@ -121,7 +121,8 @@ module _ (ed : Edition) (f : List ℕ) {ix : ScheduleIndex} (h : ScheduleIndexed
   unfolding sectionsStart startOf scheduleStart
   schedule-gives = go (judgeFile ed f) refl
     where
-      go : (j : Judged Schedule) → judgeFile ed f ≡ j → Gives ed f (ix .parts .«variables_from») (ix .parts .«variables_to») (ix .parts .«equations_from») (ix .parts .«equations_to») (scheduleStart ed f)
+      go : (j : Judged Schedule) → judgeFile ed f ≡ j
+          → Gives ed f (ix .parts .«variables_from») (ix .parts .«variables_to») (ix .parts .«equations_from») (ix .parts .«equations_to») (scheduleStart ed f)
       go (refused n) e = rw (index-empty ed f h e, e) (none-stand ed f)
       go (accepted s) e =
           let p = promised ed f h e in
@@ -137,7 +138,8 @@ module _ (ed : Edition) (t : List ℕ) {ix : TableIndex} (h : ix ≡ tableIndex 
   unfolding sectionsStart startOf tableStart tableIndex indexOf sectionsAt
   table-gives = go (judgeTable ed t) refl
     where
-      at-parts : {tb : Table} → Opened ed t tb → judgeTable ed t ≡ accepted tb → Gives ed t (partsOf ed t .variables) (partsOf ed t .«variables_end») (partsOf ed t .equations) (partsOf ed t .«equations_end») (tableStart ed t)
+      at-parts : {tb : Table} → Opened ed t tb → judgeTable ed t ≡ accepted tb
+          → Gives ed t (partsOf ed t .variables) (partsOf ed t .«variables_end») (partsOf ed t .equations) (partsOf ed t .«equations_end») (tableStart ed t)
       at-parts o e =
           let v = o .stand .variables in
           let q = o .stand .equations in

@@ -25,15 +25,22 @@ slice-aggregate-put-values : tie.Need-slice-aggregate-put-values
 slice-aggregate-put-values c = search needs
 
 array-share-prefix-initials : tie.Need-array-share-prefix-initials
-array-share-prefix-initials c = long edition1 _ _ (c .before .before .before .before .before .read .ensures edition1) (c .before .before .before .if1 .left) (c .before .before .read2 .ensures .0 edition1)
+array-share-prefix-initials c =
+    let v = c .before .before in
+    long edition1 _ _ (v .before .before .before .read .ensures edition1) (v .before .if1 .left) (v .read2 .ensures .0 edition1)
 
 slice-aggregate-put-values-2 : tie.Need-slice-aggregate-put-values-2
-slice-aggregate-put-values-2 c = sym (cut-length edition1 _ _ (c .before .before .before .before .before .before .read .ensures edition1) (c .before .before .before .before .if1 .left) (c .before .before .before .read2 .ensures .0 edition1))
+slice-aggregate-put-values-2 c =
+    let v = c .before .before .before in
+    sym (cut-length edition1 _ _ (v .before .before .before .read .ensures edition1) (v .before .if1 .left) (v .read2 .ensures .0 edition1))
 
 put-values-requires : tie.Need-put-values-requires
 put-values-requires c κs =
-    let n = few edition1 _ _ (c .before .before .before .before .before .before .read .ensures edition1) (c .before .before .before .before .if1 .left) (c .before .before .before .read2 .ensures .0 edition1) in
-    let l = cut-length edition1 _ _ (c .before .before .before .before .before .before .read .ensures edition1) (c .before .before .before .before .if1 .left) (c .before .before .before .read2 .ensures .0 edition1) in
+    let v = c .before .before .before in
+    let e = v .before .before .before .read .ensures edition1 in
+    let z = v .before .if1 .left in
+    let n = few edition1 _ _ e z (v .read2 .ensures .0 edition1) in
+    let l = cut-length edition1 _ _ e z (v .read2 .ensures .0 edition1) in
     omega arith
 
 slice-aggregate-put-modes : tie.Need-slice-aggregate-put-modes
