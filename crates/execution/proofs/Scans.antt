@@ -15,8 +15,7 @@ use Rattle.semantics.specs.Run.{Action, _>>=_, _>>_, allow, valued, isWait, wal
 use Rattle.semantics.specs.TableFile.{WAIT}
 use Rattle.codec.specs.Parts.{between, partAt}
 use Rattle.nodeset.specs.Sets.{mem, members, NextIn}
-use Rattle.nodeset.proofs.Members.{no-more}
-use Rattle.nodeset.proofs.Firsts.{membersOn, on-start, on-next, on-member}
+use Rattle.nodeset.proofs.Firsts.{membersOn, on-start, on-next, on-member, on-beyond}
 use Rattle.effects.specs.Verdicts.{doneVerdict, stepVerdict, goesOn, truthVerdict}
 use Rattle.execution.specs.Operands.{Few, KindsOf}
 use Rattle.effects.specs.declared.Verdict.{Verdict}
@@ -34,22 +33,22 @@ pub few-bounded : (ed : Edition) {ws : List ℕ} {end : ℕ} → Few ed ws → e
 few-bounded ed f e = record { below = λ n m. (let h = f .below n m in omega (arith, e)); small = omega (arith, ed .entries-fit, e) }
 
 -- a walk over the acting nodes stands at n: one of them, or beyond all
-pub record At (ws : List ℕ) (end n : ℕ) : Type 0 where
-  pub member : n < end → mem ws n ≡ true
+pub record At (ws : List ℕ) (n : ℕ) : Type 0 where
+  pub member : n < 256 → mem ws n ≡ true
 
-pub at-next : {ws : List ℕ} {n end m : ℕ} → NextIn ws n end m → At ws end m
+pub at-next : {ws : List ℕ} {n end m : ℕ} → NextIn ws n end m → At ws m
 at-next x = record { member = x .member }
 
 module _ {ws : List ℕ} {end : ℕ} (few : Bounded ws end) where
   on-first : {m : ℕ} → NextIn ws 0 end m → members ws ≡ membersOn ws m
   on-first x = on-start ws ∙ on-next ws 0 end (few .below) x
 
-  on-end : (n : ℕ) → end ≤ n → membersOn ws n ≡ []
-  on-end n e = no-more ws n (256 - n) (λ m q. let h = few .below m q in omega arith)
+  on-end : (n : ℕ) → 256 ≤ n → membersOn ws n ≡ []
+  on-end n e = on-beyond ws n e
 
   -- node n, and those behind it
-  on-here : (n : ℕ) → n < end → At ws end n → membersOn ws n ≡ n ∷ membersOn ws (n + 1)
-  on-here n h x = on-member ws n (omega (arith, few .small)) (x .member h)
+  on-here : (n : ℕ) → n < 256 → At ws n → membersOn ws n ≡ n ∷ membersOn ws (n + 1)
+  on-here n h x = on-member ws n h (x .member h)
 
   on-behind : (n : ℕ) {m : ℕ} → NextIn ws (n + 1) end m → membersOn ws (n + 1) ≡ membersOn ws m
   on-behind n x = on-next ws (n + 1) end (few .below) x
@@ -70,7 +69,7 @@ module _ (ks ws : List ℕ) {end : ℕ} (few : Bounded ws end) where
   pub all-start : {m : ℕ} → NextIn ws 0 end m → every (isWaitKind ks) (members ws) ≡ all ks ws m
   all-start x = ap (every (isWaitKind ks)) (on-first few x)
 
-  module _ (n : ℕ) (h : n < end) (x : At ws end n) where
+  module _ (n : ℕ) (h : n < 256) (x : At ws n) where
     pub all-out : isWaitKind ks n ≡ false → all ks ws n ≡ false
     unfolding every
     all-out e = ap (every (isWaitKind ks)) (on-here few n h x) ∙ rw (e, every) refl
@@ -79,7 +78,7 @@ module _ (ks ws : List ℕ) {end : ℕ} (few : Bounded ws end) where
     unfolding every
     all-on g e = ap (every (isWaitKind ks)) (on-here few n h x) ∙ rw (e, every) (ap (every (isWaitKind ks)) (on-behind few n g))
 
-  pub all-end : (n : ℕ) → end ≤ n → all ks ws n ≡ true
+  pub all-end : (n : ℕ) → 256 ≤ n → all ks ws n ≡ true
   unfolding every
   all-end n e = ap (every (isWaitKind ks)) (on-end few n e)
 
@@ -111,13 +110,13 @@ module _ (ed : Edition) (vs : List ℤ) (cut : ℕ → List ℕ) (ws : List ℕ)
   pub still-start : {m : ℕ} → NextIn ws 0 end m → checkWaits ed vs (map cut (members ws)) ≡ stillFrom ed vs cut ws m
   still-start x = ap asks (on-first few x)
 
-  module _ (n : ℕ) (h : n < end) (x : At ws end n) (r : Verdict) (e : r ≡ stepVerdict (checkWaits ed vs (cut n ∷ []))) where
+  module _ (n : ℕ) (h : n < 256) (x : At ws n) (r : Verdict) (e : r ≡ stepVerdict (checkWaits ed vs (cut n ∷ []))) where
     pub still-out : goesOn r ≡ false → r ≡ stepVerdict (stillFrom ed vs cut ws n)
     still-out f = walk-out ed 31 vs (cut n) (map cut (membersOn ws (n + 1))) r (e ∙ sym (still-one ed vs (cut n))) f ∙ sym (ap (λ l. stepVerdict (asks l)) (on-here few n h x))
 
     pub still-on : {m : ℕ} → NextIn ws (n + 1) end m → goesOn r ≡ true → stillFrom ed vs cut ws n ≡ stillFrom ed vs cut ws m
     still-on g f = ap asks (on-here few n h x) ∙ walk-on ed 31 vs (cut n) (map cut (membersOn ws (n + 1))) r (e ∙ sym (still-one ed vs (cut n))) f ∙ ap asks (on-behind few n g)
 
-  pub still-end : (n : ℕ) → end ≤ n → Stay ≡ stepVerdict (stillFrom ed vs cut ws n)
+  pub still-end : (n : ℕ) → 256 ≤ n → Stay ≡ stepVerdict (stillFrom ed vs cut ws n)
   unfolding walk doneVerdict
   still-end n e = sym (ap (λ l. stepVerdict (asks l)) (on-end few n e))

@@ -26,7 +26,7 @@ fn all_wait(ix: &[usize; program::ENTRIES], acting: &[u64; 4], ed: Edition) -> b
 {
     let end = edition::node_limit(ed);
     let mut n = nodeset::next(acting, 0, end);
-    while n < end {
+    while n < nodeset::NODES {
         if program::kind(ix, n) != program::kinds::WAIT {
             return false;
         }
@@ -60,7 +60,7 @@ fn all_still(
 {
     let end = edition::node_limit(ed);
     let mut n = nodeset::next(acting, 0, end);
-    while n < end {
+    while n < nodeset::NODES {
         let r = still(t, ix, values, n);
         if !effects::goes_on(r) {
             return r;

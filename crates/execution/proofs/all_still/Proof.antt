@@ -16,10 +16,10 @@ use Rattle.execution.proofs.all_still.Statement.{statement}
 use Rattle.execution.proofs.all_still.Tie as tie
 
 abbrev Inv-loop : tie.InvT-loop
-Inv-loop t ix acting values end n₀ n = At acting end n × ((ed : Edition) → checkWaits ed values (map (partAt t (startRow ix) (endRow ix)) (members acting)) ≡ stillFrom ed values (partAt t (startRow ix) (endRow ix)) acting n)
+Inv-loop t ix acting values end n₀ n = At acting n × ((ed : Edition) → checkWaits ed values (map (partAt t (startRow ix) (endRow ix)) (members acting)) ≡ stillFrom ed values (partAt t (startRow ix) (endRow ix)) acting n)
 
 abbrev μ-loop : tie.MeasureT-loop
-μ-loop t ix acting values end n₀ n = end - n
+μ-loop t ix acting values end n₀ n = 256 - n
 
 next-requires : tie.Need-next-requires Inv-loop μ-loop
 next-requires c κs = (omega (arith, few-bounded _ (c .before .before .pre .0) (c .node-limit .ensures) .small), c .before .before .pre .0 .words)

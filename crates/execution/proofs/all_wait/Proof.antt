@@ -13,10 +13,10 @@ use Rattle.execution.proofs.all_wait.Statement.{statement}
 use Rattle.execution.proofs.all_wait.Tie as tie
 
 abbrev Inv-loop : tie.InvT-loop
-Inv-loop ix acting end n₀ n = At acting end n × (every (isWaitKind (kindRow ix)) (members acting) ≡ all (kindRow ix) acting n)
+Inv-loop ix acting end n₀ n = At acting n × (every (isWaitKind (kindRow ix)) (members acting) ≡ all (kindRow ix) acting n)
 
 abbrev μ-loop : tie.MeasureT-loop
-μ-loop ix acting end n₀ n = end - n
+μ-loop ix acting end n₀ n = 256 - n
 
 next-requires : tie.Need-next-requires Inv-loop μ-loop
 next-requires c κs = (omega (arith, few-bounded _ (c .before .pre .0) (c .node-limit .ensures) .small), c .before .pre .0 .words)
