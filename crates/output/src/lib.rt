@@ -11,8 +11,11 @@ ghost use Rattle.output.specs.Written.{RecordsTake};
 // the programs have room for so many events
 const EVENTS: usize = 10000;
 
-// the bytes of so many events of the first edition: the length of an array is fixed
-pub const EVENT_ROOM: usize = EVENTS * paper::EVENT_BYTES;
+// an event of the first edition, which the programs take, has so many bytes
+const EVENT_BYTES: usize = 3;
+
+// the bytes of so many events: the length of an array is fixed
+pub const EVENT_ROOM: usize = EVENTS * EVENT_BYTES;
 
 // a message of the program where a write failed; whether it did not
 pub fn noticed(program: &[u8], is_written: bool) -> bool
