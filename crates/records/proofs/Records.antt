@@ -10,7 +10,7 @@ use lib.ListN.{length, getD, take}
 use lib.Seq.{take-suc}
 use native.Mathlib.Numerals.{add-one}
 use Rattle.semantics.specs.Bytes.{out4}
-use Rattle.semantics.specs.Editions as papers
+use Rattle.semantics.specs.Editions.{Edition}
 use Rattle.semantics.specs.Plant.{Plant}
 use Rattle.semantics.specs.Run.{valueBytes}
 use Rattle.semantics.specs.Calls.{eventCount, recordSize, roomForRecords}
@@ -30,6 +30,6 @@ values-length [] = refl
 values-length (v ∷ l) = let ih = values-length l in omega arith
 
 -- ---- 22 has left room for the records of all events
-pub room-for : (ed : papers.Edition) (p : Plant) (events records : List ℕ) → roomForRecords ed p events records ≡ true → eventCount ed events * recordSize ed p ≤ length records
+pub room-for : (ed : Edition) (p : Plant) (events records : List ℕ) → roomForRecords ed p events records ≡ true → eventCount ed events * recordSize ed p ≤ length records
 unfolding roomForRecords
 room-for ed p events records h = leb-true _ (length records) h
