@@ -1,12 +1,12 @@
 // The call "compiling": conditions 1 to 11, 34 and 12 to 14, in order, and the table.
 use edition::Edition;
+use edition::NODES;
 use numbering::spot::Spot;
 use schedule_read::call::ScheduleIndex;
 use schedule_read::parts::Parts;
 use sizes::Measured;
 use table_write::actions;
 use table_write::table;
-use tree_read::NODES;
 ghost use mathlib.Core.Path.{_≡_};
 ghost use mathlib.Core.List.{List};
 ghost use Prim.Native.Nat.{ℕ, _+_, _-_, _≤_, _<_};

@@ -12,17 +12,17 @@ ghost use Rattle.tree_read.specs.Index.{isRead, notNodes, nodesAs, Nodes
 pub struct Nodes {
     pub refusal: u8,
     pub count: usize,
-    pub kinds: [u8; crate::NODES],
-    pub starts: [usize; crate::NODES],
-    pub ends: [usize; crate::NODES],
+    pub kinds: [u8; edition::NODES],
+    pub starts: [usize; edition::NODES],
+    pub ends: [usize; edition::NODES],
 }
 
 // nodes that stand in these arrays
 pub fn found(
     count: usize,
-    kinds: [u8; crate::NODES],
-    starts: [usize; crate::NODES],
-    ends: [usize; crate::NODES],
+    kinds: [u8; edition::NODES],
+    starts: [usize; edition::NODES],
+    ends: [usize; edition::NODES],
 ) -> Nodes
     ensures { λ r. ⌜ r ≡ nodesAs count kinds starts ends ⌝ }
 {
@@ -38,8 +38,8 @@ pub fn found(
 pub fn refused() -> Nodes
     ensures { λ r. ⌜ ((ed : papers.Edition) → r ≡ notNodes ed) ⌝ }
 {
-    let kinds = [0u8; crate::NODES];
-    let places = [0usize; crate::NODES];
+    let kinds = [0u8; edition::NODES];
+    let places = [0usize; edition::NODES];
     Nodes {
         refusal: 9,
         count: 0,
@@ -103,9 +103,9 @@ fn node(s: &[u8], at: usize, ed: Edition) -> bool
 // The nodes of a section, laid in arrays that hold zeros: how many there are, or 0 where the section breaks its layout.
 pub fn read(
     s: &[u8],
-    kinds: &mut [u8; crate::NODES],
-    starts: &mut [usize; crate::NODES],
-    ends: &mut [usize; crate::NODES],
+    kinds: &mut [u8; edition::NODES],
+    starts: &mut [usize; edition::NODES],
+    ends: &mut [usize; edition::NODES],
     ed: Edition,
 ) -> usize
     requires { ⌜ (now kinds ≡ replicate 256 0) × (now starts ≡ replicate 256 0) × (now ends ≡ replicate 256 0) ⌝ }

@@ -14,7 +14,7 @@ ghost use Rattle.tree_read.specs.Ends.{noTree, TreeIn, treeTold};
 ghost use Rattle.tree_read.specs.Walks.{Makes, NodeWalked, NodesWalked};
 
 pub struct Subtrees {
-    pub ends: [usize; crate::NODES],
+    pub ends: [usize; edition::NODES],
     pub ok: bool,
 }
 
@@ -25,7 +25,7 @@ enum Walk {
 }
 
 // the subtrees of one tree
-pub fn found(ends: [usize; crate::NODES]) -> Subtrees
+pub fn found(ends: [usize; edition::NODES]) -> Subtrees
     ensures { λ r. ⌜ r ≡ treeTold true ends ⌝ }
 {
     Subtrees { ok: true, ends }
@@ -34,7 +34,7 @@ pub fn found(ends: [usize; crate::NODES]) -> Subtrees
 pub fn no_tree() -> Subtrees
     ensures { λ r. ⌜ r ≡ noTree ⌝ }
 {
-    let ends = [0usize; crate::NODES];
+    let ends = [0usize; edition::NODES];
     Subtrees {
         ok: false,
         ends: ends,
@@ -61,14 +61,14 @@ fn children_of(s: &[u8], k: u8, start: usize) -> u8
 // the child counts of m nodes of these kinds whose payloads start there
 fn child_counts(
     s: &[u8],
-    kinds: &[u8; crate::NODES],
-    starts: &[usize; crate::NODES],
+    kinds: &[u8; edition::NODES],
+    starts: &[usize; edition::NODES],
     m: usize,
-) -> [u8; crate::NODES]
+) -> [u8; edition::NODES]
     requires { ⌜ ((ed : Edition) × IndexOf ed (now s) (now kinds) (now starts) m) ⌝ }
     ensures { λ r. ⌜ ((ed : Edition) (ns : List Node) → IndexOf ed (now (s .entry)) (now (kinds .entry)) (now (starts .entry)) m → nodesIn ed (now (s .entry)) ≡ some ns → r ≡ pad 256 0 (map children ns)) ⌝ }
 {
-    let mut counts = [0u8; crate::NODES];
+    let mut counts = [0u8; edition::NODES];
     let mut i = 0;
     while i < m {
         counts[i] = children_of(s, kinds[i], starts[i]);
@@ -114,10 +114,10 @@ fn forest(counts: &[u8], ends: &mut [usize], n: usize, k: u8) -> Walk
 // that holds zeros.
 pub fn read(
     s: &[u8],
-    kinds: &[u8; crate::NODES],
-    starts: &[usize; crate::NODES],
+    kinds: &[u8; edition::NODES],
+    starts: &[usize; edition::NODES],
     m: usize,
-    ends: &mut [usize; crate::NODES],
+    ends: &mut [usize; edition::NODES],
 ) -> bool
     requires { ⌜ ((ed : Edition) × IndexOf ed (now s) (now kinds) (now starts) m) × (now ends ≡ replicate 256 0) ⌝ }
     ensures { λ r. ⌜ ((ed : Edition) → IndexOf ed (now (s .entry)) (now (kinds .entry)) (now (starts .entry)) m → TreeIn ed (now (s .entry)) (treeTold r (now (ends .exit)))) ⌝ }
