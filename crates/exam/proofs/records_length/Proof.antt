@@ -1,4 +1,5 @@
 -- The counts that were read are those of the schedule and are small (`counts`); they make a record's size (`length-of`), and there is room (`room-for`).
+use mathlib.Core.Path.{ap, _∙_}
 use Prim.Native.Nat.{_*_, _/_, _≤_}
 use native.Mathlib.Omega.{arith}
 use borrow.Author.Needs.{needs}
@@ -10,28 +11,26 @@ use Rattle.exam.proofs.Sizes.{counts, length-of}
 use Rattle.exam.proofs.records_length.Statement.{statement}
 use Rattle.exam.proofs.records_length.Tie as tie
 
-read-requires : tie.Need-read-requires
-read-requires c κs = search needs
-
 record-length-requires : tie.Need-record-length-requires
-record-length-requires c κs =
-    let start = c .before .before .before .before in
-    let k = counts edition1 (start .args .file .now) (c .read .ensures) (start .pre .schedule-read) in (k .few, k .few-selectors)
+record-length-requires c κs = let k = counts edition1 (c .before .before .before .before .before .args .file .now) (c .before .read .ensures) (c .before .before .before .before .before .pre .schedule-read) in (k .few, k .few-selectors)
 
 mul-result : tie.Need-mul-result
 unfolding eventCount
 mul-result c =
-    let start = c .before .before .before .before .before in
-    let a = start .args in
-    let k = length-of edition1 (a .file .now) (length (a .events .now) / 3) (c .before .read .ensures) (start .pre .schedule-read) (c .record-length .ensures) in
-    let r : length (a .events .now) / 3 * recordSize edition1 (start .pre .schedule .plant) ≤ length (a .records .now) = room-for edition1 (start .pre .schedule .plant) (a .events .now) (a .records .now) (start .pre .enough) in
-    omega (arith, k, r, start .good)
+    let a = c .before .before .before .before .before .before .args in
+    let p = c .before .before .before .before .before .before .pre in
+    let n = length (a .events .now) / 3 in
+    let k = length-of edition1 (a .file .now) n (c .before .before .read .ensures) (p .schedule-read) (c .record-length .ensures) in
+    let r : n * recordSize edition1 (p .schedule .plant) ≤ length (a .records .now) = room-for edition1 (p .schedule .plant) (a .events .now) (a .records .now) (p .enough) in
+    let e = ap (λ w. length (a .events .now) / w * c .record-length .result) (c .before .event-bytes .ensures) in
+    omega (arith, e, k, r, c .before .before .before .before .before .before .good)
 
 returns : tie.Need-returns
 unfolding eventCount
 returns c =
-    let start = c .before .before .before .before .before in
-    λ s h. length-of edition1 (start .args .file .now) _ (c .before .read .ensures) h (c .record-length .ensures)
+    λ s h. ap (λ w. length (c .before .before .before .before .before .before .args .events .now) / w * c .record-length .result) (c .before .event-bytes .ensures) ∙ length-of edition1 (c .before .before .before .before .before .before .args .file .now) _ (c .before .before .read .ensures) h (c .record-length .ensures)
 
 pub records-length-spec : {M : Type 1} → statement M
-records-length-spec = tie.close (tie.spec read-requires record-length-requires mul-result returns)
+records-length-spec =
+    tie.close
+    (tie.spec (λ c κs. search needs) (λ c κs. search needs) (λ c. search needs) record-length-requires mul-result returns)
