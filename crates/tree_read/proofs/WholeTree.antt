@@ -83,7 +83,8 @@ lies-over {kinds} {e} {t} {count} k p l = record {
 abbrev Root : List ℕ → List ℕ → List ℕ → Walk → Type 0
 Root ks d e w = (ns : List Node) → Counts ks ns → (f : ℕ) → length ks ≤ 0 + f → TreeWalked ns 0 d e (readTree f 0 (drop 0 ns)) w
 
-module _ (ed : Edition) (s cs e : List ℕ) (w : Walk) (c : (ns : List Node) → nodesIn ed s ≡ some ns → cs ≡ pad 256 0 (map children ns)) (p : Root (take (nodesOf ed s .count) cs) (replicate 256 0) e w) where
+module _ (ed : Edition) (s cs e : List ℕ) (w : Walk) (c : (ns : List Node) → nodesIn ed s ≡ some ns → cs ≡ pad 256 0 (map children ns))
+    (p : Root (take (nodesOf ed s .count) cs) (replicate 256 0) e w) where
   -- the walk from node 0 on, where there are nodes
   root : {ns : List Node} → nodesIn ed s ≡ some ns → TreeWalked ns 0 (replicate 256 0) e (readTree (length ns) 0 ns) w
   root {ns} h =

@@ -66,7 +66,8 @@ fn child_counts(
     m: usize,
 ) -> [u8; edition::NODES]
     requires { ⌜ ((ed : Edition) × IndexOf ed (now s) (now kinds) (now starts) m) ⌝ }
-    ensures { λ r. ⌜ ((ed : Edition) (ns : List Node) → IndexOf ed (now (s .entry)) (now (kinds .entry)) (now (starts .entry)) m → nodesIn ed (now (s .entry)) ≡ some ns → r ≡ pad 256 0 (map children ns)) ⌝ }
+    ensures { λ r. ⌜ ((ed : Edition) (ns : List Node) → IndexOf ed (now (s .entry)) (now (kinds .entry)) (now (starts .entry)) m → nodesIn ed (now (s .entry)) ≡ some ns
+        → r ≡ pad 256 0 (map children ns)) ⌝ }
 {
     let mut counts = [0u8; edition::NODES];
     let mut i = 0;

@@ -20,18 +20,21 @@ measured-requires c κs =
 
 table-length-requires : tie.Need-table-length-requires
 table-length-requires c κs =
-    let f = c .before .before .before .before .before .before .before .before .before .before .before .before .before .pre .found in
+    let c13 = c .before .before .before .before .before .before .before .before .before .before .before .before .before in
+    let f = c13 .pre .found in
     let v = f .promise .variables .inside in
     let q = f .promise .equations .inside in
-    let l : c .before .before .measured .result .at ≤ 52224 = omega (arith, c .before .before .measured .ensures .short, f .promise .nodes .few, editionOf (c .before .before .before .before .before .before .before .before .before .before .before .before .before .args .ed) .entries-fit) in
+    let l : c .before .before .measured .result .at ≤ 52224 = omega (arith, c .before .before .measured .ensures .short, f .promise .nodes .few, editionOf (c13 .args .ed) .entries-fit) in
     ((v .ordered, q .ordered), (omega (arith, v .inside, f .short), omega (arith, q .inside, f .short), l, c .before .row-bytes .ensures .1))
 
 returns : tie.Need-returns
-returns c = (
-  refl,
-  λ f g. plan-made _ g (c .before .before .before .before .before .before .before .before .before .before .kinds .ensures) (c .before .before .before .measured .ensures) refl (c .before .before .row-bytes .ensures .0)
-      (c .table-length .ensures),
-)
+returns c =
+    let c3 = c .before .before .before in
+    let c10 = c3 .before .before .before .before .before .before .before in (
+      refl,
+      λ f g. plan-made _ g (c10 .kinds .ensures) (c3 .measured .ensures) refl (c .before .before .row-bytes .ensures .0)
+          (c .table-length .ensures),
+    )
 
 pub made-spec : {M : Type 1} → statement M
 made-spec =

@@ -79,61 +79,87 @@ one-requires-2 c κs =
 
 sub-one-3 : tie.Need-sub-one-3 Inv-loop μ-loop
 sub-one-3 c =
-    let d = c .before .before .before .before .before .before .before .before .before .before .before .before .before .before .before .before .pre .0 .at in
-    d .entries (c .before .before .before .before .before .before .before .before .before .before .loop .i) (c .before .before .before .before .before .before .before .before .before .loop-test .taken) .ordered
+    let c9 = c .before .before .before .before .before .before .before .before .before in
+    let c10 = c9 .before in
+    let c16 = c10 .before .before .before .before .before .before in
+    let d = c16 .pre .0 .at in
+    d .entries (c10 .loop .i) (c9 .loop-test .taken) .ordered
 
 part-one-end-3 : tie.Need-part-one-end-3 Inv-loop μ-loop
 part-one-end-3 c =
-    let d = c .before .before .before .before .before .before .before .before .before .before .before .before .before .before .before .before .pre .0 .at in
-    d .entries (c .before .before .before .before .before .before .before .before .before .before .loop .i) (c .before .before .before .before .before .before .before .before .before .loop-test .taken) .inside
+    let c9 = c .before .before .before .before .before .before .before .before .before in
+    let c10 = c9 .before in
+    let c16 = c10 .before .before .before .before .before .before in
+    let d = c16 .pre .0 .at in
+    d .entries (c10 .loop .i) (c9 .loop-test .taken) .inside
 
 one-requires-3 : tie.Need-one-requires-3 Inv-loop μ-loop
 one-requires-3 c κs =
-    let p = c .before .before .before .before .before .before .before .before .before .before .before .before .before .before .before .before .before .pre in
-    (made (c .before .before .before .before .before .before .before .before .before .before .before .loop .i) (c .before .before .before .before .before .before .before .before .before .before .loop-test .taken) (p .0), p .1 .at .few)
+    let c10 = c .before .before .before .before .before .before .before .before .before .before in
+    let c11 = c10 .before in
+    let c17 = c11 .before .before .before .before .before .before in
+    let p = c17 .pre in
+    (made (c11 .loop .i) (c10 .loop-test .taken) (p .0), p .1 .at .few)
 
 loop-again : tie.Need-loop-again Inv-loop μ-loop
 loop-again c =
-    let g = c .before .before .before .before .before .before .before .before .before .before .before .before .before .loop .inv .1 in (
+    let c3 = c .before .before .before in
+    let c4 = c3 .before in
+    let c6 = c4 .before .before in
+    let c7 = c6 .before in
+    let c12 = c7 .before .before .before .before .before in
+    let c13 = c12 .before in
+    let g = c13 .loop .inv .1 in (
       omega arith,
       (
-        λ ed cs d. tell-next _ (c .before .before .before .before .before .before .before .before .before .before .before .before .loop-test .taken) (g .0 ed cs d) (c .before .before .before .before .before .before .before .one .ensures cs d) (c .before .before .before .before .before .before .both .ensures),
+        λ ed cs d. tell-next _ (c12 .loop-test .taken) (g .0 ed cs d) (c7 .one .ensures cs d) (c6 .both .ensures),
         (
-          λ ed qs d. tell-next _ (c .before .before .before .before .before .before .before .before .before .before .before .before .loop-test .taken) (g .1 .0 ed qs d) (c .before .before .before .before .one2 .ensures qs d) (c .before .before .before .both2 .ensures),
-          λ ed. tell-next _ (c .before .before .before .before .before .before .before .before .before .before .before .before .loop-test .taken) (g .1 .1 ed) (c .before .one3 .ensures ed) (c .both3 .ensures),
+          λ ed qs d. tell-next _ (c12 .loop-test .taken) (g .1 .0 ed qs d) (c4 .one2 .ensures qs d) (c3 .both2 .ensures),
+          λ ed. tell-next _ (c12 .loop-test .taken) (g .1 .1 ed) (c .before .one3 .ensures ed) (c .both3 .ensures),
         ),
       ),
     )
 
 returns : tie.Need-returns Inv-loop μ-loop
 returns c =
+    let c3 = c .before .before .before in
+    let c8 = c3 .before .before .before .before .before in
     let g = c .before .before .loop .inv .1 in
-    let n = nodesAs (c .before .before .before .before .before .before .before .before .args .m) (c .before .before .before .before .before .before .before .before .args .kinds .now) (c .before .before .before .before .before .before .before .before .args .starts .now) (c .before .before .before .before .before .before .before .before .args .ends .now) in
-    λ ed. by-11 ed n (told ed n (λ cs d. tell-end _ (omega arith) (g .0 ed cs d)) (λ qs d. tell-end _ (omega arith) (g .1 .0 ed qs d)) (c .before .before .before .read .ensures ed)
+    let n = nodesAs (c8 .args .m) (c8 .args .kinds .now) (c8 .args .starts .now) (c8 .args .ends .now) in
+    λ ed. by-11 ed n (told ed n (λ cs d. tell-end _ (omega arith) (g .0 ed cs d)) (λ qs d. tell-end _ (omega arith) (g .1 .0 ed qs d)) (c3 .read .ensures ed)
     (tell-end _ (omega arith) (g .1 .1 ed)))
     (not-true _ (c .if1 .taken))
 
 returns-2 : tie.Need-returns-2 Inv-loop μ-loop
 returns-2 c =
-    let g = c .before .before .before .loop .inv .1 in
-    let n = nodesAs (c .before .before .before .before .before .before .before .before .before .args .m) (c .before .before .before .before .before .before .before .before .before .args .kinds .now) (c .before .before .before .before .before .before .before .before .before .args .starts .now) (c .before .before .before .before .before .before .before .before .before .args .ends .now) in
-    λ ed. by-34 ed n (told ed n (λ cs d. tell-end _ (omega arith) (g .0 ed cs d)) (λ qs d. tell-end _ (omega arith) (g .1 .0 ed qs d)) (c .before .before .before .before .read .ensures ed)
+    let c3 = c .before .before .before in
+    let c4 = c3 .before in
+    let c9 = c4 .before .before .before .before .before in
+    let g = c3 .loop .inv .1 in
+    let n = nodesAs (c9 .args .m) (c9 .args .kinds .now) (c9 .args .starts .now) (c9 .args .ends .now) in
+    λ ed. by-34 ed n (told ed n (λ cs d. tell-end _ (omega arith) (g .0 ed cs d)) (λ qs d. tell-end _ (omega arith) (g .1 .0 ed qs d)) (c4 .read .ensures ed)
     (tell-end _ (omega arith) (g .1 .1 ed)))
     (not-false _ (c .before .if1 .left)) (not-true _ (c .if2 .taken))
 
 returns-3 : tie.Need-returns-3 Inv-loop μ-loop
 returns-3 c =
-    let g = c .before .before .before .before .loop .inv .1 in
-    let n = nodesAs (c .before .before .before .before .before .before .before .before .before .before .args .m) (c .before .before .before .before .before .before .before .before .before .before .args .kinds .now) (c .before .before .before .before .before .before .before .before .before .before .args .starts .now) (c .before .before .before .before .before .before .before .before .before .before .args .ends .now) in
-    λ ed. nodes-passed ed n (told ed n (λ cs d. tell-end _ (omega arith) (g .0 ed cs d)) (λ qs d. tell-end _ (omega arith) (g .1 .0 ed qs d)) (c .before .before .before .before .before .read .ensures ed)
+    let c4 = c .before .before .before .before in
+    let c5 = c4 .before in
+    let c10 = c5 .before .before .before .before .before in
+    let g = c4 .loop .inv .1 in
+    let n = nodesAs (c10 .args .m) (c10 .args .kinds .now) (c10 .args .starts .now) (c10 .args .ends .now) in
+    λ ed. nodes-passed ed n (told ed n (λ cs d. tell-end _ (omega arith) (g .0 ed cs d)) (λ qs d. tell-end _ (omega arith) (g .1 .0 ed qs d)) (c5 .read .ensures ed)
     (tell-end _ (omega arith) (g .1 .1 ed)))
     (not-false _ (c .before .before .if1 .left)) (not-false _ (c .before .if2 .left)) (c .if3 .taken)
 
 returns-4 : tie.Need-returns-4 Inv-loop μ-loop
 returns-4 c =
-    let g = c .before .before .before .before .loop .inv .1 in
-    let n = nodesAs (c .before .before .before .before .before .before .before .before .before .before .args .m) (c .before .before .before .before .before .before .before .before .before .before .args .kinds .now) (c .before .before .before .before .before .before .before .before .before .before .args .starts .now) (c .before .before .before .before .before .before .before .before .before .before .args .ends .now) in
-    λ ed. by-12 ed n (told ed n (λ cs d. tell-end _ (omega arith) (g .0 ed cs d)) (λ qs d. tell-end _ (omega arith) (g .1 .0 ed qs d)) (c .before .before .before .before .before .read .ensures ed)
+    let c4 = c .before .before .before .before in
+    let c5 = c4 .before in
+    let c10 = c5 .before .before .before .before .before in
+    let g = c4 .loop .inv .1 in
+    let n = nodesAs (c10 .args .m) (c10 .args .kinds .now) (c10 .args .starts .now) (c10 .args .ends .now) in
+    λ ed. by-12 ed n (told ed n (λ cs d. tell-end _ (omega arith) (g .0 ed cs d)) (λ qs d. tell-end _ (omega arith) (g .1 .0 ed qs d)) (c5 .read .ensures ed)
     (tell-end _ (omega arith) (g .1 .1 ed)))
     (not-false _ (c .before .before .if1 .left)) (not-false _ (c .before .if2 .left)) (c .if3 .left)
 

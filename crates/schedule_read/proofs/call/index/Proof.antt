@@ -35,27 +35,44 @@ part-sections-end-2 : tie.Need-part-sections-end-2
 part-sections-end-2 c = parts-stand _ (c .before .before .before .before .args .file .now) (c .before .before .read .ensures) (c .before .if1 .left) .equations .inside
 
 sub-sections-3 : tie.Need-sub-sections-3
-sub-sections-3 c = parts-stand _ (c .before .before .before .before .before .args .file .now) (c .before .before .before .read .ensures) (c .before .before .if1 .left) .schedule .ordered
+sub-sections-3 c =
+    let c3 = c .before .before .before in
+    let c5 = c3 .before .before in
+    parts-stand _ (c5 .args .file .now) (c3 .read .ensures) (c .before .before .if1 .left) .schedule .ordered
 
 part-sections-start-3 : tie.Need-part-sections-start-3
-part-sections-start-3 c = parts-stand _ (c .before .before .before .before .before .args .file .now) (c .before .before .before .read .ensures) (c .before .before .if1 .left) .schedule .ordered
+part-sections-start-3 c =
+    let c3 = c .before .before .before in
+    let c5 = c3 .before .before in
+    parts-stand _ (c5 .args .file .now) (c3 .read .ensures) (c .before .before .if1 .left) .schedule .ordered
 
 part-sections-end-3 : tie.Need-part-sections-end-3
-part-sections-end-3 c = parts-stand _ (c .before .before .before .before .before .args .file .now) (c .before .before .before .read .ensures) (c .before .before .if1 .left) .schedule .inside
+part-sections-end-3 c =
+    let c3 = c .before .before .before in
+    let c5 = c3 .before .before in
+    parts-stand _ (c5 .args .file .now) (c3 .read .ensures) (c .before .before .if1 .left) .schedule .inside
 
 sections-requires : tie.Need-sections-requires
 sections-requires c κs = (refl, refl, refl, refl)
 
 returns-2 : tie.Need-returns-2
 returns-2 c =
-    let x = c .before .before .sections .ensures .refused (c .before .if2 .taken) (c .before .before .before .before .before .before .before .before .before .before .before .read .result) in
-    subst (ScheduleIndexed (editionOf (c .before .before .before .before .before .before .before .before .before .before .before .before .before .args .ed)) (c .before .before .before .before .before .before .before .before .before .before .before .before .before .args .file .now)) (sym (c .refused2 .ensures _)) (by-sections _ (c .before .before .before .before .before .before .before .before .before .before .before .before .before .args .file .now) (c .before .before .before .before .before .before .before .before .before .before .before .read .ensures) (c .before .before .before .before .before .before .before .before .before .before .if1 .left) x)
+    let c10 = c .before .before .before .before .before .before .before .before .before .before in
+    let c11 = c10 .before in
+    let c13 = c11 .before .before in
+    let x = c .before .before .sections .ensures .refused (c .before .if2 .taken) (c11 .read .result) in
+    subst (ScheduleIndexed (editionOf (c13 .args .ed)) (c13 .args .file .now)) (sym (c .refused2 .ensures _)) (by-sections _ (c13 .args .file .now) (c11 .read .ensures) (c10 .if1 .left) x)
 
 returns-3 : tie.Need-returns-3
 returns-3 c =
-    let x = c .before .before .before .before .sections .ensures .found (c .before .before .before .if2 .left) (c .before .before .before .before .before .before .before .before .before .before .before .before .before .read .result) in
-    subst (ScheduleIndexed (editionOf (c .before .before .before .before .before .before .before .before .before .before .before .before .before .before .before .args .ed)) (c .before .before .before .before .before .before .before .before .before .before .before .before .before .before .before .args .file .now)) (sym (same-index (c .before .found .ensures) (c .found2 .ensures)))
-    (by-sections _ (c .before .before .before .before .before .before .before .before .before .before .before .before .before .before .before .args .file .now) (c .before .before .before .before .before .before .before .before .before .before .before .before .before .read .ensures) (c .before .before .before .before .before .before .before .before .before .before .before .before .if1 .left) x)
+    let c3 = c .before .before .before in
+    let c4 = c3 .before in
+    let c12 = c4 .before .before .before .before .before .before .before .before in
+    let c13 = c12 .before in
+    let c15 = c13 .before .before in
+    let x = c4 .sections .ensures .found (c3 .if2 .left) (c13 .read .result) in
+    subst (ScheduleIndexed (editionOf (c15 .args .ed)) (c15 .args .file .now)) (sym (same-index (c .before .found .ensures) (c .found2 .ensures)))
+    (by-sections _ (c15 .args .file .now) (c13 .read .ensures) (c12 .if1 .left) x)
 
 pub index-spec : {M : Type 1} → statement M
 index-spec =

@@ -34,37 +34,68 @@ returns-3 : tie.Need-returns-3 Inv-loop μ-loop
 returns-3 c = none-laid (too-many _ (c .before .before .before .before .before .before .before .args .s .now) (omega arith) (omega arith))
 
 loop-holds : tie.Need-loop-holds Inv-loop μ-loop
-loop-holds c = (omega arith, fill-start _ _ (c .before .before .before .before .before .width .ensures) (omega arith) (c .before .before .before .before .before .before .before .pre .0) (c .before .before .before .before .before .before .before .pre .1) (c .before .before .before .before .before .before .before .pre .2))
+loop-holds c =
+    let c5 = c .before .before .before .before .before in
+    let c7 = c5 .before .before in
+    (omega arith, fill-start _ _ (c5 .width .ensures) (omega arith) (c7 .pre .0) (c7 .pre .1) (c7 .pre .2))
 
 node-requires : tie.Need-node-requires Inv-loop μ-loop
 node-requires c κs = c .before .loop .inv .1 .took .inside
 
 returns-4 : tie.Need-returns-4 Inv-loop μ-loop
-returns-4 c = none-laid (fill-broken _ _ _ _ _ _ _ (c .before .before .before .loop .inv .1) (c .before .before .before .before .before .before .before .number .ensures) (omega arith) (omega arith) (omega arith) (c .before .before .loop-test .taken) (sym (not-true _ (c .if4 .taken)) ∙ c .before .node .ensures))
+returns-4 c =
+    let c3 = c .before .before .before in
+    let c7 = c3 .before .before .before .before in
+    none-laid (fill-broken _ _ _ _ _ _ _ (c3 .loop .inv .1) (c7 .number .ensures) (omega arith) (omega arith) (omega arith)
+    (c .before .before .loop-test .taken) (sym (not-true _ (c .if4 .taken)) ∙ c .before .node .ensures))
 
 add-e : tie.Need-add-e Inv-loop μ-loop
-add-e c = omega (arith, stands-inside _ (c .before .before .before .before .before .before .before .before .before .before .before .args .s .now) (c .before .before .before .loop .p) (sym (not-false _ (c .if4 .left)) ∙ c .before .node .ensures))
+add-e c =
+    let c3 = c .before .before .before in
+    let c11 = c3 .before .before .before .before .before .before .before .before in
+    omega (arith, stands-inside _ (c11 .args .s .now) (c3 .loop .p) (sym (not-false _ (c .if4 .left)) ∙ c .before .node .ensures))
 
 number-requires-2 : tie.Need-number-requires-2 Inv-loop μ-loop
-number-requires-2 c κs = omega (arith, stands-inside _ (c .before .before .before .before .before .before .before .before .before .before .before .args .s .now) (c .before .before .before .loop .p) (sym (not-false _ (c .if4 .left)) ∙ c .before .node .ensures))
+number-requires-2 c κs =
+    let c3 = c .before .before .before in
+    let c11 = c3 .before .before .before .before .before .before .before .before in
+    omega (arith, stands-inside _ (c11 .args .s .now) (c3 .loop .p) (sym (not-false _ (c .if4 .left)) ∙ c .before .node .ensures))
 
 add-e-2 : tie.Need-add-e-2 Inv-loop μ-loop
-add-e-2 c = omega (arith, stands-inside _ (c .before .before .before .before .before .before .before .before .before .before .before .before .args .s .now) (c .before .before .before .before .loop .p) (sym (not-false _ (c .before .if4 .left)) ∙ c .before .before .node .ensures))
+add-e-2 c =
+    let c4 = c .before .before .before .before in
+    let c12 = c4 .before .before .before .before .before .before .before .before in
+    omega (arith, stands-inside _ (c12 .args .s .now) (c4 .loop .p) (sym (not-false _ (c .before .if4 .left)) ∙ c .before .before .node .ensures))
 
 add-kinds : tie.Need-add-kinds Inv-loop μ-loop
-add-kinds c = omega (arith, stands-inside _ (c .before .before .before .before .before .before .before .before .before .before .before .before .args .s .now) (c .before .before .before .before .loop .p) (sym (not-false _ (c .before .if4 .left)) ∙ c .before .before .node .ensures))
+add-kinds c =
+    let c4 = c .before .before .before .before in
+    let c12 = c4 .before .before .before .before .before .before .before .before in
+    omega (arith, stands-inside _ (c12 .args .s .now) (c4 .loop .p) (sym (not-false _ (c .before .if4 .left)) ∙ c .before .before .node .ensures))
 
 shared-slice-read-kinds : tie.Need-shared-slice-read-kinds Inv-loop μ-loop
-shared-slice-read-kinds c = omega (arith, stands-inside _ (c .before .before .before .before .before .before .before .before .before .before .before .before .before .args .s .now) (c .before .before .before .before .before .loop .p) (sym (not-false _ (c .before .before .if4 .left)) ∙ c .before .before .before .node .ensures))
+shared-slice-read-kinds c =
+    let c3 = c .before .before .before in
+    let c5 = c3 .before .before in
+    let c13 = c5 .before .before .before .before .before .before .before .before in
+    omega (arith, stands-inside _ (c13 .args .s .now) (c5 .loop .p) (sym (not-false _ (c .before .before .if4 .left)) ∙ c3 .node .ensures))
 
 element-write-kinds : tie.Need-element-write-kinds Inv-loop μ-loop
 element-write-kinds c = omega (arith, editionOf (c .before .before .before .before .before .before .before .before .before .before .before .before .before .args .ed) .entries-fit)
 
 add-starts : tie.Need-add-starts Inv-loop μ-loop
-add-starts c = omega (arith, stands-inside _ (c .before .before .before .before .before .before .before .before .before .before .before .before .before .args .s .now) (c .before .before .before .before .before .loop .p) (sym (not-false _ (c .before .before .if4 .left)) ∙ c .before .before .before .node .ensures))
+add-starts c =
+    let c3 = c .before .before .before in
+    let c5 = c3 .before .before in
+    let c13 = c5 .before .before .before .before .before .before .before .before in
+    omega (arith, stands-inside _ (c13 .args .s .now) (c5 .loop .p) (sym (not-false _ (c .before .before .if4 .left)) ∙ c3 .node .ensures))
 
 add-starts-2 : tie.Need-add-starts-2 Inv-loop μ-loop
-add-starts-2 c = omega (arith, stands-inside _ (c .before .before .before .before .before .before .before .before .before .before .before .before .before .args .s .now) (c .before .before .before .before .before .loop .p) (sym (not-false _ (c .before .before .if4 .left)) ∙ c .before .before .before .node .ensures))
+add-starts-2 c =
+    let c3 = c .before .before .before in
+    let c5 = c3 .before .before in
+    let c13 = c5 .before .before .before .before .before .before .before .before in
+    omega (arith, stands-inside _ (c13 .args .s .now) (c5 .loop .p) (sym (not-false _ (c .before .before .if4 .left)) ∙ c3 .node .ensures))
 
 mul-starts : tie.Need-mul-starts Inv-loop μ-loop
 mul-starts c = omega (arith, editionOf (c .before .before .before .before .before .before .before .before .before .before .before .before .before .args .ed) .entries-fit)
@@ -86,16 +117,28 @@ loop-less c = omega arith
 
 loop-again : tie.Need-loop-again Inv-loop μ-loop
 loop-again c =
-    (omega arith, fill-next _ _ _ _ _ _ _ (c .before .before .before .before .before .before .before .before .before .before .before .width .ensures) (c .before .number2 .ensures) (omega (arith, editionOf (c .before .before .before .before .before .before .before .before .before .before .before .before .before .args .ed) .entries-fit)) (c .before .before .before .before .before .loop .inv .1) (sym (not-false _ (c .before .before .if4 .left)) ∙ c .before .before .before .node .ensures))
+    let c3 = c .before .before .before in
+    let c5 = c3 .before .before in
+    let c11 = c5 .before .before .before .before .before .before in
+    let c13 = c11 .before .before in (
+      omega arith,
+      fill-next _ _ _ _ _ _ _ (c11 .width .ensures) (c .before .number2 .ensures) (omega (arith, editionOf (c13 .args .ed) .entries-fit)) (c5 .loop .inv .1)
+          (sym (not-false _ (c .before .before .if4 .left)) ∙ c3 .node .ensures),
+    )
 
 returns-5 : tie.Need-returns-5 Inv-loop μ-loop
-returns-5 c = none-laid (fill-over _ _ _ _ _ _ _ (c .before .before .loop .inv .1) (c .before .before .before .before .before .before .number .ensures) (omega arith) (omega arith) (omega arith) (omega arith) (omega arith))
+returns-5 c =
+    let c6 = c .before .before .before .before .before .before in
+    none-laid (fill-over _ _ _ _ _ _ _ (c .before .before .loop .inv .1) (c6 .number .ensures) (omega arith) (omega arith) (omega arith) (omega arith) (omega arith))
 
 returns-6 : tie.Need-returns-6 Inv-loop μ-loop
-returns-6 c = all-laid (omega arith) (fill-end _ _ _ _ _ _ _ (c .before .before .loop .inv .1) (c .before .before .before .before .before .before .number .ensures) (omega arith) (omega arith) (omega arith) (omega arith) (omega arith))
+returns-6 c =
+    let c6 = c .before .before .before .before .before .before in
+    all-laid (omega arith) (fill-end _ _ _ _ _ _ _ (c .before .before .loop .inv .1) (c6 .number .ensures) (omega arith) (omega arith) (omega arith) (omega arith) (omega arith))
 
 pub read-spec : {M : Type 1} → statement M
 read-spec =
     tie.close
-    (tie.spec Inv-loop μ-loop width-requires returns number-requires returns-2 node-limit-requires returns-3 loop-holds node-requires returns-4 add-e number-requires-2 add-e-2 add-kinds shared-slice-read-kinds element-write-kinds
+    (tie.spec Inv-loop μ-loop width-requires returns number-requires returns-2 node-limit-requires returns-3 loop-holds node-requires returns-4 add-e number-requires-2 add-e-2
+    add-kinds shared-slice-read-kinds element-write-kinds
     add-starts add-starts-2 mul-starts element-write-starts mul-ends element-write-ends add-i loop-less loop-again returns-5 returns-6)

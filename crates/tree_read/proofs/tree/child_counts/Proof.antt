@@ -45,7 +45,10 @@ loop-less : tie.Need-loop-less Inv-loop μ-loop
 loop-less c = omega arith
 
 loop-again : tie.Need-loop-again Inv-loop μ-loop
-loop-again c = (omega arith, λ ed ns e h. counts-next _ _ _ _ ed e _ _ _ ns h (c .before .before .before .loop-test .taken) (c .before .before .before .before .loop .inv .1 ed ns e h) (c .children-of .ensures))
+loop-again c =
+    let c3 = c .before .before .before in
+    let c4 = c3 .before in
+    (omega arith, λ ed ns e h. counts-next _ _ _ _ ed e _ _ _ ns h (c3 .loop-test .taken) (c4 .loop .inv .1 ed ns e h) (c .children-of .ensures))
 
 returns : tie.Need-returns Inv-loop μ-loop
 returns c = λ ed ns e h. counts-end _ _ _ _ ed e _ _ ns h (c .loop-test .left) (c .before .loop .inv .1 ed ns e h)

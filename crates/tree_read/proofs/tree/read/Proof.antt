@@ -26,12 +26,18 @@ node-requires c κs =
 
 returns : tie.Need-returns
 returns c =
-    let b = c .before .before .before .node .ensures .0 .within _ (next-is (c .before .w .given .1)) in
-    λ ed e. tree-told ed _ _ _ _ e _ _ _ _ (λ ns. c .before .before .before .before .before .before .child-counts .ensures ed ns e) (c .before .before .before .before .before .before .before .before .pre .1) (c .before .before .before .node .ensures .1) (c .before .w .given .1)
-    (omega (arith, length-take (c .before .before .before .before .before .before .before .before .args .m) (c .before .before .before .before .before .before .child-counts .result)))
+    let c3 = c .before .before .before in
+    let c6 = c3 .before .before .before in
+    let c8 = c6 .before .before in
+    let b = c3 .node .ensures .0 .within _ (next-is (c .before .w .given .1)) in
+    λ ed e. tree-told ed _ _ _ _ e _ _ _ _ (λ ns. c6 .child-counts .ensures ed ns e) (c8 .pre .1) (c3 .node .ensures .1) (c .before .w .given .1)
+    (omega (arith, length-take (c8 .args .m) (c6 .child-counts .result)))
 
 returns-2 : tie.Need-returns-2
-returns-2 c = λ ed e. tree-lost ed _ _ _ _ e _ _ _ _ (λ ns. c .before .before .before .before .before .child-counts .ensures ed ns e) (c .before .before .before .before .before .before .before .pre .1) (c .before .before .node .ensures .1) (c .enum-told .given .1)
+returns-2 c =
+    let c5 = c .before .before .before .before .before in
+    let c7 = c5 .before .before in
+    λ ed e. tree-lost ed _ _ _ _ e _ _ _ _ (λ ns. c5 .child-counts .ensures ed ns e) (c7 .pre .1) (c .before .before .node .ensures .1) (c .enum-told .given .1)
 
 pub read-spec : {M : Type 1} → statement M
 read-spec =
