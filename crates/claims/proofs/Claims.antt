@@ -9,11 +9,10 @@ use mathlib.Core.List.{List, _∷_, _++_, flatMap, flatten, List·Memᴰ as Mem,
 use mathlib.Core.Logic.{_↔_, _⊎_}
 use mathlib.Core.Option.{some}
 use Prim.Native.Nat.{ℕ, _+_, _*_, _≤_, _<_}
-use lib.Dec.{lit<, lit≤}
 use lib.IntN.{ℤ}
 use lib.ListN.{length, getElem?, take, drop}
-use Rattle.semantics.specs.Bytes.{All, within, isSome, overwrite, two-bytes, widthOf}
-use Rattle.semantics.specs.Editions.{Edition, edition1, capacity}
+use Rattle.semantics.specs.Bytes.{All, within, isSome, overwrite, widthOf}
+use Rattle.semantics.specs.Editions.{Edition, edition1, edition2, capacity}
 use Rattle.semantics.specs.Refusals.{accepted}
 use Rattle.semantics.specs.Expressions.{Number, Truth, Value, valueOf, holds, numberBytes, truthBytes, numberDepth, truthDepth, numberIn, truthIn, numberValue, truthValue}
 use Rattle.semantics.specs.Evaluating.{Evaluates, Holds}
@@ -588,21 +587,12 @@ bytes-only-table-run = TableBytes.table-run-bytes
 pub edition-1 : (edition1 .version ≡ 1) × (edition1 .nodes ≡ 64) × (capacity (edition1 .width) ≡ 256) × (edition1 .set-bytes ≡ 8) × (edition1 .event-bytes ≡ 3)
 edition-1 = (refl, refl, refl, refl, refl)
 
+-- the numbers of the second edition: "version byte 2", "up to 256 nodes", numbers "of two bytes", "32 bytes" and "4 bytes" of document 02, item 6.
+-- Ruled out: a second edition of 255 nodes; an event of 3 bytes in it.
+pub edition-2 : (edition2 .version ≡ 2) × (edition2 .nodes ≡ 256) × (capacity (edition2 .width) ≡ 65536) × (edition2 .set-bytes ≡ 32) × (edition2 .event-bytes ≡ 4)
+edition-2 = (refl, refl, refl, refl, refl)
+
 -- an edition of 256 nodes keeps what every edition keeps.
 -- Ruled out: statements over editions that only the first one meets; an edition of 256 nodes whose records have no bit for the last of them.
 pub edition-256 : (ed : Edition) × (ed .nodes ≡ 256)
-edition-256 = (
-  record {
-    version = 2;
-    width = two-bytes;
-    nodes = 256;
-    set-bytes = 32;
-    event-bytes = 4;
-    version-fits = lit< tt;
-    nodes-fit = lit< tt;
-    entries-fit = lit≤ tt;
-    set-holds = lit≤ tt;
-    event-holds = lit≤ tt;
-  },
-  refl,
-)
+edition-256 = (edition2, refl)

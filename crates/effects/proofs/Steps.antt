@@ -98,7 +98,8 @@ module _ (ed : Edition) (n : ℕ) (vs : List ℤ) where
   walk-then [] b = refl
   walk-then (t ∷ ts) b = go (truthValue ed vs t) (walk-then ts b)
     where
-      go : (u : Value Bool) → walk ed n vs (ts ++ b) ≡ (walk ed n vs ts >> walk ed n vs b) → (valued u >>= (λ c. allow n (not c) >> walk ed n vs (ts ++ b))) ≡ ((valued u >>= (λ c. allow n (not c) >> walk ed n vs ts)) >> walk ed n vs b)
+      go : (u : Value Bool) → walk ed n vs (ts ++ b) ≡ (walk ed n vs ts >> walk ed n vs b)
+          → (valued u >>= (λ c. allow n (not c) >> walk ed n vs (ts ++ b))) ≡ ((valued u >>= (λ c. allow n (not c) >> walk ed n vs ts)) >> walk ed n vs b)
       go (ok true) e = refl
       go (ok false) e = e
       go (fault s) e = refl

@@ -7,7 +7,7 @@ use Prim.Native.Nat.{ℕ, _+_, _≤_, _<_}
 use native.Mathlib.Omega.{arith}
 use borrow.Author.Tests.{ne-eqb}
 use lib.ListN.{length, getD, drop}
-use Rattle.semantics.specs.Bytes.{every, widthOf, Read, broken, read, _>>=_, andThen, byte, number, fail, just, whole}
+use Rattle.semantics.specs.Bytes.{every, Read, broken, read, _>>=_, andThen, byte, number, fail, just, whole}
 use Rattle.semantics.specs.Editions.{Edition}
 use Rattle.semantics.specs.Events as Events
 use Rattle.semantics.specs.Events.{tick, pick, take-switch, senseless, EventKind, no-kind, eventKind, unused, readEventBody, readEvent, eventIn}

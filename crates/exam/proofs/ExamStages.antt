@@ -8,7 +8,7 @@ use native.Mathlib.Omega.{arith}
 use borrow.Author.Tests.{le-leb}
 use lib.ListN.{length, take, drop, length-append}
 use Rattle.semantics.specs.Bytes.{overwrite}
-use Rattle.semantics.specs.Editions.{Edition, edition1}
+use Rattle.semantics.specs.Editions.{Edition}
 use Rattle.semantics.specs.Refusals.{Judged, refused, accepted, _>>=_, _>>_, ensure, refusalOf}
 use Rattle.semantics.specs.Plant.{Plant}
 use Rattle.semantics.specs.Starts.{Start}
@@ -131,38 +131,38 @@ abbrev toldOf : ℕ → List ℕ → Ran → Ran → Bool → Exam.Examined
 toldOf n table r t q = record { refusal = 0; written = n; counts = r .counts; table-counts = t .counts; agree = q; table = table; records = r .records; others = t .records }
 
 -- what is written stands in the buffer
-room-after : (p : Plant) (events w b : List ℕ) {l : List ℕ} → l ≡ overwrite w b → length w ≡ eventCount edition1 events * recordSize edition1 p → roomForRecords edition1 p events l ≡ true
+room-after : (ed : Edition) (p : Plant) (events w b : List ℕ) {l : List ℕ} → l ≡ overwrite w b → length w ≡ eventCount ed events * recordSize ed p → roomForRecords ed p events l ≡ true
 unfolding overwrite roomForRecords
-room-after p events w b {l} e f =
+room-after ed p events w b {l} e f =
     let g = ap length e ∙ length-append w (drop (length w) b) in
     le-leb _ (length l) (omega arith)
 
-module _ (file start events table records others : List ℕ) where
+module _ (ed : Edition) (file start events table records others : List ℕ) where
   abbrev C : S.Compiled
-  C = compile edition1 file table
+  C = compile ed file table
 
   abbrev X : Ran
-  X = examTable edition1 file start events table records others
+  X = examTable ed file start events table records others
 
   abbrev Y : Ran
-  Y = ruleRun edition1 file start events records
+  Y = ruleRun ed file start events records
 
   -- compiling wrote l bytes, and left tb
   module _ {m l k : ℕ} {tb : List ℕ} (h : returned m l k tb ≡ C) where
     abbrev Z : Ran
-    Z = tableRun edition1 (take l tb) start events others
+    Z = tableRun ed (take l tb) start events others
 
     -- the run of the table that the code made
     ran-table : Z ≡ X
     unfolding examTable
-    ran-table = ap (λ (x : S.Compiled). tableRun edition1 (take (x .written) (x .table)) start events others) h
+    ran-table = ap (λ (x : S.Compiled). tableRun ed (take (x .written) (x .table)) start events others) h
 
     -- the call was accepted
-    module _ (z : refusalOf (judgeExam edition1 file start events table records others) ≡ 0) where
+    module _ (z : refusalOf (judgeExam ed file start events table records others) ≡ 0) where
       -- the room for the table holds what is read back from it
       pub table-fits : l ≤ length tb
       table-fits =
-          let a = admitted edition1 file start events table records others z .compiled in
+          let a = admitted ed file start events table records others z .compiled in
           let e = ap (λ (x : S.Compiled). x .written) h in
           let f = ap (λ (x : S.Compiled). length (x .table)) h in
           omega arith
@@ -177,32 +177,32 @@ module _ (file start events table records others : List ℕ) where
         others-are = ap (λ (x : Ran). x .records) (j ∙ ran-table)
 
         -- the record buffers hold the records that are compared
-        pub rooms : Room file events rs × Room file events os
+        pub rooms : Room ed file events rs × Room ed file events os
         unfolding examOf
         rooms =
-            let k = exam-agrees edition1 file start events table records others (exam-refusal edition1 file start events table records others (judgeExam edition1 file start events table records others) ∙ z) in
+            let k = exam-agrees ed file start events table records others (exam-refusal ed file start events table records others (judgeExam ed file start events table records others) ∙ z) in
             let p = k .schedule .plant in
-            let a = room-after p events _ records (records-are ∙ k .runs .rules-records) (k .runs .records-length) in
-            let b = room-after p events _ others (others-are ∙ k .runs .table-records) (k .runs .records-length) in
+            let a = room-after ed p events _ records (records-are ∙ k .runs .rules-records) (k .runs .records-length) in
+            let b = room-after ed p events _ others (others-are ∙ k .runs .table-records) (k .runs .records-length) in
             (record { schedule = k .schedule; schedule-read = k .schedule-read; enough = a }, record { schedule = k .schedule; schedule-read = k .schedule-read; enough = b })
 
-        pub all-told : {q : Bool} → ((s : Schedule) → judgeFile edition1 file ≡ accepted s → q ≡ agreed (eventCount edition1 events * recordSize edition1 (s .plant)) (ranWith r rs) (ranWith t os)) →
-            examinedWith (record { refusal = 0; length = l; counts = r .counts; «table_counts» = t .counts; agree = q }) tb rs os ≡ examOf edition1 file start events table records others
+        pub all-told : {q : Bool} → ((s : Schedule) → judgeFile ed file ≡ accepted s → q ≡ agreed (eventCount ed events * recordSize ed (s .plant)) (ranWith r rs) (ranWith t os)) →
+            examinedWith (record { refusal = 0; length = l; counts = r .counts; «table_counts» = t .counts; agree = q }) tb rs os ≡ examOf ed file start events table records others
         unfolding examOf examined reported examinedWith ranWith
         all-told {q} g =
-            let a = admitted edition1 file start events table records others z in
-            let n = eventCount edition1 events * recordSize edition1 (a .schedule .plant) in
+            let a = admitted ed file start events table records others z in
+            let n = eventCount ed events * recordSize ed (a .schedule .plant) in
             let k = j ∙ ran-table in
             let w : q ≡ agreed n Y X = g (a .schedule) (a .schedule-read) ∙ ap (λ x. agreed n x (ranWith t os)) i ∙ ap (agreed n Y) k in
-            let x : examOf edition1 file start events table records others ≡ reported n (C .written) (C .table) Y X = ap (examined edition1 file start events table records others) (a .judged) in
+            let x : examOf ed file start events table records others ≡ reported n (C .written) (C .table) Y X = ap (examined ed file start events table records others) (a .judged) in
             ap (λ q. toldOf l tb (ranWith r rs) (ranWith t os) q) w ∙ ap (λ (c : S.Compiled). toldOf (c .written) (c .table) (ranWith r rs) (ranWith t os) (agreed n Y X)) h
             ∙ ap (λ y. toldOf (C .written) (C .table) y (ranWith t os) (agreed n Y X)) i ∙ ap (λ y. toldOf (C .written) (C .table) Y y (agreed n Y X)) k ∙ sym x
 
   -- a refusal, with the buffers as they were
-  pub none-told : {n : ℕ} → n ≡ refusalOf (judgeExam edition1 file start events table records others) → (n ≡ 0 → ⊥) → refusedExam n table records others ≡ examOf edition1 file start events table records others
+  pub none-told : {n : ℕ} → n ≡ refusalOf (judgeExam ed file start events table records others) → (n ≡ 0 → ⊥) → refusedExam n table records others ≡ examOf ed file start events table records others
   unfolding examOf refusalOf examined
-  none-told {n} e z = go (judgeExam edition1 file start events table records others) e
+  none-told {n} e z = go (judgeExam ed file start events table records others) e
     where
-      go : (j : Judged ℕ) → n ≡ refusalOf j → refusedExam n table records others ≡ examined edition1 file start events table records others j
+      go : (j : Judged ℕ) → n ≡ refusalOf j → refusedExam n table records others ≡ examined ed file start events table records others j
       go (refused m) e = ap (λ n. refusedExam n table records others) e
       go (accepted m) e = absurd (z e)

@@ -3,7 +3,7 @@ use mathlib.Core.Path.{_≡_}
 use mathlib.Core.Bool.{true}
 use mathlib.Core.List.{List}
 use Prim.Native.Nat.{ℕ}
-use Rattle.semantics.specs.Editions.{edition1}
+use Rattle.semantics.specs.Editions.{Edition}
 use Rattle.semantics.specs.Refusals.{accepted}
 use Rattle.semantics.specs.Calls.{roomForRecords}
 use Rattle.schedules.specs.Files.{Schedule, judgeFile}
@@ -25,7 +25,7 @@ examinedWith r table records others = record {
 }
 
 -- the file is a schedule, and there is room for the records of its run
-pub record Room (file events records : List ℕ) : Type 0 where
+pub record Room (ed : Edition) (file events records : List ℕ) : Type 0 where
   pub schedule : Schedule
-  pub schedule-read : judgeFile edition1 file ≡ accepted schedule
-  pub enough : roomForRecords edition1 (schedule .plant) events records ≡ true
+  pub schedule-read : judgeFile ed file ≡ accepted schedule
+  pub enough : roomForRecords ed (schedule .plant) events records ≡ true

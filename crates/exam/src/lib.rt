@@ -1,4 +1,5 @@
 // The call "examining": a schedule compiled, run by the rules and run by its table, and the two runs compared.
+use edition::Edition;
 use records::Counts;
 use records::Ran;
 ghost use mathlib.Core.Path.{_≡_};
@@ -69,11 +70,12 @@ fn judged(
 
 // the length of a run's records, for which there is room
 fn records_length(file: &[u8], events: &[u8], records: &[u8]) -> usize
-    requires { ⌜ Room (now file) (now events) (now records) ⌝ }
+    requires { ⌜ Room edition1 (now file) (now events) (now records) ⌝ }
     ensures { λ r. ⌜ ((s : Schedule) → judgeFile edition1 (now (file .entry)) ≡ accepted s → r ≡ recordsSize edition1 (s .plant) (now (events .entry))) ⌝ }
 {
+    let ed = Edition::First;
     let s = schedule_read::call::read(file);
-    events.len() / paper::EVENT_BYTES * records::record_length(s.variables, s.selectors)
+    events.len() / edition::event_bytes(ed) * records::record_length(s.variables, s.selectors, ed)
 }
 
 fn same_counts(a: Counts, b: Counts) -> bool
@@ -100,7 +102,7 @@ fn agreed(r: Ran, t: Ran, a: &[u8], b: &[u8]) -> bool
 
 // the same of the whole record buffers
 fn compared(file: &[u8], events: &[u8], r: Ran, t: Ran, a: &[u8], b: &[u8]) -> bool
-    requires { ⌜ Room (now file) (now events) (now a) × Room (now file) (now events) (now b) ⌝ }
+    requires { ⌜ Room edition1 (now file) (now events) (now a) × Room edition1 (now file) (now events) (now b) ⌝ }
     ensures { λ q. ⌜ ((s : Schedule) → judgeFile edition1 (now (file .entry)) ≡ accepted s
         → q ≡ Exam.agreed (recordsSize edition1 (s .plant) (now (events .entry))) (ranWith r (now (a .entry))) (ranWith t (now (b .entry)))) ⌝ }
 {

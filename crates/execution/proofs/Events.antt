@@ -6,7 +6,7 @@ use Prim.Native.Nat.{ℕ}
 use lib.IntN.{ℤ}
 use lib.ListN.{length, getD, set}
 use Rattle.semantics.specs.Bytes.{every}
-use Rattle.semantics.specs.Editions.{edition1}
+use Rattle.semantics.specs.Editions.{Edition}
 use Rattle.semantics.specs.Expressions.{Value, ok, fault, above, below, thenValue, numberValue}
 use Rattle.semantics.specs.Plant.{Plant, selectors, stored, rateOf, advance}
 use Rattle.semantics.specs.Events as Events
@@ -55,16 +55,16 @@ module _ (vs : List ℤ) (ms : List ℕ) where
   left-ticked (fault below) g = rw (g .left) (left-below (g .answer) refl)
 
 -- ---- what a picked node does on the ranges that are lent
-module _ (p : Plant) (l : Lent) (q : PlantLent p l) (vs : List ℤ) (many : length vs ≡ length (p .variables)) where
-  assigned-same : (v : ℕ) (e : List ℕ) → assigned edition1 (p .variables) vs v e ≡ assigned edition1 (variablesOf l (length vs)) vs v e
+module _ (ed : Edition) (p : Plant) (l : Lent) (q : PlantLent p l) (vs : List ℤ) (many : length vs ≡ length (p .variables)) where
+  assigned-same : (v : ℕ) (e : List ℕ) → assigned ed (p .variables) vs v e ≡ assigned ed (variablesOf l (length vs)) vs v e
   unfolding assigned stored thenValue
-  assigned-same v e = go (numberValue edition1 vs e)
+  assigned-same v e = go (numberValue ed vs e)
     where
       go : (u : Value ℤ) → thenValue u (stored (p .variables) vs v) ≡ thenValue u (stored (variablesOf l (length vs)) vs v)
       go (ok z) = ap (λ u. thenValue u (λ y. ok (set vs v y))) (sym (declared-same p l q (length vs) many v z))
       go (fault s) = refl
 
-  act-same : (ms : List ℕ) (n : ℕ) (a : Action) → act edition1 (p .variables) vs ms n a ≡ act edition1 (variablesOf l (length vs)) vs ms n a
+  act-same : (ms : List ℕ) (n : ℕ) (a : Action) → act ed (p .variables) vs ms n a ≡ act ed (variablesOf l (length vs)) vs ms n a
   unfolding act
   act-same ms n (test t) = refl
   act-same ms n (wait t) = refl
@@ -72,17 +72,17 @@ module _ (p : Plant) (l : Lent) (q : PlantLent p l) (vs : List ℤ) (many : leng
   act-same ms n (switch s m) = refl
   act-same ms n stop = refl
 
-module _ (p : Plant) (f : ℕ → Action) (l : Lent) (ws : List ℕ) (vs : List ℤ) (ms : List ℕ) (q : Ready p f l ws vs ms) where
+module _ (ed : Edition) (p : Plant) (f : ℕ → Action) (l : Lent) (ws : List ℕ) (vs : List ℤ) (ms : List ℕ) (q : Ready ed p f l ws vs ms) where
   -- the switch check of the code
   abbrev check : Run.Verdict (Unit {0})
-  check = checkModes edition1 (modesFrom (l .bytes) (l .places) 0 ms) vs
+  check = checkModes ed (modesFrom (l .bytes) (l .places) 0 ms) vs
 
-  check-is : switchCheck edition1 p vs ms ≡ check
+  check-is : switchCheck ed p vs ms ≡ check
   unfolding switchCheck
-  check-is = ap (λ x. checkModes edition1 x vs) (sym (modes-current p l (q .plant) vs ms (q .fits)))
+  check-is = ap (λ x. checkModes ed x vs) (sym (modes-current p l (q .plant) vs ms (q .fits)))
 
   -- ---- a tick
-  pub few-acting : Few ws
+  pub few-acting : Few ed ws
   few-acting = record { words = q .words; below = λ n e. q .nodes n e .below }
 
   pub cut-acting : CutEach (l .bytes) (l .starts) (l .ends) ws
@@ -95,13 +95,13 @@ module _ (p : Plant) (f : ℕ → Action) (l : Lent) (ws : List ℕ) (vs : List 
   waiting = every (λ n. isWait (f n)) (members ws)
 
   abbrev walked : Run.Verdict (Unit {0})
-  walked = checkWaits edition1 vs (map (operandAt l) (members ws))
+  walked = checkWaits ed vs (map (operandAt l) (members ws))
 
   truths-are : waiting ≡ true → map (λ n. waitTruth (f n)) (members ws) ≡ map (operandAt l) (members ws)
   truths-are h = map-member ws (λ n. isWait (f n)) (λ n. waitTruth (f n)) (operandAt l) (λ n e k. wait-operand (getD (l .kinds) n 0) (operandAt l n) (q .nodes n e .is) k) h
 
   abbrev tick : Run.Verdict Done
-  tick = judge edition1 p f (members ws) vs ms Events.tick
+  tick = judge ed p f (members ws) vs ms Events.tick
 
   pub tick-27 : waiting ≡ false → Left tick vs ms (Away 27) vs ms
   unfolding judge judgeTick allow _>>_
@@ -109,7 +109,7 @@ module _ (p : Plant) (f : ℕ → Action) (l : Lent) (ws : List ℕ) (vs : List 
 
   tick-is : waiting ≡ true → tick ≡ (check >> (walked >> ticked vs ms (advance (p .variables) (rateOf p ms) vs)))
   unfolding judge judgeTick allow _>>_
-  tick-is e = rw e (ap₂ (λ a b. a >> (checkWaits edition1 vs b >> ticked vs ms (advance (p .variables) (rateOf p ms) vs))) check-is (truths-are e))
+  tick-is e = rw e (ap₂ (λ a b. a >> (checkWaits ed vs b >> ticked vs ms (advance (p .variables) (rateOf p ms) vs))) check-is (truths-are e))
 
   module _ (h : waiting ≡ true) (r : Verdict) (e : r ≡ stepVerdict check) where
     pub tick-28 : goesOn r ≡ false → Left tick vs ms r vs ms
@@ -135,22 +135,22 @@ module _ (p : Plant) (f : ℕ → Action) (l : Lent) (ws : List ℕ) (vs : List 
       pub end : d ≡ getD (l .ends) n 0
 
     abbrev pick : Run.Verdict Done
-    pick = judge edition1 p f (members ws) vs ms (Events.pick n)
+    pick = judge ed p f (members ws) vs ms (Events.pick n)
 
     pub pick-25 : mem ws n ≡ false → Left pick vs ms (Away 25) vs ms
     unfolding judge judgePick allow _>>_
     pick-25 e = left-away refl (rw (among-set (q .words) n, e) refl)
 
-    pick-is : mem ws n ≡ true → pick ≡ (check >> act edition1 (p .variables) vs ms n (f n))
+    pick-is : mem ws n ≡ true → pick ≡ (check >> act ed (p .variables) vs ms n (f n))
     unfolding judge judgePick allow _>>_
-    pick-is e = rw (among-set (q .words) n, e) (ap (λ a. a >> act edition1 (p .variables) vs ms n (f n)) check-is)
+    pick-is e = rw (among-set (q .words) n, e) (ap (λ a. a >> act ed (p .variables) vs ms n (f n)) check-is)
 
     module _ (h : mem ws n ≡ true) (r : Verdict) (e : r ≡ stepVerdict check) where
       pub pick-28 : goesOn r ≡ false → Left pick vs ms r vs ms
-      pick-28 g = left-eq vs ms (pick-is h) (left-out vs ms check (act edition1 (p .variables) vs ms n (f n)) e g)
+      pick-28 g = left-eq vs ms (pick-is h) (left-out vs ms check (act ed (p .variables) vs ms n (f n)) e g)
 
       pub pick-end : goesOn r ≡ true → {k b d : ℕ} → Looked k b d → {x : Verdict} {ys : List ℤ} {ns : List ℕ} → Does k (between b d (l .bytes)) (variablesOf l (length vs)) n vs ms x ys ns → Left pick vs ms x ys ns
-      pick-end g o {x} {ys} {ns} y = let w : Does (getD (l .kinds) n 0) (operandAt l n) (variablesOf l (length vs)) n vs ms x ys ns = rw (← o .kind, ← o .start, ← o .end) y in left-eq vs ms (pick-is h ∙ then-on check (act edition1 (p .variables) vs ms n (f n)) r e g ∙ act-same p l (q .plant) vs (q .fits .values) ms n (f n)) (w .leaves (f n) (q .nodes n h .is))
+      pick-end g o {x} {ys} {ns} y = let w : Does (getD (l .kinds) n 0) (operandAt l n) (variablesOf l (length vs)) n vs ms x ys ns = rw (← o .kind, ← o .start, ← o .end) y in left-eq vs ms (pick-is h ∙ then-on check (act ed (p .variables) vs ms n (f n)) r e g ∙ act-same ed p l (q .plant) vs (q .fits .values) ms n (f n)) (w .leaves ed (f n) (q .nodes n h .is))
 
     pub pick-performs : mem ws n ≡ true → {k b d : ℕ} → Looked k b d → Performs k (between b d (l .bytes)) (length vs) (length ms)
     pick-performs e o =
@@ -158,20 +158,20 @@ module _ (p : Plant) (f : ℕ → Action) (l : Lent) (ws : List ℕ) (vs : List 
         rw (o .kind, o .start, o .end, q .fits .values, q .fits .modes) (record {
           action = f n;
           is = x .is;
-          assigns = variable-known (length (p .variables)) (selectors p) (x .fits);
-          switches = selector-known (length (p .variables)) (selectors p) (x .fits);
+          assigns = variable-known ed (length (p .variables)) (selectors p) (x .fits);
+          switches = selector-known ed (length (p .variables)) (selectors p) (x .fits);
         })
 
   -- ---- a switch event
-  pub switch-left : (s k : ℕ) {r : Verdict} {ns : List ℕ} → Switched (l .bytes) (l .places) s k vs ms r ns → Left (judge edition1 p f (members ws) vs ms (Events.take-switch s k)) vs ms r vs ns
+  pub switch-left : (s k : ℕ) {r : Verdict} {ns : List ℕ} → Switched (l .bytes) (l .places) s k vs ms r ns → Left (judge ed p f (members ws) vs ms (Events.take-switch s k)) vs ms r vs ns
   unfolding judge
-  switch-left s k x = left-eq vs ms (ap (λ z. judgeSwitch edition1 z vs ms s k) (sym (modes-current p l (q .plant) vs ms (q .fits)))) (x .leaves)
+  switch-left s k x = left-eq vs ms (ap (λ z. judgeSwitch ed z vs ms s k) (sym (modes-current p l (q .plant) vs ms (q .fits)))) (x .leaves ed)
 
   -- ---- bytes that are no event
-  pub senseless-left : {r : Verdict} → r ≡ Away 24 → Left (judge edition1 p f (members ws) vs ms Events.senseless) vs ms r vs ms
+  pub senseless-left : {r : Verdict} → r ≡ Away 24 → Left (judge ed p f (members ws) vs ms Events.senseless) vs ms r vs ms
   unfolding judge
   senseless-left e = left-away e refl
 
   -- the event that the code has
-  pub event-left : {e d : Decoded.Event} {r : Verdict} {ys : List ℤ} {ns : List ℕ} → e ≡ d → Left (judge edition1 p f (members ws) vs ms (eventOf d)) vs ms r ys ns → Left (judge edition1 p f (members ws) vs ms (eventOf e)) vs ms r ys ns
-  event-left h x = left-eq vs ms (ap (λ (d : Decoded.Event). judge edition1 p f (members ws) vs ms (eventOf d)) h) x
+  pub event-left : {e d : Decoded.Event} {r : Verdict} {ys : List ℤ} {ns : List ℕ} → e ≡ d → Left (judge ed p f (members ws) vs ms (eventOf d)) vs ms r ys ns → Left (judge ed p f (members ws) vs ms (eventOf e)) vs ms r ys ns
+  event-left h x = left-eq vs ms (ap (λ (d : Decoded.Event). judge ed p f (members ws) vs ms (eventOf d)) h) x

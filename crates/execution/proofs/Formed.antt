@@ -8,7 +8,7 @@ use borrow.Author.Tests.{eqb-true, eqb-false, ltb-true}
 use lib.Dec.{eqb, ltb}
 use lib.ListN.{length, getElem?}
 use Rattle.semantics.specs.Bytes.{every, isSome}
-use Rattle.semantics.specs.Editions.{edition1}
+use Rattle.semantics.specs.Editions.{Edition}
 use Rattle.semantics.specs.Expressions.{numberIn}
 use Rattle.semantics.specs.Sections.{Selector}
 use Rattle.semantics.specs.Plant.{modeExists}
@@ -46,14 +46,14 @@ selector-below cs s m h = go (getElem? cs s) refl h
     go none e h = true-not-false (sym h)
     go (some c) e h = at-below cs s e
 
-module _ (variables : ℕ) (cs : List Selector) {a : Action} (h : operandFits edition1 variables cs a ≡ true) where
+module _ (ed : Edition) (variables : ℕ) (cs : List Selector) {a : Action} (h : operandFits ed variables cs a ≡ true) where
   pub variable-known : (v : ℕ) (e : List ℕ) → a ≡ assign v e → v < variables
   unfolding operandFits
-  variable-known v e f = ltb-true v variables (and-left (ltb v variables) (isSome (numberIn edition1 variables e)) (sym (ap (operandFits edition1 variables cs) f) ∙ h))
+  variable-known v e f = ltb-true v variables (and-left (ltb v variables) (isSome (numberIn ed variables e)) (sym (ap (operandFits ed variables cs) f) ∙ h))
 
   pub selector-known : (s m : ℕ) → a ≡ switch s m → s < length cs
   unfolding operandFits
-  selector-known s m f = selector-below cs s m (sym (ap (operandFits edition1 variables cs) f) ∙ h)
+  selector-known s m f = selector-below cs s m (sym (ap (operandFits ed variables cs) f) ∙ h)
 
 -- ---- the acting nodes
 module _ (ws : List ℕ) where

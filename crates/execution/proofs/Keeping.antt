@@ -9,7 +9,7 @@ use borrow.Author.Tests.{ltb-true, lt-ltb}
 use lib.Dec.{ltb}
 use lib.IntN.{ℤ}
 use lib.ListN.{length, getElem?, set, length-set}
-use Rattle.semantics.specs.Editions.{edition1}
+use Rattle.semantics.specs.Editions.{Edition}
 use Rattle.semantics.specs.Expressions.{Value, ok, fault, truthValue}
 use Rattle.semantics.specs.Sections.{Switch, Mode, Selector}
 use Rattle.semantics.specs.Plant.{Plant, among, switchNamed, selectors, modeExists, currentModes, rateOf, advance}
@@ -101,28 +101,28 @@ module _ (p : Plant) (vs : List ℤ) (ms : List ℕ) (f : Fits p vs ms) where
   set-value : (v : ℕ) (y : ℤ) → Fits p (set vs v y) ms
   set-value v y = record { values = length-set vs v y ∙ f .values; modes = f .modes; exist = f .exist }
 
-  act-keeps : (n : ℕ) (a : Action) → operandFits edition1 (length (p .variables)) (selectors p) a ≡ true → Keeps p (act edition1 (p .variables) vs ms n a)
+  act-keeps : (ed : Edition) (n : ℕ) (a : Action) → operandFits ed (length (p .variables)) (selectors p) a ≡ true → Keeps p (act ed (p .variables) vs ms n a)
   unfolding act operandFits
-  act-keeps n (test t) h = keeps-bind (valued (truthValue edition1 vs t)) _ (λ b _. keeps-pass f)
-  act-keeps n (wait t) h = keeps-bind (valued (truthValue edition1 vs t)) _ (λ b _. keeps-then (allow 29 b) (λ _ _. keeps-pass f))
-  act-keeps n (assign v e) h = keeps-bind (valued (assigned edition1 (p .variables) vs v e)) _ (λ ys i.
-      let x = assigned-is edition1 (p .variables) vs v e (good (assigned edition1 (p .variables) vs v e) i) in
+  act-keeps ed n (test t) h = keeps-bind (valued (truthValue ed vs t)) _ (λ b _. keeps-pass f)
+  act-keeps ed n (wait t) h = keeps-bind (valued (truthValue ed vs t)) _ (λ b _. keeps-then (allow 29 b) (λ _ _. keeps-pass f))
+  act-keeps ed n (assign v e) h = keeps-bind (valued (assigned ed (p .variables) vs v e)) _ (λ ys i.
+      let x = assigned-is ed (p .variables) vs v e (good (assigned ed (p .variables) vs v e) i) in
       keeps-pass (rw (x .is) (set-value v (x .value))))
-  act-keeps n (switch s m) h = keeps-pass (set-mode s m (exists-of (selectors p) s m h))
-  act-keeps n stop h = keeps-pass f
+  act-keeps ed n (switch s m) h = keeps-pass (set-mode s m (exists-of (selectors p) s m h))
+  act-keeps ed n stop h = keeps-pass f
 
-  tick-keeps : (action : ℕ → Action) (acting : List ℕ) → Keeps p (judgeTick edition1 p action acting vs ms)
+  tick-keeps : (ed : Edition) (action : ℕ → Action) (acting : List ℕ) → Keeps p (judgeTick ed p action acting vs ms)
   unfolding judgeTick
-  tick-keeps action acting = keeps-then (allow 27 _) (λ _ _. keeps-then _ (λ _ _. keeps-then _ (λ _ _. keeps-bind (valued (advance (p .variables) (rateOf p ms) vs)) _ (λ ys e.
+  tick-keeps ed action acting = keeps-then (allow 27 _) (λ _ _. keeps-then _ (λ _ _. keeps-then _ (λ _ _. keeps-bind (valued (advance (p .variables) (rateOf p ms) vs)) _ (λ ys e.
       keeps-pass (record { values = advance-length p ms vs ys (good (advance (p .variables) (rateOf p ms) vs) e) ∙ f .values; modes = f .modes; exist = f .exist })))))
 
-module _ (p : Plant) (action : ℕ → Action) (l : Lent) (ws : List ℕ) (vs : List ℤ) (ms : List ℕ) (q : Ready p action l ws vs ms) where
+module _ (ed : Edition) (p : Plant) (action : ℕ → Action) (l : Lent) (ws : List ℕ) (vs : List ℤ) (ms : List ℕ) (q : Ready ed p action l ws vs ms) where
   acts : (n : ℕ) → among n (members ws) ≡ true → mem ws n ≡ true
   acts n e = elim (native.Mathlib.Decide.decLt n 256) [ yes h ↦ sym (among-members ws n h) ∙ e | no h ↦ true-not-false (sym e ∙ members-below ws n (omega arith)) ]
 
-  pick-keeps : (n : ℕ) → Keeps p (judgePick edition1 p action (members ws) vs ms n)
+  pick-keeps : (n : ℕ) → Keeps p (judgePick ed p action (members ws) vs ms n)
   unfolding judgePick
-  pick-keeps n = keeps-then (allow 25 (among n (members ws))) (λ _ e. keeps-then _ (λ _ _. act-keeps p vs ms (q .fits) n (action n) (q .nodes n (acts n (allowed 25 (among n (members ws)) e)) .fits)))
+  pick-keeps n = keeps-then (allow 25 (among n (members ws))) (λ _ e. keeps-then _ (λ _ _. act-keeps p vs ms (q .fits) ed n (action n) (q .nodes n (acts n (allowed 25 (among n (members ws)) e)) .fits)))
 
   -- a switch's target is a mode of its selector
   target-exists : (s k : ℕ) (m : Mode) (w : Switch) → getElem? (currentModes p ms) s ≡ some m → getElem? (m .switches) k ≡ some w → Exists (selectors p) s (w .target)
@@ -140,16 +140,16 @@ module _ (p : Plant) (action : ℕ → Action) (l : Lent) (ws : List ℕ) (vs : 
       inside-modes : (s : ℕ) → s < length (currentModes p ms) → s < length ms
       inside-modes s h = let j = ap length (sym (modes-current p l (q .plant) vs ms (q .fits))) in omega (arith, modes-length (l .bytes) (l .places) 0 ms)
 
-  switch-keeps : (s k : ℕ) → Keeps p (judgeSwitch edition1 (currentModes p ms) vs ms s k)
+  switch-keeps : (s k : ℕ) → Keeps p (judgeSwitch ed (currentModes p ms) vs ms s k)
   unfolding judgeSwitch
   switch-keeps s k =
-      keeps-bind (find 26 (getElem? (currentModes p ms) s)) _ (λ m e. keeps-bind (find 26 (getElem? (m .switches) k)) _ (λ w g. keeps-bind (valued (truthValue edition1 vs (w .truth))) _ (λ b _. keeps-then (allow 30 b) (λ _ _.
+      keeps-bind (find 26 (getElem? (currentModes p ms) s)) _ (λ m e. keeps-bind (find 26 (getElem? (m .switches) k)) _ (λ w g. keeps-bind (valued (truthValue ed vs (w .truth))) _ (λ b _. keeps-then (allow 30 b) (λ _ _.
       keeps-pass (set-mode p vs ms (q .fits) s (w .target) (target-exists s k m w (found 26 _ e) (found 26 _ g)))))))
 
   -- the next event is judged on what this one left
-  pub fits-kept : (e : Event) (d : Done) → judge edition1 p action (members ws) vs ms e ≡ pass d → Fits p (d .values) (d .modes)
+  pub fits-kept : (e : Event) (d : Done) → judge ed p action (members ws) vs ms e ≡ pass d → Fits p (d .values) (d .modes)
   unfolding judge
-  fits-kept tick d h = tick-keeps p vs ms (q .fits) action (members ws) .kept d h
+  fits-kept tick d h = tick-keeps p vs ms (q .fits) ed action (members ws) .kept d h
   fits-kept (pick n) d h = pick-keeps n .kept d h
   fits-kept (take-switch s k) d h = switch-keeps s k .kept d h
   fits-kept senseless d h = keeps-away {p = p} .kept d h

@@ -5,7 +5,7 @@ use mathlib.Core.List.{List, []}
 use Prim.Native.Nat.{ℕ}
 use native.Mathlib.Omega.{arith}
 use lib.IntN.{ℤ}
-use Rattle.semantics.specs.Editions.{edition1}
+use Rattle.semantics.specs.Editions.{Edition}
 use Rattle.semantics.specs.Expressions.{above, below}
 use Rattle.semantics.specs.Run as Run
 use Rattle.semantics.specs.Run.{stop, finished, away, faulty, pass, nobody, mover, Done, Control, Answered, at, turnedAway, settle, setNumber, actingSet, recordBytes, recordOf}
@@ -60,6 +60,6 @@ module _ (j : Run.Verdict Done) (vs : List ℤ) (ms : List ℕ) (vs' : List ℤ)
   heard-move e = heard e
 
 -- what `put_record` writes is the record, where the set is that of the acting nodes
-pub record-is : {S : Type 0} (c : Control S) (o : Answered S) (ws : List ℕ) → actingSet c (o .left .place) ≡ setNumber (members ws) → recordBytes edition1 (o .answer) (setNumber (members ws)) (o .left .values) (o .left .modes) ≡ recordOf edition1 c o
+pub record-is : {S : Type 0} (ed : Edition) (c : Control S) (o : Answered S) (ws : List ℕ) → actingSet c (o .left .place) ≡ setNumber (members ws) → recordBytes ed (o .answer) (setNumber (members ws)) (o .left .values) (o .left .modes) ≡ recordOf ed c o
 unfolding recordOf
-record-is c o ws e = ap (λ n. recordBytes edition1 (o .answer) n (o .left .values) (o .left .modes)) (sym e)
+record-is ed c o ws e = ap (λ n. recordBytes ed (o .answer) n (o .left .values) (o .left .modes)) (sym e)

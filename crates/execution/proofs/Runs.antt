@@ -4,13 +4,13 @@ use mathlib.Core.Bool.{true}
 use mathlib.Core.List.{List, [], _∷_, _++_, map, flatMap, append-assoc, append-nil}
 use mathlib.Core.Option.{Option}
 use Prim.Native.Nat.{ℕ, suc, _+_, _-_, _*_, _/_, _^_, _≤_, _<_}
-use native.Mathlib.Nat.{zero-add, sub-zero, suc-mul, zero-mul, mul-le-mul-right}
+use native.Mathlib.Nat.{zero-add, sub-zero, suc-mul, zero-mul, mul-le-mul-right, div-le-self}
 use native.Mathlib.Numerals.{add-one}
 use native.Mathlib.Omega.{arith}
 use lib.IntN.{ℤ}
 use lib.ListN.{length, take, drop, length-append}
 use lib.Seq.{drop-drop}
-use Rattle.semantics.specs.Editions.{edition1}
+use Rattle.semantics.specs.Editions.{Edition}
 use Rattle.semantics.specs.Refusals.{accepted}
 use Rattle.semantics.specs.Plant.{Plant}
 use Rattle.semantics.specs.Starts.{Start}
@@ -21,6 +21,7 @@ use Rattle.semantics.specs.Calls.{eventCount, recordLength, recordSize, roomFor
 use Rattle.semantics.proofs.RunCounts.{record-length}
 use Rattle.codec.specs.Writing.{Wrote}
 use Rattle.codec.proofs.Writing.{put-front, wrote-none, put-more, wrote-as, wrote-length, wrote-front}
+use Rattle.codec.proofs.Strides.{ahead-whole, ahead-next}
 use Rattle.nodeset.specs.Sets.{members}
 use Rattle.event.specs.Decoded.{eventOf, Decodes}
 use Rattle.event.specs.declared.Event.{Event}
@@ -45,127 +46,128 @@ flat-snoc f [] x = append-nil (f x)
 flat-snoc f (y ∷ l) x = ap (λ t. f y ++ t) (flat-snoc f l x) ∙ sym (append-assoc (f y) (flatMap f l) (f x))
 
 -- ---- the next event
-events-next : (s : List ℕ) (n k : ℕ) → k < n → eventsIn 3 (n - k) (drop (3 * k) s) ≡ take 3 (drop (3 * k) s) ∷ eventsIn 3 (n - (k + 1)) (drop (3 * (k + 1)) s)
+events-next : (s : List ℕ) (w n k p : ℕ) → k < n → eventsIn w (n - k) (drop p s) ≡ take w (drop p s) ∷ eventsIn w (n - (k + 1)) (drop (p + w) s)
 unfolding eventsIn
-events-next s n k h =
+events-next s w n k p h =
     let e : n - k ≡ suc (n - (k + 1)) = omega arith in
-    let q : 3 * k + 3 ≡ 3 * (k + 1) = omega arith in
-    ap (λ j. eventsIn 3 j (drop (3 * k) s)) e
-    ∙ ap (λ (t : List ℕ). take 3 (drop (3 * k) s) ∷ eventsIn 3 (n - (k + 1)) t) (drop-drop 3 (3 * k) s ∙ ap (λ j. drop j s) q)
+    ap (λ j. eventsIn w j (drop p s)) e ∙ ap (λ (t : List ℕ). take w (drop p s) ∷ eventsIn w (n - (k + 1)) t) (drop-drop w p s)
 
 -- ---- sizes
-size-fits : (p : Plant) {vs : List ℤ} {ms : List ℕ} → Fits p vs ms → recordLength edition1 (length vs) (length ms) ≡ recordSize edition1 p
+size-fits : (ed : Edition) (p : Plant) {vs : List ℤ} {ms : List ℕ} → Fits p vs ms → recordLength ed (length vs) (length ms) ≡ recordSize ed p
 unfolding recordSize
-size-fits p f = ap₂ (λ (a b : ℕ). recordLength edition1 a b) (f .values) (f .modes)
+size-fits ed p f = ap₂ (λ (a b : ℕ). recordLength ed a b) (f .values) (f .modes)
 
 one-more : (k r : ℕ) → (k + 1) * r ≡ k * r + r
 one-more k r = ap (λ j. j * r) (add-one k) ∙ suc-mul k r
 
 -- ---- answers
-answers-cons : {S : Type 0} (p : Plant) (c : Control S) (st : Situation S) (e : List ℕ) (es : List (List ℕ)) {o : Answered S} → stepOn edition1 p c st (eventIn edition1 e) ≡ o → answers edition1 p c st (e ∷ es) ≡ o ∷ answers edition1 p c (o .left) es
+answers-cons : {S : Type 0} (ed : Edition) (p : Plant) (c : Control S) (st : Situation S) (e : List ℕ) (es : List (List ℕ)) {o : Answered S} → stepOn ed p c st (eventIn ed e) ≡ o → answers ed p c st (e ∷ es) ≡ o ∷ answers ed p c (o .left) es
 unfolding answers step
-answers-cons p c st e es h = ap (λ (o : Answered _). o ∷ answers edition1 p c (o .left) es) h
+answers-cons ed p c st e es h = ap (λ (o : Answered _). o ∷ answers ed p c (o .left) es) h
 
-no-events : {S : Type 0} (p : Plant) (c : Control S) (st : Situation S) (s : List ℕ) {j : ℕ} → j ≡ 0 → answers edition1 p c st (eventsIn 3 j s) ≡ []
+no-events : {S : Type 0} (ed : Edition) (p : Plant) (c : Control S) (st : Situation S) (w : ℕ) (s : List ℕ) {j : ℕ} → j ≡ 0 → answers ed p c st (eventsIn w j s) ≡ []
 unfolding answers eventsIn
-no-events p c st s e = rw e refl
+no-events ed p c st w s e = rw e refl
 
 -- ---- what is reported
-module _ {S : Type 0} {c : Control S} {l : List (Answered S)} {d₀ : List ℕ} {cs : Counts} {d : List ℕ} where
-  reports-by : told cs ≡ countsOf (answersIn l) → Wrote d₀ 0 (flatMap (recordOf edition1 c) l) d → Reports c l d₀ cs d
+module _ {S : Type 0} (ed : Edition) {c : Control S} {l : List (Answered S)} {d₀ : List ℕ} {cs : Counts} {d : List ℕ} where
+  reports-by : told cs ≡ countsOf (answersIn l) → Wrote d₀ 0 (flatMap (recordOf ed c) l) d → Reports ed c l d₀ cs d
   unfolding ranWith report outcomeOf
   reports-by e w = let f = wrote-front w in record { is = λ i. record { refusal = 0; counts = e i; records = f i } }
 
-  counted : Reports c l d₀ cs d → told cs ≡ countsOf (answersIn l)
+  counted : Reports ed c l d₀ cs d → told cs ≡ countsOf (answersIn l)
   unfolding ranWith report outcomeOf
   counted r = ap (λ (x : Calls.Ran). x .counts) (r .is)
 
-  wrote : Reports c l d₀ cs d → Wrote d₀ 0 (flatMap (recordOf edition1 c) l) d
+  wrote : Reports ed c l d₀ cs d → Wrote d₀ 0 (flatMap (recordOf ed c) l) d
   unfolding ranWith report outcomeOf
   wrote r = record { is = ap (λ (x : Calls.Ran). x .records) (r .is) ∙ sym (put-front d₀ _) }
 
 -- ---- a run
-module _ {S : Type 0} (g : Program S) (st₀ : Start) (events d₀ : List ℕ) where
-  pub run-start : {cs : Counts} → told cs ≡ noCounts → Fits (g .plant) (st₀ .values) (st₀ .modes) → RunSoFar g st₀ events d₀ 0 0 (at (g .control .start) (st₀ .values) (st₀ .modes)) cs d₀
-  unfolding runFrom outcomeOf flatMap
+module _ {S : Type 0} (ed : Edition) (g : Program S) (st₀ : Start) (events d₀ : List ℕ) where
+  pub run-start : {cs : Counts} → told cs ≡ noCounts → Fits (g .plant) (st₀ .values) (st₀ .modes) → RunSoFar ed g st₀ events d₀ 0 0 0 (at (g .control .start) (st₀ .values) (st₀ .modes)) cs d₀
+  unfolding runFrom outcomeOf flatMap eventCount
   run-start e f = record {
     said = [];
-    rest = ap (λ j. answers edition1 (g .plant) (g .control) (at (g .control .start) (st₀ .values) (st₀ .modes)) (eventsIn 3 j events)) (sym (sub-zero (eventCount edition1 events)));
+    rest = ap (λ j. answers ed (g .plant) (g .control) (at (g .control .start) (st₀ .values) (st₀ .modes)) (eventsIn (ed .event-bytes) j events)) (sym (sub-zero (eventCount ed events)));
+    ahead = rw (sub-zero (eventCount ed events)) (ahead-whole (ed .event-bytes) (length events));
     many = refl;
     few = omega arith;
-    reports = reports-by (e ∙ counts-none) (wrote-none d₀ 0);
-    size = sym (zero-mul (recordSize edition1 (g .plant)));
-    place = sym (zero-mul (recordSize edition1 (g .plant)));
+    reports = reports-by ed (e ∙ counts-none) (wrote-none d₀ 0);
+    size = sym (zero-mul (recordSize ed (g .plant)));
+    place = sym (zero-mul (recordSize ed (g .plant)));
     fits = f;
   }
 
-  module _ {k i : ℕ} {st : Situation S} {cs : Counts} {d : List ℕ} (x : RunSoFar g st₀ events d₀ k i st cs d) where
+  module _ {k p i : ℕ} {st : Situation S} {cs : Counts} {d : List ℕ} (x : RunSoFar ed g st₀ events d₀ k p i st cs d) where
     -- the counts may each be one more
-    pub run-counts : k < length events / 3 → length events < 2 ^ 64 → Room cs
-    run-counts h m = counts-room (answersIn (x .said)) (counted (x .reports)) (omega (arith, said-length (x .said), x .many))
+    pub run-counts : k < eventCount ed events → length events < 2 ^ 64 → Room cs
+    unfolding eventCount
+    run-counts h m = counts-room (answersIn (x .said)) (counted ed (x .reports)) (omega (arith, h, div-le-self (length events) (ed .event-bytes), said-length (x .said), x .many))
       where
         said-length : (l : List (Answered S)) → length (answersIn l) ≡ length l
         said-length [] = refl
         said-length (o ∷ l) = ap suc (said-length l)
 
-    module _ (room : roomForRecords edition1 (g .plant) events d₀ ≡ true) where
+    module _ (room : roomForRecords ed (g .plant) events d₀ ≡ true) where
       -- the lent buffer keeps its length
       pub run-length : length d ≡ length d₀
       unfolding outcomeOf
       run-length =
-          let r = recordSize edition1 (g .plant) in
-          let a : k * r ≤ eventCount edition1 events * r = mul-le-mul-right r (x .few) in
-          wrote-length (wrote (x .reports)) (omega (arith, x .size, room-for (g .plant) events d₀ room))
+          let r = recordSize ed (g .plant) in
+          let a : k * r ≤ eventCount ed events * r = mul-le-mul-right r (x .few) in
+          wrote-length (wrote ed (x .reports)) (omega (arith, x .size, room-for ed (g .plant) events d₀ room))
 
       -- 22 has left room for the next record
-      pub run-room : k < length events / 3 → {vs : List ℤ} {ms : List ℕ} → Fits (g .plant) vs ms → i + recordLength edition1 (length vs) (length ms) ≤ length d
+      pub run-room : k < eventCount ed events → {vs : List ℤ} {ms : List ℕ} → Fits (g .plant) vs ms → i + recordLength ed (length vs) (length ms) ≤ length d
       unfolding eventCount
       run-room h {vs} {ms} f =
-          let r = recordSize edition1 (g .plant) in
-          let a : (k + 1) * r ≤ length events / 3 * r = mul-le-mul-right r (omega arith) in
+          let r = recordSize ed (g .plant) in
+          let a : (k + 1) * r ≤ eventCount ed events * r = mul-le-mul-right r (omega arith) in
           let b = one-more k r in
-          let c : length events / 3 * r ≤ length d₀ = room-for (g .plant) events d₀ room in
-          omega (arith, size-fits (g .plant) f, x .place, run-length)
+          let c : eventCount ed events * r ≤ length d₀ = room-for ed (g .plant) events d₀ room in
+          omega (arith, size-fits ed (g .plant) f, x .place, run-length)
 
     -- an event more: its step, its record and its count
-    pub run-next : k < length events / 3 → (answer : ℕ) (place : Option S) (vs : List ℤ) (ms ws : List ℕ) {e : Event} {i' : ℕ} {cs' : Counts} {d' : List ℕ}
-        → Decodes (take 3 (drop (3 * k) events)) e
-        → stepOn edition1 (g .plant) (g .control) st (eventOf e) ≡ leaves answer place vs ms
+    pub run-next : k < eventCount ed events → (answer : ℕ) (place : Option S) (vs : List ℤ) (ms ws : List ℕ) {e : Event} {i' : ℕ} {cs' : Counts} {d' : List ℕ}
+        → Decodes ed (take (ed .event-bytes) (drop p events)) e
+        → stepOn ed (g .plant) (g .control) st (eventOf e) ≡ leaves answer place vs ms
         → actingSet (g .control) place ≡ setNumber (members ws)
         → Fits (g .plant) vs ms
-        → Wrote d i (recordBytes edition1 answer (setNumber (members ws)) vs ms) d'
-        → i' ≡ i + recordLength edition1 (length vs) (length ms)
+        → Wrote d i (recordBytes ed answer (setNumber (members ws)) vs ms) d'
+        → i' ≡ i + recordLength ed (length vs) (length ms)
         → Booked cs answer cs'
-        → RunSoFar g st₀ events d₀ (k + 1) i' (record { place = place; values = vs; modes = ms }) cs' d'
+        → RunSoFar ed g st₀ events d₀ (k + 1) (p + ed .event-bytes) i' (record { place = place; values = vs; modes = ms }) cs' d'
     unfolding eventCount outcomeOf
     run-next h answer place vs ms ws is e s f w q b =
         let o : Answered S = leaves answer place vs ms in
-        let r = recordSize edition1 (g .plant) in
-        let one = record-length edition1 (g .plant) (g .control) o (f .values) (f .modes) in
-        let more = flat-snoc (recordOf edition1 (g .control)) (x .said) o in
+        let r = recordSize ed (g .plant) in
+        let one = record-length ed (g .plant) (g .control) o (f .values) (f .modes) in
+        let more = flat-snoc (recordOf ed (g .control)) (x .said) o in
         record {
           said = x .said ++ (o ∷ []);
-          rest = x .rest ∙ ap (λ l. x .said ++ l) (answered o (ap (stepOn edition1 (g .plant) (g .control) st) (sym (is .is)) ∙ e)) ∙ sym (append-assoc (x .said) (o ∷ []) _);
+          rest = x .rest ∙ ap (λ l. x .said ++ l) (answered o (ap (stepOn ed (g .plant) (g .control) st) (sym (is .is)) ∙ e)) ∙ sym (append-assoc (x .said) (o ∷ []) _);
+          ahead = ahead-next h (x .ahead);
           many = length-append (x .said) (o ∷ []) ∙ ap (λ j. j + 1) (x .many);
           few = omega arith;
           reports =
-              reports-by
-              (b (answersIn (x .said)) (counted (x .reports)) ∙ ap countsOf (sym (map-snoc (λ (o : Answered S). o .answer) (x .said) o)))
-              (wrote-as (sym more) (put-more (wrote (x .reports)) (wrote-as (record-is (g .control) o ws s) w) (omega arith) (x .place ∙ sym (x .size) ∙ sym (zero-add _))));
-          size = ap length more ∙ length-append (flatMap (recordOf edition1 (g .control)) (x .said)) (recordOf edition1 (g .control) o) ∙ ap₂ (λ (a b : ℕ). a + b) (x .size) one ∙ sym (one-more k r);
-          place = q ∙ ap₂ (λ (a b : ℕ). a + b) (x .place) (size-fits (g .plant) f) ∙ sym (one-more k r);
+              reports-by ed
+              (b (answersIn (x .said)) (counted ed (x .reports)) ∙ ap countsOf (sym (map-snoc (λ (o : Answered S). o .answer) (x .said) o)))
+              (wrote-as (sym more) (put-more (wrote ed (x .reports)) (wrote-as (record-is ed (g .control) o ws s) w) (omega arith) (x .place ∙ sym (x .size) ∙ sym (zero-add _))));
+          size = ap length more ∙ length-append (flatMap (recordOf ed (g .control)) (x .said)) (recordOf ed (g .control) o) ∙ ap₂ (λ (a b : ℕ). a + b) (x .size) one ∙ sym (one-more k r);
+          place = q ∙ ap₂ (λ (a b : ℕ). a + b) (x .place) (size-fits ed (g .plant) f) ∙ sym (one-more k r);
           fits = f;
         }
       where
-        answered : (o : Answered S) → stepOn edition1 (g .plant) (g .control) st (eventIn edition1 (take 3 (drop (3 * k) events))) ≡ o →
-            answers edition1 (g .plant) (g .control) st (eventsIn 3 (eventCount edition1 events - k) (drop (3 * k) events)) ≡
-            o ∷ answers edition1 (g .plant) (g .control) (o .left) (eventsIn 3 (eventCount edition1 events - (k + 1)) (drop (3 * (k + 1)) events))
-        answered o e = ap (answers edition1 (g .plant) (g .control) st) (events-next events (eventCount edition1 events) k h) ∙ answers-cons (g .plant) (g .control) st (take 3 (drop (3 * k) events)) _ e
+        answered : (o : Answered S) → stepOn ed (g .plant) (g .control) st (eventIn ed (take (ed .event-bytes) (drop p events))) ≡ o →
+            answers ed (g .plant) (g .control) st (eventsIn (ed .event-bytes) (eventCount ed events - k) (drop p events)) ≡
+            o ∷ answers ed (g .plant) (g .control) (o .left) (eventsIn (ed .event-bytes) (eventCount ed events - (k + 1)) (drop (p + ed .event-bytes) events))
+        answered o e = ap (answers ed (g .plant) (g .control) st) (events-next events (ed .event-bytes) (eventCount ed events) k p h) ∙ answers-cons ed (g .plant) (g .control) st (take (ed .event-bytes) (drop p events)) _ e
 
     -- what the call reports once all events are answered
-    pub run-end : k ≡ length events / 3 → Reports (g .control) (runFrom edition1 g st₀ events) d₀ cs d
+    pub run-end : k ≡ eventCount ed events → Reports ed (g .control) (runFrom ed g st₀ events) d₀ cs d
     unfolding eventCount
     run-end e =
-        let z : length events / 3 - k ≡ 0 = omega arith in
-        let all : x .said ≡ runFrom edition1 g st₀ events = sym (x .rest ∙ ap (λ l. x .said ++ l) (no-events (g .plant) (g .control) st (drop (3 * k) events) z) ∙ append-nil (x .said)) in
-        record { is = x .reports .is ∙ ap (λ l. report d₀ (accepted (outcomeOf edition1 (g .control) l))) all }
+        let z : eventCount ed events - k ≡ 0 = omega arith in
+        let all : x .said ≡ runFrom ed g st₀ events = sym (x .rest ∙ ap (λ l. x .said ++ l) (no-events ed (g .plant) (g .control) st (ed .event-bytes) (drop p events) z) ∙ append-nil (x .said)) in
+        record { is = x .reports .is ∙ ap (λ l. report d₀ (accepted (outcomeOf ed (g .control) l))) all }

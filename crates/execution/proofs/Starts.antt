@@ -5,7 +5,7 @@ use mathlib.Core.List.{List, [], _∷_}
 use Prim.Native.Nat.{ℕ, zero, suc, _≤_}
 use native.Mathlib.Omega.{arith}
 use lib.ListN.{length, take}
-use Rattle.semantics.specs.Editions.{edition1}
+use Rattle.semantics.specs.Editions.{Edition}
 use Rattle.semantics.specs.Plant.{Plant, selectors, allDeclared}
 use Rattle.semantics.specs.Starts.{Start, isOk, modesFit, startFits}
 use Rattle.semantics.specs.Calls.{roomForRecords}
@@ -19,9 +19,9 @@ unfolding startFits
 fits-start p st e f h = record { values = e; modes = f; exist = and-right (isOk (allDeclared (p .variables) (st .values))) (modesFit (selectors p) (st .modes)) h }
 
 -- and with room for the records
-pub may-run : (p : Plant) (st : Start) (events d : List ℕ) → length (st .values) ≡ length (p .variables) → length (st .modes) ≡ length (selectors p) → startFits p st ≡ true → roomForRecords edition1 p events d ≡ true
-    → MayRun p (st .values) (st .modes) events d
-may-run p st events d e f h r = record { fits = fits-start p st e f h; room = r }
+pub may-run : (ed : Edition) (p : Plant) (st : Start) (events d : List ℕ) → length (st .values) ≡ length (p .variables) → length (st .modes) ≡ length (selectors p) → startFits p st ≡ true → roomForRecords ed p events d ≡ true
+    → MayRun ed p (st .values) (st .modes) events d
+may-run ed p st events d e f h r = record { fits = fits-start p st e f h; room = r }
 
 -- a front as long as it is said to be
 pub take-full : {A : Type 0} (n : ℕ) (l : List A) → length (take n l) ≡ n → n ≤ length l

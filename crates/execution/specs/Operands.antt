@@ -5,15 +5,16 @@ use mathlib.Core.List.{List}
 use mathlib.Core.Option.{some}
 use Prim.Native.Nat.{ℕ, _<_}
 use lib.ListN.{getD}
+use Rattle.semantics.specs.Editions.{Edition}
 use Rattle.semantics.specs.Run.{Action}
 use Rattle.semantics.specs.TableFile.{actionKind, actionOfKind}
 use Rattle.nodeset.specs.Sets.{mem, Words}
 use Rattle.program.specs.Lent.{Cut}
 
--- a set of nodes below 64
-pub record Few (ws : List ℕ) : Type 0 where
+-- a set of nodes below the edition's limit
+pub record Few (ed : Edition) (ws : List ℕ) : Type 0 where
   pub words : Words ws
-  pub below : (n : ℕ) → mem ws n ≡ true → n < 64
+  pub below : (n : ℕ) → mem ws n ≡ true → n < ed .nodes
 
 -- each of them has its operand
 pub record CutEach (s starts ends ws : List ℕ) : Type 0 where

@@ -5,7 +5,7 @@ use mathlib.Core.List.{List}
 use Prim.Native.Nat.{ℕ}
 use lib.IntN.{ℤ}
 use lib.ListN.{length}
-use Rattle.semantics.specs.Editions.{edition1}
+use Rattle.semantics.specs.Editions.{Edition}
 use Rattle.semantics.specs.Plant.{Plant, selectors}
 use Rattle.semantics.specs.Starts.{modesFit}
 use Rattle.semantics.specs.Run.{Action, judge}
@@ -23,18 +23,18 @@ pub record Fits (p : Plant) (vs : List ℤ) (ms : List ℕ) : Type 0 where
   pub exist : modesFit (selectors p) ms ≡ true
 
 -- acting is the set of the nodes that act
-pub record Ready (p : Plant) (action : ℕ → Action) (l : Lent) (acting : List ℕ) (vs : List ℤ) (ms : List ℕ) : Type 0 where
+pub record Ready (ed : Edition) (p : Plant) (action : ℕ → Action) (l : Lent) (acting : List ℕ) (vs : List ℤ) (ms : List ℕ) : Type 0 where
   pub plant : PlantLent p l
   pub words : Words acting
-  pub nodes : (n : ℕ) → mem acting n ≡ true → NodeLent p (action n) l n
+  pub nodes : (n : ℕ) → mem acting n ≡ true → NodeLent ed p (action n) l n
   pub fits : Fits p vs ms
 
 -- there are such a plant and such actions
-pub record Promised (l : Lent) (acting : List ℕ) (vs : List ℤ) (ms : List ℕ) : Type 0 where
+pub record Promised (ed : Edition) (l : Lent) (acting : List ℕ) (vs : List ℤ) (ms : List ℕ) : Type 0 where
   pub plant : Plant
   pub action : ℕ → Action
-  pub ready : Ready plant action l acting vs ms
+  pub ready : Ready ed plant action l acting vs ms
 
 -- what an event makes of values and modes, whatever plant and actions are lent so
-abbrev pub Judges : Lent → List ℕ → Event → List ℤ → List ℕ → Verdict → List ℤ → List ℕ → Type 0
-Judges l acting e vs ms r vs' ms' = (p : Plant) (f : ℕ → Action) → Ready p f l acting vs ms → Left (judge edition1 p f (members acting) vs ms (eventOf e)) vs ms r vs' ms'
+abbrev pub Judges : Edition → Lent → List ℕ → Event → List ℤ → List ℕ → Verdict → List ℤ → List ℕ → Type 0
+Judges ed l acting e vs ms r vs' ms' = (p : Plant) (f : ℕ → Action) → Ready ed p f l acting vs ms → Left (judge ed p f (members acting) vs ms (eventOf e)) vs ms r vs' ms'

@@ -6,13 +6,14 @@ use mathlib.Core.Option.{Option, none, some}
 use Prim.Native.Nat.{ℕ, _-_, _*_, _≤_}
 use lib.IntN.{ℤ}
 use lib.ListN.{length, drop}
-use Rattle.semantics.specs.Editions.{edition1}
+use Rattle.semantics.specs.Editions.{Edition}
 use Rattle.semantics.specs.Refusals.{accepted}
 use Rattle.semantics.specs.Events.{eventsIn}
 use Rattle.semantics.specs.Starts.{Start}
 use Rattle.semantics.specs.Plant.{Plant}
 use Rattle.semantics.specs.Run.{Next, Control, Situation, Answered, arrive, stepOn, answers}
 use Rattle.semantics.specs.Calls.{eventCount, recordSize, roomForRecords, Program, runFrom, outcomeOf, report}
+use Rattle.codec.specs.Strides.{Ahead}
 use Rattle.nodeset.specs.Sets.{members, Words}
 use Rattle.event.specs.Decoded.{eventOf}
 use Rattle.event.specs.declared.Event.{Event}
@@ -38,39 +39,40 @@ pub record Arrives {S : Type 0} (Stood : Option S → Type 0) (x : Next S) (n : 
   pub stands : Stood place
 
 -- the event e at place o, with these values and modes, is answered n and leaves that; the run then stands so
-pub record Steps {S : Type 0} (g : Program S) (Stood : Option S → Type 0) (o : Option S) (vs : List ℤ) (ms : List ℕ) (e : Event) (n : ℕ) (vs' : List ℤ) (ms' : List ℕ) : Type 0 where
+pub record Steps {S : Type 0} (ed : Edition) (g : Program S) (Stood : Option S → Type 0) (o : Option S) (vs : List ℤ) (ms : List ℕ) (e : Event) (n : ℕ) (vs' : List ℤ) (ms' : List ℕ) : Type 0 where
   pub place : Option S
-  pub is : stepOn edition1 (g .plant) (g .control) (record { place = o; values = vs; modes = ms }) (eventOf e) ≡ leaves n place vs' ms'
+  pub is : stepOn ed (g .plant) (g .control) (record { place = o; values = vs; modes = ms }) (eventOf e) ≡ leaves n place vs' ms'
   pub stands : Stood place
 
 -- ---- the loop
 -- a run may start with these values and modes, and d has room for its records
-pub record MayRun (p : Plant) (vs : List ℤ) (ms events d : List ℕ) : Type 0 where
+pub record MayRun (ed : Edition) (p : Plant) (vs : List ℤ) (ms events d : List ℕ) : Type 0 where
   pub fits : Fits p vs ms
-  pub room : roomForRecords edition1 p events d ≡ true
+  pub room : roomForRecords ed p events d ≡ true
 
 -- the counts and d, which was d₀, are those of a run with these answers
-pub record Reports {S : Type 0} (c : Control S) (l : List (Answered S)) (d₀ : List ℕ) (cs : Counts) (d : List ℕ) : Type 0 where
-  pub is : ranWith (record { refusal = 0; counts = cs }) d ≡ report d₀ (accepted (outcomeOf edition1 c l))
+pub record Reports {S : Type 0} (ed : Edition) (c : Control S) (l : List (Answered S)) (d₀ : List ℕ) (cs : Counts) (d : List ℕ) : Type 0 where
+  pub is : ranWith (record { refusal = 0; counts = cs }) d ≡ report d₀ (accepted (outcomeOf ed c l))
 
 -- all events of a run from these values and modes are answered
-abbrev pub Whole : {S : Type 0} → Program S → List ℤ → (ms events d₀ : List ℕ) → Counts → List ℕ → Type 0
-Whole g vs ms events d₀ cs d = Reports (g .control) (runFrom edition1 g (record { values = vs; modes = ms }) events) d₀ cs d
+abbrev pub Whole : {S : Type 0} → Edition → Program S → List ℤ → (ms events d₀ : List ℕ) → Counts → List ℕ → Type 0
+Whole ed g vs ms events d₀ cs d = Reports ed (g .control) (runFrom ed g (record { values = vs; modes = ms }) events) d₀ cs d
 
--- k events are answered: where the run stands, its counts, and d, which was d₀, with their records up to place i
-pub record RunSoFar {S : Type 0} (g : Program S) (st₀ : Start) (events d₀ : List ℕ) (k i : ℕ) (st : Situation S) (cs : Counts) (d : List ℕ) : Type 0 where
+-- k events are answered, and the next stands at place p: where the run stands, its counts, and d, which was d₀, with their records up to place i
+pub record RunSoFar {S : Type 0} (ed : Edition) (g : Program S) (st₀ : Start) (events d₀ : List ℕ) (k p i : ℕ) (st : Situation S) (cs : Counts) (d : List ℕ) : Type 0 where
   pub said : List (Answered S)
-  pub rest : runFrom edition1 g st₀ events ≡
-      said ++ answers edition1 (g .plant) (g .control) st (eventsIn (edition1 .event-bytes) (eventCount edition1 events - k) (drop (edition1 .event-bytes * k) events))
+  pub rest : runFrom ed g st₀ events ≡
+      said ++ answers ed (g .plant) (g .control) st (eventsIn (ed .event-bytes) (eventCount ed events - k) (drop p events))
+  pub ahead : Ahead (ed .event-bytes) (eventCount ed events - k) p (length events)
   pub many : length said ≡ k
-  pub few : k ≤ eventCount edition1 events
-  pub reports : Reports (g .control) said d₀ cs d
-  pub size : length (outcomeOf edition1 (g .control) said .written) ≡ k * recordSize edition1 (g .plant)
-  pub place : i ≡ k * recordSize edition1 (g .plant)
+  pub few : k ≤ eventCount ed events
+  pub reports : Reports ed (g .control) said d₀ cs d
+  pub size : length (outcomeOf ed (g .control) said .written) ≡ k * recordSize ed (g .plant)
+  pub place : i ≡ k * recordSize ed (g .plant)
   pub fits : Fits (g .plant) (st .values) (st .modes)
 
 -- the same, and where the run stands
-pub record Going {S : Type 0} (g : Program S) (Stood : Option S → Type 0) (st₀ : Start) (events d₀ : List ℕ) (k i : ℕ) (cs : Counts) (vs : List ℤ) (ms d : List ℕ) : Type 0 where
+pub record Going {S : Type 0} (ed : Edition) (g : Program S) (Stood : Option S → Type 0) (st₀ : Start) (events d₀ : List ℕ) (k p i : ℕ) (cs : Counts) (vs : List ℤ) (ms d : List ℕ) : Type 0 where
   pub place : Option S
   pub stands : Stood place
-  pub so-far : RunSoFar g st₀ events d₀ k i (record { place = place; values = vs; modes = ms }) cs d
+  pub so-far : RunSoFar ed g st₀ events d₀ k p i (record { place = place; values = vs; modes = ms }) cs d

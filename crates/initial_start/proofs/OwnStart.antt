@@ -10,7 +10,7 @@ use lib.IntN.{ℤ, pos, negsuc}
 use lib.Signed.{leZ, ltZ}
 use lib.ListN.{length}
 use Rattle.semantics.specs.Bytes.{All, all-nil, all-cons, byte, int4, times}
-use Rattle.semantics.specs.Editions.{edition1}
+use Rattle.semantics.specs.Editions.{Edition}
 use Rattle.semantics.specs.Expressions.{ok, fits32, ranged, thenValue}
 use Rattle.semantics.specs.Refusals.{accepted}
 use Rattle.semantics.specs.Sections.{Variable, Selector, Equation, steady, choice}
@@ -77,11 +77,11 @@ values-fit [] all-nil = refl
 values-fit (x ∷ xs) (all-cons h k) = rw (declared-ok x h, values-fit xs k) refl
 
 -- ---- both, of a plant that 4 to 8 let pass
-module _ (vs es : List ℕ) {p : Plant} (h : judgePlant edition1 vs es ≡ accepted p) where
+module _ (ed : Edition) (vs es : List ℕ) {p : Plant} (h : judgePlant ed vs es ≡ accepted p) where
   pub own-start-fits : startFits p (initialStart p) ≡ true
   unfolding startFits initialStart isOk selectors
   own-start-fits =
-      let a = passed-all vs es h in
+      let a = passed-all ed vs es h in
       and-both (ap isOk (values-fit (p .variables) (every-all ordered (p .variables) (a .in-order))))
       (modes-fit (length (p .variables)) (p .equations) (every-all (equationNamed (length (p .variables))) (p .equations) (a .named)))
 

@@ -6,7 +6,7 @@ use native.Mathlib.Omega.{arith}
 use lib.ListN.{length, take, replicate, length-append}
 use lib.Seq.{length-take-le}
 use Rattle.semantics.specs.Bytes.{overwrite}
-use Rattle.semantics.specs.Editions.{edition1}
+use Rattle.semantics.specs.Editions.{Edition}
 use Rattle.semantics.specs.Refusals.{Judged, refused, accepted}
 use Rattle.semantics.specs.Sections.{Variable}
 use Rattle.semantics.specs.Plant.{Plant, judgePlant}
@@ -47,46 +47,46 @@ unfolding held overwrite
 none-held = refl
 
 -- ---- the two sections
-module _ (vs es : List ℕ) {q : PlantRead} (e : q ≡ plantOf vs es) where
-  pub nothing-given : (q .refusal ≡ 0 → ⊥) → sectionsStart vs es ≡ []
+module _ (ed : Edition) (vs es : List ℕ) {q : PlantRead} (e : q ≡ plantOf ed vs es) where
+  pub nothing-given : (q .refusal ≡ 0 → ⊥) → sectionsStart ed vs es ≡ []
   unfolding sectionsStart startOf
-  nothing-given z = go (judgePlant edition1 vs es) refl
+  nothing-given z = go (judgePlant ed vs es) refl
     where
-      go : (j : Judged Plant) → judgePlant edition1 vs es ≡ j → startOf (λ p. p) j ≡ []
+      go : (j : Judged Plant) → judgePlant ed vs es ≡ j → startOf (λ p. p) j ≡ []
       go (refused n) h = refl
-      go (accepted p) h = absurd (z (ap (λ (x : PlantRead). x .refusal) e ∙ not-refused vs es h))
+      go (accepted p) h = absurd (z (ap (λ (x : PlantRead). x .refusal) e ∙ not-refused ed vs es h))
 
   module _ (z : q .refusal ≡ 0) where
-    passing : Passes vs es
-    passing = passes vs es (sym (ap (λ (x : PlantRead). x .refusal) e) ∙ z)
+    passing : Passes ed vs es
+    passing = passes ed vs es (sym (ap (λ (x : PlantRead). x .refusal) e) ∙ z)
 
     abbrev plant : Plant
     plant = passing .plant
 
     pub stands : SectionStands es
-    stands = record { equations = plant .equations; read = passed-all vs es (passing .is) .equations }
+    stands = record { equations = plant .equations; read = passed-all ed vs es (passing .is) .equations }
 
-    variables-read : Accepted vs (plant .variables)
-    variables-read = let a = passed-all vs es (passing .is) in record { is = a .variables; in-order = a .in-order }
+    variables-read : Accepted ed vs (plant .variables)
+    variables-read = let a = passed-all ed vs es (passing .is) in record { is = a .variables; in-order = a .in-order }
 
-    module _ {v : Variables} (f : v ≡ variablesOf vs) where
+    module _ {v : Variables} (f : v ≡ variablesOf ed vs) where
       counted : v .count ≡ length (plant .variables)
-      counted = ap (λ (x : Variables). x .count) f ∙ count-of vs variables-read
+      counted = ap (λ (x : Variables). x .count) f ∙ count-of ed vs variables-read
 
       pub few : v .count ≤ 32
-      few = omega (arith, counted, variables-high vs es (passing .is))
+      few = omega (arith, counted, variables-high ed vs es (passing .is))
 
       pub long : v .count ≤ length (v .initials)
-      long = omega (arith, few, ap (λ (x : Variables). length (x .initials)) f, ap length (initials-of vs variables-read), column-long (λ (x : Variable). x .initial) (plant .variables))
+      long = omega (arith, few, ap (λ (x : Variables). length (x .initials)) f, ap length (initials-of ed vs variables-read), column-long (λ (x : Variable). x .initial) (plant .variables))
 
       pub cut-length : length (take (v .count) (v .initials)) ≡ v .count
       cut-length = length-take-le (v .count) (v .initials) long
 
       values-are : take (v .count) (v .initials) ≡ initialValues (plant .variables)
       unfolding initialValues
-      values-are = ap₂ take counted (ap (λ (x : Variables). x .initials) f ∙ initials-of vs variables-read) ∙ column-front (λ (x : Variable). x .initial) (plant .variables)
+      values-are = ap₂ take counted (ap (λ (x : Variables). x .initials) f ∙ initials-of ed vs variables-read) ∙ column-front (λ (x : Variable). x .initial) (plant .variables)
 
-      is-start : flatMap valueBytes (take (v .count) (v .initials)) ++ initialModes (stands .equations) ≡ sectionsStart vs es
+      is-start : flatMap valueBytes (take (v .count) (v .initials)) ++ initialModes (stands .equations) ≡ sectionsStart ed vs es
       unfolding sectionsStart startOf startBytes initialStart stands
       is-start = ap (λ l. flatMap valueBytes l ++ initialModes (plant .equations)) values-are ∙ ap (startOf (λ p. p)) (sym (passing .is))
 
@@ -94,7 +94,7 @@ module _ (vs es : List ℕ) {q : PlantRead} (e : q ≡ plantOf vs es) where
           → (at ≡ 0 + 4 * length (take (v .count) (v .initials))) × Wrote d 0 (flatMap valueBytes (take (v .count) (v .initials))) g
           → ((t : SectionStands es) → (r ≡ at + length (initialModes (t .equations))) × Wrote g at (initialModes (t .equations)) h)
           → d ≡ replicate 144 0
-          → _≡_ {A = Start} (record { length = r; bytes = h }) (held (sectionsStart vs es))
+          → _≡_ {A = Start} (record { length = r; bytes = h }) (held (sectionsStart ed vs es))
       given {at = at} {r = r} a b e =
           let xs = flatMap valueBytes (take (v .count) (v .initials)) in
           let n = values-length (take (v .count) (v .initials)) in
@@ -107,37 +107,39 @@ module _ (vs es : List ℕ) {q : PlantRead} (e : q ≡ plantOf vs es) where
 
 -- ---- a file
 -- two sections that stand in it, and the start that they give
-pub record Gives (f : List ℕ) (a b c d : ℕ) (start : List ℕ) : Type 0 where
+pub record Gives (ed : Edition) (f : List ℕ) (a b c d : ℕ) (start : List ℕ) : Type 0 where
   pub stand : Between f a b c d
-  pub is : sectionsStart (Parts.between a b f) (Parts.between c d f) ≡ start
+  pub is : sectionsStart ed (Parts.between a b f) (Parts.between c d f) ≡ start
 
 -- a refused file has none
-none-stand : (f : List ℕ) → Gives f 0 0 0 0 []
+none-stand : (ed : Edition) (f : List ℕ) → Gives ed f 0 0 0 0 []
 unfolding sectionsStart startOf Computes.bytes Computes.refusals Computes.sections Computes.plant
-none-stand f = record { stand = record { first-ordered = omega arith; first-inside = omega arith; second-ordered = omega arith; second-inside = omega arith }; is = refl }
+none-stand ed f = record { stand = record { first-ordered = omega arith; first-inside = omega arith; second-ordered = omega arith; second-inside = omega arith }; is = refl }
 
-module _ (f : List ℕ) {ix : ScheduleIndex} (h : ScheduleIndexed f ix) where
-  pub schedule-gives : Gives f (ix .parts .«variables_from») (ix .parts .«variables_to») (ix .parts .«equations_from») (ix .parts .«equations_to») (scheduleStart f)
+module _ (ed : Edition) (f : List ℕ) {ix : ScheduleIndex} (h : ScheduleIndexed ed f ix) where
+  pub schedule-gives : Gives ed f (ix .parts .«variables_from») (ix .parts .«variables_to») (ix .parts .«equations_from») (ix .parts .«equations_to») (scheduleStart ed f)
   unfolding sectionsStart startOf scheduleStart
-  schedule-gives = go (judgeFile edition1 f) refl
+  schedule-gives = go (judgeFile ed f) refl
     where
-      go : (j : Judged Schedule) → judgeFile edition1 f ≡ j → Gives f (ix .parts .«variables_from») (ix .parts .«variables_to») (ix .parts .«equations_from») (ix .parts .«equations_to») (scheduleStart f)
-      go (refused n) e = rw (index-empty f h e, e) (none-stand f)
+      go : (j : Judged Schedule) → judgeFile ed f ≡ j
+          → Gives ed f (ix .parts .«variables_from») (ix .parts .«variables_to») (ix .parts .«equations_from») (ix .parts .«equations_to») (scheduleStart ed f)
+      go (refused n) e = rw (index-empty ed f h e, e) (none-stand ed f)
       go (accepted s) e =
-          let p = promised f h e in
+          let p = promised ed f h e in
           let v = p .variables in
           let q = p .equations in
           record {
             stand = record { first-ordered = v .inside .ordered; first-inside = v .inside .inside; second-ordered = q .inside .ordered; second-inside = q .inside .inside };
-            is = ap₂ sectionsStart (v .is) (q .is) ∙ ap (startOf (λ p. p)) (p .plant-judged) ∙ sym (ap (startOf (λ (s : Schedule). s .plant)) e);
+            is = ap₂ (sectionsStart ed) (v .is) (q .is) ∙ ap (startOf (λ p. p)) (p .plant-judged) ∙ sym (ap (startOf (λ (s : Schedule). s .plant)) e);
           }
 
-module _ (t : List ℕ) {ix : TableIndex} (h : ix ≡ tableIndex t) where
-  pub table-gives : Gives t (ix .parts .variables) (ix .parts .«variables_end») (ix .parts .equations) (ix .parts .«equations_end») (tableStart t)
+module _ (ed : Edition) (t : List ℕ) {ix : TableIndex} (h : ix ≡ tableIndex ed t) where
+  pub table-gives : Gives ed t (ix .parts .variables) (ix .parts .«variables_end») (ix .parts .equations) (ix .parts .«equations_end») (tableStart ed t)
   unfolding sectionsStart startOf tableStart tableIndex indexOf sectionsAt
-  table-gives = go (judgeTable edition1 t) refl
+  table-gives = go (judgeTable ed t) refl
     where
-      at-parts : {tb : Table} → Opened t tb → judgeTable edition1 t ≡ accepted tb → Gives t (partsOf t .variables) (partsOf t .«variables_end») (partsOf t .equations) (partsOf t .«equations_end») (tableStart t)
+      at-parts : {tb : Table} → Opened ed t tb → judgeTable ed t ≡ accepted tb
+          → Gives ed t (partsOf ed t .variables) (partsOf ed t .«variables_end») (partsOf ed t .equations) (partsOf ed t .«equations_end») (tableStart ed t)
       at-parts o e =
           let v = o .stand .variables in
           let q = o .stand .equations in
@@ -146,6 +148,6 @@ module _ (t : List ℕ) {ix : TableIndex} (h : ix ≡ tableIndex t) where
             is = ap (startOf (λ p. p)) (o .plant) ∙ sym (ap (startOf (λ (t : Table). t .plant)) e);
           }
 
-      go : (j : Judged Table) → judgeTable edition1 t ≡ j → Gives t (ix .parts .variables) (ix .parts .«variables_end») (ix .parts .equations) (ix .parts .«equations_end») (tableStart t)
-      go (refused n) e = rw (h, e) (none-stand t)
-      go (accepted tb) e = rw (parts-read t h e) (at-parts (opened t e) e)
+      go : (j : Judged Table) → judgeTable ed t ≡ j → Gives ed t (ix .parts .variables) (ix .parts .«variables_end») (ix .parts .equations) (ix .parts .«equations_end») (tableStart ed t)
+      go (refused n) e = rw (h, e) (none-stand ed t)
+      go (accepted tb) e = rw (parts-read ed t h e) (at-parts (opened ed t e) e)

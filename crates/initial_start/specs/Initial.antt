@@ -2,7 +2,7 @@
 use mathlib.Core.List.{List, [], map}
 use Prim.Native.Nat.{ℕ}
 use lib.IntN.{ℤ}
-use Rattle.semantics.specs.Editions.{edition1}
+use Rattle.semantics.specs.Editions.{Edition}
 use Rattle.semantics.specs.Refusals.{Judged, refused, accepted}
 use Rattle.semantics.specs.Sections.{Variable, Selector, Equation}
 use Rattle.semantics.specs.Plant.{Plant, selectorsOf, judgePlant}
@@ -26,13 +26,13 @@ startOf plant (refused n) = []
 startOf plant (accepted a) = startBytes (initialStart (plant a))
 
 -- of the two sections of a plant
-unfoldable pub sectionsStart : List ℕ → List ℕ → List ℕ
-sectionsStart vs es = startOf (λ p. p) (judgePlant edition1 vs es)
+unfoldable pub sectionsStart : Edition → List ℕ → List ℕ → List ℕ
+sectionsStart ed vs es = startOf (λ p. p) (judgePlant ed vs es)
 
 -- of a schedule file
-unfoldable pub scheduleStart : List ℕ → List ℕ
-scheduleStart f = startOf (λ (s : Schedule). s .plant) (judgeFile edition1 f)
+unfoldable pub scheduleStart : Edition → List ℕ → List ℕ
+scheduleStart ed f = startOf (λ (s : Schedule). s .plant) (judgeFile ed f)
 
 -- of a table
-unfoldable pub tableStart : List ℕ → List ℕ
-tableStart t = startOf (λ (t : Table). t .plant) (judgeTable edition1 t)
+unfoldable pub tableStart : Edition → List ℕ → List ℕ
+tableStart ed t = startOf (λ (t : Table). t .plant) (judgeTable ed t)

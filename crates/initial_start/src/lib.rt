@@ -6,6 +6,7 @@ ghost use mathlib.Core.Path.{_≡_};
 ghost use mathlib.Core.List.{[]};
 ghost use Prim.Native.Nat.{_+_, _≤_};
 ghost use lib.ListN.{length};
+ghost use Rattle.semantics.specs.Editions.{Edition};
 ghost use Rattle.plant.specs.Equations.{SectionStands};
 ghost use Rattle.codec.specs.Writing.{Wrote};
 ghost use Rattle.initial_start.specs.Initial.{initialModes, sectionsStart};
@@ -48,7 +49,7 @@ fn none() -> Start
 
 // of a plant's two sections; none where 4 to 8 refuse them
 pub fn of(vs: &[u8], es: &[u8]) -> Start
-    ensures { λ r. ⌜ r ≡ held (sectionsStart (now (vs .entry)) (now (es .entry))) ⌝ }
+    ensures { λ r. ⌜ ((ed : Edition) → r ≡ held (sectionsStart ed (now (vs .entry)) (now (es .entry)))) ⌝ }
 {
     let p = plant::sections::read(vs, es);
     if p.refusal != 0 {
@@ -66,7 +67,7 @@ pub fn of(vs: &[u8], es: &[u8]) -> Start
 // of the sections from a to b and from c to d
 fn between(file: &[u8], a: usize, b: usize, c: usize, d: usize) -> Start
     requires { ⌜ Between (now file) a b c d ⌝ }
-    ensures { λ r. ⌜ r ≡ held (sectionsStart (Parts.between a b (now (file .entry))) (Parts.between c d (now (file .entry)))) ⌝ }
+    ensures { λ r. ⌜ ((ed : Edition) → r ≡ held (sectionsStart ed (Parts.between a b (now (file .entry))) (Parts.between c d (now (file .entry))))) ⌝ }
 {
     of(&file[a..b], &file[c..d])
 }

@@ -1,7 +1,7 @@
 -- The answers to three events at the start of a run of a table.
 use mathlib.Core.List.{List}
 use Prim.Native.Nat.{ℕ}
-use Rattle.semantics.specs.Editions.{edition1}
+use Rattle.semantics.specs.Editions.{Edition}
 use Rattle.semantics.specs.Refusals.{Judged, refused, accepted, _>>=_}
 use Rattle.semantics.specs.Starts.{Start}
 use Rattle.semantics.specs.Run.{Situation, Answered, at, stepOn}
@@ -12,15 +12,15 @@ use Rattle.event.specs.declared.Event.{Event}
 use Rattle.lookahead.specs.declared.Answers.{Answers}
 
 -- one event of a run of the table
-abbrev pub stepOfTable : Table → Situation ℕ → Event → Answered ℕ
-stepOfTable t s e = stepOn edition1 (t .plant) (tableControl t) s (eventOf e)
+abbrev pub stepOfTable : Edition → Table → Situation ℕ → Event → Answered ℕ
+stepOfTable ed t s e = stepOn ed (t .plant) (tableControl t) s (eventOf e)
 
 -- each event on the situation that the one before left
-unfoldable pub answersFrom : Table → Start → Event → Event → Event → Answers
-answersFrom t st a b c =
-    let x = stepOfTable t (at (tableControl t .start) (st .values) (st .modes)) a in
-    let y = stepOfTable t (x .left) b in
-    let z = stepOfTable t (y .left) c in
+unfoldable pub answersFrom : Edition → Table → Start → Event → Event → Event → Answers
+answersFrom ed t st a b c =
+    let x = stepOfTable ed t (at (tableControl t .start) (st .values) (st .modes)) a in
+    let y = stepOfTable ed t (x .left) b in
+    let z = stepOfTable ed t (y .left) c in
     record { refusal = 0; first = x .answer; second = y .answer; third = z .answer }
 
 -- a refusal
@@ -32,8 +32,8 @@ told (refused n) = noAnswers n
 told (accepted r) = r
 
 -- 15 to 19, then 20, then the events
-unfoldable pub threeAnswers : (table start : List ℕ) → Event → Event → Event → Answers
-threeAnswers table start a b c = told (do
-  t ← judgeTable edition1 table
+unfoldable pub threeAnswers : Edition → (table start : List ℕ) → Event → Event → Event → Answers
+threeAnswers ed table start a b c = told (do
+  t ← judgeTable ed table
   st ← judgeStart (t .plant) start
-  accepted (answersFrom t st a b c))
+  accepted (answersFrom ed t st a b c))

@@ -1,13 +1,21 @@
 // What the programs share: how much of a buffer to write, and what is said where that fails.
+use edition::Edition;
 ghost use mathlib.Core.Path.{_≡_};
 ghost use mathlib.Core.Bool.{cond};
 ghost use lib.Dec.{leb};
 ghost use lib.ListN.{length};
 ghost use Rattle.io.specs.Counts.{Counts};
+ghost use Rattle.edition.specs.Editions.{editionOf};
 ghost use Rattle.output.specs.Written.{RecordsTake};
 
-// the programs have room for 10,000 events
-pub const EVENT_ROOM: usize = 10000 * paper::EVENT_BYTES;
+// the programs have room for so many events
+const EVENTS: usize = 10000;
+
+// an event of the first edition, which the programs take, has so many bytes
+const EVENT_BYTES: usize = 3;
+
+// the bytes of so many events: the length of an array is fixed
+pub const EVENT_ROOM: usize = EVENTS * EVENT_BYTES;
 
 // a message of the program where a write failed; whether it did not
 pub fn noticed(program: &[u8], is_written: bool) -> bool
@@ -31,11 +39,12 @@ pub fn front(n: usize, bytes: &[u8]) -> usize
     0
 }
 
-// the bytes of the records of so many event bytes
-pub fn records_length(events: usize, variables: usize, selectors: usize) -> usize
-    ensures { λ r. ⌜ RecordsTake events variables selectors r ⌝ }
+// the bytes of the records of so many event bytes; 0 where the programs have no room for them
+pub fn records_length(events: usize, variables: usize, selectors: usize, ed: Edition) -> usize
+    ensures { λ r. ⌜ RecordsTake (editionOf ed) events variables selectors r ⌝ }
 {
-    if events > EVENT_ROOM {
+    let bytes = edition::event_bytes(ed);
+    if events > EVENTS * bytes {
         return 0;
     }
     if variables > paper::VARIABLES {
@@ -44,5 +53,5 @@ pub fn records_length(events: usize, variables: usize, selectors: usize) -> usiz
     if selectors > paper::EQUATIONS {
         return 0;
     }
-    events / paper::EVENT_BYTES * records::record_length(variables, selectors)
+    events / bytes * records::record_length(variables, selectors, ed)
 }

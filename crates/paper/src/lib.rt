@@ -1,20 +1,11 @@
-// The limits that document 01 prints, in its words, and what follows from them. Edition 1.
+// The limits that document 01 prints and all editions share, in its words, and what follows from them.
 pub mod actions; // actions.rt: the kinds of a table's actions
 pub mod answers; // answers.rt: how an event is answered
 pub mod nodes; // nodes.rt: the kinds of a schedule's nodes
 pub mod targets; // targets.rt: where an entry of a table leads to, beside the locations
 
-// "Byte 0 is version 1"; of a table "Version 1"
-pub const VERSION: u8 = 1;
-
-// "node count 1..64"
-pub const NODES: usize = 64;
-
 // "each with a length byte first (1..200)": of kind and payload
 pub const NODE_BYTES: usize = 200;
-
-// of a table's action: its node as well
-pub const ACTION_BYTES: usize = NODE_BYTES + 1;
 
 // "the whole file's length (2 bytes)"
 pub const FILE_BYTES: usize = 65535;
@@ -39,9 +30,3 @@ pub const DEPTH: usize = 16;
 
 // the longest start: "4 bytes each, then modes"
 pub const START_BYTES: usize = 4 * VARIABLES + EQUATIONS;
-
-// "An event is 3 bytes"
-pub const EVENT_BYTES: usize = 3;
-
-// of a record: "set of acting nodes (8 bytes, ..)"
-pub const SET_BYTES: usize = 8;

@@ -10,6 +10,9 @@ ghost use Rattle.practice.specs.Answers.{practised};
 // "a count up to 10,000"
 pub const MOST_EVENTS: u64 = 10000;
 
+// of a practice event, whatever the edition: "Item 1 goes on writing edition 1 events."
+const EVENT_BYTES: usize = 3;
+
 // What the call returns: 0 and the list's length in bytes; or the first number that applies, and length 0.
 pub struct Practised {
     pub refusal: u8,
@@ -33,7 +36,7 @@ pub fn write(seed: u32, count: u64, events: &mut [u8]) -> Practised
         return refused(32);
     }
     let n = count as usize;
-    if events.len() < paper::EVENT_BYTES * n {
+    if events.len() < EVENT_BYTES * n {
         return refused(33);
     }
     let length = events::put_list(events, seed, n);

@@ -91,7 +91,9 @@ module _ (ed : Edition) (f : List ℕ) (small : length f < 2 ^ 64) (a b : ℕ) (
 
   -- a row that begins with a column
   in-front : (g : Variable → ℤ) {xs : List ℤ} (ys : List ℤ) → xs ≡ column g (p .variables) → take (length (p .variables)) (xs ++ ys) ≡ map g (p .variables)
-  in-front g ys i = ap (λ z. take (length (p .variables)) (z ++ ys)) i ∙ take-append-le (length (p .variables)) (column g (p .variables)) ys (omega (arith, column-full g, variables-high ed vs (between a b f) h)) ∙ column-front g (p .variables)
+  in-front g ys i =
+      ap (λ z. take (length (p .variables)) (z ++ ys)) i
+      ∙ take-append-le (length (p .variables)) (column g (p .variables)) ys (omega (arith, column-full g, variables-high ed vs (between a b f) h)) ∙ column-front g (p .variables)
 
   steady-are : x .steady ≡ ratesFrom (ratesOf (p .equations) []) 0 32
   steady-are = ap (λ (x : PlantRead). x .steady) e ∙ steady-of ed vs (between a b f) h

@@ -1,3 +1,4 @@
 mod LentCounts
 pub mod Books
 pub mod Records
+pub mod SetBytes

@@ -1,17 +1,18 @@
 // The record of an event, and the counts of a run.
+use edition::Edition;
 ghost use mathlib.Core.Path.{_≡_};
 ghost use mathlib.Core.Bool.{true, cond};
 ghost use mathlib.Core.List.{List, [], _∷_, _++_, flatMap};
 ghost use Prim.Native.Nat.{ℕ, _+_, _*_, _^_, _≤_, _<_};
 ghost use lib.ListN.{length};
 ghost use Rattle.semantics.specs.Bytes.{within, bigEndian};
-ghost use Rattle.semantics.specs.Editions.{edition1};
 ghost use Rattle.semantics.specs.Sections.{variableLimit, equationLimit};
 ghost use Rattle.semantics.specs.Refusals.{refused};
 ghost use Rattle.semantics.specs.Run.{setNumber, valueBytes, recordBytes, howMany, countsOf, noCounts};
 ghost use Rattle.semantics.specs.Calls.{recordLength, report};
+ghost use Rattle.edition.specs.Editions.{editionOf};
 ghost use Rattle.codec.specs.Writing.{Wrote};
-ghost use Rattle.nodeset.specs.Sets.{mem, members, Words};
+ghost use Rattle.nodeset.specs.Sets.{members, Words};
 ghost use Rattle.records.specs.Booking.{Room};
 ghost use Rattle.records.specs.Reported.{told, ranWith};
 
@@ -101,25 +102,36 @@ pub fn booked(c: Counts, answer: u8) -> Counts
     counts
 }
 
-// Of a record: the answer and the acting nodes.
-const FRONT_BYTES: usize = 1 + paper::SET_BYTES;
-
 // The bytes of a record, of so many variables and selectors.
-pub fn record_length(variables: usize, selectors: usize) -> usize
+pub fn record_length(variables: usize, selectors: usize, ed: Edition) -> usize
     requires { ⌜ (variables ≤ variableLimit) × (selectors ≤ equationLimit) ⌝ }
-    ensures { λ r. ⌜ r ≡ recordLength edition1 variables selectors ⌝ }
+    ensures { λ r. ⌜ r ≡ recordLength (editionOf ed) variables selectors ⌝ }
 {
-    FRONT_BYTES + 4 * variables + selectors
+    1 + edition::set_bytes(ed) + 4 * variables + selectors
 }
 
-// The eight bytes of a set of nodes below 64, at a place; the next place.
-fn put_set(d: &mut [u8], i: usize, acting: &[u64; 4]) -> usize
-    requires { ⌜ (i + edition1 .set-bytes ≤ length (now d)) × ((n : ℕ) → mem (now acting) n ≡ true → n < 64) × Words (now acting) ⌝ }
-    ensures { λ r. ⌜ (r ≡ i + edition1 .set-bytes) × Wrote (now (d .entry)) i (bigEndian (edition1 .set-bytes) (setNumber (members (now (acting .entry))))) (now (d .exit)) ⌝ }
+// The eight bytes of a word at a place; the next place.
+fn put_word(d: &mut [u8], i: usize, word: u64) -> usize
+    requires { ⌜ i + 8 ≤ length (now d) ⌝ }
+    ensures { λ r. ⌜ (r ≡ i + 8) × Wrote (now (d .entry)) i (bigEndian 8 word) (now (d .exit)) ⌝ }
 {
-    let w = acting[0] as usize;
+    let w = word as usize;
     let j = codec::put4(d, i, w / 4294967296);
     codec::put4(d, j, w % 4294967296)
+}
+
+// The bytes of a set of nodes at a place, its highest word first, of so many words as the edition has; the next place.
+fn put_set(d: &mut [u8], i: usize, acting: &[u64; 4], ed: Edition) -> usize
+    requires { ⌜ (i + editionOf ed .set-bytes ≤ length (now d)) × Words (now acting) ⌝ }
+    ensures { λ r. ⌜ (r ≡ i + editionOf ed .set-bytes) × Wrote (now (d .entry)) i (bigEndian (editionOf ed .set-bytes) (setNumber (members (now (acting .entry))))) (now (d .exit)) ⌝ }
+{
+    let mut k = edition::set_words(ed);
+    let mut at = i;
+    while 0 < k {
+        k -= 1;
+        at = put_word(d, at, acting[k]);
+    }
+    at
 }
 
 // The values, four bytes each, at a place; the next place.
@@ -144,13 +156,14 @@ pub fn put_record(
     acting: &[u64; 4],
     values: &[i32],
     modes: &[u8],
+    ed: Edition,
 ) -> usize
-    requires { ⌜ (i + recordLength edition1 (length (now values)) (length (now modes)) ≤ length (now d)) × ((n : ℕ) → mem (now acting) n ≡ true → n < 64) × Words (now acting) ⌝ }
-    ensures { λ r. ⌜ (r ≡ i + recordLength edition1 (length (now (values .entry))) (length (now (modes .entry)))) ×
-        Wrote (now (d .entry)) i (recordBytes edition1 answer (setNumber (members (now (acting .entry)))) (now (values .entry)) (now (modes .entry))) (now (d .exit)) ⌝ }
+    requires { ⌜ (i + recordLength (editionOf ed) (length (now values)) (length (now modes)) ≤ length (now d)) × Words (now acting) ⌝ }
+    ensures { λ r. ⌜ (r ≡ i + recordLength (editionOf ed) (length (now (values .entry))) (length (now (modes .entry)))) ×
+        Wrote (now (d .entry)) i (recordBytes (editionOf ed) answer (setNumber (members (now (acting .entry)))) (now (values .entry)) (now (modes .entry))) (now (d .exit)) ⌝ }
 {
     let j = codec::put1(d, i, answer);
-    let k = put_set(d, j, acting);
+    let k = put_set(d, j, acting, ed);
     let l = put_values(d, k, values);
     codec::put_slice(d, l, modes)
 }

@@ -6,7 +6,7 @@ use mathlib.Core.Option.{Option, none, some}
 use Prim.Native.Nat.{ℕ}
 use native.Mathlib.Omega.{arith}
 use lib.IntN.{ℤ}
-use Rattle.semantics.specs.Editions.{edition1}
+use Rattle.semantics.specs.Editions.{Edition}
 use Rattle.semantics.specs.Plant.{among}
 use Rattle.semantics.specs.Run.{arrive}
 use Rattle.semantics.proofs.Facts.{mem-among}
@@ -42,8 +42,8 @@ pub acts-here : (s : Schedule) {ls fs ws : List ℕ} {r : Residual} → Here ls 
 unfolding ruleControl
 acts-here s h = h .stands
 
-pub answered : (s : Schedule) {a b : ℕ} {ws : List ℕ} {o : Option Residual} {vs vs' : List ℤ} {ms ms' : List ℕ} {e : Event} → a ≡ b → Steps (programOf s) (StandsFor s ws) o vs ms e b vs' ms' → Steps (programOf s) (StandsFor s ws) o vs ms e a vs' ms'
-answered s q k = rw q k
+pub answered : (ed : Edition) (s : Schedule) {a b : ℕ} {ws : List ℕ} {o : Option Residual} {vs vs' : List ℤ} {ms ms' : List ℕ} {e : Event} → a ≡ b → Steps ed (programOf s) (StandsFor s ws) o vs ms e b vs' ms' → Steps ed (programOf s) (StandsFor s ws) o vs ms e a vs' ms'
+answered ed s q k = rw q k
 
 -- ---- a move
 module _ {ls fs ws : List ℕ} {n : ℕ} {b : Bool} {how : How} {ws' : List ℕ} (d : Advanced ls fs ws n b how ws') (s : Schedule) (r : Residual) (h : Here ls fs (s .root) ws r) where
@@ -80,9 +80,9 @@ module _ {ls fs ws : List ℕ} where
   unfolding ruleControl
   here-at s i g f = let q = not-over g (some-going s g f) in (q .place, (q .is, record { charted = i; of = q .here; stands = q .acts; words = q .words }))
 
-module _ {l : Lent} {ls fs ws : List ℕ} {vs : List ℤ} {ms : List ℕ} where
+module _ (ed : Edition) {l : Lent} {ls fs ws : List ℕ} {vs : List ℤ} {ms : List ℕ} where
   -- what judging asks
-  ready : (s : Schedule) {r : Residual} → ScheduleLent s l → Here ls fs (s .root) ws r → Fits (s .plant) vs ms → Ready (s .plant) (ruleControl s .action) l ws vs ms
+  ready : (s : Schedule) {r : Residual} → ScheduleLent ed s l → Here ls fs (s .root) ws r → Fits (s .plant) vs ms → Ready ed (s .plant) (ruleControl s .action) l ws vs ms
   unfolding ruleControl
   ready s {r} d h f = record {
     plant = d .plant;
@@ -91,30 +91,30 @@ module _ {l : Lent} {ls fs ws : List ℕ} {vs : List ℤ} {ms : List ℕ} where
     fits = f;
   }
 
-  pub judging : Promised l ls fs ws vs ms → (members ws ≡ [] → ⊥) → Judged.Promised l ws vs ms
+  pub judging : Promised ed l ls fs ws vs ms → (members ws ≡ [] → ⊥) → Judged.Promised ed l ws vs ms
   judging p f = record { plant = p .schedule .plant; action = ruleControl (p .schedule) .action; ready = ready (p .schedule) (p .lent) (here-at (p .schedule) (p .charted) (p .stands) f .1 .1) (p .fits) }
 
   -- a node that moves acts
-  pub movable : (e : Event) {v : Verdict} {vs' : List ℤ} {ms' : List ℕ} → Promised l ls fs ws vs ms → (members ws ≡ [] → ⊥) → Judges l ws e vs ms v vs' ms' → Movable ls fs ws v
+  pub movable : (e : Event) {v : Verdict} {vs' : List ℤ} {ms' : List ℕ} → Promised ed l ls fs ws vs ms → (members ws ≡ [] → ⊥) → Judges ed l ws e vs ms v vs' ms' → Movable ls fs ws v
   movable e {v} {vs'} {ms'} p f k =
       let h = here-at (p .schedule) (p .charted) (p .stands) f .1 .1 in
       let left = k _ _ (judging p f .ready) in
       record {
         standing = λ n b i.
-            let m = judged-possible edition1 _ _ _ _ _ (eventOf e) _ n b (heard-move _ vs ms vs' ms' left i) refl in
+            let m = judged-possible ed _ _ _ _ _ (eventOf e) _ n b (heard-move _ vs ms vs' ms' left i) refl in
             standing (h .words) (p .charted) (h .of) (h .stands) (sym (among-set (h .words) n) ∙ mem-among n (members ws) (m .0));
       }
 
   -- the whole event
-  module _ (s : Schedule) (o : Option Residual) (d : ScheduleLent s l) (i : Charted ls fs (s .root)) (g : StandsFor s ws o) (f : Fits (s .plant) vs ms) (e : Event) where
-    pub step-over : members ws ≡ [] → Steps (programOf s) (StandsFor s ws) o vs ms e 23 vs ms × Fits (s .plant) vs ms
-    step-over h = let q = none-over s g h in (settled-over (programOf s) vs ms e q (subst (StandsFor s ws) q g), f)
+  module _ (s : Schedule) (o : Option Residual) (d : ScheduleLent ed s l) (i : Charted ls fs (s .root)) (g : StandsFor s ws o) (f : Fits (s .plant) vs ms) (e : Event) where
+    pub step-over : members ws ≡ [] → Steps ed (programOf s) (StandsFor s ws) o vs ms e 23 vs ms × Fits (s .plant) vs ms
+    step-over h = let q = none-over s g h in (settled-over ed (programOf s) vs ms e q (subst (StandsFor s ws) q g), f)
 
-    pub step-at : {v : Verdict} {vs' : List ℤ} {ms' : List ℕ} {a : ℕ} {ws' : List ℕ} → (members ws ≡ [] → ⊥) → Judges l ws e vs ms v vs' ms' → Settled ls fs v ws a ws' → Steps (programOf s) (StandsFor s ws') o vs ms e a vs' ms' × Fits (s .plant) vs' ms'
+    pub step-at : {v : Verdict} {vs' : List ℤ} {ms' : List ℕ} {a : ℕ} {ws' : List ℕ} → (members ws ≡ [] → ⊥) → Judges ed l ws e vs ms v vs' ms' → Settled ed ls fs v ws a ws' → Steps ed (programOf s) (StandsFor s ws') o vs ms e a vs' ms' × Fits (s .plant) vs' ms'
     step-at {v} {vs'} {ms'} {a} {ws'} h k m =
         let q = here-at s i g h in
         let r = ready s d (q .1 .1) f in
         let left = k (s .plant) (ruleControl s .action) r in (
-          subst (λ (o : Option Residual). Steps (programOf s) (StandsFor s ws') o vs ms e a vs' ms') (sym (q .1 .0)) (m s (q .0) (q .1 .1) vs ms e vs' ms' left),
-          fits-left (s .plant) (ruleControl s .action) l ws vs ms r (eventOf e) left,
+          subst (λ (o : Option Residual). Steps ed (programOf s) (StandsFor s ws') o vs ms e a vs' ms') (sym (q .1 .0)) (m s (q .0) (q .1 .1) vs ms e vs' ms' left),
+          fits-left ed (s .plant) (ruleControl s .action) l ws vs ms r (eventOf e) left,
         )

@@ -5,7 +5,7 @@ use mathlib.Core.List.{List}
 use mathlib.Core.Option.{Option, some}
 use Prim.Native.Nat.{ℕ}
 use lib.IntN.{ℤ}
-use Rattle.semantics.specs.Editions.{edition1}
+use Rattle.semantics.specs.Editions.{Edition}
 use Rattle.semantics.specs.Run.{judge}
 use Rattle.schedules.specs.Trees.{Tree}
 use Rattle.schedules.specs.Residuals.{Residual, acting}
@@ -46,24 +46,24 @@ abbrev pub Moved : (ls fs ws : List ℕ) → ℕ → Bool → ℕ → List ℕ �
 Moved ls fs ws n b a ws' = (s : Schedule) (x : Residual) → Here ls fs (s .root) ws x → Arrives (StandsFor s ws') (ruleControl s .next x n b) a
 
 -- what is made of a judged event
-abbrev pub Settled : (ls fs : List ℕ) → Verdict → List ℕ → ℕ → List ℕ → Type 0
-Settled ls fs v ws a ws' =
+abbrev pub Settled : Edition → (ls fs : List ℕ) → Verdict → List ℕ → ℕ → List ℕ → Type 0
+Settled ed ls fs v ws a ws' =
     (s : Schedule) (x : Residual) → Here ls fs (s .root) ws x → (vs : List ℤ) (ms : List ℕ) (e : Event) (vs' : List ℤ) (ms' : List ℕ)
-    → Left (judge edition1 (s .plant) (ruleControl s .action) (members ws) vs ms (eventOf e)) vs ms v vs' ms'
-    → Steps (programOf s) (StandsFor s ws') (some x) vs ms e a vs' ms'
+    → Left (judge ed (s .plant) (ruleControl s .action) (members ws) vs ms (eventOf e)) vs ms v vs' ms'
+    → Steps ed (programOf s) (StandsFor s ws') (some x) vs ms e a vs' ms'
 
 -- ---- the whole event
 -- what the reader promises of a schedule, its moves, and a place, values and modes that fit it: all that a step asks
-pub record Promised (l : Lent) (ls fs ws : List ℕ) (vs : List ℤ) (ms : List ℕ) : Type 0 where
+pub record Promised (ed : Edition) (l : Lent) (ls fs ws : List ℕ) (vs : List ℤ) (ms : List ℕ) : Type 0 where
   pub schedule : Schedule
-  pub lent : ScheduleLent schedule l
+  pub lent : ScheduleLent ed schedule l
   pub charted : Charted ls fs (schedule .root)
   pub place : Option Residual
   pub stands : StandsFor schedule ws place
   pub fits : Fits (schedule .plant) vs ms
 
 -- what a step gives, from acting nodes, values and modes to the same: for every schedule that the arrays hold and every place that the run stands at
-abbrev pub StepsOn : Lent → (ls fs ws : List ℕ) → List ℤ → List ℕ → Event → ℕ → List ℕ → List ℤ → List ℕ → Type 0
-StepsOn l ls fs ws vs ms e a ws' vs' ms' =
-    (s : Schedule) (o : Option Residual) → ScheduleLent s l → Charted ls fs (s .root) → StandsFor s ws o → Fits (s .plant) vs ms
-    → Steps (programOf s) (StandsFor s ws') o vs ms e a vs' ms' × Fits (s .plant) vs' ms'
+abbrev pub StepsOn : Edition → Lent → (ls fs ws : List ℕ) → List ℤ → List ℕ → Event → ℕ → List ℕ → List ℤ → List ℕ → Type 0
+StepsOn ed l ls fs ws vs ms e a ws' vs' ms' =
+    (s : Schedule) (o : Option Residual) → ScheduleLent ed s l → Charted ls fs (s .root) → StandsFor s ws o → Fits (s .plant) vs ms
+    → Steps ed (programOf s) (StandsFor s ws') o vs ms e a vs' ms' × Fits (s .plant) vs' ms'

@@ -1,8 +1,11 @@
 // One event of a run by the rules. A run is over once no node acts.
+use edition::Edition;
 use effects::Verdict;
 use event::Event;
 use moves::How;
 ghost use mathlib.Core.Path.{_≡_};
+ghost use Rattle.semantics.specs.Editions as papers;
+ghost use Rattle.edition.specs.Editions.{editionOf};
 ghost use Rattle.nodeset.specs.Sets.{emptySet};
 ghost use Rattle.moves.specs.Contracts.{Standing};
 ghost use Rattle.program.specs.Lent.{lent};
@@ -32,7 +35,7 @@ fn moved<'a>(leads: &'a [u16], fresh: &'a [u64], n: usize, truth: bool, acting: 
 // What a judged event makes of the acting nodes.
 fn settled<'a>(leads: &'a [u16], fresh: &'a [u64], v: Verdict, acting: &mut [u64; 4]) -> u8
     requires { ⌜ Movable (now leads) (now fresh) (now acting) v ⌝ }
-    ensures { λ r. ⌜ Settled (now (leads .entry)) (now (fresh .entry)) v (now (acting .entry)) r (now (acting .exit)) ⌝ }
+    ensures { λ r. ⌜ ((ed : papers.Edition) → Settled ed (now (leads .entry)) (now (fresh .entry)) v (now (acting .entry)) r (now (acting .exit))) ⌝ }
 {
     match v {
         Verdict::Away(n) => n,
@@ -54,14 +57,15 @@ pub fn step<'a>(
     acting: &mut [u64; 4],
     values: &mut [i32],
     modes: &mut [u8],
+    ed: Edition,
 ) -> u8
-    requires { ⌜ Promised (lent (now t) (now ix) (now ranges)) (now leads) (now fresh) (now acting) (now values) (now modes) ⌝ }
-    ensures { λ r. ⌜ StepsOn (lent (now (t .entry)) (now (ix .entry)) (now (ranges .entry))) (now (leads .entry)) (now (fresh .entry))
+    requires { ⌜ Promised (editionOf ed) (lent (now t) (now ix) (now ranges)) (now leads) (now fresh) (now acting) (now values) (now modes) ⌝ }
+    ensures { λ r. ⌜ StepsOn (editionOf ed) (lent (now (t .entry)) (now (ix .entry)) (now (ranges .entry))) (now (leads .entry)) (now (fresh .entry))
         (now (acting .entry)) (now (values .entry)) (now (modes .entry)) e r (now (acting .exit)) (now (values .exit)) (now (modes .exit)) ⌝ }
 {
     if nodeset::none(acting) {
         return 23;
     }
-    let v = execution::judge(t, ix, ranges, acting, e, values, modes);
+    let v = execution::judge(t, ix, ranges, acting, e, values, modes, ed);
     settled(leads, fresh, v, acting)
 }

@@ -1,5 +1,6 @@
 // runrules SCHEDULE EVENTS [START]: the records of a run on standard output, or the refusal as one byte; the counts, and which event faulted, on standard error.
 // Without START the run starts from the initial values and modes of the schedule itself.
+use edition::Edition;
 use initial_start::Start;
 ghost use mathlib.Core.Path.{_≡_};
 ghost use lib.ListN.{length};
@@ -17,8 +18,8 @@ fn run(file: &[u8], events: &[u8], start: Start) {
     let mut records = running::record_buffer();
     let r = rule_run::call::run(file, &bytes[..k], events, &mut records);
     let x = schedule_read::call::read(file);
-    let n = output::records_length(events.len(), x.variables, x.selectors);
-    let count = events.len() / paper::EVENT_BYTES;
+    let n = output::records_length(events.len(), x.variables, x.selectors, Edition::First);
+    let count = events.len() / edition::event_bytes(Edition::First);
     running::tell(b"runrules", r, count, n, &records);
 }
 

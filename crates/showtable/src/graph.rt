@@ -4,6 +4,7 @@ use super::actions;
 use super::bytes;
 use super::line;
 use super::out;
+use edition::Edition;
 
 // the argument dot asks for the graph
 pub fn is_asked() -> bool {
@@ -11,36 +12,39 @@ pub fn is_asked() -> bool {
 }
 
 // one arrow from location n to the target at p, by the action at a; its kind, or 6 of a test that is false
-fn arrow(t: &[u8], a: usize, kind: usize, p: usize, n: usize) {
-    line::show(t, p, n, b"\n    ! -> ^ [label=\"");
+fn arrow(t: &[u8], a: usize, kind: usize, p: usize, n: usize, ed: Edition) {
+    line::show(t, p, n, b"\n    ! -> ^ [label=\"", ed);
     line::show(
         t,
         a,
         kind,
-        b"~# ~|test true\\n$|wait\\n$|assign\\nv# := $|switch\\nselector # to mode #|stop|test false\\n$",
+        b"&@ ~|test true\\n$|wait\\n$|assign\\nv# := $|switch\\nselector # to mode #|stop|test false\\n$",
+        ed,
     );
     out::text(0, b"\"];");
 }
 
 // the entry at p of location n, by the action at a
-pub fn arrows(t: &[u8], a: usize, p: usize, n: usize) {
-    let k = actions::kind(t, a);
-    arrow(t, a, k, bytes::on(p, 1), n);
+pub fn arrows(t: &[u8], a: usize, p: usize, n: usize, ed: Edition) {
+    let k = actions::kind(t, a, ed);
+    let target = bytes::after_number(p, ed);
+    arrow(t, a, k, target, n, ed);
     if k == 1 {
-        arrow(t, a, 6, bytes::on(p, 3), n);
+        arrow(t, a, 6, bytes::on(target, 2), n, ed);
     }
 }
 
 // whether the entry at p leads there
-fn is_to(t: &[u8], p: usize, to: usize) -> bool {
-    if bytes::two(t, bytes::on(p, 1)) == to {
+fn is_to(t: &[u8], p: usize, to: usize, ed: Edition) -> bool {
+    let target = bytes::after_number(p, ed);
+    if bytes::two(t, target) == to {
         return true;
     }
-    bytes::two(t, bytes::on(p, 3)) == to
+    bytes::two(t, bytes::on(target, 2)) == to
 }
 
 // 1 where an entry of the section at p leads there, or 0: what is left of a location's entries is counted down
-fn leads(t: &[u8], p: usize, to: usize) -> usize {
+fn leads(t: &[u8], p: usize, to: usize, ed: Edition) -> usize {
     let mut q = bytes::on(p, 2);
     let mut left = 0;
     let mut steps = t.len();
@@ -50,10 +54,10 @@ fn leads(t: &[u8], p: usize, to: usize) -> usize {
             left = bytes::at(t, q);
             q = bytes::on(q, 1);
         } else {
-            if is_to(t, q, to) {
+            if is_to(t, q, to, ed) {
                 return 1;
             }
-            q = bytes::on(q, 5);
+            q = bytes::on(q, edition::entry_bytes(ed));
             left -= 1;
         }
     }
@@ -61,13 +65,13 @@ fn leads(t: &[u8], p: usize, to: usize) -> usize {
 }
 
 // what stands before the arrows of the section at p; an end of the run is drawn where it is reached
-pub fn start(t: &[u8], p: usize) {
+pub fn start(t: &[u8], p: usize, ed: Edition) {
     out::text(
-        leads(t, p, paper::targets::FINISHED),
+        leads(t, p, paper::targets::FINISHED, ed),
         b"digraph table {\n    rankdir=LR;\n    node [shape=circle];\n    start [shape=point];|\n    finished [shape=doublecircle];",
     );
     out::text(
-        leads(t, p, paper::targets::HALTED),
+        leads(t, p, paper::targets::HALTED, ed),
         b"|\n    halted [shape=octagon];",
     );
     out::text(0, b"\n    start -> 0;");

@@ -8,6 +8,7 @@ mod locations; // locations.rt: locations and moves
 mod out; // out.rt: pieces of text
 mod plant; // plant.rt: variables and equations
 
+use edition::Edition;
 ghost use mathlib.Core.Path.{_≡_};
 ghost use lib.ListN.{length};
 
@@ -27,19 +28,19 @@ fn heading(number: usize) {
     out::text(number, b"|variables|\nequations|\nactions|\nlocations");
 }
 
-fn as_text(t: &[u8], equations: usize, acts: usize) {
+fn as_text(t: &[u8], equations: usize, acts: usize, ed: Edition) {
     heading(1);
-    plant::variables(t, 7);
+    plant::variables(t, 7, ed);
     heading(2);
-    plant::equations(t, equations);
+    plant::equations(t, equations, ed);
     heading(3);
-    actions::show(t, acts);
+    actions::show(t, acts, ed);
     heading(4);
 }
 
-fn as_graph(t: &[u8], acts: usize, locs: usize) {
-    graph::start(t, locs);
-    locations::show(t, acts, locs);
+fn as_graph(t: &[u8], acts: usize, locs: usize, ed: Edition) {
+    graph::start(t, locs, ed);
+    locations::show(t, acts, locs, ed);
     out::byte(b'\n');
     out::byte(b'}');
 }
@@ -53,17 +54,17 @@ fn past(t: &[u8], p: usize) -> usize {
 }
 
 // an accepted table
-fn show(t: &[u8]) {
+fn show(t: &[u8], ed: Edition) {
     let e = past(t, 7);
     let a = past(t, e);
     // the length of the locations has four bytes
     let l = bytes::on(past(t, a), 2);
     if graph::is_asked() {
-        as_graph(t, a, l);
+        as_graph(t, a, l, ed);
         return;
     }
-    as_text(t, e, a);
-    locations::show(t, a, l);
+    as_text(t, e, a, ed);
+    locations::show(t, a, l, ed);
 }
 
 fn refusal(t: &[u8]) -> u8 {
@@ -80,7 +81,7 @@ fn refused(n: u8) {
 fn show_accepted(t: &[u8]) {
     let n = refusal(t);
     if n == 0 {
-        show(t);
+        show(t, Edition::First);
         end();
         return;
     }

@@ -8,12 +8,14 @@ use native.Mathlib.Omega.{arith}
 use borrow.Author.Tests.{le-leb, eqb-true, ne-eqb}
 use lib.Dec.{leb, eqb}
 use lib.ListN.{length, getD, take, drop, length-drop}
-use Rattle.semantics.specs.Bytes.{widthOf, isSome, Reader, read, from, _>>=_, noBytes, twoBytes, byteAndRest}
-use Rattle.semantics.specs.Editions.{edition1}
+use Rattle.semantics.specs.Bytes.{isSome, Reader, read, from, _>>=_, noBytes, twoBytes, byteAndRest}
+use Rattle.semantics.specs.Editions.{Edition}
 use Rattle.semantics.specs.Run.{Action, assign, switch, stop}
 use Rattle.semantics.specs.TableFile.{NodeAction, ActionKind, a-test, a-wait, an-assignment, a-switch, a-stop, no-kind, TEST, WAIT, ASSIGN, SWITCH, STOP, actionKind, actionOfKind, kindNumber, readAction}
 use Rattle.semantics.proofs.Facts.{within-both, within-low, true-not-false, none-not-some}
 use Rattle.semantics.proofs.Readers.{guarded, from-some, split, given, given-rest}
+use Rattle.codec.specs.Numbers.{wide, numAt}
+use Rattle.codec.specs.Parts.{between}
 use Rattle.codec.specs.Reading.{Took, Reads}
 use Rattle.codec.proofs.Reading.{taken, lost, then, broke, gives, lifts, no-lift, then-guard, no-guard, then-byte, no-byte, then-number, no-number, then-bytes, no-bytes, either, within-below, within-above}
 use Rattle.codec.proofs.Known.{after-number, not-number, after-byte, not-past, after-bytes, not-short}
@@ -39,28 +41,29 @@ stop-form [] = refl
 stop-form (a ∷ l) = ne-eqb (suc (length l)) 0 (λ e. omega arith)
 
 -- ---- an action at place p of s
-pub action-none : (s : List ℕ) (p : ℕ) → length s ≤ p → Ends (readAction edition1) s p 0
+pub action-none : (ed : Edition) (s : List ℕ) (p : ℕ) → length s < p + wide ed → Ends (readAction ed) s p 0
 unfolding readAction
-action-none s p h = ends-none refl (lost {K = anything} (no-number _ h) refl)
+action-none ed s p h = ends-none refl (lost {K = anything} (no-number _ _ h) refl)
 
-module _ (s : List ℕ) (p : ℕ) (i : p < length s) where
-  pub action-low : getD s p 0 < 2 → Ends (readAction edition1) s p 0
-  unfolding readAction widthOf
-  action-low h = ends-none refl (lost {K = anything} (then-number _ i (no-guard _ _ (within-below 2 201 _ h))) refl)
+module _ (ed : Edition) (s : List ℕ) (p : ℕ) (i : p + wide ed ≤ length s) where
+  pub action-low : numAt ed s p < wide ed + 1 → Ends (readAction ed) s p 0
+  unfolding readAction
+  action-low h = ends-none refl (lost {K = anything} (then-number _ _ i (no-guard _ _ (within-below (wide ed + 1) (wide ed + 200) _ h))) refl)
 
-  pub action-high : 201 < getD s p 0 → Ends (readAction edition1) s p 0
-  unfolding readAction widthOf
-  action-high h = ends-none refl (lost {K = anything} (then-number _ i (no-guard _ _ (within-above 2 201 _ h))) refl)
+  pub action-high : wide ed + 200 < numAt ed s p → Ends (readAction ed) s p 0
+  unfolding readAction
+  action-high h = ends-none refl (lost {K = anything} (then-number _ _ i (no-guard _ _ (within-above (wide ed + 1) (wide ed + 200) _ h))) refl)
 
-  module _ (g : 2 ≤ getD s p 0) (h : getD s p 0 ≤ 201) where
-    pub action-short : length s < p + 1 + getD s p 0 → Ends (readAction edition1) s p 0
-    unfolding readAction widthOf
-    action-short j = ends-none refl (lost {K = anything} (then-number _ i (then-guard _ _ (within-both 2 201 _ g h)
-        (either (p + 1) (length s) (λ m. then-number _ m
-        (either (p + 1 + 1) (length s) (λ k. then-byte _ k (no-bytes _ _ (omega arith) (omega arith))) (λ k. no-byte _ k))) (λ m. no-number _ m)))) refl)
+  module _ (g : wide ed + 1 ≤ numAt ed s p) (h : numAt ed s p ≤ wide ed + 200) where
+    pub action-short : length s < p + wide ed + numAt ed s p → Ends (readAction ed) s p 0
+    unfolding readAction
+    action-short j = ends-none refl (lost {K = anything} (then-number _ _ i (then-guard _ _ (within-both (wide ed + 1) (wide ed + 200) _ g h)
+        (either (length s) (p + wide ed + wide ed) (λ m. no-number _ _ m) (λ m. then-number _ _ m
+        (either (p + wide ed + wide ed) (length s) (λ k. then-byte _ k (no-bytes _ _ (omega arith) (omega arith))) (λ k. no-byte _ k)))))) refl)
 
-    module _ (j : p + 1 + getD s p 0 ≤ length s) {x : Bool} (e : x ≡ isSome (actionOfKind (actionKind (getD s (p + 1 + 1) 0)) (take (p + 1 + 1 + 1 + (getD s p 0 - 2) - (p + 1 + 1 + 1)) (drop (p + 1 + 1 + 1) s)))) where
-      part : p + 1 + 1 + 1 + (getD s p 0 - 2) - (p + 1 + 1 + 1) ≡ getD s p 0 - 2
+    module _ (j : p + wide ed + numAt ed s p ≤ length s) {x : Bool}
+        (e : x ≡ isSome (actionOfKind (actionKind (getD s (p + wide ed + wide ed) 0)) (between (p + wide ed + wide ed + 1) (p + wide ed + wide ed + 1 + (numAt ed s p - (wide ed + 1))) s))) where
+      part : p + wide ed + wide ed + 1 + (numAt ed s p - (wide ed + 1)) - (p + wide ed + wide ed + 1) ≡ numAt ed s p - (wide ed + 1)
       part = omega arith
 
       lift-true : (f : Action → Reader NodeAction) (o : Option Action) → true ≡ isSome o → (q : ℕ) → q ≤ length s → ((a : Action) → Reads (f a) anything s q (some (q, tt))) → Reads (from o >>= f) anything s q (some (q, tt))
@@ -73,36 +76,50 @@ module _ (s : List ℕ) (p : ℕ) (i : p < length s) where
       lift-false f none e q = broke f (no-lift {K = anything} none refl) refl
       lift-false f (some a) e q = true-not-false (sym e)
 
-      pub action-ok : x ≡ true → Ends (readAction edition1) s p (p + 1 + 1 + 1 + (getD s p 0 - 2))
-      unfolding readAction widthOf
-      action-ok t = ends-at {q = p + 1 + 1 + 1 + (getD s p 0 - 2)} (omega arith) (taken (then-number _ i (then-guard _ _ (within-both 2 201 _ g h) (then-number _ (omega arith) (then-byte _ (omega arith) (then-bytes _ _ (omega arith)
+      action-ok : x ≡ true → Ends (readAction ed) s p (p + wide ed + wide ed + 1 + (numAt ed s p - (wide ed + 1)))
+      unfolding readAction
+      action-ok t =
+          ends-at {q = p + wide ed + wide ed + 1 + (numAt ed s p - (wide ed + 1))} (omega arith)
+          (taken (then-number _ _ i (then-guard _ _ (within-both (wide ed + 1) (wide ed + 200) _ g h) (then-number _ _ (omega arith) (then-byte _ (omega arith) (then-bytes _ _ (omega arith)
           (lift-true _ _ (sym t ∙ rw part at e) _ (omega arith) (λ a. gives _ (omega arith) tt))))))) refl)
 
-      pub action-bad : x ≡ false → Ends (readAction edition1) s p 0
-      unfolding readAction widthOf
-      action-bad t = ends-none refl (lost {K = anything} (then-number _ i (then-guard _ _ (within-both 2 201 _ g h) (then-number _ (omega arith) (then-byte _ (omega arith) (then-bytes _ _ (omega arith)
+      action-bad : x ≡ false → Ends (readAction ed) s p 0
+      unfolding readAction
+      action-bad t =
+          ends-none refl (lost {K = anything} (then-number _ _ i (then-guard _ _ (within-both (wide ed + 1) (wide ed + 200) _ g h)
+          (then-number _ _ (omega arith) (then-byte _ (omega arith) (then-bytes _ _ (omega arith)
           (lift-false _ _ (sym t ∙ rw part at e) _)))))) refl)
 
--- ---- an action that was read
-pub record Was (s : List ℕ) (p : ℕ) (a : NodeAction) (e : List ℕ) : Type 0 where
-  pub low : 2 ≤ getD s p 0
-  pub inside : p + 1 + getD s p 0 ≤ length s
-  pub node : getD s (p + 1) 0 ≡ a .node
-  pub is : actionOfKind (actionKind (getD s (p + 1 + 1) 0)) (take (getD s p 0 - 2) (drop (p + 1 + 1 + 1) s)) ≡ some (a .action)
-  pub rest : drop (p + 1 + 1 + 1 + (getD s p 0 - 2)) s ≡ e
+-- w and l are what code holds
+module _ (ed : Edition) (s : List ℕ) (p : ℕ) {w l : ℕ} (ew : w ≡ wide ed) (el : l ≡ numAt ed s p) (i : p + w ≤ length s) (g : w + 1 ≤ l) (h : l ≤ w + 200) (j : p + w + l ≤ length s)
+    {x : Bool} (e : x ≡ isSome (actionOfKind (actionKind (getD s (p + w + w) 0)) (between (p + w + w + 1) (p + w + w + 1 + (l - (w + 1))) s))) where
+  pub action-here : x ≡ true → Ends (readAction ed) s p (p + w + w + 1 + (l - (w + 1)))
+  action-here t = rw (ew, el) (action-ok ed s p (omega arith) (omega arith) (omega arith) (omega arith) (rw (ew, el) at e) t)
 
-pub was : (s : List ℕ) (p : ℕ) {a : NodeAction} {e : List ℕ} → readAction edition1 (drop p s) ≡ read a e → Was s p a e
-unfolding readAction widthOf
-was s p {a} {e} h = either p (length s) (λ i.
-    let g = guarded _ _ (after-number _ s p i h) in
-    let low = within-low 2 201 _ (g .0) in
-    either (p + 1) (length s) (λ j.
-    let b = after-number _ s (p + 1) j (g .1) in
-    either (p + 1 + 1) (length s) (λ k.
-    let d = after-byte _ s (p + 1 + 1) k b in
-    either (length s) (p + 1 + 1 + 1 + (getD s p 0 - 2)) (λ l. not-short _ s (p + 1 + 1 + 1) (getD s p 0 - 2) (omega arith) l d)
+  pub no-action-here : x ≡ false → Ends (readAction ed) s p 0
+  no-action-here t = action-bad ed s p (omega arith) (omega arith) (omega arith) (omega arith) (rw (ew, el) at e) t
+
+-- ---- an action that was read
+pub record Was (ed : Edition) (s : List ℕ) (p : ℕ) (a : NodeAction) (e : List ℕ) : Type 0 where
+  pub low : wide ed + 1 ≤ numAt ed s p
+  pub inside : p + wide ed + numAt ed s p ≤ length s
+  pub node : numAt ed s (p + wide ed) ≡ a .node
+  pub is : actionOfKind (actionKind (getD s (p + wide ed + wide ed) 0)) (take (numAt ed s p - (wide ed + 1)) (drop (p + wide ed + wide ed + 1) s)) ≡ some (a .action)
+  pub rest : drop (p + wide ed + wide ed + 1 + (numAt ed s p - (wide ed + 1))) s ≡ e
+
+pub was : (ed : Edition) (s : List ℕ) (p : ℕ) {a : NodeAction} {e : List ℕ} → readAction ed (drop p s) ≡ read a e → Was ed s p a e
+unfolding readAction
+was ed s p {a} {e} h = either (length s) (p + wide ed) (λ i. not-number _ s p _ i h) (λ i.
+    let g = guarded _ _ (after-number _ s p _ i h) in
+    let low = within-low (wide ed + 1) (wide ed + 200) _ (g .0) in
+    either (length s) (p + wide ed + wide ed) (λ j. not-number _ s (p + wide ed) _ j (g .1)) (λ j.
+    let b = after-number _ s (p + wide ed) _ j (g .1) in
+    either (p + wide ed + wide ed) (length s) (λ k.
+    let d = after-byte _ s (p + wide ed + wide ed) k b in
+    either (length s) (p + wide ed + wide ed + 1 + (numAt ed s p - (wide ed + 1))) (λ l. not-short _ s (p + wide ed + wide ed + 1) (numAt ed s p - (wide ed + 1)) (omega arith) l d)
     (λ l.
-    let f = split (from (actionOfKind (actionKind (getD s (p + 1 + 1) 0)) (take (getD s p 0 - 2) (drop (p + 1 + 1 + 1) s)))) _ (after-bytes _ s (p + 1 + 1 + 1) (getD s p 0 - 2) l d) in
+    let f = split (from (actionOfKind (actionKind (getD s (p + wide ed + wide ed) 0)) (take (numAt ed s p - (wide ed + 1)) (drop (p + wide ed + wide ed + 1) s)))) _
+    (after-bytes _ s (p + wide ed + wide ed + 1) (numAt ed s p - (wide ed + 1)) l d) in
     let m = from-some _ (f .first) in
     record {
       low = low;
@@ -110,16 +127,16 @@ was s p {a} {e} h = either p (length s) (λ i.
       node = ap (λ z. z .node) (given _ (f .rest) (f .then));
       is = m .0 ∙ ap (λ z. some (z .action)) (given _ (f .rest) (f .then));
       rest = m .1 ∙ given-rest _ (f .rest) (f .then);
-    })) (λ k. not-past _ s (p + 1 + 1) k b)) (λ j. not-number _ s (p + 1) j (g .1))) (λ i. not-number _ s p i h)
+    })) (λ k. not-past _ s (p + wide ed + wide ed) k b)))
 
 -- where it ends
-pub ends : {K : NodeAction → Unit {0} → Type 0} {s : List ℕ} {p q : ℕ} (t : Took (readAction edition1) K s p q tt) → Was s p (t .value) (drop q s) → q ≡ p + 1 + getD s p 0
-ends {s = s} {p = p} {q = q} t w =
-    let e : length (drop (p + 1 + 1 + 1 + (getD s p 0 - 2)) s) ≡ length (drop q s) = ap length (w .rest) in
+pub ends : (ed : Edition) {K : NodeAction → Unit {0} → Type 0} {s : List ℕ} {p q : ℕ} (t : Took (readAction ed) K s p q tt) → Was ed s p (t .value) (drop q s) → q ≡ p + wide ed + numAt ed s p
+ends ed {s = s} {p = p} {q = q} t w =
+    let e : length (drop (p + wide ed + wide ed + 1 + (numAt ed s p - (wide ed + 1))) s) ≡ length (drop q s) = ap length (w .rest) in
     let i = t .inside in
     let j = w .inside in
     let k = w .low in
-    omega (arith, length-drop (p + 1 + 1 + 1 + (getD s p 0 - 2)) s, length-drop q s)
+    omega (arith, length-drop (p + wide ed + wide ed + 1 + (numAt ed s p - (wide ed + 1))) s, length-drop q s)
 
 -- ---- the kind that was read is the action's
 codeOf : ActionKind → ℕ

@@ -8,7 +8,7 @@ use native.Mathlib.Omega.{arith}
 use borrow.Author.Tests.{eq-eqb, ne-eqb, leb-true, ltb-true}
 use lib.Dec.{eqb, leb}
 use Rattle.semantics.specs.Bytes.{every}
-use Rattle.semantics.specs.Editions.{edition1}
+use Rattle.semantics.specs.Editions.{Edition}
 use Rattle.semantics.specs.Run.{Action}
 use Rattle.semantics.specs.TableFile.{NodeAction}
 use Rattle.semantics.specs.Tables.{risingFrom, actionNodes, actionAt, nodeExists, actionsNumbered}
@@ -34,11 +34,12 @@ both-all f all-nil all-nil = all-nil
 both-all f (all-cons {x = x} h p) (all-cons i q) = all-cons (f x h i) (both-all f p q)
 
 -- a test of actions that each node's action passes, all of them pass
-pub every-by-node : (fits : Action → Bool) (l : List NodeAction) → actionsNumbered edition1 l ≡ true → ((n : ℕ) (a : Action) → n < 64 → actionAt l n ≡ some a → fits a ≡ true) → every (λ a. fits (a .action)) l ≡ true
+pub every-by-node : (ed : Edition) (fits : Action → Bool) (l : List NodeAction) → actionsNumbered ed l ≡ true →
+    ((n : ℕ) (a : Action) → n < ed .nodes → actionAt l n ≡ some a → fits a ≡ true) → every (λ a. fits (a .action)) l ≡ true
 unfolding actionsNumbered actionNodes nodeExists
-every-by-node fits l h f =
-    all-every (λ a. fits (a .action)) (both-all (λ x p q. f (x .node) (x .action) (ltb-true (x .node) 64 q) (p .1))
-    (found-all 0 l (and-left (risingFrom 0 (map nodeOf l)) (every (nodeExists edition1) l) h)) (every-all (nodeExists edition1) l (and-right (risingFrom 0 (map nodeOf l)) (every (nodeExists edition1) l) h)))
+every-by-node ed fits l h f =
+    all-every (λ a. fits (a .action)) (both-all (λ x p q. f (x .node) (x .action) (ltb-true (x .node) (ed .nodes) q) (p .1))
+    (found-all 0 l (and-left (risingFrom 0 (map nodeOf l)) (every (nodeExists ed) l) h)) (every-all (nodeExists ed) l (and-right (risingFrom 0 (map nodeOf l)) (every (nodeExists ed) l) h)))
 
 -- and back
 pub by-node-every : (fits : Action → Bool) (l : List NodeAction) (n : ℕ) {a : Action} → every (λ a. fits (a .action)) l ≡ true → actionAt l n ≡ some a → fits a ≡ true

@@ -9,7 +9,7 @@ use borrow.Author.Tests.{eq-eqb, ne-eqb}
 use lib.Dec.{eqb}
 use lib.ListN.{length, getD}
 use Rattle.semantics.specs.Bytes.{every, noBytes, twoBytes, byteAndRest}
-use Rattle.semantics.specs.Editions.{edition1}
+use Rattle.semantics.specs.Editions.{Edition}
 use Rattle.semantics.specs.Refusals.{accepted, ensure, need, _>>_}
 use Rattle.semantics.specs.Run.{Action, test, wait, assign, switch, stop}
 use Rattle.semantics.specs.TableFile.{NodeAction, Entry, HALTED, NONE, ActionKind, a-test, a-wait, an-assignment, a-switch, a-stop, no-kind, actionKind, actionOfKind, kindNumber, locationsIn}
@@ -162,6 +162,6 @@ module _ (n : ℕ) (l : List NodeAction) (ks : List ℕ) (k : KindsSay l ks) whe
   location-same = fun-ext (λ es. ap (λ f. risingFrom 0 (entryNodes es) && every f es) entries-same)
 
 -- the answer for such actions is the answer for all
-pub locations-like : (l : List NodeAction) (ks s : List ℕ) → KindsSay l ks → locationsOf (actionsLike ks) s ≡ locationsOf l s
+pub locations-like : (ed : Edition) (l : List NodeAction) (ks s : List ℕ) → KindsSay l ks → locationsOf ed (actionsLike ks) s ≡ locationsOf ed l s
 unfolding locationsOf judgeLocations locationsFit
-locations-like l ks s k = ap (locationsRead s) (then-same (need 19 (locationsIn edition1 s)) (λ ls. ap (λ f. ensure 19 (every f ls) >> accepted ls) (location-same (length ls) l ks k)))
+locations-like ed l ks s k = ap (locationsRead ed s) (then-same (need 19 (locationsIn ed s)) (λ ls. ap (λ f. ensure 19 (every f ls) >> accepted ls) (location-same (length ls) l ks k)))

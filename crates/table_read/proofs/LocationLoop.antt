@@ -8,7 +8,7 @@ use native.Mathlib.Numerals.{add-one}
 use native.Mathlib.Omega.{arith}
 use lib.ListN.{length, set, drop, replicate, length-drop}
 use Rattle.semantics.specs.Bytes.{every, Read, broken, read, andThen, _>>=_, give, fail, guard, times, just, whole}
-use Rattle.semantics.specs.Editions.{edition1}
+use Rattle.semantics.specs.Editions.{Edition}
 use Rattle.semantics.specs.Refusals.{Judged, accepted}
 use Rattle.semantics.specs.TableFile.{NodeAction, Entry, readLocation, readLocationCount, readLocations, locationsIn}
 use Rattle.semantics.specs.Tables.{locationFits, locationsFit, judgeLocations}
@@ -31,20 +31,20 @@ use Rattle.table_read.proofs.Fitted.{Fitted, fit, unfit, fitted}
 use Rattle.table_read.proofs.Rising.{every-append}
 
 -- ---- refusals
-pub refuse : (acts : List NodeAction) (s : List ℕ) → ((ls : List (List Entry)) → locationsIn edition1 s ≡ some ls → locationsFit acts ls ≡ true → ⊥) → noLocations 19 ≡ locationsOf acts s
+pub refuse : (ed : Edition) (acts : List NodeAction) (s : List ℕ) → ((ls : List (List Entry)) → locationsIn ed s ≡ some ls → locationsFit acts ls ≡ true → ⊥) → noLocations 19 ≡ locationsOf ed acts s
 unfolding locationsOf judgeLocations locationsRead
-refuse acts s h = go (fitted 19 (locationsIn edition1 s) (locationsFit acts))
+refuse ed acts s h = go (fitted 19 (locationsIn ed s) (locationsFit acts))
   where
-    go : {j : Judged (List (List Entry))} → Fitted 19 (locationsIn edition1 s) (locationsFit acts) j → noLocations 19 ≡ locationsRead s j
+    go : {j : Judged (List (List Entry))} → Fitted 19 (locationsIn ed s) (locationsFit acts) j → noLocations 19 ≡ locationsRead ed s j
     go (fit {a = ls} e k) = absurd (h ls e k)
     go (unfit k) = refl
 
-module _ (acts : List NodeAction) (s : List ℕ) {ls : List (List Entry)} (e : locationsIn edition1 s ≡ some ls) (h : locationsFit acts ls ≡ true) where
-  pub judged : judgeLocations edition1 acts s ≡ accepted ls
+module _ (ed : Edition) (acts : List NodeAction) (s : List ℕ) {ls : List (List Entry)} (e : locationsIn ed s ≡ some ls) (h : locationsFit acts ls ≡ true) where
+  pub judged : judgeLocations ed acts s ≡ accepted ls
   unfolding judgeLocations
   judged = go-need 19 _ e ∙ go-ensure 19 _ h
 
-  pub accept : locationsOf acts s ≡ locationIndex s (length ls)
+  pub accept : locationsOf ed acts s ≡ locationIndex ed s (length ls)
   unfolding locationsOf locationsRead
   accept = rw judged refl
 
@@ -87,83 +87,83 @@ count-of {s} {n} e k = go (readLocationCount s) refl
     go broken h = absurd (k (e ∙ ap orZero h))
     go (read m t) h = subst (Count s) (sym (e ∙ ap orZero h)) (count-was s h)
 
-pub refuse-count : (acts : List NodeAction) (s : List ℕ) {n : ℕ} → n ≡ orZero (readLocationCount s) → n ≡ 0 → noLocations 19 ≡ locationsOf acts s
+pub refuse-count : (ed : Edition) (acts : List NodeAction) (s : List ℕ) {n : ℕ} → n ≡ orZero (readLocationCount s) → n ≡ 0 → noLocations 19 ≡ locationsOf ed acts s
 unfolding orZero locationsIn readLocations whole just _>>=_ andThen
-refuse-count acts s {n} e k = go (readLocationCount s) refl
+refuse-count ed acts s {n} e k = go (readLocationCount s) refl
   where
-    go : (o : Read ℕ) → readLocationCount s ≡ o → noLocations 19 ≡ locationsOf acts s
-    go broken h = refuse acts s (λ l i g. none-not-some (sym (ap (λ o. just (andThen o (λ n. times n (readLocation edition1)))) h) ∙ i))
+    go : (o : Read ℕ) → readLocationCount s ≡ o → noLocations 19 ≡ locationsOf ed acts s
+    go broken h = refuse ed acts s (λ l i g. none-not-some (sym (ap (λ o. just (andThen o (λ n. times n (readLocation ed)))) h) ∙ i))
     go (read m t) h =
         let z : m ≡ 0 = sym (e ∙ ap orZero h) ∙ k in
         absurd (omega (arith, count-was s h .low))
 
 -- ---- what the section's reader does after the count
-after-count : {s : List ℕ} {n : ℕ} → Count s n → readLocations edition1 s ≡ times n (readLocation edition1) (drop 2 s)
+after-count : (ed : Edition) {s : List ℕ} {n : ℕ} → Count s n → readLocations ed s ≡ times n (readLocation ed) (drop 2 s)
 unfolding readLocations _>>=_ andThen
-after-count c = rw (c .first) refl
+after-count ed c = rw (c .first) refl
 
-pub in-times : {s : List ℕ} {n : ℕ} {ls : List (List Entry)} → Count s n → locationsIn edition1 s ≡ some ls → times n (readLocation edition1) (drop 2 s) ≡ read ls []
+pub in-times : (ed : Edition) {s : List ℕ} {n : ℕ} {ls : List (List Entry)} → Count s n → locationsIn ed s ≡ some ls → times n (readLocation ed) (drop 2 s) ≡ read ls []
 unfolding locationsIn
-in-times {s} c e = sym (after-count c) ∙ whole-read (readLocations edition1) s e
+in-times ed {s} c e = sym (after-count ed c) ∙ whole-read (readLocations ed) s e
 
-times-in : {s : List ℕ} {n : ℕ} {ls : List (List Entry)} → Count s n → times n (readLocation edition1) (drop 2 s) ≡ read ls [] → locationsIn edition1 s ≡ some ls
+times-in : (ed : Edition) {s : List ℕ} {n : ℕ} {ls : List (List Entry)} → Count s n → times n (readLocation ed) (drop 2 s) ≡ read ls [] → locationsIn ed s ≡ some ls
 unfolding locationsIn whole just
-times-in c e = ap just (after-count c ∙ e)
+times-in ed c e = ap just (after-count ed c ∙ e)
 
 -- ---- the first i of n locations, the last of which ends at p; all fit, and their places are in the list
-pub record Located (acts : List NodeAction) (n : ℕ) (s : List ℕ) (i p : ℕ) (places : List ℕ) : Type 0 where
-  pub took : Took (times i (readLocation edition1)) anything s 2 p tt
+pub record Located (ed : Edition) (acts : List NodeAction) (n : ℕ) (s : List ℕ) (i p : ℕ) (places : List ℕ) : Type 0 where
+  pub took : Took (times i (readLocation ed)) anything s 2 p tt
   pub all-fit : every (locationFits n acts) (took .value) ≡ true
-  pub noted : places ≡ pad 1024 0 (placesFrom (length s) (readLocation edition1) i (drop 2 s))
+  pub noted : places ≡ pad 1024 0 (placesFrom (length s) (readLocation ed) i (drop 2 s))
 
-module _ (acts : List NodeAction) {n : ℕ} {s : List ℕ} where
-  pub located-start : Count s n → Located acts n s 0 2 (replicate 1024 0)
+module _ (ed : Edition) (acts : List NodeAction) {n : ℕ} {s : List ℕ} where
+  pub located-start : Count s n → Located ed acts n s 0 2 (replicate 1024 0)
   unfolding times give every
   located-start c = record {
     took = record { value = []; got = refl; inside = c .room; means = tt };
     all-fit = refl;
-    noted = pad-none 1024 0 ∙ ap (pad 1024 0) (sym (places-start (length s) (readLocation edition1) (drop 2 s)));
+    noted = pad-none 1024 0 ∙ ap (pad 1024 0) (sym (places-start (length s) (readLocation ed) (drop 2 s)));
   }
 
-  module _ {i p : ℕ} {places : List ℕ} (x : Located acts n s i p places) where
-    pub located-next : {q : ℕ} → i < 1024 → Took (readLocation edition1) (λ a (y : Unit {0}). locationFits n acts a ≡ true) s p q tt → Located acts n s (i + 1) q (set places i p)
+  module _ {i p : ℕ} {places : List ℕ} (x : Located ed acts n s i p places) where
+    pub located-next : {q : ℕ} → i < 1024 → Took (readLocation ed) (λ a (y : Unit {0}). locationFits n acts a ≡ true) s p q tt → Located ed acts n s (i + 1) q (set places i p)
     located-next h u = record {
-      took = record { value = x .took .value ++ (u .value ∷ []); got = rw (add-one i) (snoc (readLocation edition1) i (drop 2 s) (x .took .got) (u .got)); inside = u .inside; means = tt };
+      took = record { value = x .took .value ++ (u .value ∷ []); got = rw (add-one i) (snoc (readLocation ed) i (drop 2 s) (x .took .got) (u .got)); inside = u .inside; means = tt };
       all-fit = every-snoc (locationFits n acts) (x .took .value) (u .value) ∙ and-both (x .all-fit) (u .means);
       noted =
-          ap (λ z. set z i p) (x .noted) ∙ set-pad 1024 0 (placesFrom (length s) (readLocation edition1) i (drop 2 s)) i p (places-count (readLocation edition1) i (x .took)) h
-          ∙ ap (pad 1024 0) (sym (places-more (readLocation edition1) i (x .took) u));
+          ap (λ z. set z i p) (x .noted) ∙ set-pad 1024 0 (placesFrom (length s) (readLocation ed) i (drop 2 s)) i p (places-count (readLocation ed) i (x .took)) h
+          ∙ ap (pad 1024 0) (sym (places-more (readLocation ed) i (x .took) u));
     }
 
     module _ (c : Count s n) where
       -- as many as were counted
-      in-count : {ls : List (List Entry)} → locationsIn edition1 s ≡ some ls → length ls ≡ n
-      in-count e = times-length (readLocation edition1) n (drop 2 s) (in-times c e)
+      in-count : {ls : List (List Entry)} → locationsIn ed s ≡ some ls → length ls ≡ n
+      in-count e = times-length (readLocation ed) n (drop 2 s) (in-times ed c e)
 
       fits-count : (ls : List (List Entry)) → length ls ≡ n → locationsFit acts ls ≡ every (locationFits n acts) ls
       unfolding locationsFit
       fits-count ls e = rw e refl
 
-      pub located-stop : i < n → ((a : List Entry) (e : List ℕ) → readLocation edition1 (drop p s) ≡ read a e → locationFits n acts a ≡ false) → noLocations 19 ≡ locationsOf acts s
-      located-stop h bad = refuse acts s (λ ls e g. early (readLocation edition1) (every (locationFits n acts)) (every-append (locationFits n acts)) i (x .took) h
+      pub located-stop : i < n → ((a : List Entry) (e : List ℕ) → readLocation ed (drop p s) ≡ read a e → locationFits n acts a ≡ false) → noLocations 19 ≡ locationsOf ed acts s
+      located-stop h bad = refuse ed acts s (λ ls e g. early (readLocation ed) (every (locationFits n acts)) (every-append (locationFits n acts)) i (x .took) h
           (λ a r k. rw (every-snoc (locationFits n acts) (x .took .value) a, bad a r k, and-false (every (locationFits n acts) (x .took .value))) refl)
-          (in-times c e) (sym (fits-count ls (in-count e)) ∙ g))
+          (in-times ed c e) (sym (fits-count ls (in-count e)) ∙ g))
 
       module _ (e : i ≡ n) where
-        all : times n (readLocation edition1) (drop 2 s) ≡ read (x .took .value) (drop p s)
-        all = subst (λ n. times n (readLocation edition1) (drop 2 s) ≡ read (x .took .value) (drop p s)) e (x .took .got)
+        all : times n (readLocation ed) (drop 2 s) ≡ read (x .took .value) (drop p s)
+        all = subst (λ n. times n (readLocation ed) (drop 2 s) ≡ read (x .took .value) (drop p s)) e (x .took .got)
 
-        pub located-over : p < length s → noLocations 19 ≡ locationsOf acts s
-        located-over h = refuse acts s (λ l k g. let n : length (drop p s) ≡ 0 = ap length (read-rest (sym all ∙ in-times c k)) in omega (arith, length-drop p s))
+        pub located-over : p < length s → noLocations 19 ≡ locationsOf ed acts s
+        located-over h = refuse ed acts s (λ l k g. let n : length (drop p s) ≡ 0 = ap length (read-rest (sym all ∙ in-times ed c k)) in omega (arith, length-drop p s))
 
-        pub located-end : length s ≤ p → _≡_ {A = Locations} (record { refusal = 0; count = n; places = places }) (locationsOf acts s)
+        pub located-end : length s ≤ p → _≡_ {A = Locations} (record { refusal = 0; count = n; places = places }) (locationsOf ed acts s)
         unfolding locationIndex
         located-end k =
             let ls = x .took .value in
-            let found = times-in c (all ∙ ap (read ls) (drop-past p s k)) in
+            let found = times-in ed c (all ∙ ap (read ls) (drop-past p s k)) in
             let m : length ls ≡ n = in-count found in
-            same (sym m) (x .noted ∙ ap (λ j. pad 1024 0 (placesFrom (length s) (readLocation edition1) j (drop 2 s))) (e ∙ sym m))
-            ∙ sym (accept acts s found (fits-count ls m ∙ x .all-fit))
+            same (sym m) (x .noted ∙ ap (λ j. pad 1024 0 (placesFrom (length s) (readLocation ed) j (drop 2 s))) (e ∙ sym m))
+            ∙ sym (accept ed acts s found (fits-count ls m ∙ x .all-fit))
           where
             same : {c d : ℕ} {ps qs : List ℕ} → c ≡ d → ps ≡ qs → _≡_ {A = Locations} (record { refusal = 0; count = c; places = ps }) (record { refusal = 0; count = d; places = qs })
             same h i = cc

@@ -3,16 +3,17 @@ use mathlib.Core.Path.{_≡_, refl, sym, ap, subst, _∙_}
 use mathlib.Core.Bool.{true}
 use mathlib.Core.List.{List, [], _∷_}
 use mathlib.Core.Option.{some}
-use Prim.Native.Nat.{ℕ, zero, suc, _+_, _-_, _*_, _≤_, _<_}
+use Prim.Native.Nat.{ℕ, zero, suc, _+_, _-_, _≤_, _<_}
 use native.Mathlib.Omega.{arith}
 use lib.ListN.{length, getD, drop, replicate, getElem?, length-append, length-replicate, List·getD-append}
 use Rattle.semantics.specs.Bytes.{read, give, times}
-use Rattle.semantics.specs.Editions.{edition1}
+use Rattle.semantics.specs.Editions.{Edition}
 use Rattle.semantics.specs.Refusals.{Judged, refused}
 use Rattle.semantics.specs.TableFile.{NodeAction, Entry, readEntry, readLocation, readLocationCount, readLocations, locationsIn}
 use Rattle.semantics.specs.Tables.{locationsFit, judgeLocations}
 use Rattle.semantics.proofs.Facts.{none-not-some, some-is}
 use Rattle.semantics.proofs.Readers.{read-value, read-rest, split, guarded, whole-read}
+use Rattle.codec.specs.Numbers.{wide}
 use Rattle.codec.specs.Places.{placesFrom}
 use Rattle.codec.specs.Padding.{pad}
 use Rattle.codec.proofs.Reading.{either}
@@ -24,132 +25,144 @@ use Rattle.table_read.proofs.EntryLoop.{entryAt, entry-is, entry-took}
 use Rattle.table_read.proofs.LocationLoop.{accept, count-was, in-times}
 
 -- ---- where nothing is refused
-pub accepted-locations : (acts : List NodeAction) (s : List ℕ) → locationsOf acts s .refusal ≡ 0 → (ls : List (List Entry)) × (locationsIn edition1 s ≡ some ls) × (locationsFit acts ls ≡ true)
+pub accepted-locations : (ed : Edition) (acts : List NodeAction) (s : List ℕ) → locationsOf ed acts s .refusal ≡ 0 →
+    (ls : List (List Entry)) × (locationsIn ed s ≡ some ls) × (locationsFit acts ls ≡ true)
 unfolding locationsOf judgeLocations locationsRead
-accepted-locations acts s h = go (fitted 19 (locationsIn edition1 s) (locationsFit acts)) h
+accepted-locations ed acts s h = go (fitted 19 (locationsIn ed s) (locationsFit acts)) h
   where
-    go : {j : Judged (List (List Entry))} → Fitted 19 (locationsIn edition1 s) (locationsFit acts) j → locationsRead s j .refusal ≡ 0 → (ls : List (List Entry)) × (locationsIn edition1 s ≡ some ls) × (locationsFit acts ls ≡ true)
+    go : {j : Judged (List (List Entry))} → Fitted 19 (locationsIn ed s) (locationsFit acts) j → locationsRead ed s j .refusal ≡ 0 →
+        (ls : List (List Entry)) × (locationsIn ed s ≡ some ls) × (locationsFit acts ls ≡ true)
     go (fit {a = ls} e k) h = (ls, e, k)
     go (unfit k) h = absurd (omega arith)
 
 -- where something is
-pub refused-locations : (acts : List NodeAction) (s : List ℕ) → (locationsOf acts s .refusal ≡ 0 → ⊥) → judgeLocations edition1 acts s ≡ refused 19
+pub refused-locations : (ed : Edition) (acts : List NodeAction) (s : List ℕ) → (locationsOf ed acts s .refusal ≡ 0 → ⊥) → judgeLocations ed acts s ≡ refused 19
 unfolding locationsOf judgeLocations locationsRead locationIndex
-refused-locations acts s h = go (fitted 19 (locationsIn edition1 s) (locationsFit acts)) h
+refused-locations ed acts s h = go (fitted 19 (locationsIn ed s) (locationsFit acts)) h
   where
-    go : {j : Judged (List (List Entry))} → Fitted 19 (locationsIn edition1 s) (locationsFit acts) j → (locationsRead s j .refusal ≡ 0 → ⊥) → j ≡ refused 19
+    go : {j : Judged (List (List Entry))} → Fitted 19 (locationsIn ed s) (locationsFit acts) j → (locationsRead ed s j .refusal ≡ 0 → ⊥) → j ≡ refused 19
     go (fit e k) h = absurd (h refl)
     go (unfit k) h = refl
 
-pub fit-locations : (acts : List NodeAction) (s : List ℕ) {ls : List (List Entry)} → locationsIn edition1 s ≡ some ls → locationsOf acts s .refusal ≡ 0 → locationsFit acts ls ≡ true
-fit-locations acts s {ls} e h =
-    let k = accepted-locations acts s h in
+pub fit-locations : (ed : Edition) (acts : List NodeAction) (s : List ℕ) {ls : List (List Entry)} → locationsIn ed s ≡ some ls → locationsOf ed acts s .refusal ≡ 0 → locationsFit acts ls ≡ true
+fit-locations ed acts s {ls} e h =
+    let k = accepted-locations ed acts s h in
     subst (λ ls. locationsFit acts ls ≡ true) (some-is (sym (k .1) ∙ e)) (k .2)
 
 -- the index is that of the locations
-pub index-is : (acts : List NodeAction) (s : List ℕ) {ls : List (List Entry)} → locationsIn edition1 s ≡ some ls → locationsOf acts s .refusal ≡ 0 → locationsOf acts s ≡ locationIndex s (length ls)
-index-is acts s e h = accept acts s e (fit-locations acts s e h)
+pub index-is : (ed : Edition) (acts : List NodeAction) (s : List ℕ) {ls : List (List Entry)} → locationsIn ed s ≡ some ls → locationsOf ed acts s .refusal ≡ 0 →
+    locationsOf ed acts s ≡ locationIndex ed s (length ls)
+index-is ed acts s e h = accept ed acts s e (fit-locations ed acts s e h)
 
-times-of : (s : List ℕ) {ls : List (List Entry)} → locationsIn edition1 s ≡ some ls → (2 ≤ length s) × (1 ≤ length ls) × (length ls ≤ 1024) × (times (length ls) (readLocation edition1) (drop 2 s) ≡ read ls [])
+times-of : (ed : Edition) (s : List ℕ) {ls : List (List Entry)} → locationsIn ed s ≡ some ls →
+    (2 ≤ length s) × (1 ≤ length ls) × (length ls ≤ 1024) × (times (length ls) (readLocation ed) (drop 2 s) ≡ read ls [])
 unfolding locationsIn readLocations
-times-of s {ls} e =
-    let k = split readLocationCount _ (whole-read (readLocations edition1) s e) in
+times-of ed s {ls} e =
+    let k = split readLocationCount _ (whole-read (readLocations ed) s e) in
     let c = count-was s (k .first) in
-    let g = in-times c e in
-    let n = times-length (readLocation edition1) (k .value) (drop 2 s) g in
+    let g = in-times ed c e in
+    let n = times-length (readLocation ed) (k .value) (drop 2 s) g in
     let low = c .low in
     let high = c .high in
-    (c .room, omega arith, omega arith, subst (λ n. times n (readLocation edition1) (drop 2 s) ≡ read ls []) (sym n) g)
+    (c .room, omega arith, omega arith, subst (λ n. times n (readLocation ed) (drop 2 s) ≡ read ls []) (sym n) g)
 
-takes-entry : Takes (readEntry edition1)
+takes-entry : (ed : Edition) → Takes (readEntry ed)
 unfolding readEntry
-takes-entry = takes-then (takes-number _) (λ n. takes-then takes-nat2 (λ t. takes-then takes-nat2 (λ u. takes-give _)))
+takes-entry ed = takes-then (takes-number _) (λ n. takes-then takes-nat2 (λ t. takes-then takes-nat2 (λ u. takes-give _)))
 
-takes-location : Takes (readLocation edition1)
+takes-location : (ed : Edition) → Takes (readLocation ed)
 unfolding readLocation
-takes-location = takes-then takes-byte (λ n. takes-guard _ (takes-times n takes-entry))
+takes-location ed = takes-then takes-byte (λ n. takes-guard _ (takes-times n (takes-entry ed)))
 
 -- ---- location k
-pub record LocationAt (s : List ℕ) (ls : List (List Entry)) (k p : ℕ) : Type 0 where
+pub record LocationAt (ed : Edition) (s : List ℕ) (ls : List (List Entry)) (k p : ℕ) : Type 0 where
   pub rest : List ℕ
-  pub reads : readLocation edition1 (drop p s) ≡ read (getD ls k []) rest
+  pub reads : readLocation ed (drop p s) ≡ read (getD ls k []) rest
 
 getD-of : {A : Type 0} (l : List A) (k : ℕ) {x : A} (d : A) → getElem? l k ≡ some x → x ≡ getD l k d
 getD-of [] k d h = none-not-some h
 getD-of (y ∷ l) zero d h = sym (some-is h)
 getD-of (y ∷ l) (suc k) d h = getD-of l k d h
 
-module _ (acts : List NodeAction) (s : List ℕ) {ls : List (List Entry)} (e : locationsIn edition1 s ≡ some ls) (h : locationsOf acts s .refusal ≡ 0) where
-  pub count-is : locationsOf acts s .count ≡ length ls
+module _ (ed : Edition) (acts : List NodeAction) (s : List ℕ) {ls : List (List Entry)} (e : locationsIn ed s ≡ some ls) (h : locationsOf ed acts s .refusal ≡ 0) where
+  pub count-is : locationsOf ed acts s .count ≡ length ls
   unfolding locationIndex
-  count-is = ap (λ z. z .count) (index-is acts s e h)
+  count-is = ap (λ z. z .count) (index-is ed acts s e h)
 
   -- at least location 0 is there
-  pub count-bounds : (1 ≤ locationsOf acts s .count) × (locationsOf acts s .count ≤ 1024)
+  pub count-bounds : (1 ≤ locationsOf ed acts s .count) × (locationsOf ed acts s .count ≤ 1024)
   count-bounds =
       let n = count-is in
-      let t = times-of s e in
+      let t = times-of ed s e in
       let low = t .1 in
       let high = t .2 in
       (omega arith, omega arith)
 
-  pub places-full : length (locationsOf acts s .places) ≡ 1024
+  pub places-full : length (locationsOf ed acts s .places) ≡ 1024
   unfolding locationIndex pad
   places-full =
-      let t = times-of s e in
+      let t = times-of ed s e in
       let high = t .2 in
-      let ps = placesFrom (length s) (readLocation edition1) (length ls) (drop 2 s) in
-      let m : length ps ≡ length ls = places-length (length s) (readLocation edition1) (length ls) (drop 2 s) (t .3) in
-      ap (λ z. length (z .places)) (index-is acts s e h) ∙ length-append ps _ ∙ simp length-replicate (omega arith)
+      let ps = placesFrom (length s) (readLocation ed) (length ls) (drop 2 s) in
+      let m : length ps ≡ length ls = places-length (length s) (readLocation ed) (length ls) (drop 2 s) (t .3) in
+      ap (λ z. length (z .places)) (index-is ed acts s e h) ∙ length-append ps _ ∙ simp length-replicate (omega arith)
 
-  pub location-at : (k : ℕ) → k < locationsOf acts s .count → LocationAt s ls k (getD (locationsOf acts s .places) k 0)
+  pub location-at : (k : ℕ) → k < locationsOf ed acts s .count → LocationAt ed s ls k (getD (locationsOf ed acts s .places) k 0)
   unfolding locationIndex pad
   location-at k i =
       let n = count-is in
-      let t = times-of s e in
-      let ps = placesFrom (length s) (readLocation edition1) (length ls) (drop 2 s) in
+      let t = times-of ed s e in
+      let ps = placesFrom (length s) (readLocation ed) (length ls) (drop 2 s) in
       let j : k < length ls = omega arith in
-      let m : length ps ≡ length ls = places-length (length s) (readLocation edition1) (length ls) (drop 2 s) (t .3) in
-      let x = placed takes-location s (length ls) k 2 (t .0) (t .3) j in
-      let at : getD (locationsOf acts s .places) k 0 ≡ getD ps k 0 = ap (λ z. getD (z .places) k 0) (index-is acts s e h) ∙ List·getD-append ps (replicate (1024 - length ps) 0) 0 k (omega arith) in
-      subst (LocationAt s ls k) (sym at) (record {
+      let m : length ps ≡ length ls = places-length (length s) (readLocation ed) (length ls) (drop 2 s) (t .3) in
+      let x = placed (takes-location ed) s (length ls) k 2 (t .0) (t .3) j in
+      let at : getD (locationsOf ed acts s .places) k 0 ≡ getD ps k 0 = ap (λ z. getD (z .places) k 0) (index-is ed acts s e h) ∙
+      List·getD-append ps (replicate (1024 - length ps) 0) 0 k (omega arith) in
+      subst (LocationAt ed s ls k) (sym at) (record {
         rest = x .nth .end;
         reads = x .nth .got ∙ ap (λ z. read z (x .nth .end)) (getD-of ls k [] (x .nth .is));
       })
 
--- ---- the entries of a location
--- they stand one after the other, 5 bytes each
-pub record EntriesAt (s : List ℕ) (p : ℕ) (es : List Entry) : Type 0 where
-  pub inside : p + 5 * length es ≤ length s
-  pub entry : (j : ℕ) → j < length es → getElem? es j ≡ some (entryAt s (p + 5 * j))
+-- ---- the entries of a location, one after the other from place p on
+pub data EntriesAt (ed : Edition) (s : List ℕ) : ℕ → List Entry → Type 0 where
+  no-entries : {p : ℕ} → EntriesAt ed s p []
+  entry-then : {p : ℕ} {e : Entry} {es : List Entry} → p + (wide ed + 4) ≤ length s → e ≡ entryAt ed s p → EntriesAt ed s (p + (wide ed + 4)) es → EntriesAt ed s p (e ∷ es)
 
-entries-from : (s : List ℕ) (n p : ℕ) (m : List ℕ) {es : List Entry} {e : List ℕ} → p ≤ length s → m ≡ drop p s → times n (readEntry edition1) m ≡ read es e → EntriesAt s p es
+entries-from : (ed : Edition) (s : List ℕ) (n p : ℕ) (m : List ℕ) {es : List Entry} {e : List ℕ} → p ≤ length s → m ≡ drop p s → times n (readEntry ed) m ≡ read es e → EntriesAt ed s p es
 unfolding times give
-entries-from s zero p m b q h = subst (EntriesAt s p) (read-value h) (record { inside = omega arith; entry = λ j i. absurd (omega arith) })
-entries-from s (suc n) p m b q h =
-    let c = cons (readEntry edition1) n h in
-    let f = ap (readEntry edition1) (sym q) ∙ c .first in
-    let i = entry-is s p f .0 in
-    let v : c .mid ≡ drop (p + 1 + 2 + 2) s = read-rest (sym f ∙ entry-took s p i .got) in
-    let x = entries-from s n (p + 1 + 2 + 2) (c .mid) (omega arith) v (c .rest) in
-    subst (EntriesAt s p) (c .is) (entries-more (c .head) (c .tail) (entry-is s p f .1) x)
-  where
-    entries-more : (a : Entry) (l : List Entry) → a ≡ entryAt s p → EntriesAt s (p + 1 + 2 + 2) l → EntriesAt s p (a ∷ l)
-    entries-more a l k x = record { inside = let y = x .inside in omega arith; entry = at }
-      where
-        at : (j : ℕ) → j < suc (length l) → getElem? (a ∷ l) j ≡ some (entryAt s (p + 5 * j))
-        at zero i = let z : p + 5 * 0 ≡ p = omega arith in ap some (k ∙ ap (entryAt s) (sym z))
-        at (suc j) i = let z : p + 1 + 2 + 2 + 5 * j ≡ p + 5 * suc j = omega arith in x .entry j (omega arith) ∙ ap (λ q. some (entryAt s q)) z
+entries-from ed s zero p m b q h = subst (EntriesAt ed s p) (read-value h) no-entries
+entries-from ed s (suc n) p m b q h =
+    let c = cons (readEntry ed) n h in
+    let f = ap (readEntry ed) (sym q) ∙ c .first in
+    let i = entry-is ed s p f in
+    let inside = i .0 in
+    let next : p + wide ed + 2 + 2 ≡ p + (wide ed + 4) = omega arith in
+    let v : c .mid ≡ drop (p + (wide ed + 4)) s = read-rest (sym f ∙ entry-took ed s p inside .got) ∙ ap (λ q. drop q s) next in
+    subst (EntriesAt ed s p) (c .is) (entry-then (omega arith) (i .1) (entries-from ed s n (p + (wide ed + 4)) (c .mid) (omega arith) v (c .rest)))
+
+-- entry j of a walk over them that has come to place q
+pub record EntryHere (ed : Edition) (s : List ℕ) (es : List Entry) (j q : ℕ) : Type 0 where
+  pub inside : q + (wide ed + 4) ≤ length s
+  pub is : getElem? es j ≡ some (entryAt ed s q)
+  pub others : EntriesAt ed s (q + (wide ed + 4)) (drop (j + 1) es)
+
+pub entry-here : (ed : Edition) (s : List ℕ) (es : List Entry) (j q : ℕ) → EntriesAt ed s q (drop j es) → j < length es → EntryHere ed s es j q
+entry-here ed s [] j q x h = absurd (omega arith)
+entry-here ed s (e ∷ es) zero q (entry-then i k x) h = record { inside = i; is = ap some k; others = x }
+entry-here ed s (e ∷ es) (suc j) q x h =
+    let y = entry-here ed s es j q x (omega arith) in
+    let next : suc (j + 1) ≡ suc j + 1 = omega arith in
+    record { inside = y .inside; is = y .is; others = subst (λ k. EntriesAt ed s (q + (wide ed + 4)) (drop k (e ∷ es))) next (y .others) }
 
 -- their count, then the entries
-pub record LocationStands (s : List ℕ) (p : ℕ) (es : List Entry) : Type 0 where
+pub record LocationStands (ed : Edition) (s : List ℕ) (p : ℕ) (es : List Entry) : Type 0 where
   pub before-end : p < length s
   pub counted : length es ≡ getD s p 0
-  pub entries : EntriesAt s (p + 1) es
+  pub entries : EntriesAt ed s (p + 1) es
 
-pub location-stands : (s : List ℕ) (p : ℕ) {es : List Entry} {e : List ℕ} → readLocation edition1 (drop p s) ≡ read es e → LocationStands s p es
+pub location-stands : (ed : Edition) (s : List ℕ) (p : ℕ) {es : List Entry} {e : List ℕ} → readLocation ed (drop p s) ≡ read es e → LocationStands ed s p es
 unfolding readLocation
-location-stands s p h = either p (length s) (λ i.
+location-stands ed s p h = either p (length s) (λ i.
     let g = guarded _ _ (after-byte _ s p i h) in
-    let n = times-length (readEntry edition1) (getD s p 0) (drop (p + 1) s) (g .1) in
-    record { before-end = i; counted = n; entries = entries-from s (getD s p 0) (p + 1) (drop (p + 1) s) (omega arith) refl (g .1) }) (λ i. not-past _ s p i h)
+    let n = times-length (readEntry ed) (getD s p 0) (drop (p + 1) s) (g .1) in
+    record { before-end = i; counted = n; entries = entries-from ed s (getD s p 0) (p + 1) (drop (p + 1) s) (omega arith) refl (g .1) }) (λ i. not-past _ s p i h)

@@ -10,7 +10,7 @@ use lib.Dec.{leb, eqb}
 use lib.ListN.{length, getD, take, drop, length-drop}
 use lib.Seq.{drop-drop}
 use Rattle.semantics.specs.Bytes.{broken, read, andThen, _>>=_, give, section2, section4, just, whole}
-use Rattle.semantics.specs.Editions.{edition1}
+use Rattle.semantics.specs.Editions.{Edition}
 use Rattle.semantics.specs.Refusals.{accepted, ensure, need, _>>_}
 use Rattle.semantics.specs.TableFile.{TableSections, readTableSections, tableSectionsIn}
 use Rattle.semantics.specs.Tables.{tableHeader, judgeTableLayout}
@@ -45,37 +45,38 @@ ends-apart h es acts ls =
     record { equations = omega arith; actions = omega arith; locations = omega arith }
 
 -- ---- the header
-module _ (t : List ℕ) where
-  pub header-short : length t < 5 → false ≡ tableHeader edition1 t
+module _ (ed : Edition) (t : List ℕ) where
+  pub header-short : length t < 5 → false ≡ tableHeader ed t
   unfolding tableHeader
   header-short h = rw (lt-leb 5 (length t) h) refl
 
-  pub header-version : 5 ≤ length t → (getD t 0 0 ≡ 1 → ⊥) → false ≡ tableHeader edition1 t
+  -- v is the version that code holds
+  pub header-version : {v : ℕ} → v ≡ ed .version → 5 ≤ length t → (getD t 0 0 ≡ v → ⊥) → false ≡ tableHeader ed t
   unfolding tableHeader
-  header-version h n = rw (le-leb 5 (length t) h, ne-eqb (getD t 0 0) 1 n) refl
+  header-version v h n = rw (le-leb 5 (length t) h, ne-eqb (getD t 0 0) (ed .version) (λ e. n (e ∙ sym v))) refl
 
-  pub header-length : {n : ℕ} → 5 ≤ length t → getD t 0 0 ≡ 1 → n ≡ nat4At t 1 → eqb n (length t) ≡ tableHeader edition1 t
+  pub header-length : {v n : ℕ} → v ≡ ed .version → 5 ≤ length t → getD t 0 0 ≡ v → n ≡ nat4At t 1 → eqb n (length t) ≡ tableHeader ed t
   unfolding tableHeader
-  header-length h v e = rw (le-leb 5 (length t) h, eq-eqb (getD t 0 0) 1 v, e) refl
+  header-length v h i e = rw (le-leb 5 (length t) h, eq-eqb (getD t 0 0) (ed .version) (i ∙ v), e) refl
 
-  pub header-room : tableHeader edition1 t ≡ true → 5 ≤ length t
+  pub header-room : tableHeader ed t ≡ true → 5 ≤ length t
   unfolding tableHeader
   header-room e = leb-true 5 (length t) (and-left (leb 5 (length t)) _ e)
 
   -- ---- what the code answers
-  pub refused-15 : tableHeader edition1 t ≡ false → partsOf t ≡ noParts 15
+  pub refused-15 : tableHeader ed t ≡ false → partsOf ed t ≡ noParts 15
   unfolding partsOf partsRead judgeTableLayout ensure _>>_
   refused-15 h = rw h refl
 
-  pub refused-16 : tableHeader edition1 t ≡ true → tableSectionsIn (drop 5 t) ≡ none → partsOf t ≡ noParts 16
+  pub refused-16 : tableHeader ed t ≡ true → tableSectionsIn (drop 5 t) ≡ none → partsOf ed t ≡ noParts 16
   unfolding partsOf partsRead judgeTableLayout ensure need _>>_
   refused-16 h e = rw (h, e) refl
 
-  pub layout-is : {s : TableSections} → tableHeader edition1 t ≡ true → tableSectionsIn (drop 5 t) ≡ some s → judgeTableLayout edition1 t ≡ accepted s
+  pub layout-is : {s : TableSections} → tableHeader ed t ≡ true → tableSectionsIn (drop 5 t) ≡ some s → judgeTableLayout ed t ≡ accepted s
   unfolding judgeTableLayout need
   layout-is h e = go-ensure 15 _ h ∙ ap (need 16) e
 
-  pub read-parts : {s : TableSections} → judgeTableLayout edition1 t ≡ accepted s → partsOf t ≡ partsIn s
+  pub read-parts : {s : TableSections} → judgeTableLayout ed t ≡ accepted s → partsOf ed t ≡ partsIn s
   unfolding partsOf partsRead
   read-parts e = rw e refl
 
@@ -119,10 +120,10 @@ module _ (t : List ℕ) where
           unfolding tableSectionsIn whole just
           filled h = rw (all-read, drop-past l t h) refl
 
-          pub parts-found : 5 ≤ length t → tableHeader edition1 t ≡ true → length t ≤ l → partsAt v e a l ≡ partsOf t
+          pub parts-found : (ed : Edition) → 5 ≤ length t → tableHeader ed t ≡ true → length t ≤ l → partsAt v e a l ≡ partsOf ed t
           unfolding partsIn sections
-          parts-found h k i =
-              same _ _ _ _ (end2-is h vs) (end2-is (vs .inside) es) (end2-is (es .inside) acts) (end4-is (acts .inside) ls) ∙ sym (read-parts t (layout-is t k (filled i)))
+          parts-found ed h k i =
+              same _ _ _ _ (end2-is h vs) (end2-is (vs .inside) es) (end2-is (es .inside) acts) (end4-is (acts .inside) ls) ∙ sym (read-parts ed t (layout-is ed t k (filled i)))
             where
               same : {v e a l : ℕ} (w x y z : ℕ) → v ≡ 7 + w → e ≡ v + 2 + x → a ≡ e + 2 + y → l ≡ a + 4 + z → partsAt v e a l ≡ partsAt (7 + w) (7 + w + 2 + x) (7 + w + 2 + x + 2 + y) (7 + w + 2 + x + 2 + y + 4 + z)
               same w x y z h i j k = cc
@@ -178,24 +179,27 @@ sections-stand t {s} h e =
     subst (λ s. AllStand t (partsIn s) s) (given _ (d .rest) (d .then)) (chain t (a .value) (b .value) (c .value) (d .value) h (a .first) (b .first) (c .first) (d .first))
 
 -- where nothing is refused, the four parts are the sections
-accepted-parts : (t : List ℕ) → partsOf t .refusal ≡ 0 → (s : TableSections) × (judgeTableLayout edition1 t ≡ accepted s) × AllStand t (partsOf t) s
+accepted-parts : (ed : Edition) (t : List ℕ) → partsOf ed t .refusal ≡ 0 → (s : TableSections) × (judgeTableLayout ed t ≡ accepted s) × AllStand t (partsOf ed t) s
 unfolding partsOf partsRead judgeTableLayout ensure need _>>_
-accepted-parts t h = header (tableHeader edition1 t) refl h
+accepted-parts ed t h = header (tableHeader ed t) refl h
   where
-    sections-of : (o : Option TableSections) → tableHeader edition1 t ≡ true → tableSectionsIn (drop 5 t) ≡ o → partsRead (need 16 o) .refusal ≡ 0 → (s : TableSections) × (judgeTableLayout edition1 t ≡ accepted s) × AllStand t (partsOf t) s
+    sections-of : (o : Option TableSections) → tableHeader ed t ≡ true → tableSectionsIn (drop 5 t) ≡ o → partsRead (need 16 o) .refusal ≡ 0 →
+        (s : TableSections) × (judgeTableLayout ed t ≡ accepted s) × AllStand t (partsOf ed t) s
     sections-of none e k i = absurd (omega arith)
-    sections-of (some s) e k i = let l = layout-is t e k in (s, l, rw (read-parts t l) (sections-stand t (header-room t e) k))
+    sections-of (some s) e k i = let l = layout-is ed t e k in (s, l, rw (read-parts ed t l) (sections-stand t (header-room ed t e) k))
 
-    header : (b : Bool) → tableHeader edition1 t ≡ b → partsRead (ensure 15 b >> need 16 (tableSectionsIn (drop 5 t))) .refusal ≡ 0 → (s : TableSections) × (judgeTableLayout edition1 t ≡ accepted s) × AllStand t (partsOf t) s
+    header : (b : Bool) → tableHeader ed t ≡ b → partsRead (ensure 15 b >> need 16 (tableSectionsIn (drop 5 t))) .refusal ≡ 0 →
+        (s : TableSections) × (judgeTableLayout ed t ≡ accepted s) × AllStand t (partsOf ed t) s
     header true e k = sections-of (tableSectionsIn (drop 5 t)) e refl k
     header false e k = absurd (omega arith)
 
-pub parts-are : (t : List ℕ) → partsOf t .refusal ≡ 0 → (judgeTableLayout edition1 t ≡ accepted (sectionsAt t (partsOf t))) × AllStand t (partsOf t) (sectionsAt t (partsOf t))
+pub parts-are : (ed : Edition) (t : List ℕ) → partsOf ed t .refusal ≡ 0 → (judgeTableLayout ed t ≡ accepted (sectionsAt t (partsOf ed t))) × AllStand t (partsOf ed t) (sectionsAt t (partsOf ed t))
 unfolding sectionsAt
-parts-are t h =
-    let k = accepted-parts t h in
+parts-are ed t h =
+    let k = accepted-parts ed t h in
     let st = k .2 in
-    subst (λ s. (judgeTableLayout edition1 t ≡ accepted s) × AllStand t (partsOf t) s) (same (sym (st .variables .is)) (sym (st .equations .is)) (sym (st .actions .is)) (sym (st .locations .is))) (k .1, st)
+    subst (λ s. (judgeTableLayout ed t ≡ accepted s) × AllStand t (partsOf ed t) s)
+    (same (sym (st .variables .is)) (sym (st .equations .is)) (sym (st .actions .is)) (sym (st .locations .is))) (k .1, st)
   where
     same : {x x′ y y′ z z′ w w′ : List ℕ} → x ≡ x′ → y ≡ y′ → z ≡ z′ → w ≡ w′ → _≡_ {A = TableSections} (record { variables = x; equations = y; actions = z; locations = w }) (record { variables = x′; equations = y′; actions = z′; locations = w′ })
     same h i j k = cc

@@ -10,7 +10,7 @@ use borrow.Author.Tests.{leb-true, eqb-true}
 use lib.Dec.{leb, eqb}
 use lib.ListN.{length, getD}
 use Rattle.semantics.specs.Bytes.{every}
-use Rattle.semantics.specs.Editions.{edition1}
+use Rattle.semantics.specs.Editions.{Edition}
 use Rattle.semantics.specs.Refusals.{Judged, refused, accepted, refusalOf}
 use Rattle.semantics.specs.Plant.{Plant, judgePlant, switchesRead, selectors}
 use Rattle.semantics.specs.Run.{Action, test, wait, assign, switch, stop, isTest, possible, to, finished, halted}
@@ -49,132 +49,155 @@ first-some : {n : ℕ} {l : List Condition} → All (λ (c : Condition). 1 ≤ c
 first-some (all-cons h p) (here e i) = omega arith
 first-some (all-cons h p) (further e f) = first-some p f
 
-never-0 : (t : List ℕ) {n : ℕ} → judgeTable edition1 t ≡ refused n → 1 ≤ n
+never-0 : (ed : Edition) (t : List ℕ) {n : ℕ} → judgeTable ed t ≡ refused n → 1 ≤ n
 unfolding tableConditions
-never-0 t {n} e = go (table-first edition1 t) e
+never-0 ed t {n} e = go (table-first ed t) e
   where
-    all : All (λ (c : Condition). 1 ≤ c .refusal) (tableConditions edition1 t)
-    all = all-cons {x = 15 if is15 edition1 t} (omega arith) (all-cons {x = 16 if is16 edition1 t} (omega arith) (all-cons {x = 17 if is17 edition1 t} (omega arith) (all-cons {x = 18 if is18 edition1 t} (omega arith) (all-cons {x = 19 if is19 edition1 t} (omega arith) all-nil))))
+    all : All (λ (c : Condition). 1 ≤ c .refusal) (tableConditions ed t)
+    all =
+        all-cons {x = 15 if is15 ed t} (omega arith) (all-cons {x = 16 if is16 ed t} (omega arith)
+        (all-cons {x = 17 if is17 ed t} (omega arith) (all-cons {x = 18 if is18 ed t} (omega arith) (all-cons {x = 19 if is19 ed t} (omega arith) all-nil))))
 
-    go : {j : Judged Table} → Firsts j (tableConditions edition1 t) → j ≡ refused n → 1 ≤ n
+    go : {j : Judged Table} → Firsts j (tableConditions ed t) → j ≡ refused n → 1 ≤ n
     go (refuses {n = m} f) e = let i : m ≡ n = refused-is e in omega (arith, first-some all f)
     go (accepts k) e = refused-not-accepted (sym e)
 
-index-refusal : (t : List ℕ) → tableIndex t .refusal ≡ refusalOf (judgeTable edition1 t)
+index-refusal : (ed : Edition) (t : List ℕ) → tableIndex ed t .refusal ≡ refusalOf (judgeTable ed t)
 unfolding tableIndex indexOf refusalOf
-index-refusal t = go (judgeTable edition1 t)
+index-refusal ed t = go (judgeTable ed t)
   where
-    go : (j : Judged Table) → indexOf (partsOf t) (sectionsAt t (partsOf t)) j .refusal ≡ refusalOf j
+    go : (j : Judged Table) → indexOf ed (partsOf ed t) (sectionsAt t (partsOf ed t)) j .refusal ≡ refusalOf j
     go (refused n) = refl
     go (accepted tb) = refl
 
 -- a table of which this is the index
-pub record Accepted (t : List ℕ) : Type 0 where
+pub record Accepted (ed : Edition) (t : List ℕ) : Type 0 where
   pub table : Table
-  pub is : judgeTable edition1 t ≡ accepted table
+  pub is : judgeTable ed t ≡ accepted table
 
-module _ (t : List ℕ) {ix : TableIndex} (h : ix ≡ tableIndex t) where
-  refusal-is : ix .refusal ≡ refusalOf (judgeTable edition1 t)
-  refusal-is = ap (λ (x : TableIndex). x .refusal) h ∙ index-refusal t
+module _ (ed : Edition) (t : List ℕ) {ix : TableIndex} (h : ix ≡ tableIndex ed t) where
+  refusal-is : ix .refusal ≡ refusalOf (judgeTable ed t)
+  refusal-is = ap (λ (x : TableIndex). x .refusal) h ∙ index-refusal ed t
 
-  pub table-of : ix .refusal ≡ 0 → Accepted t
+  pub table-of : ix .refusal ≡ 0 → Accepted ed t
   unfolding refusalOf
-  table-of z = go (judgeTable edition1 t) refl
+  table-of z = go (judgeTable ed t) refl
     where
-      go : (j : Judged Table) → judgeTable edition1 t ≡ j → Accepted t
-      go (refused n) e = let i : n ≡ 0 = sym (ap refusalOf e) ∙ sym refusal-is ∙ z in absurd (omega (arith, never-0 t e))
+      go : (j : Judged Table) → judgeTable ed t ≡ j → Accepted ed t
+      go (refused n) e = let i : n ≡ 0 = sym (ap refusalOf e) ∙ sym refusal-is ∙ z in absurd (omega (arith, never-0 ed t e))
       go (accepted tb) e = record { table = tb; is = e }
 
-  pub refused-table : (ix .refusal ≡ 0 → ⊥) → judgeTable edition1 t ≡ refused (ix .refusal)
+  pub refused-table : (ix .refusal ≡ 0 → ⊥) → judgeTable ed t ≡ refused (ix .refusal)
   unfolding refusalOf
-  refused-table z = go (judgeTable edition1 t) refl
+  refused-table z = go (judgeTable ed t) refl
     where
-      go : (j : Judged Table) → judgeTable edition1 t ≡ j → judgeTable edition1 t ≡ refused (ix .refusal)
+      go : (j : Judged Table) → judgeTable ed t ≡ j → judgeTable ed t ≡ refused (ix .refusal)
       go (refused n) e = e ∙ ap refused (sym (refusal-is ∙ ap refusalOf e))
       go (accepted tb) e = absurd (z (refusal-is ∙ ap refusalOf e))
 
 -- ---- the sections of an accepted table, and what they passed
-pub record Opened (t : List ℕ) (tb : Table) : Type 0 where
-  pub stand : AllStand t (partsOf t) (sectionsAt t (partsOf t))
-  pub plant : judgePlant edition1 (sectionsAt t (partsOf t) .variables) (sectionsAt t (partsOf t) .equations) ≡ accepted (tb .plant)
-  pub switches : switchesRead edition1 (tb .plant) ≡ true
-  pub actions : actionsIn edition1 (sectionsAt t (partsOf t) .actions) ≡ some (tb .actions)
-  pub actions-passed : actionsOf (sectionsAt t (partsOf t) .actions) .refusal ≡ 0
-  pub operands : operandsFit edition1 (tb .plant) (tb .actions) ≡ true
-  pub locations : locationsIn edition1 (sectionsAt t (partsOf t) .locations) ≡ some (tb .locations)
+pub record Opened (ed : Edition) (t : List ℕ) (tb : Table) : Type 0 where
+  pub stand : AllStand t (partsOf ed t) (sectionsAt t (partsOf ed t))
+  pub plant : judgePlant ed (sectionsAt t (partsOf ed t) .variables) (sectionsAt t (partsOf ed t) .equations) ≡ accepted (tb .plant)
+  pub switches : switchesRead ed (tb .plant) ≡ true
+  pub actions : actionsIn ed (sectionsAt t (partsOf ed t) .actions) ≡ some (tb .actions)
+  pub actions-passed : actionsOf ed (sectionsAt t (partsOf ed t) .actions) .refusal ≡ 0
+  pub operands : operandsFit ed (tb .plant) (tb .actions) ≡ true
+  pub locations : locationsIn ed (sectionsAt t (partsOf ed t) .locations) ≡ some (tb .locations)
   pub locations-fit : locationsFit (tb .actions) (tb .locations) ≡ true
-  pub locations-passed : locationsOf (tb .actions) (sectionsAt t (partsOf t) .locations) .refusal ≡ 0
+  pub locations-passed : locationsOf ed (tb .actions) (sectionsAt t (partsOf ed t) .locations) .refusal ≡ 0
 
-pub opened : (t : List ℕ) {tb : Table} → judgeTable edition1 t ≡ accepted tb → Opened t tb
+pub opened : (ed : Edition) (t : List ℕ) {tb : Table} → judgeTable ed t ≡ accepted tb → Opened ed t tb
 unfolding partsIn actionIndex locationIndex actionsFit
-opened t {tb} e =
-    let k = table-passed edition1 t e in
-    let l = layout-is t (k .header) (k .is-parts) in
-    let z : partsOf t .refusal ≡ 0 = ap (λ (p : Parts). p .refusal) (read-parts t l) in
-    let s : k .parts ≡ sectionsAt t (partsOf t) = accepted-is (sym l ∙ parts-are t z .0) in
+opened ed t {tb} e =
+    let k = table-passed ed t e in
+    let l = layout-is ed t (k .header) (k .is-parts) in
+    let z : partsOf ed t .refusal ≡ 0 = ap (λ (p : Parts). p .refusal) (read-parts ed t l) in
+    let s : k .parts ≡ sectionsAt t (partsOf ed t) = accepted-is (sym l ∙ parts-are ed t z .0) in
     let f = k .acts-fit in
-    let laid = and-left (actionsNumbered edition1 (tb .actions)) (operandsFit edition1 (tb .plant) (tb .actions)) f in
-    let acts : actionsIn edition1 (sectionsAt t (partsOf t) .actions) ≡ some (tb .actions) = ap (λ s. actionsIn edition1 (s .actions)) (sym s) ∙ k .acts in
-    let locs : locationsIn edition1 (sectionsAt t (partsOf t) .locations) ≡ some (tb .locations) = ap (λ s. locationsIn edition1 (s .locations)) (sym s) ∙ k .locs in
+    let laid = and-left (actionsNumbered ed (tb .actions)) (operandsFit ed (tb .plant) (tb .actions)) f in
+    let acts : actionsIn ed (sectionsAt t (partsOf ed t) .actions) ≡ some (tb .actions) = ap (λ s. actionsIn ed (s .actions)) (sym s) ∙ k .acts in
+    let locs : locationsIn ed (sectionsAt t (partsOf ed t) .locations) ≡ some (tb .locations) = ap (λ s. locationsIn ed (s .locations)) (sym s) ∙ k .locs in
     record {
-      stand = parts-are t z .1;
-      plant = subst (λ s. judgePlant edition1 (s .variables) (s .equations) ≡ accepted (tb .plant)) s (k .plant);
+      stand = parts-are ed t z .1;
+      plant = subst (λ s. judgePlant ed (s .variables) (s .equations) ≡ accepted (tb .plant)) s (k .plant);
       switches = k .switches;
       actions = acts;
-      actions-passed = ap (λ (x : Actions). x .refusal) (actions-accept _ acts laid);
-      operands = and-right (actionsNumbered edition1 (tb .actions)) (operandsFit edition1 (tb .plant) (tb .actions)) f;
+      actions-passed = ap (λ (x : Actions). x .refusal) (actions-accept ed _ acts laid);
+      operands = and-right (actionsNumbered ed (tb .actions)) (operandsFit ed (tb .plant) (tb .actions)) f;
       locations = locs;
       locations-fit = k .locs-fit;
-      locations-passed = ap (λ (x : Locations). x .refusal) (locations-accept (tb .actions) _ locs (k .locs-fit));
+      locations-passed = ap (λ (x : Locations). x .refusal) (locations-accept ed (tb .actions) _ locs (k .locs-fit));
     }
 
 -- the index of an accepted table, field by field
-module _ (t : List ℕ) {ix : TableIndex} (h : ix ≡ tableIndex t) {tb : Table} (e : judgeTable edition1 t ≡ accepted tb) where
-  index-of : ix ≡ record { refusal = 0; parts = partsOf t; plant = plantOf (sectionsAt t (partsOf t) .variables) (sectionsAt t (partsOf t) .equations); actions = actionsOf (sectionsAt t (partsOf t) .actions); locations = locationsOf (tb .actions) (sectionsAt t (partsOf t) .locations) }
+module _ (ed : Edition) (t : List ℕ) {ix : TableIndex} (h : ix ≡ tableIndex ed t) {tb : Table} (e : judgeTable ed t ≡ accepted tb) where
+  index-of : ix ≡ record {
+    refusal = 0;
+    parts = partsOf ed t;
+    plant = plantOf ed (sectionsAt t (partsOf ed t) .variables) (sectionsAt t (partsOf ed t) .equations);
+    actions = actionsOf ed (sectionsAt t (partsOf ed t) .actions);
+    locations = locationsOf ed (tb .actions) (sectionsAt t (partsOf ed t) .locations);
+  }
   unfolding tableIndex indexOf
   index-of = h ∙ rw e refl
 
-  pub parts-read : ix .parts ≡ partsOf t
+  pub parts-read : ix .parts ≡ partsOf ed t
   parts-read = ap (λ (x : TableIndex). x .parts) index-of
 
-  pub plant-read : ix .plant ≡ plantOf (sectionsAt t (partsOf t) .variables) (sectionsAt t (partsOf t) .equations)
+  pub plant-read : ix .plant ≡ plantOf ed (sectionsAt t (partsOf ed t) .variables) (sectionsAt t (partsOf ed t) .equations)
   plant-read = ap (λ (x : TableIndex). x .plant) index-of
 
-  pub actions-read : ix .actions ≡ actionsOf (sectionsAt t (partsOf t) .actions)
+  pub actions-read : ix .actions ≡ actionsOf ed (sectionsAt t (partsOf ed t) .actions)
   actions-read = ap (λ (x : TableIndex). x .actions) index-of
 
-  pub locations-read : ix .locations ≡ locationsOf (tb .actions) (sectionsAt t (partsOf t) .locations)
+  pub locations-read : ix .locations ≡ locationsOf ed (tb .actions) (sectionsAt t (partsOf ed t) .locations)
   locations-read = ap (λ (x : TableIndex). x .locations) index-of
 
 -- ---- a node that has an action; x is the index of the action section s
-pub record ActionPromised (s : List ℕ) (x : Actions) (p : Plant) (n : ℕ) (a : Action) : Type 0 where
-  pub below : n < 64
+pub record ActionPromised (ed : Edition) (s : List ℕ) (x : Actions) (p : Plant) (n : ℕ) (a : Action) : Type 0 where
+  pub below : n < ed .nodes
   pub ordered : getD (x .starts) n 0 ≤ getD (x .ends) n 0
   pub inside : getD (x .ends) n 0 ≤ length s
   pub is : actionOfKind (actionKind (getD (x .kinds) n 0)) (operandOf s x n) ≡ some a
-  pub fits : operandFits edition1 (length (p .variables)) (selectors p) a ≡ true
+  pub fits : operandFits ed (length (p .variables)) (selectors p) a ≡ true
 
-nodes-below : (l : List NodeAction) (n : ℕ) {a : Action} → actionsNumbered edition1 l ≡ true → actionAt l n ≡ some a → n < 64
+nodes-below : (ed : Edition) (l : List NodeAction) (n : ℕ) {a : Action} → actionsNumbered ed l ≡ true → actionAt l n ≡ some a → n < ed .nodes
 unfolding actionsNumbered
-nodes-below l n h e = either n 64 (λ i. i) (λ i. none-not-some (sym (nowhere-above l n (and-right (risingFrom 0 (actionNodes l)) (every (nodeExists edition1) l) h) i) ∙ e))
+nodes-below ed l n h e = either n (ed .nodes) (λ i. i) (λ i. none-not-some (sym (nowhere-above ed l n (and-right (risingFrom 0 (actionNodes l)) (every (nodeExists ed) l) h) i) ∙ e))
 
-pub action-promised : (t : List ℕ) {tb : Table} → Opened t tb → {x : Actions} → x ≡ actionsOf (sectionsAt t (partsOf t) .actions) → (n : ℕ) {a : Action} → actionAt (tb .actions) n ≡ some a → ActionPromised (sectionsAt t (partsOf t) .actions) x (tb .plant) n a
+pub action-promised : (ed : Edition) (t : List ℕ) {tb : Table} → Opened ed t tb → {x : Actions} → x ≡ actionsOf ed (sectionsAt t (partsOf ed t) .actions) → (n : ℕ) {a : Action} →
+    actionAt (tb .actions) n ≡ some a → ActionPromised ed (sectionsAt t (partsOf ed t) .actions) x (tb .plant) n a
 unfolding operandsFit
-action-promised t {tb} o {x} q n {a} e = subst (λ x. ActionPromised s x (tb .plant) n a) (sym q) (go (action-here s (o .actions) (o .actions-passed) n below))
+action-promised ed t {tb} o {x} q n {a} e = subst (λ x. ActionPromised ed s x (tb .plant) n a) (sym q)
+    (go (action-here ed s (o .actions) (o .actions-passed) n (omega (arith, below, ed .entries-fit))))
   where
     s : List ℕ
-    s = sectionsAt t (partsOf t) .actions
+    s = sectionsAt t (partsOf ed t) .actions
 
-    below : n < 64
-    below = nodes-below (tb .actions) n (laid-actions s (o .actions) (o .actions-passed)) e
+    below : n < ed .nodes
+    below = nodes-below ed (tb .actions) n (laid-actions ed s (o .actions) (o .actions-passed)) e
 
-    go : Here s (actionsOf s) (actionAt (tb .actions) n) n → ActionPromised s (actionsOf s) (tb .plant) n a
+    go : Here s (actionsOf ed s) (actionAt (tb .actions) n) n → ActionPromised ed s (actionsOf ed s) (tb .plant) n a
     go (no-action i j st en) = none-not-some (sym i ∙ e)
-    go (one-action i j b c k) = record { below = below; ordered = b; inside = c; is = k ∙ sym i ∙ e; fits = by-node-every (operandFits edition1 (length (tb .plant .variables)) (selectors (tb .plant))) (tb .actions) n (o .operands) e }
+    go (one-action i j b c k) =
+        record {
+          below = below;
+          ordered = b;
+          inside = c;
+          is = k ∙ sym i ∙ e;
+          fits = by-node-every (operandFits ed (length (tb .plant .variables)) (selectors (tb .plant)))
+              (tb .actions) n (o .operands) e;
+        }
 
-pub lengths-of : (s : List ℕ) {l : List NodeAction} → actionsIn edition1 s ≡ some l → actionsOf s .refusal ≡ 0 → (length (actionsOf s .kinds) ≡ 64) × (length (actionsOf s .starts) ≡ 64) × (length (actionsOf s .ends) ≡ 64)
+pub lengths-of : (ed : Edition) (s : List ℕ) {l : List NodeAction} → actionsIn ed s ≡ some l → actionsOf ed s .refusal ≡ 0 →
+    (length (actionsOf ed s .kinds) ≡ 256) × (length (actionsOf ed s .starts) ≡ 256) × (length (actionsOf ed s .ends) ≡ 256)
 unfolding actionIndex byNode
-lengths-of s e h = let i = index-is s e h in (ap (λ (x : Actions). length (x .kinds)) i ∙ listed-length 64 _, ap (λ (x : Actions). length (x .starts)) i ∙ listed-length 64 _, ap (λ (x : Actions). length (x .ends)) i ∙ listed-length 64 _)
+lengths-of ed s e h =
+    let i = index-is ed s e h in
+    let kinds = ap (λ (x : Actions). length (x .kinds)) i ∙ listed-length 256 _ in
+    let starts = ap (λ (x : Actions). length (x .starts)) i ∙ listed-length 256 _ in
+    (kinds, starts, ap (λ (x : Actions). length (x .ends)) i ∙ listed-length 256 _)
 
 -- ---- a location
 getD-all : {A : Type 0} {P : A → Type 0} (l : List A) (k : ℕ) (d : A) → k < length l → All P l → P (getD l k d)
@@ -182,11 +205,13 @@ getD-all [] k d h a = absurd (omega arith)
 getD-all (x ∷ l) zero d h (all-cons i a) = i
 getD-all (x ∷ l) (suc k) d h (all-cons i a) = getD-all l k d (omega arith) a
 
-pub location-promised : (t : List ℕ) {tb : Table} → Opened t tb → {x : Locations} → x ≡ locationsOf (tb .actions) (sectionsAt t (partsOf t) .locations) → (k : ℕ) → k < length (tb .locations) → LocationPromised (sectionsAt t (partsOf t) .locations) (getD (x .places) k 0) (length (tb .locations)) (tb .actions) (getD (tb .locations) k [])
+pub location-promised : (ed : Edition) (t : List ℕ) {tb : Table} → Opened ed t tb → {x : Locations} → x ≡ locationsOf ed (tb .actions) (sectionsAt t (partsOf ed t) .locations) →
+    (k : ℕ) → k < length (tb .locations) → LocationPromised ed (sectionsAt t (partsOf ed t) .locations) (getD (x .places) k 0) (length (tb .locations)) (tb .actions)
+    (getD (tb .locations) k [])
 unfolding locationsFit
-location-promised t {tb} o {x} q k h = subst (λ x. LocationPromised s (getD (x .places) k 0) (length (tb .locations)) (tb .actions) (getD (tb .locations) k [])) (sym q)
-    (let n = count-is (tb .actions) s (o .locations) (o .locations-passed) in
-    let a = location-at (tb .actions) s (o .locations) (o .locations-passed) k (omega arith) in
+location-promised ed t {tb} o {x} q k h = subst (λ x. LocationPromised ed s (getD (x .places) k 0) (length (tb .locations)) (tb .actions) (getD (tb .locations) k [])) (sym q)
+    (let n = count-is ed (tb .actions) s (o .locations) (o .locations-passed) in
+    let a = location-at ed (tb .actions) s (o .locations) (o .locations-passed) k (omega arith) in
     record {
       rest = a .rest;
       reads = a .reads;
@@ -194,7 +219,7 @@ location-promised t {tb} o {x} q k h = subst (λ x. LocationPromised s (getD (x 
     })
   where
     s : List ℕ
-    s = sectionsAt t (partsOf t) .locations
+    s = sectionsAt t (partsOf ed t) .locations
 
 -- how many there are, and how long the array is
 pub record LocationsPromised (x : Locations) (tb : Table) : Type 0 where
@@ -203,13 +228,14 @@ pub record LocationsPromised (x : Locations) (tb : Table) : Type 0 where
   pub high : length (tb .locations) ≤ 1024
   pub full : length (x .places) ≡ 1024
 
-pub locations-promised : (t : List ℕ) {tb : Table} → Opened t tb → {x : Locations} → x ≡ locationsOf (tb .actions) (sectionsAt t (partsOf t) .locations) → LocationsPromised x tb
-locations-promised t {tb} o q = subst (λ x. LocationsPromised x tb) (sym q)
-    (let n = count-is (tb .actions) _ (o .locations) (o .locations-passed) in
-    let b = count-bounds (tb .actions) _ (o .locations) (o .locations-passed) in
+pub locations-promised : (ed : Edition) (t : List ℕ) {tb : Table} → Opened ed t tb → {x : Locations} → x ≡ locationsOf ed (tb .actions) (sectionsAt t (partsOf ed t) .locations) →
+    LocationsPromised x tb
+locations-promised ed t {tb} o q = subst (λ x. LocationsPromised x tb) (sym q)
+    (let n = count-is ed (tb .actions) _ (o .locations) (o .locations-passed) in
+    let b = count-bounds ed (tb .actions) _ (o .locations) (o .locations-passed) in
     let low = b .0 in
     let high = b .1 in
-    record { count = n; low = omega arith; high = omega arith; full = places-full (tb .actions) _ (o .locations) (o .locations-passed) })
+    record { count = n; low = omega arith; high = omega arith; full = places-full ed (tb .actions) _ (o .locations) (o .locations-passed) })
 
 -- ---- the entries of a location that fits
 -- each with an action
@@ -247,17 +273,17 @@ rising-few m low (n ∷ l) h (all-cons b a) = go (leb low n) refl h (λ i. risin
         omega arith
     go false e h f = true-not-false (sym h)
 
-pub entries-few : (t : List ℕ) {tb : Table} → Opened t tb → (k : ℕ) → k < length (tb .locations) → length (getD (tb .locations) k []) ≤ 64
+pub entries-few : (ed : Edition) (t : List ℕ) {tb : Table} → Opened ed t tb → (k : ℕ) → k < length (tb .locations) → length (getD (tb .locations) k []) ≤ ed .nodes
 unfolding entryNodes
-entries-few t {tb} o k h =
+entries-few ed t {tb} o k h =
     let es = getD (tb .locations) k [] in
-    let fits = location-promised t o refl k h .fits in
-    let few = rising-few 64 0 (entryNodes es) (nodes-rise _ _ es fits) (below es (entries-promised _ (tb .actions) es fits)) in
+    let fits = location-promised ed t o refl k h .fits in
+    let few = rising-few (ed .nodes) 0 (entryNodes es) (nodes-rise _ _ es fits) (below es (entries-promised _ (tb .actions) es fits)) in
     omega (arith, same es)
   where
-    below : (es : List Entry) → All (EntryPromised (length (tb .locations)) (tb .actions)) es → All (λ n. n < 64) (entryNodes es)
+    below : (es : List Entry) → All (EntryPromised (length (tb .locations)) (tb .actions)) es → All (λ n. n < ed .nodes) (entryNodes es)
     below [] all-nil = all-nil
-    below (e ∷ es) (all-cons p a) = all-cons (nodes-below (tb .actions) (e .node) (laid-actions _ (o .actions) (o .actions-passed)) (p .is)) (below es a)
+    below (e ∷ es) (all-cons p a) = all-cons (nodes-below ed (tb .actions) (e .node) (laid-actions ed _ (o .actions) (o .actions-passed)) (p .is)) (below es a)
 
     same : (es : List Entry) → length (entryNodes es) ≡ length es
     same [] = refl

@@ -2,7 +2,7 @@
 use mathlib.Core.Path.{_≡_, refl, ap, _∙_}
 use mathlib.Core.List.{List}
 use Prim.Native.Nat.{ℕ}
-use Rattle.semantics.specs.Editions.{edition1}
+use Rattle.semantics.specs.Editions.{Edition}
 use Rattle.semantics.specs.Refusals.{Judged, refused, accepted}
 use Rattle.semantics.specs.Tables.{Table, judgeTable}
 use Rattle.semantics.specs.Calls.{tableCounts, readTable}
@@ -22,16 +22,17 @@ counts e f g h = cc
 abbrev pub countsOf : TableIndex → TableRead
 countsOf x = record { refusal = x .refusal; variables = x .plant .variables; selectors = x .plant .selectors; actions = x .actions .count; locations = x .locations .count }
 
-index-counts : (t : List ℕ) → countsOf (tableIndex t) ≡ tableNumbers (readTable edition1 t)
+index-counts : (ed : Edition) (t : List ℕ) → countsOf (tableIndex ed t) ≡ tableNumbers (readTable ed t)
 unfolding tableIndex indexOf tableNumbers readTable tableCounts refusedPlant
-index-counts t = go (judgeTable edition1 t) refl
+index-counts ed t = go (judgeTable ed t) refl
   where
-    go : (j : Judged Table) → judgeTable edition1 t ≡ j → countsOf (indexOf (partsOf t) (sectionsAt t (partsOf t)) (judgeTable edition1 t)) ≡ tableNumbers (tableCounts (judgeTable edition1 t))
+    go : (j : Judged Table) → judgeTable ed t ≡ j → countsOf (indexOf ed (partsOf ed t) (sectionsAt t (partsOf ed t)) (judgeTable ed t)) ≡ tableNumbers (tableCounts (judgeTable ed t))
     go (refused n) e = rw e refl
     go (accepted tb) e =
-        let o = opened t e in
-        let s = sectionsAt t (partsOf t) in
-        rw e (counts (variables-of (s .variables) (s .equations) (o .plant)) (selectors-of (s .variables) (s .equations) (o .plant)) (actions-count (s .actions) (o .actions) (o .actions-passed)) (locations-count (tb .actions) (s .locations) (o .locations) (o .locations-passed)))
+        let o = opened ed t e in
+        let s = sectionsAt t (partsOf ed t) in
+        rw e (counts (variables-of ed (s .variables) (s .equations) (o .plant)) (selectors-of ed (s .variables) (s .equations) (o .plant))
+        (actions-count ed (s .actions) (o .actions) (o .actions-passed)) (locations-count ed (tb .actions) (s .locations) (o .locations) (o .locations-passed)))
 
-pub counts-are : (t : List ℕ) {x : TableIndex} → x ≡ tableIndex t → countsOf x ≡ tableNumbers (readTable edition1 t)
-counts-are t e = ap countsOf e ∙ index-counts t
+pub counts-are : (ed : Edition) (t : List ℕ) {x : TableIndex} → x ≡ tableIndex ed t → countsOf x ≡ tableNumbers (readTable ed t)
+counts-are ed t e = ap countsOf e ∙ index-counts ed t

@@ -7,7 +7,7 @@ use Prim.Native.Nat.{ℕ, _-_, _≤_}
 use native.Mathlib.Omega.{arith}
 use lib.ListN.{length, take, drop}
 use Rattle.semantics.specs.Bytes.{every}
-use Rattle.semantics.specs.Editions.{edition1}
+use Rattle.semantics.specs.Editions.{Edition}
 use Rattle.semantics.specs.Refusals.{Judged, refused, accepted, oneNumber, ensure, _>>=_, _>>_}
 use Rattle.semantics.specs.Sections.{Equation, equationsIn}
 use Rattle.semantics.specs.Plant.{Plant, judgePlant, switchesRead, equationReads, selectors}
@@ -35,148 +35,151 @@ use Rattle.table_read.proofs.ActionsFound.{accepted-actions, refused-ac
 use Rattle.table_read.proofs.LocationLoop.{judged as locations-judged}
 use Rattle.table_read.proofs.LocationsFound.{accepted-locations, refused-locations}
 
-index-refused : (p : Parts) (s : TableSections) {j : Judged Table} {n : ℕ} → j ≡ refused n → noTable n ≡ indexOf p s j
+index-refused : (ed : Edition) (p : Parts) (s : TableSections) {j : Judged Table} {n : ℕ} → j ≡ refused n → noTable n ≡ indexOf ed p s j
 unfolding indexOf
-index-refused p s e = rw e refl
+index-refused ed p s e = rw e refl
 
 -- ---- 15 and 16
-module _ (t : List ℕ) {p : Parts} (h : p ≡ partsOf t) where
-  said : {n : ℕ} → partsOf t ≡ noParts n → judgeTable edition1 t ≡ refused n → noTable (p .refusal) ≡ tableIndex t
+module _ (ed : Edition) (t : List ℕ) {p : Parts} (h : p ≡ partsOf ed t) where
+  said : {n : ℕ} → partsOf ed t ≡ noParts n → judgeTable ed t ≡ refused n → noTable (p .refusal) ≡ tableIndex ed t
   unfolding tableIndex
-  said e k = ap (λ (p : Parts). noTable (p .refusal)) (h ∙ e) ∙ index-refused (partsOf t) (sectionsAt t (partsOf t)) k
+  said e k = ap (λ (p : Parts). noTable (p .refusal)) (h ∙ e) ∙ index-refused ed (partsOf ed t) (sectionsAt t (partsOf ed t)) k
 
-  pub by-parts : (p .refusal ≡ 0 → ⊥) → noTable (p .refusal) ≡ tableIndex t
+  pub by-parts : (p .refusal ≡ 0 → ⊥) → noTable (p .refusal) ≡ tableIndex ed t
   unfolding judgeTable partsOf partsRead partsIn _>>=_
-  by-parts z = go (judgeTableLayout edition1 t) refl
+  by-parts z = go (judgeTableLayout ed t) refl
     where
-      go : (j : Judged TableSections) → judgeTableLayout edition1 t ≡ j → noTable (p .refusal) ≡ tableIndex t
+      go : (j : Judged TableSections) → judgeTableLayout ed t ≡ j → noTable (p .refusal) ≡ tableIndex ed t
       go (refused n) e = said (ap partsRead e) (rw e refl)
-      go (accepted s) e = absurd (z (ap (λ (p : Parts). p .refusal) (h ∙ read-parts t e)))
+      go (accepted s) e = absurd (z (ap (λ (p : Parts). p .refusal) (h ∙ read-parts ed t e)))
 
   module _ (z : p .refusal ≡ 0) where
-    not-refused : partsOf t .refusal ≡ 0
+    not-refused : partsOf ed t .refusal ≡ 0
     not-refused = sym (ap (λ (p : Parts). p .refusal) h) ∙ z
 
-    pub parts-stand : AllStand t p (sectionsAt t (partsOf t))
-    parts-stand = subst (λ p. AllStand t p (sectionsAt t (partsOf t))) (sym h) (parts-are t not-refused .1)
+    pub parts-stand : AllStand t p (sectionsAt t (partsOf ed t))
+    parts-stand = subst (λ p. AllStand t p (sectionsAt t (partsOf ed t))) (sym h) (parts-are ed t not-refused .1)
 
-    after-16 : judgeTable edition1 t ≡ judgeTableSections edition1 (sectionsAt t (partsOf t))
+    after-16 : judgeTable ed t ≡ judgeTableSections ed (sectionsAt t (partsOf ed t))
     unfolding judgeTable
-    after-16 = go-then _ (parts-are t not-refused .0)
+    after-16 = go-then _ (parts-are ed t not-refused .0)
 
-    pub by-sections : sectionsIndex p (take (p .«variables_end» - p .variables) (drop (p .variables) t)) (take (p .«equations_end» - p .equations) (drop (p .equations) t)) (take (p .«actions_end» - p .actions) (drop (p .actions) t)) (take (p .«locations_end» - p .locations) (drop (p .locations) t)) ≡ tableIndex t
+    pub by-sections : sectionsIndex ed p (take (p .«variables_end» - p .variables) (drop (p .variables) t)) (take (p .«equations_end» - p .equations) (drop (p .equations) t))
+        (take (p .«actions_end» - p .actions) (drop (p .actions) t)) (take (p .«locations_end» - p .locations) (drop (p .locations) t)) ≡ tableIndex ed t
     unfolding sectionsIndex tableIndex sectionsAt
-    by-sections = ap (λ (p : Parts). indexOf p (sectionsAt t p) (judgeTableSections edition1 (sectionsAt t p))) h ∙ ap (indexOf (partsOf t) (sectionsAt t (partsOf t))) (sym after-16)
+    by-sections = ap (λ (p : Parts). indexOf ed p (sectionsAt t p) (judgeTableSections ed (sectionsAt t p))) h ∙ ap (indexOf ed (partsOf ed t) (sectionsAt t (partsOf ed t))) (sym after-16)
 
 -- ---- 17
-module _ (vs es : List ℕ) {q : PlantRead} (h : q ≡ plantOf vs es) (z : q .refusal ≡ 0) where
+module _ (ed : Edition) (vs es : List ℕ) {q : PlantRead} (h : q ≡ plantOf ed vs es) (z : q .refusal ≡ 0) where
   plant : Plant
-  plant = passes vs es (sym (ap (λ (q : PlantRead). q .refusal) h) ∙ z) .plant
+  plant = passes ed vs es (sym (ap (λ (q : PlantRead). q .refusal) h) ∙ z) .plant
 
-  plant-is : judgePlant edition1 vs es ≡ accepted plant
+  plant-is : judgePlant ed vs es ≡ accepted plant
   unfolding plant
-  plant-is = passes vs es (sym (ap (λ (q : PlantRead). q .refusal) h) ∙ z) .is
+  plant-is = passes ed vs es (sym (ap (λ (q : PlantRead). q .refusal) h) ∙ z) .is
 
   variables-are : q .variables ≡ length (plant .variables)
-  variables-are = ap (λ (q : PlantRead). q .variables) h ∙ variables-of vs es plant-is
+  variables-are = ap (λ (q : PlantRead). q .variables) h ∙ variables-of ed vs es plant-is
 
   pub few-variables : q .variables ≤ 32
-  few-variables = omega (arith, variables-are, variables-high vs es plant-is)
+  few-variables = omega (arith, variables-are, variables-high ed vs es plant-is)
 
   pub counts-full : length (q .modes) ≡ 16
-  counts-full = ap (λ (q : PlantRead). length (q .modes)) h ∙ modes-full vs es plant-is
+  counts-full = ap (λ (q : PlantRead). length (q .modes)) h ∙ modes-full ed vs es plant-is
 
   pub counts-room : q .selectors ≤ length (q .modes)
-  counts-room = subst (λ (q : PlantRead). q .selectors ≤ length (q .modes)) (sym h) (modes-room vs es plant-is)
+  counts-room = subst (λ (q : PlantRead). q .selectors ≤ length (q .modes)) (sym h) (modes-room ed vs es plant-is)
 
   counts-at : ModesAt (q .modes) (q .selectors) (selectors plant)
-  counts-at = subst (λ (q : PlantRead). ModesAt (q .modes) (q .selectors) (selectors plant)) (sym h) (modes-held vs es plant-is)
+  counts-at = subst (λ (q : PlantRead). ModesAt (q .modes) (q .selectors) (selectors plant)) (sym h) (modes-held ed vs es plant-is)
 
   pub equations-there : There (equationsIn es)
-  equations-there = record { value = plant .equations; is = passed-all vs es plant-is .equations }
+  equations-there = record { value = plant .equations; is = passed-all ed vs es plant-is .equations }
 
 pub found : {p : Parts} {q q' : PlantRead} {a a' : Actions} {l l' : Locations} → q ≡ q' → a ≡ a' → l ≡ l' → _≡_ {A = TableIndex} (record { refusal = 0; parts = p; plant = q; actions = a; locations = l }) (record { refusal = 0; parts = p; plant = q'; actions = a'; locations = l' })
 found e f g = cc
 
-module _ (p : Parts) (vs es ops locs : List ℕ) {q : PlantRead} (h : q ≡ plantOf vs es) where
-  refuses : {n : ℕ} → judgeTableSections edition1 (sectionsFrom vs es ops locs) ≡ refused n → noTable n ≡ sectionsIndex p vs es ops locs
+module _ (ed : Edition) (p : Parts) (vs es ops locs : List ℕ) {q : PlantRead} (h : q ≡ plantOf ed vs es) where
+  refuses : {n : ℕ} → judgeTableSections ed (sectionsFrom vs es ops locs) ≡ refused n → noTable n ≡ sectionsIndex ed p vs es ops locs
   unfolding sectionsIndex
-  refuses e = index-refused p (sectionsFrom vs es ops locs) e
+  refuses e = index-refused ed p (sectionsFrom vs es ops locs) e
 
-  pub by-plant : (q .refusal ≡ 0 → ⊥) → noTable 17 ≡ sectionsIndex p vs es ops locs
+  pub by-plant : (q .refusal ≡ 0 → ⊥) → noTable 17 ≡ sectionsIndex ed p vs es ops locs
   unfolding judgeTableSections plantOf plantAnswer acceptedPlant oneNumber _>>=_
-  by-plant z = go (judgePlant edition1 vs es) refl
+  by-plant z = go (judgePlant ed vs es) refl
     where
-      go : (j : Judged Plant) → judgePlant edition1 vs es ≡ j → noTable 17 ≡ sectionsIndex p vs es ops locs
+      go : (j : Judged Plant) → judgePlant ed vs es ≡ j → noTable 17 ≡ sectionsIndex ed p vs es ops locs
       go (refused n) e = refuses (rw e refl)
       go (accepted x) e = absurd (z (ap (λ (q : PlantRead). q .refusal) (h ∙ ap plantAnswer e)))
 
   module _ (z : q .refusal ≡ 0) where
     abbrev own : Plant
-    own = plant vs es h z
+    own = plant ed vs es h z
 
-    abbrev passed-plant : judgePlant edition1 vs es ≡ accepted own
-    passed-plant = plant-is vs es h z
+    abbrev passed-plant : judgePlant ed vs es ≡ accepted own
+    passed-plant = plant-is ed vs es h z
 
-    module _ {b : Bool} (k : (qs : List Equation) → equationsIn es ≡ some qs → b ≡ every (equationReads edition1 (q .variables)) qs) where
-      switches-are : b ≡ switchesRead edition1 own
+    module _ {b : Bool} (k : (qs : List Equation) → equationsIn es ≡ some qs → b ≡ every (equationReads ed (q .variables)) qs) where
+      switches-are : b ≡ switchesRead ed own
       unfolding switchesRead
-      switches-are = k (own .equations) (passed-all vs es passed-plant .equations) ∙ ap (λ n. every (equationReads edition1 n) (own .equations)) (variables-are vs es h z)
+      switches-are = k (own .equations) (passed-all ed vs es passed-plant .equations) ∙ ap (λ n. every (equationReads ed n) (own .equations)) (variables-are ed vs es h z)
 
-      pub by-switches : b ≡ false → noTable 17 ≡ sectionsIndex p vs es ops locs
+      pub by-switches : b ≡ false → noTable 17 ≡ sectionsIndex ed p vs es ops locs
       unfolding judgeTableSections ensure _>>_
       by-switches e = refuses (go-then _ (go-only 17 passed-plant) ∙ rw (sym switches-are ∙ e) refl)
 
       -- ---- 18
       module _ (e : b ≡ true) where
-        passed-17 : switchesRead edition1 own ≡ true
+        passed-17 : switchesRead ed own ≡ true
         passed-17 = sym switches-are ∙ e
 
-        module _ {a : Actions} (i : a ≡ actionsOf ops) where
-          pub by-actions : (a .refusal ≡ 0 → ⊥) → noTable 18 ≡ sectionsIndex p vs es ops locs
+        module _ {a : Actions} (i : a ≡ actionsOf ed ops) where
+          pub by-actions : (a .refusal ≡ 0 → ⊥) → noTable 18 ≡ sectionsIndex ed p vs es ops locs
           unfolding judgeTableSections _>>=_
           by-actions y =
-              refuses (go-then _ (go-only 17 passed-plant) ∙ go-ensure 17 _ passed-17 ∙ rw (refused-actions ops (λ w. y (ap (λ (a : Actions). a .refusal) i ∙ w))) refl)
+              refuses (go-then _ (go-only 17 passed-plant) ∙ go-ensure 17 _ passed-17 ∙ rw (refused-actions ed ops (λ w. y (ap (λ (a : Actions). a .refusal) i ∙ w))) refl)
 
           module _ (y : a .refusal ≡ 0) where
-            index-passed : actionsOf ops .refusal ≡ 0
+            index-passed : actionsOf ed ops .refusal ≡ 0
             index-passed = sym (ap (λ (a : Actions). a .refusal) i) ∙ y
 
             acts : List NodeAction
-            acts = accepted-actions ops index-passed .0
+            acts = accepted-actions ed ops index-passed .0
 
-            acts-are : actionsIn edition1 ops ≡ some acts
+            acts-are : actionsIn ed ops ≡ some acts
             unfolding acts
-            acts-are = accepted-actions ops index-passed .1
+            acts-are = accepted-actions ed ops index-passed .1
 
-            acts-judged : judgeActions edition1 ops ≡ accepted acts
+            acts-judged : judgeActions ed ops ≡ accepted acts
             unfolding acts
-            acts-judged = actions-judged ops (accepted-actions ops index-passed .1) (accepted-actions ops index-passed .2)
+            acts-judged = actions-judged ed ops (accepted-actions ed ops index-passed .1) (accepted-actions ed ops index-passed .2)
 
-            module _ {r : Bool} (j : AllFit ops (q .variables) (q .selectors) (q .modes) r) where
-              operands-are : r ≡ operandsFit edition1 own acts
-              operands-are = j own (variables-are vs es h z) (counts-at vs es h z) acts acts-are
+            module _ {r : Bool} (j : AllFit ed ops (q .variables) (q .selectors) (q .modes) r) where
+              operands-are : r ≡ operandsFit ed own acts
+              operands-are = j own (variables-are ed vs es h z) (counts-at ed vs es h z) acts acts-are
 
-              pub by-operands : r ≡ false → noTable 18 ≡ sectionsIndex p vs es ops locs
+              pub by-operands : r ≡ false → noTable 18 ≡ sectionsIndex ed p vs es ops locs
               unfolding judgeTableSections ensure _>>_
               by-operands f = refuses (go-then _ (go-only 17 passed-plant) ∙ go-ensure 17 _ passed-17 ∙ go-then _ acts-judged ∙ rw (sym operands-are ∙ f) refl)
 
               -- ---- 19
-              module _ (f : r ≡ true) {l : Locations} (w : (m : List NodeAction) → KindsSay m (a .kinds) → l ≡ locationsOf m locs) where
-                locations-are : l ≡ locationsOf acts locs
-                locations-are = w acts (subst (λ (a : Actions). KindsSay acts (a .kinds)) (sym i) (kinds-say ops acts-are index-passed))
+              module _ (f : r ≡ true) {l : Locations} (w : (m : List NodeAction) → KindsSay m (a .kinds) → l ≡ locationsOf ed m locs) where
+                locations-are : l ≡ locationsOf ed acts locs
+                locations-are = w acts (subst (λ (a : Actions). KindsSay acts (a .kinds)) (sym i) (kinds-say ed ops acts-are index-passed))
 
-                pub by-locations : (l .refusal ≡ 0 → ⊥) → noTable 19 ≡ sectionsIndex p vs es ops locs
+                pub by-locations : (l .refusal ≡ 0 → ⊥) → noTable 19 ≡ sectionsIndex ed p vs es ops locs
                 unfolding judgeTableSections _>>=_
                 by-locations x =
                     refuses (go-then _ (go-only 17 passed-plant) ∙ go-ensure 17 _ passed-17 ∙ go-then _ acts-judged ∙ go-ensure 18 _ (sym operands-are ∙ f) ∙
-                    rw (refused-locations acts locs (λ u. x (ap (λ (l : Locations). l .refusal) locations-are ∙ u))) refl)
+                    rw (refused-locations ed acts locs (λ u. x (ap (λ (l : Locations). l .refusal) locations-are ∙ u))) refl)
 
-                pub all-passed : l .refusal ≡ 0 → record { refusal = 0; parts = p; plant = q; actions = a; locations = l } ≡ sectionsIndex p vs es ops locs
+                pub all-passed : l .refusal ≡ 0 → record { refusal = 0; parts = p; plant = q; actions = a; locations = l } ≡ sectionsIndex ed p vs es ops locs
                 unfolding sectionsIndex indexOf judgeTableSections
                 all-passed x =
-                    let g = accepted-locations acts locs (sym (ap (λ (l : Locations). l .refusal) locations-are) ∙ x) in
-                    found h i locations-are ∙ sym (ap (indexOf p (sectionsFrom vs es ops locs)) (go-then _ (go-only 17 passed-plant) ∙ go-ensure 17 _ passed-17 ∙ go-then _ acts-judged ∙ go-ensure 18 _ (sym operands-are ∙ f) ∙ go-then _ (locations-judged acts locs (g .1) (g .2))))
+                    let g = accepted-locations ed acts locs (sym (ap (λ (l : Locations). l .refusal) locations-are) ∙ x) in
+                    found h i locations-are ∙ sym (ap (indexOf ed p (sectionsFrom vs es ops locs))
+                    (go-then _ (go-only 17 passed-plant) ∙ go-ensure 17 _ passed-17 ∙ go-then _ acts-judged ∙ go-ensure 18 _ (sym operands-are ∙ f) ∙ go-then _
+                    (locations-judged ed acts locs (g .1) (g .2))))
 
 -- ---- the answers
 pub refused-is : {n : ℕ} {p : Parts} {q : PlantRead} {a : Actions} {l : Locations} → p ≡ noParts n → q ≡ refusedPlant n → a ≡ noActions n → l ≡ noLocations n → record { refusal = n; parts = p; plant = q; actions = a; locations = l } ≡ noTable n

@@ -6,11 +6,12 @@ use mathlib.Core.Option.{Option, none, some}
 use Prim.Native.Nat.{ℕ, zero, suc, _+_}
 use lib.Dec.{eqb}
 use lib.ListN.{length, getD, drop, replicate}
-use Rattle.semantics.specs.Editions.{edition1}
+use Rattle.semantics.specs.Editions.{Edition}
 use Rattle.semantics.specs.Refusals.{Judged, refused, accepted}
 use Rattle.semantics.specs.Run.{Action}
 use Rattle.semantics.specs.TableFile.{NodeAction, kindNumber, readAction}
 use Rattle.semantics.specs.Tables.{actionAt, judgeActions}
+use Rattle.codec.specs.Numbers.{wide, numAt}
 use Rattle.codec.specs.Places.{placesFrom}
 use Rattle.table_read.specs.declared.actions.Actions.{Actions}
 
@@ -34,21 +35,22 @@ placeAt (a ∷ l) [] n = none
 placeAt (a ∷ l) (p ∷ ps) n = elim (eqb (a .node) n) [ true ↦ some p | false ↦ placeAt l ps n ]
 
 -- an action: its length, its node, its kind, the operand
-unfoldable pub operandStart : Option ℕ → ℕ
-operandStart none = 0
-operandStart (some p) = p + 3
+unfoldable pub operandStart : Edition → Option ℕ → ℕ
+operandStart ed none = 0
+operandStart ed (some p) = p + wide ed + wide ed + 1
 
-unfoldable pub operandEnd : List ℕ → Option ℕ → ℕ
-operandEnd s none = 0
-operandEnd s (some p) = p + 1 + getD s p 0
+unfoldable pub operandEnd : Edition → List ℕ → Option ℕ → ℕ
+operandEnd ed s none = 0
+operandEnd ed s (some p) = p + wide ed + numAt ed s p
 
 -- what stands at the numbers from 0 on
 unfoldable pub listed : ℕ → (ℕ → ℕ) → List ℕ
 listed zero f = []
 listed (suc k) f = f zero ∷ listed k (λ n. f (suc n))
 
+-- as many as any edition has nodes
 unfoldable pub byNode : (ℕ → ℕ) → List ℕ
-byNode f = listed (edition1 .nodes) f
+byNode f = listed 256 f
 
 abbrev pub nodeOf : NodeAction → ℕ
 nodeOf a = a .node
@@ -58,26 +60,26 @@ abbrev pub noActions : ℕ → Actions
 noActions n = record {
   refusal = n;
   count = 0;
-  kinds = replicate (edition1 .nodes) 0;
-  starts = replicate (edition1 .nodes) 0;
-  ends = replicate (edition1 .nodes) 0;
+  kinds = replicate 256 0;
+  starts = replicate 256 0;
+  ends = replicate 256 0;
 }
 
-unfoldable pub actionIndex : List ℕ → List NodeAction → Actions
-actionIndex s l =
-    let ps = placesFrom (length s) (readAction edition1) (length l) (drop 1 s) in
+unfoldable pub actionIndex : Edition → List ℕ → List NodeAction → Actions
+actionIndex ed s l =
+    let ps = placesFrom (length s) (readAction ed) (length l) (drop (wide ed) s) in
     record {
       refusal = 0;
       count = length l;
       kinds = byNode (kindAt l);
-      starts = byNode (λ n. operandStart (placeAt l ps n));
-      ends = byNode (λ n. operandEnd s (placeAt l ps n));
+      starts = byNode (λ n. operandStart ed (placeAt l ps n));
+      ends = byNode (λ n. operandEnd ed s (placeAt l ps n));
     }
 
-unfoldable pub indexRead : List ℕ → Judged (List NodeAction) → Actions
-indexRead s (refused n) = noActions n
-indexRead s (accepted l) = actionIndex s l
+unfoldable pub indexRead : Edition → List ℕ → Judged (List NodeAction) → Actions
+indexRead ed s (refused n) = noActions n
+indexRead ed s (accepted l) = actionIndex ed s l
 
 -- the index of the section, or the number that judging it alone gives; operands are not looked at
-unfoldable pub actionsOf : List ℕ → Actions
-actionsOf s = indexRead s (judgeActions edition1 s)
+unfoldable pub actionsOf : Edition → List ℕ → Actions
+actionsOf ed s = indexRead ed s (judgeActions ed s)

@@ -4,7 +4,7 @@ use mathlib.Core.Bool.{Bool, false}
 use mathlib.Core.List.{List}
 use Prim.Native.Nat.{ℕ}
 use lib.ListN.{length, drop, replicate}
-use Rattle.semantics.specs.Editions.{edition1}
+use Rattle.semantics.specs.Editions.{Edition}
 use Rattle.semantics.specs.Refusals.{Judged, refused, accepted}
 use Rattle.semantics.specs.Run.{Action}
 use Rattle.semantics.specs.TableFile.{NodeAction, Entry, kindNumber, locationLimit, readLocation}
@@ -25,13 +25,13 @@ pub record FitsKind (n k t u : ℕ) (r : Bool) : Type 0 where
 abbrev pub noLocations : ℕ → Locations
 noLocations n = record { refusal = n; count = 0; places = replicate locationLimit 0 }
 
-unfoldable pub locationIndex : List ℕ → ℕ → Locations
-locationIndex s n = record { refusal = 0; count = n; places = pad locationLimit 0 (placesFrom (length s) (readLocation edition1) n (drop 2 s)) }
+unfoldable pub locationIndex : Edition → List ℕ → ℕ → Locations
+locationIndex ed s n = record { refusal = 0; count = n; places = pad locationLimit 0 (placesFrom (length s) (readLocation ed) n (drop 2 s)) }
 
-unfoldable pub locationsRead : List ℕ → Judged (List (List Entry)) → Locations
-locationsRead s (refused n) = noLocations n
-locationsRead s (accepted ls) = locationIndex s (length ls)
+unfoldable pub locationsRead : Edition → List ℕ → Judged (List (List Entry)) → Locations
+locationsRead ed s (refused n) = noLocations n
+locationsRead ed s (accepted ls) = locationIndex ed s (length ls)
 
 -- where each location stands, or the number that judging the section by these actions gives
-unfoldable pub locationsOf : List NodeAction → List ℕ → Locations
-locationsOf l s = locationsRead s (judgeLocations edition1 l s)
+unfoldable pub locationsOf : Edition → List NodeAction → List ℕ → Locations
+locationsOf ed l s = locationsRead ed s (judgeLocations ed l s)

@@ -1,7 +1,7 @@
 -- The call "reading a table" (15 to 19), as the code answers it, and the index that a run of the table looks into.
 use mathlib.Core.List.{List}
 use Prim.Native.Nat.{ℕ}
-use Rattle.semantics.specs.Editions.{edition1}
+use Rattle.semantics.specs.Editions.{Edition}
 use Rattle.semantics.specs.Refusals.{Judged, refused, accepted}
 use Rattle.semantics.specs.TableFile.{TableSections}
 use Rattle.semantics.specs.Tables.{Table, judgeTableSections, judgeTable}
@@ -23,24 +23,24 @@ abbrev pub noTable : ℕ → TableIndex
 noTable n = record { refusal = n; parts = noParts n; plant = refusedPlant n; actions = noActions n; locations = noLocations n }
 
 -- what stands in the sections s, themselves at the places p
-unfoldable pub indexOf : Parts → TableSections → Judged Table → TableIndex
-indexOf p s (refused n) = noTable n
-indexOf p s (accepted t) = record {
+unfoldable pub indexOf : Edition → Parts → TableSections → Judged Table → TableIndex
+indexOf ed p s (refused n) = noTable n
+indexOf ed p s (accepted t) = record {
   refusal = 0;
   parts = p;
-  plant = plantOf (s .variables) (s .equations);
-  actions = actionsOf (s .actions);
-  locations = locationsOf (t .actions) (s .locations);
+  plant = plantOf ed (s .variables) (s .equations);
+  actions = actionsOf ed (s .actions);
+  locations = locationsOf ed (t .actions) (s .locations);
 }
 
 -- the first number that applies, or 0 and where all stands
-unfoldable pub tableIndex : List ℕ → TableIndex
-tableIndex t = indexOf (partsOf t) (sectionsAt t (partsOf t)) (judgeTable edition1 t)
+unfoldable pub tableIndex : Edition → List ℕ → TableIndex
+tableIndex ed t = indexOf ed (partsOf ed t) (sectionsAt t (partsOf ed t)) (judgeTable ed t)
 
 -- ---- for the code's own contract
 abbrev pub sectionsFrom : List ℕ → List ℕ → List ℕ → List ℕ → TableSections
 sectionsFrom vs es ops locs = record { variables = vs; equations = es; actions = ops; locations = locs }
 
 -- 17 to 19 of the four sections
-unfoldable pub sectionsIndex : Parts → List ℕ → List ℕ → List ℕ → List ℕ → TableIndex
-sectionsIndex p vs es ops locs = indexOf p (sectionsFrom vs es ops locs) (judgeTableSections edition1 (sectionsFrom vs es ops locs))
+unfoldable pub sectionsIndex : Edition → Parts → List ℕ → List ℕ → List ℕ → List ℕ → TableIndex
+sectionsIndex ed p vs es ops locs = indexOf ed p (sectionsFrom vs es ops locs) (judgeTableSections ed (sectionsFrom vs es ops locs))

@@ -2,7 +2,7 @@
 use mathlib.Core.List.{List}
 use Prim.Native.Nat.{ℕ, _+_, _≤_}
 use lib.ListN.{length}
-use Rattle.semantics.specs.Editions.{edition1}
+use Rattle.semantics.specs.Editions.{Edition}
 use Rattle.semantics.specs.Refusals.{Judged, refused, accepted}
 use Rattle.semantics.specs.TableFile.{TableSections}
 use Rattle.semantics.specs.Tables.{judgeTableLayout}
@@ -55,8 +55,8 @@ partsRead (refused n) = noParts n
 partsRead (accepted s) = partsIn s
 
 -- where the sections stand, or the first number of their layout that applies
-unfoldable pub partsOf : List ℕ → Parts
-partsOf t = partsRead (judgeTableLayout edition1 t)
+unfoldable pub partsOf : Edition → List ℕ → Parts
+partsOf ed t = partsRead (judgeTableLayout ed t)
 
 -- the sections that stand there
 unfoldable pub sectionsAt : List ℕ → Parts → TableSections

@@ -1,32 +1,33 @@
 // The action section of a table (18, but for the operands), and where each node's operand stands.
+use edition::Edition;
 ghost use mathlib.Core.Path.{_≡_};
 ghost use Prim.Native.Nat.{_≤_};
 ghost use lib.ListN.{length};
 ghost use Rattle.semantics.specs.Bytes.{isSome};
-ghost use Rattle.semantics.specs.Editions.{edition1};
+ghost use Rattle.edition.specs.Editions.{editionOf};
 ghost use Rattle.semantics.specs.Tables.{nodeExists};
 ghost use Rattle.semantics.specs.TableFile.{actionKind, actionOfKind, readAction, readActionCount};
 ghost use Rattle.table_read.specs.Ends.{Ends, EndsWith, follows, orZero};
 ghost use Rattle.table_read.specs.ActionIndex.{nodeOf, actionsOf, noActions};
 
-// The most actions, as their count's byte.
-const MOST: u8 = paper::NODES as u8;
+// the most nodes of any edition
+const NODES: usize = 256;
 
 // 0, or the number that applies; how many actions there are; by node, the kind of its action and where the operand starts and ends, or 0, 0 and 0
 pub struct Actions {
     pub refusal: u8,
     pub count: usize,
-    pub kinds: [u8; paper::NODES],
-    pub starts: [usize; paper::NODES],
-    pub ends: [usize; paper::NODES],
+    pub kinds: [u8; NODES],
+    pub starts: [usize; NODES],
+    pub ends: [usize; NODES],
 }
 
 pub fn refused(n: u8) -> Actions
     ensures { λ r. ⌜ r ≡ noActions n ⌝ }
 {
-    let kinds = [0u8; paper::NODES];
-    let starts = [0usize; paper::NODES];
-    let ends = [0usize; paper::NODES];
+    let kinds = [0u8; NODES];
+    let starts = [0usize; NODES];
+    let ends = [0usize; NODES];
     Actions {
         refusal: n,
         count: 0,
@@ -51,26 +52,27 @@ fn operand(k: u8, b: &[u8]) -> bool
 }
 
 // where the action at a place ends; 0 where there is none
-fn end(s: &[u8], at: usize) -> usize
+fn end(s: &[u8], at: usize, ed: Edition) -> usize
     requires { ⌜ at ≤ length (now s) ⌝ }
-    ensures { λ r. ⌜ Ends (readAction edition1) (now (s .entry)) at r ⌝ }
+    ensures { λ r. ⌜ Ends (readAction (editionOf ed)) (now (s .entry)) at r ⌝ }
 {
-    if s.len() <= at {
+    let w = edition::width(ed);
+    if s.len() - at < w {
         return 0;
     }
-    let l = s[at] as usize;
-    if l < 2 {
+    let l = codec::number(s, at, ed);
+    if l < w + 1 {
         return 0;
     }
-    if l > paper::ACTION_BYTES {
+    if l > w + paper::NODE_BYTES {
         return 0;
     }
-    if s.len() - at - 1 < l {
+    if s.len() - at - w < l {
         return 0;
     }
-    let b = at + 1 + 1 + 1;
-    let e = b + (l - 2);
-    if operand(s[at + 1 + 1], &s[b..e]) {
+    let b = at + w + w + 1;
+    let e = b + (l - (w + 1));
+    if operand(s[at + w + w], &s[b..e]) {
         e
     } else {
         0
@@ -78,58 +80,60 @@ fn end(s: &[u8], at: usize) -> usize
 }
 
 // the same where the node is low or above and there is such a node
-fn next(s: &[u8], at: usize, low: usize) -> usize
+fn next(s: &[u8], at: usize, low: usize, ed: Edition) -> usize
     requires { ⌜ at ≤ length (now s) ⌝ }
-    ensures { λ r. ⌜ EndsWith (readAction edition1) (follows nodeOf (nodeExists edition1) low) (now (s .entry)) at r ⌝ }
+    ensures { λ r. ⌜ EndsWith (readAction (editionOf ed)) (follows nodeOf (nodeExists (editionOf ed)) low) (now (s .entry)) at r ⌝ }
 {
-    let q = end(s, at);
+    let q = end(s, at, ed);
     if q == 0 {
         return 0;
     }
-    let node = s[at + 1] as usize;
+    let node = codec::number(s, at + edition::width(ed), ed);
     if node < low {
         return 0;
     }
-    if node >= paper::NODES {
+    if node >= edition::node_limit(ed) {
         return 0;
     }
     q
 }
 
-// how many actions there are; 0 where that is outside 1..64
-fn count(s: &[u8]) -> usize
-    ensures { λ r. ⌜ r ≡ orZero (readActionCount edition1 (now (s .entry))) ⌝ }
+// how many actions there are; 0 where there are more than the edition has nodes
+fn count(s: &[u8], ed: Edition) -> usize
+    ensures { λ r. ⌜ r ≡ orZero (readActionCount (editionOf ed) (now (s .entry))) ⌝ }
 {
-    if s.len() < 1 {
+    if s.len() < edition::width(ed) {
         return 0;
     }
-    if s[0] > MOST {
+    let n = codec::number(s, 0, ed);
+    if n > edition::node_limit(ed) {
         return 0;
     }
-    s[0] as usize
+    n
 }
 
-pub fn read(s: &[u8]) -> Actions
-    ensures { λ r. ⌜ r ≡ actionsOf (now (s .entry)) ⌝ }
+pub fn read(s: &[u8], ed: Edition) -> Actions
+    ensures { λ r. ⌜ r ≡ actionsOf (editionOf ed) (now (s .entry)) ⌝ }
 {
-    let n = count(s);
+    let n = count(s, ed);
     if n == 0 {
         return refused(18);
     }
-    let mut kinds = [0u8; paper::NODES];
-    let mut starts = [0usize; paper::NODES];
-    let mut ends = [0usize; paper::NODES];
+    let w = edition::width(ed);
+    let mut kinds = [0u8; NODES];
+    let mut starts = [0usize; NODES];
+    let mut ends = [0usize; NODES];
     let mut low = 0;
-    let mut p = 1;
+    let mut p = w;
     let mut i = 0;
     while i < n {
-        let q = next(s, p, low);
+        let q = next(s, p, low, ed);
         if q == 0 {
             return refused(18);
         }
-        let node = s[p + 1] as usize;
-        kinds[node] = s[p + 1 + 1];
-        starts[node] = p + 1 + 1 + 1;
+        let node = codec::number(s, p + w, ed);
+        kinds[node] = s[p + w + w];
+        starts[node] = p + w + w + 1;
         ends[node] = q;
         low = node + 1;
         p = q;

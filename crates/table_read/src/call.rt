@@ -6,10 +6,12 @@ use super::locations::Locations;
 use super::operands;
 use super::parts;
 use super::parts::Parts;
+use edition::Edition;
 use plant::sections::PlantRead;
 use program::Program;
 use program::fill;
 ghost use mathlib.Core.Path.{_≡_};
+ghost use Rattle.edition.specs.Editions.{editionOf};
 ghost use Rattle.semantics.specs.Editions.{edition1};
 ghost use Rattle.semantics.specs.Calls.{readTable};
 ghost use Rattle.table_read.specs.TableIndex.{tableNumbers, noTable, tableIndex, sectionsIndex};
@@ -50,8 +52,8 @@ fn refused(n: u8) -> TableIndex
 }
 
 // 17 to 19, of the four sections
-fn sections(parts: Parts, vs: &[u8], es: &[u8], ops: &[u8], locs: &[u8]) -> TableIndex
-    ensures { λ r. ⌜ r ≡ sectionsIndex parts (now (vs .entry)) (now (es .entry)) (now (ops .entry)) (now (locs .entry)) ⌝ }
+fn sections(parts: Parts, vs: &[u8], es: &[u8], ops: &[u8], locs: &[u8], ed: Edition) -> TableIndex
+    ensures { λ r. ⌜ r ≡ sectionsIndex (editionOf ed) parts (now (vs .entry)) (now (es .entry)) (now (ops .entry)) (now (locs .entry)) ⌝ }
 {
     let plant = plant::sections::read(vs, es);
     if plant.refusal != 0 {
@@ -63,15 +65,15 @@ fn sections(parts: Parts, vs: &[u8], es: &[u8], ops: &[u8], locs: &[u8]) -> Tabl
     if !plant::truths::read(es, variables) {
         return refused(17);
     }
-    let actions = actions::read(ops);
+    let actions = actions::read(ops, ed);
     if actions.refusal != 0 {
         return refused(18);
     }
-    if !operands::read(ops, actions, variables, selectors, &modes) {
+    if !operands::read(ops, actions, variables, selectors, &modes, ed) {
         return refused(18);
     }
     let kinds = actions.kinds;
-    let locations = locations::read(locs, &kinds);
+    let locations = locations::read(locs, &kinds, ed);
     if locations.refusal != 0 {
         return refused(19);
     }
@@ -84,10 +86,10 @@ fn sections(parts: Parts, vs: &[u8], es: &[u8], ops: &[u8], locs: &[u8]) -> Tabl
     }
 }
 
-pub fn index(table: &[u8]) -> TableIndex
-    ensures { λ r. ⌜ r ≡ tableIndex (now (table .entry)) ⌝ }
+pub fn index(table: &[u8], ed: Edition) -> TableIndex
+    ensures { λ r. ⌜ r ≡ tableIndex (editionOf ed) (now (table .entry)) ⌝ }
 {
-    let p = parts::read(table);
+    let p = parts::read(table, ed);
     let first = p.refusal;
     if first != 0 {
         return refused(first);
@@ -100,13 +102,20 @@ pub fn index(table: &[u8]) -> TableIndex
     let f = p.actions_end;
     let g = p.locations;
     let h = p.locations_end;
-    sections(p, &table[a..b], &table[c..d], &table[e..f], &table[g..h])
+    sections(
+        p,
+        &table[a..b],
+        &table[c..d],
+        &table[e..f],
+        &table[g..h],
+        ed,
+    )
 }
 
 pub fn read(table: &[u8]) -> TableRead
     ensures { λ r. ⌜ r ≡ tableNumbers (readTable edition1 (now (table .entry))) ⌝ }
 {
-    let x = index(table);
+    let x = index(table, Edition::First);
     let plant = x.plant;
     let actions = x.actions;
     let locations = x.locations;

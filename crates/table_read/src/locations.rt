@@ -1,10 +1,11 @@
 // The location section of a table (19), and where each location stands.
+use edition::Edition;
 ghost use mathlib.Core.Path.{_≡_};
 ghost use mathlib.Core.Bool.{_&&_};
 ghost use mathlib.Core.List.{List};
 ghost use Prim.Native.Nat.{_≤_};
 ghost use lib.ListN.{length};
-ghost use Rattle.semantics.specs.Editions.{edition1};
+ghost use Rattle.edition.specs.Editions.{editionOf};
 ghost use Rattle.semantics.specs.TableFile.{NodeAction, readEntry, readLocation, readLocationCount};
 ghost use Rattle.semantics.specs.Tables.{goesOn, entryFits, locationFits};
 ghost use Rattle.table_read.specs.Ends.{EndsWith, follows, orZero};
@@ -63,33 +64,34 @@ fn fits(k: u8, n: usize, t: usize, u: usize) -> bool
 }
 
 // where the entry at a place ends; 0 where there is none, its node is below low or the entry does not fit
-fn entry(s: &[u8], at: usize, low: usize, n: usize, kinds: &[u8]) -> usize
+fn entry(s: &[u8], at: usize, low: usize, n: usize, kinds: &[u8], ed: Edition) -> usize
     requires { ⌜ at ≤ length (now s) ⌝ }
-    ensures { λ r. ⌜ ((l : List NodeAction) → KindsSay l (now (kinds .entry)) → EndsWith (readEntry edition1) (follows entryNode (entryFits n l) low) (now (s .entry)) at r) ⌝ }
+    ensures { λ r. ⌜ ((l : List NodeAction) → KindsSay l (now (kinds .entry)) → EndsWith (readEntry (editionOf ed)) (follows entryNode (entryFits n l) low) (now (s .entry)) at r) ⌝ }
 {
-    if s.len() - at < 5 {
+    let w = edition::width(ed);
+    if s.len() - at < w + 4 {
         return 0;
     }
-    let node = s[at] as usize;
+    let node = codec::number(s, at, ed);
     if node < low {
         return 0;
     }
     if node >= kinds.len() {
         return 0;
     }
-    let t = codec::nat2(s, at + 1);
-    let u = codec::nat2(s, at + 1 + 2);
+    let t = codec::nat2(s, at + w);
+    let u = codec::nat2(s, at + w + 2);
     if fits(kinds[node], n, t, u) {
-        at + 1 + 2 + 2
+        at + w + 2 + 2
     } else {
         0
     }
 }
 
 // where the location at a place ends; 0 where there is none or it does not fit
-fn location(s: &[u8], at: usize, n: usize, kinds: &[u8]) -> usize
+fn location(s: &[u8], at: usize, n: usize, kinds: &[u8], ed: Edition) -> usize
     requires { ⌜ at ≤ length (now s) ⌝ }
-    ensures { λ r. ⌜ ((l : List NodeAction) → KindsSay l (now (kinds .entry)) → EndsWith (readLocation edition1) (locationFits n l) (now (s .entry)) at r) ⌝ }
+    ensures { λ r. ⌜ ((l : List NodeAction) → KindsSay l (now (kinds .entry)) → EndsWith (readLocation (editionOf ed)) (locationFits n l) (now (s .entry)) at r) ⌝ }
 {
     if s.len() <= at {
         return 0;
@@ -102,11 +104,11 @@ fn location(s: &[u8], at: usize, n: usize, kinds: &[u8]) -> usize
     let mut p = at + 1;
     let mut i = 0;
     while i < c {
-        let q = entry(s, p, low, n, kinds);
+        let q = entry(s, p, low, n, kinds, ed);
         if q == 0 {
             return 0;
         }
-        low = s[p] as usize + 1;
+        low = codec::number(s, p, ed) + 1;
         p = q;
         i += 1;
     }
@@ -128,8 +130,8 @@ fn count(s: &[u8]) -> usize
 }
 
 // kinds: of each node's action, 0 where there is none
-pub fn read(s: &[u8], kinds: &[u8]) -> Locations
-    ensures { λ r. ⌜ ((l : List NodeAction) → KindsSay l (now (kinds .entry)) → r ≡ locationsOf l (now (s .entry))) ⌝ }
+pub fn read(s: &[u8], kinds: &[u8], ed: Edition) -> Locations
+    ensures { λ r. ⌜ ((l : List NodeAction) → KindsSay l (now (kinds .entry)) → r ≡ locationsOf (editionOf ed) l (now (s .entry))) ⌝ }
 {
     let n = count(s);
     if n == 0 {
@@ -139,7 +141,7 @@ pub fn read(s: &[u8], kinds: &[u8]) -> Locations
     let mut p = 2;
     let mut i = 0;
     while i < n {
-        let q = location(s, p, n, kinds);
+        let q = location(s, p, n, kinds, ed);
         if q == 0 {
             return refused(19);
         }

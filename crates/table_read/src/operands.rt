@@ -1,9 +1,12 @@
 // The operands of a table's actions (18; "11 and 12 judge operands").
 use super::actions::Actions;
+use edition::Edition;
 ghost use mathlib.Core.Path.{_≡_};
 ghost use mathlib.Core.List.{List};
 ghost use Prim.Native.Nat.{ℕ, _≤_};
 ghost use lib.ListN.{length};
+ghost use Rattle.edition.specs.Editions.{editionOf};
+ghost use Rattle.semantics.specs.Editions as editions;
 ghost use Rattle.semantics.specs.Sections.{Selector};
 ghost use Rattle.semantics.specs.TableFile.{an-assignment, a-switch, actionKind, actionOfKind};
 ghost use Rattle.plant.specs.ModeCounts.{ModesAt};
@@ -13,7 +16,7 @@ ghost use Rattle.table_read.specs.OperandForms.{fitsHere, AllFit};
 // a variable, then a number
 fn assigns(b: &[u8], variables: usize) -> bool
     requires { ⌜ variables ≤ 32 ⌝ }
-    ensures { λ r. ⌜ ((cs : List Selector) → r ≡ fitsHere variables cs (actionOfKind an-assignment (now (b .entry)))) ⌝ }
+    ensures { λ r. ⌜ ((ed : editions.Edition) (cs : List Selector) → r ≡ fitsHere ed variables cs (actionOfKind an-assignment (now (b .entry)))) ⌝ }
 {
     if b.len() < 1 {
         return true;
@@ -27,7 +30,8 @@ fn assigns(b: &[u8], variables: usize) -> bool
 // a selector, then a mode
 fn switches(b: &[u8], selectors: usize, modes: &[usize]) -> bool
     requires { ⌜ selectors ≤ length (now modes) ⌝ }
-    ensures { λ r. ⌜ ((cs : List Selector) → ModesAt (now (modes .entry)) selectors cs → (variables : ℕ) → r ≡ fitsHere variables cs (actionOfKind a-switch (now (b .entry)))) ⌝ }
+    ensures { λ r. ⌜ ((ed : editions.Edition) (cs : List Selector) → ModesAt (now (modes .entry)) selectors cs → (variables : ℕ) →
+        r ≡ fitsHere ed variables cs (actionOfKind a-switch (now (b .entry)))) ⌝ }
 {
     if b.len() != 2 {
         return true;
@@ -38,7 +42,7 @@ fn switches(b: &[u8], selectors: usize, modes: &[usize]) -> bool
 // one operand; true where the kind is none or the operand has not its form
 fn fits(k: u8, b: &[u8], variables: usize, selectors: usize, modes: &[usize]) -> bool
     requires { ⌜ (variables ≤ 32) × (selectors ≤ length (now modes)) ⌝ }
-    ensures { λ r. ⌜ ((cs : List Selector) → ModesAt (now (modes .entry)) selectors cs → r ≡ fitsHere variables cs (actionOfKind (actionKind k) (now (b .entry)))) ⌝ }
+    ensures { λ r. ⌜ ((ed : editions.Edition) (cs : List Selector) → ModesAt (now (modes .entry)) selectors cs → r ≡ fitsHere ed variables cs (actionOfKind (actionKind k) (now (b .entry)))) ⌝ }
 {
     match k {
         paper::actions::TEST => expression::truth_reads(b, variables),
@@ -50,15 +54,23 @@ fn fits(k: u8, b: &[u8], variables: usize, selectors: usize, modes: &[usize]) ->
 }
 
 // acts is the index of s; modes[j] is how many modes selector j has
-pub fn read(s: &[u8], acts: Actions, variables: usize, selectors: usize, modes: &[usize]) -> bool
-    requires { ⌜ (acts ≡ actionsOf (now s)) × (acts .refusal ≡ 0) × (variables ≤ 32) × (selectors ≤ length (now modes)) ⌝ }
-    ensures { λ r. ⌜ AllFit (now (s .entry)) variables selectors (now (modes .entry)) r ⌝ }
+pub fn read(
+    s: &[u8],
+    acts: Actions,
+    variables: usize,
+    selectors: usize,
+    modes: &[usize],
+    ed: Edition,
+) -> bool
+    requires { ⌜ (acts ≡ actionsOf (editionOf ed) (now s)) × (acts .refusal ≡ 0) × (variables ≤ 32) × (selectors ≤ length (now modes)) ⌝ }
+    ensures { λ r. ⌜ AllFit (editionOf ed) (now (s .entry)) variables selectors (now (modes .entry)) r ⌝ }
 {
     let kinds = acts.kinds;
     let starts = acts.starts;
     let ends = acts.ends;
+    let nodes = edition::node_limit(ed);
     let mut i = 0;
-    while i < paper::NODES {
+    while i < nodes {
         let b = starts[i];
         let e = ends[i];
         if !fits(kinds[i], &s[b..e], variables, selectors, modes) {

@@ -1,6 +1,7 @@
 // The header of a table, and where its four sections stand (15, 16).
+use edition::Edition;
 ghost use mathlib.Core.Path.{_≡_};
-ghost use Rattle.semantics.specs.Editions.{edition1};
+ghost use Rattle.edition.specs.Editions.{editionOf};
 ghost use Rattle.semantics.specs.Tables.{tableHeader};
 ghost use Rattle.table_read.specs.TableParts.{partsOf, noParts, partsAt, Apart};
 
@@ -33,13 +34,13 @@ pub fn refused(n: u8) -> Parts
     }
 }
 
-fn header(t: &[u8]) -> bool
-    ensures { λ r. ⌜ r ≡ tableHeader edition1 (now (t .entry)) ⌝ }
+fn header(t: &[u8], ed: Edition) -> bool
+    ensures { λ r. ⌜ r ≡ tableHeader (editionOf ed) (now (t .entry)) ⌝ }
 {
     if t.len() < 5 {
         return false;
     }
-    if t[0] != paper::VERSION {
+    if t[0] != edition::version(ed) {
         return false;
     }
     codec::nat4(t, 1) == t.len()
@@ -63,10 +64,10 @@ fn found(v: usize, e: usize, a: usize, l: usize) -> Parts
     }
 }
 
-pub fn read(t: &[u8]) -> Parts
-    ensures { λ r. ⌜ r ≡ partsOf (now (t .entry)) ⌝ }
+pub fn read(t: &[u8], ed: Edition) -> Parts
+    ensures { λ r. ⌜ r ≡ partsOf (editionOf ed) (now (t .entry)) ⌝ }
 {
-    if !header(t) {
+    if !header(t, ed) {
         return refused(15);
     }
     let v = codec::end2(t, 5);

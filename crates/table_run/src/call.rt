@@ -1,20 +1,29 @@
 // The call "running a table": 15 to 19, then 20 to 22, then its events.
 use super::runs;
+use edition::Edition;
 use records::Counts;
 use records::Ran;
 use start_read::admission::Admitted;
 use table_read::call::TableIndex;
 ghost use mathlib.Core.Path.{_≡_};
 ghost use Rattle.semantics.specs.Editions.{edition1};
+ghost use Rattle.edition.specs.Editions.{editionOf};
 ghost use Rattle.semantics.specs.Calls.{tableRun};
 ghost use Rattle.table_read.specs.TableIndex.{tableIndex};
 ghost use Rattle.records.specs.Reported.{ranWith};
 ghost use Rattle.table_run.specs.Called.{Admitting, Carried};
 
 // The events of an admitted run, over what the reader lends of the table.
-fn lend(ix: TableIndex, asked: Admitted, table: &[u8], events: &[u8], records: &mut [u8]) -> Counts
-    requires { ⌜ (ix ≡ tableIndex (now table)) × Admitting (now table) asked (now events) (now records) ⌝ }
-    ensures { λ r. ⌜ Carried (now (table .entry)) asked (now (events .entry)) (now (records .entry)) r (now (records .exit)) ⌝ }
+fn lend(
+    ix: TableIndex,
+    asked: Admitted,
+    table: &[u8],
+    events: &[u8],
+    records: &mut [u8],
+    ed: Edition,
+) -> Counts
+    requires { ⌜ (ix ≡ tableIndex (editionOf ed) (now table)) × Admitting (editionOf ed) (now table) asked (now events) (now records) ⌝ }
+    ensures { λ r. ⌜ Carried (editionOf ed) (now (table .entry)) asked (now (events .entry)) (now (records .entry)) r (now (records .exit)) ⌝ }
 {
     let plant = ix.plant;
     let variables = plant.variables;
@@ -31,23 +40,25 @@ fn lend(ix: TableIndex, asked: Admitted, table: &[u8], events: &[u8], records: &
         &mut values[..variables],
         &mut modes[..selectors],
         records,
+        ed,
     )
 }
 
 pub fn run(table: &[u8], start: &[u8], events: &[u8], records: &mut [u8]) -> Ran
     ensures { λ r. ⌜ ranWith r (now (records .exit)) ≡ tableRun edition1 (now (table .entry)) (now (start .entry)) (now (events .entry)) (now (records .entry)) ⌝ }
 {
-    let ix = table_read::call::index(table);
+    let ed = Edition::First;
+    let ix = table_read::call::index(table, ed);
     let first = ix.refusal;
     if first != 0 {
         return records::refused(first);
     }
     let plant = ix.plant;
-    let asked = start_read::admission::admit(plant, start, events.len(), records.len());
+    let asked = start_read::admission::admit(plant, start, events.len(), records.len(), ed);
     let second = asked.refusal;
     if second != 0 {
         return records::refused(second);
     }
-    let counts = lend(ix, asked, table, events, records);
+    let counts = lend(ix, asked, table, events, records, ed);
     Ran { refusal: 0, counts }
 }

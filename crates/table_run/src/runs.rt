@@ -1,7 +1,9 @@
 // All events of a run of a table.
+use edition::Edition;
 use records::Counts;
 use table_step::entries;
 use table_step::steps;
+ghost use Rattle.edition.specs.Editions.{editionOf};
 ghost use Rattle.program.specs.Lent.{lent};
 ghost use Rattle.table_run.specs.Runs.{Asking, Completes};
 
@@ -14,25 +16,28 @@ pub fn all(
     values: &mut [i32],
     modes: &mut [u8],
     records: &mut [u8],
+    ed: Edition,
 ) -> Counts
-    requires { ⌜ Asking (lent (now t) (now ix) (now ranges)) (now values) (now modes) (now events) (now records) ⌝ }
-    ensures { λ r. ⌜ Completes (lent (now (t .entry)) (now (ix .entry)) (now (ranges .entry))) (now (values .entry)) (now (modes .entry)) (now (events .entry))
+    requires { ⌜ Asking (editionOf ed) (lent (now t) (now ix) (now ranges)) (now values) (now modes) (now events) (now records) ⌝ }
+    ensures { λ r. ⌜ Completes (editionOf ed) (lent (now (t .entry)) (now (ix .entry)) (now (ranges .entry))) (now (values .entry)) (now (modes .entry)) (now (events .entry))
         (now (records .entry)) r (now (records .exit)) ⌝ }
 {
     let mut acting = [0u64; 4];
-    entries::acting(t, program::location(ix, steps::START), &mut acting);
+    entries::acting(t, program::location(ix, steps::START), &mut acting, ed);
     let mut x = steps::START;
     let mut counts = records::none();
-    let n = events.len() / paper::EVENT_BYTES;
+    let n = events.len() / edition::event_bytes(ed);
+    let mut at = 0;
     let mut i = 0;
     let mut k = 0;
     while k < n {
-        let e = event::at(events, k);
-        let r = steps::step(t, ix, ranges, e, x, &mut acting, values, modes);
+        let e = event::at(events, at, ed);
+        let r = steps::step(t, ix, ranges, e, x, &mut acting, values, modes, ed);
         let answer = r.answer;
         x = r.place;
-        i = records::put_record(records, i, answer, &acting, values, modes);
+        i = records::put_record(records, i, answer, &acting, values, modes, ed);
         counts = records::booked(counts, answer);
+        at += edition::event_bytes(ed);
         k += 1;
     }
     counts

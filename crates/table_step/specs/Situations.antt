@@ -6,7 +6,7 @@ use mathlib.Core.Option.{Option, none, some}
 use Prim.Native.Nat.{ℕ, _<_}
 use lib.IntN.{ℤ}
 use lib.ListN.{length}
-use Rattle.semantics.specs.Editions.{edition1}
+use Rattle.semantics.specs.Editions.{Edition}
 use Rattle.semantics.specs.Run.{judge}
 use Rattle.semantics.specs.TableFile.{NONE}
 use Rattle.semantics.specs.Tables.{Table, entryNodes, entryTarget, entriesAt, tableControl}
@@ -14,7 +14,7 @@ use Rattle.semantics.specs.Calls.{programOfTable}
 use Rattle.nodeset.specs.Sets.{members, Words}
 use Rattle.program.specs.Lent.{Lent, lent}
 use Rattle.table_read.specs.Promised.{Leads}
-use Rattle.table_read.specs.Lent.{LocationsLent, TableLent}
+use Rattle.table_read.specs.Lent.{TableLent}
 use Rattle.event.specs.Decoded.{eventOf}
 use Rattle.event.specs.declared.Event.{Event}
 use Rattle.effects.specs.Verdicts.{Left}
@@ -35,48 +35,48 @@ pub record StandsFor (t : Table) (x : ℕ) (ws : List ℕ) (o : Option ℕ) : Ty
   pub shows : Shows (tableControl t) (λ y. y < length (t .locations)) ws o
 
 -- the nodes of location x are these
-pub record Here (t : Table) (l : Lent) (x : ℕ) (ws : List ℕ) : Type 0 where
-  pub lent : LocationsLent t l
+pub record Here (ed : Edition) (t : Table) (l : Lent) (x : ℕ) (ws : List ℕ) : Type 0 where
+  pub lent : TableLent ed t l
   pub below : x < length (t .locations)
   pub stands : members ws ≡ entryNodes (entriesAt t x)
   pub words : Words ws
 
 -- ---- one event, part by part
 -- a move from location x leads to a location or to an end
-pub record Movable (t : Table) (l : Lent) (x : ℕ) (v : Verdict) : Type 0 where
-  pub lent : LocationsLent t l
+pub record Movable (ed : Edition) (t : Table) (l : Lent) (x : ℕ) (v : Verdict) : Type 0 where
+  pub lent : TableLent ed t l
   pub below : x < length (t .locations)
   pub leads : (n : ℕ) (b : Bool) → v ≡ Move n b → Leads (length (t .locations)) (entryTarget (entriesAt t x) n b)
 
 -- there is such a table, and the words of the set are words
-pub record Moving (s ix : List ℕ) (x : ℕ) (v : Verdict) (ws : List ℕ) : Type 0 where
+pub record Moving (ed : Edition) (s ix : List ℕ) (x : ℕ) (v : Verdict) (ws : List ℕ) : Type 0 where
   pub ranges : List ℤ
   pub table : Table
-  pub movable : Movable table (lent s ix ranges) x v
+  pub movable : Movable ed table (lent s ix ranges) x v
   pub words : Words ws
 
 -- what the move of node n makes of the place and the set: for every table that the arrays hold
-abbrev pub Moved : (s ix : List ℕ) → ℕ → ℕ → Bool → Stepped → List ℕ → Type 0
-Moved s ix x n b r ws' = (rs : List ℤ) (t : Table) → Movable t (lent s ix rs) x (Move n b) → Arrives (StandsFor t (r .place) ws') (tableControl t .next x n b) (r .answer)
+abbrev pub Moved : Edition → (s ix : List ℕ) → ℕ → ℕ → Bool → Stepped → List ℕ → Type 0
+Moved ed s ix x n b r ws' = (rs : List ℤ) (t : Table) → Movable ed t (lent s ix rs) x (Move n b) → Arrives (StandsFor t (r .place) ws') (tableControl t .next x n b) (r .answer)
 
 -- what is made of a judged event: for every table and location that the bytes, the index and the set are of
-abbrev pub Settled : (s ix : List ℕ) → ℕ → Verdict → List ℕ → Stepped → List ℕ → Type 0
-Settled s ix x v ws r ws' =
-    (rs : List ℤ) (t : Table) → Movable t (lent s ix rs) x v → Here t (lent s ix rs) x ws → (vs : List ℤ) (ms : List ℕ) (e : Event) (vs' : List ℤ) (ms' : List ℕ)
-    → Left (judge edition1 (t .plant) (tableControl t .action) (members ws) vs ms (eventOf e)) vs ms v vs' ms'
-    → Steps (programOfTable t) (StandsFor t (r .place) ws') (some x) vs ms e (r .answer) vs' ms'
+abbrev pub Settled : Edition → (s ix : List ℕ) → ℕ → Verdict → List ℕ → Stepped → List ℕ → Type 0
+Settled ed s ix x v ws r ws' =
+    (rs : List ℤ) (t : Table) → Movable ed t (lent s ix rs) x v → Here ed t (lent s ix rs) x ws → (vs : List ℤ) (ms : List ℕ) (e : Event) (vs' : List ℤ) (ms' : List ℕ)
+    → Left (judge ed (t .plant) (tableControl t .action) (members ws) vs ms (eventOf e)) vs ms v vs' ms'
+    → Steps ed (programOfTable t) (StandsFor t (r .place) ws') (some x) vs ms e (r .answer) vs' ms'
 
 -- ---- the whole event
 -- what the reader promises of a table, with a place, values and modes that fit it: all that a step asks
-pub record Promised (l : Lent) (x : ℕ) (ws : List ℕ) (vs : List ℤ) (ms : List ℕ) : Type 0 where
+pub record Promised (ed : Edition) (l : Lent) (x : ℕ) (ws : List ℕ) (vs : List ℤ) (ms : List ℕ) : Type 0 where
   pub table : Table
-  pub lent : TableLent table l
+  pub lent : TableLent ed table l
   pub place : Option ℕ
   pub stands : StandsFor table x ws place
   pub fits : Fits (table .plant) vs ms
 
 -- what a step gives, from place, acting nodes, values and modes to the same: for every table that the arrays hold and every place that the run stands at
-abbrev pub StepsOn : Lent → ℕ → List ℕ → List ℤ → List ℕ → Event → Stepped → List ℕ → List ℤ → List ℕ → Type 0
-StepsOn l x ws vs ms e r ws' vs' ms' =
-    (t : Table) (o : Option ℕ) → TableLent t l → StandsFor t x ws o → Fits (t .plant) vs ms
-    → Steps (programOfTable t) (StandsFor t (r .place) ws') o vs ms e (r .answer) vs' ms' × Fits (t .plant) vs' ms'
+abbrev pub StepsOn : Edition → Lent → ℕ → List ℕ → List ℤ → List ℕ → Event → Stepped → List ℕ → List ℤ → List ℕ → Type 0
+StepsOn ed l x ws vs ms e r ws' vs' ms' =
+    (t : Table) (o : Option ℕ) → TableLent ed t l → StandsFor t x ws o → Fits (t .plant) vs ms
+    → Steps ed (programOfTable t) (StandsFor t (r .place) ws') o vs ms e (r .answer) vs' ms' × Fits (t .plant) vs' ms'

@@ -1,8 +1,10 @@
 // One event of a run of a table.
 use super::entries;
+use edition::Edition;
 use effects::Verdict;
 use event::Event;
 ghost use mathlib.Core.Path.{_≡_};
+ghost use Rattle.edition.specs.Editions.{editionOf};
 ghost use Rattle.nodeset.specs.Sets.{emptySet};
 ghost use Rattle.program.specs.Lent.{lent};
 ghost use Rattle.effects.specs.declared.Verdict.the-variants.{Move};
@@ -37,18 +39,19 @@ fn moved(
     n: usize,
     truth: bool,
     acting: &mut [u64; 4],
+    ed: Edition,
 ) -> Stepped
-    requires { ⌜ Moving (now t) (now ix) x (Move n truth) (now acting) ⌝ }
-    ensures { λ r. ⌜ Moved (now (t .entry)) (now (ix .entry)) x n truth r (now (acting .exit)) ⌝ }
+    requires { ⌜ Moving (editionOf ed) (now t) (now ix) x (Move n truth) (now acting) ⌝ }
+    ensures { λ r. ⌜ Moved (editionOf ed) (now (t .entry)) (now (ix .entry)) x n truth r (now (acting .exit)) ⌝ }
 {
-    let to = entries::target(t, program::location(ix, x), n, truth);
+    let to = entries::target(t, program::location(ix, x), n, truth, ed);
     if to == paper::targets::FINISHED {
         return end(paper::answers::FINISHED, acting);
     }
     if to == paper::targets::HALTED {
         return end(paper::answers::HALTED, acting);
     }
-    entries::acting(t, program::location(ix, to), acting);
+    entries::acting(t, program::location(ix, to), acting, ed);
     Stepped {
         answer: paper::answers::TAKEN,
         place: to,
@@ -62,9 +65,10 @@ fn settled(
     x: usize,
     v: Verdict,
     acting: &mut [u64; 4],
+    ed: Edition,
 ) -> Stepped
-    requires { ⌜ Moving (now t) (now ix) x v (now acting) ⌝ }
-    ensures { λ r. ⌜ Settled (now (t .entry)) (now (ix .entry)) x v (now (acting .entry)) r (now (acting .exit)) ⌝ }
+    requires { ⌜ Moving (editionOf ed) (now t) (now ix) x v (now acting) ⌝ }
+    ensures { λ r. ⌜ Settled (editionOf ed) (now (t .entry)) (now (ix .entry)) x v (now (acting .entry)) r (now (acting .exit)) ⌝ }
 {
     match v {
         Verdict::Away(n) => Stepped {
@@ -77,7 +81,7 @@ fn settled(
             answer: paper::answers::TAKEN,
             place: x,
         },
-        Verdict::Move(n, truth) => moved(t, ix, x, n, truth, acting),
+        Verdict::Move(n, truth) => moved(t, ix, x, n, truth, acting, ed),
     }
 }
 
@@ -91,9 +95,10 @@ pub fn step(
     acting: &mut [u64; 4],
     values: &mut [i32],
     modes: &mut [u8],
+    ed: Edition,
 ) -> Stepped
-    requires { ⌜ Promised (lent (now t) (now ix) (now ranges)) x (now acting) (now values) (now modes) ⌝ }
-    ensures { λ r. ⌜ StepsOn (lent (now (t .entry)) (now (ix .entry)) (now (ranges .entry))) x (now (acting .entry)) (now (values .entry)) (now (modes .entry)) e
+    requires { ⌜ Promised (editionOf ed) (lent (now t) (now ix) (now ranges)) x (now acting) (now values) (now modes) ⌝ }
+    ensures { λ r. ⌜ StepsOn (editionOf ed) (lent (now (t .entry)) (now (ix .entry)) (now (ranges .entry))) x (now (acting .entry)) (now (values .entry)) (now (modes .entry)) e
         r (now (acting .exit)) (now (values .exit)) (now (modes .exit)) ⌝ }
 {
     if x == paper::targets::NONE {
@@ -102,6 +107,6 @@ pub fn step(
             place: x,
         };
     }
-    let v = execution::judge(t, ix, ranges, acting, e, values, modes);
-    settled(t, ix, x, v, acting)
+    let v = execution::judge(t, ix, ranges, acting, e, values, modes, ed);
+    settled(t, ix, x, v, acting, ed)
 }

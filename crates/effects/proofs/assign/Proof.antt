@@ -62,7 +62,9 @@ returns : tie.Need-returns
 returns c = let n = c .before .before .before .before .before .before in
     let F = c .before .before .before .before .z .given in
     let z = F .0 .0 in
-    record { gives = λ ed v e h. assigned-number _ _ _ _ ed e _ (asked ed n h) z _ _ (F .1) (stored-as _ _ _ (operand-is (n .before .before .before .before .before .args .t .now) h .0) (held z (c .before .before .before .known-told .given .0 .1)) (c .before .store .ensures)) }
+    let k = held z (c .before .before .before .known-told .given .0 .1) in
+    let t = n .before .before .before .before .before .args .t .now in
+    record { gives = λ ed v e h. assigned-number _ _ _ _ ed e _ (asked ed n h) z _ _ (F .1) (stored-as _ _ _ (operand-is t h .0) k (c .before .store .ensures)) }
 
 same-length-2 : tie.Need-same-length-2
 same-length-2 c = search needs

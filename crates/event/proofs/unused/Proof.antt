@@ -1,6 +1,6 @@
 -- The bytes from `from` on are all 0 if those from i on are.
 use mathlib.Core.Path.{_≡_, refl, sym, ap, _∙_}
-use Prim.Native.Nat.{_-_, _≤_}
+use Prim.Native.Nat.{_-_}
 use native.Mathlib.Omega.{arith}
 use lib.ListN.{length, drop}
 use Rattle.event.specs.Decoded.{allZero, whereZero}

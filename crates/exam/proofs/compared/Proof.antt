@@ -12,10 +12,10 @@ records-length-requires : tie.Need-records-length-requires
 records-length-requires c κs = search needs
 
 slice-aggregate-agreed : tie.Need-slice-aggregate-agreed
-slice-aggregate-agreed c = let s = c .before .before .before .before .before .before in let r = s .pre .0 in let e = c .before .records-length .ensures (r .schedule) (r .schedule-read) in front-length _ (s .args .a .now) (omega (arith, e, room-for (r .schedule .plant) _ _ (r .enough)))
+slice-aggregate-agreed c = let s = c .before .before .before .before .before .before in let r = s .pre .0 in let e = c .before .records-length .ensures (r .schedule) (r .schedule-read) in front-length _ (s .args .a .now) (omega (arith, e, room-for _ (r .schedule .plant) _ _ (r .enough)))
 
 slice-aggregate-agreed-2 : tie.Need-slice-aggregate-agreed-2
-slice-aggregate-agreed-2 c = let s = c .before .before .before .before .before .before .before in let r = s .pre .1 in let e = c .before .before .records-length .ensures (r .schedule) (r .schedule-read) in front-length _ (s .args .b .now) (omega (arith, e, room-for (r .schedule .plant) _ _ (r .enough)))
+slice-aggregate-agreed-2 c = let s = c .before .before .before .before .before .before .before in let r = s .pre .1 in let e = c .before .before .records-length .ensures (r .schedule) (r .schedule-read) in front-length _ (s .args .b .now) (omega (arith, e, room-for _ (r .schedule .plant) _ _ (r .enough)))
 
 agreed-requires : tie.Need-agreed-requires
 agreed-requires c κs = search needs

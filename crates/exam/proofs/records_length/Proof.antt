@@ -16,22 +16,22 @@ read-requires c κs = search needs
 record-length-requires : tie.Need-record-length-requires
 record-length-requires c κs =
     let start = c .before .before .before .before in
-    let k = counts (start .args .file .now) (c .read .ensures) (start .pre .schedule-read) in (k .few, k .few-selectors)
+    let k = counts edition1 (start .args .file .now) (c .read .ensures) (start .pre .schedule-read) in (k .few, k .few-selectors)
 
 mul-result : tie.Need-mul-result
 unfolding eventCount
 mul-result c =
     let start = c .before .before .before .before .before in
     let a = start .args in
-    let k = length-of (a .file .now) (length (a .events .now) / 3) (c .before .read .ensures) (start .pre .schedule-read) (c .record-length .ensures) in
-    let r : length (a .events .now) / 3 * recordSize edition1 (start .pre .schedule .plant) ≤ length (a .records .now) = room-for (start .pre .schedule .plant) (a .events .now) (a .records .now) (start .pre .enough) in
+    let k = length-of edition1 (a .file .now) (length (a .events .now) / 3) (c .before .read .ensures) (start .pre .schedule-read) (c .record-length .ensures) in
+    let r : length (a .events .now) / 3 * recordSize edition1 (start .pre .schedule .plant) ≤ length (a .records .now) = room-for edition1 (start .pre .schedule .plant) (a .events .now) (a .records .now) (start .pre .enough) in
     omega (arith, k, r, start .good)
 
 returns : tie.Need-returns
 unfolding eventCount
 returns c =
     let start = c .before .before .before .before .before in
-    λ s h. length-of (start .args .file .now) _ (c .before .read .ensures) h (c .record-length .ensures)
+    λ s h. length-of edition1 (start .args .file .now) _ (c .before .read .ensures) h (c .record-length .ensures)
 
 pub records-length-spec : {M : Type 1} → statement M
 records-length-spec = tie.close (tie.spec read-requires record-length-requires mul-result returns)

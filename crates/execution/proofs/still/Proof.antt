@@ -8,7 +8,7 @@ use Rattle.execution.proofs.still.Tie as tie
 returns : tie.Need-returns
 returns c =
     let a = c .before .before .before .before .before .args in
-    still-asked (a .values .now) (a .t .now) (startRow (a .ix .now)) (endRow (a .ix .now)) (a .n) (c .before .before .before .start .ensures) (c .before .before .end .ensures) (c .ask .ensures)
+    λ ed. still-asked ed (a .values .now) (a .t .now) (startRow (a .ix .now)) (endRow (a .ix .now)) (a .n) (c .before .before .before .start .ensures) (c .before .before .end .ensures) (c .ask .ensures ed)
 
 pub still-spec : {M : Type 1} → statement M
 still-spec =

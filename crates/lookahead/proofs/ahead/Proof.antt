@@ -6,14 +6,14 @@ use Rattle.lookahead.proofs.ahead.Statement.{statement}
 use Rattle.lookahead.proofs.ahead.Tie as tie
 
 acting-requires : tie.Need-acting-requires
-acting-requires c κs = let l = c .before in first-located (l .before .before .before .pre .lent) (l .location .ensures)
+acting-requires c κs = let l = c .before in first-located _ (l .before .before .before .pre .lent) (l .location .ensures)
 
 step-requires : tie.Need-step-requires
 step-requires c κs =
     let g = c .before .before .before in
     let l = g .before .before in
     let q = l .before .before .before .pre in
-    first-promised (q .lent) (l .location .ensures) (g .acting2 .ensures) (q .fits)
+    first-promised _ (q .lent) (l .location .ensures) (g .acting2 .ensures) (q .fits)
 
 step-requires-2 : tie.Need-step-requires-2
 step-requires-2 c κs =
@@ -21,7 +21,7 @@ step-requires-2 c κs =
     let g = x .before .before .before .before in
     let l = g .before .before in
     let q = l .before .before .before .pre in
-    next-promised _ (first-promised (q .lent) (l .location .ensures) (g .acting2 .ensures) (q .fits)) (x .step .ensures)
+    next-promised _ _ (first-promised _ (q .lent) (l .location .ensures) (g .acting2 .ensures) (q .fits)) (x .step .ensures)
 
 step-requires-3 : tie.Need-step-requires-3
 step-requires-3 c κs =
@@ -30,7 +30,7 @@ step-requires-3 c κs =
     let g = x .before .before .before .before in
     let l = g .before .before in
     let q = l .before .before .before .pre in
-    next-promised _ (next-promised _ (first-promised (q .lent) (l .location .ensures) (g .acting2 .ensures) (q .fits)) (x .step .ensures)) (y .step2 .ensures)
+    next-promised _ _ (next-promised _ _ (first-promised _ (q .lent) (l .location .ensures) (g .acting2 .ensures) (q .fits)) (x .step .ensures)) (y .step2 .ensures)
 
 returns : tie.Need-returns
 returns c =
@@ -40,7 +40,7 @@ returns c =
     let g = x .before .before .before .before in
     let l = g .before .before in
     let s = l .before .before .before in
-    λ t d f. three-steps d (first-stands d (l .location .ensures) (g .acting2 .ensures)) f (s .args .a) (s .args .b) (s .args .c)
+    λ t d f. three-steps _ d (first-stands _ d (l .location .ensures) (g .acting2 .ensures)) f (s .args .a) (s .args .b) (s .args .c)
     (x .step .ensures) (y .step2 .ensures) (z .step3 .ensures)
 
 pub ahead-spec : {M : Type 1} → statement M

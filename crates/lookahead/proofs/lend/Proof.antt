@@ -23,14 +23,14 @@ ahead-requires : tie.Need-ahead-requires
 ahead-requires c κs =
     let p = c .before .before .before .before .before .before .before .before in
     let s = p .before .before .before in
-    lending (omega (arith, s .good)) (p .program .ensures) (s .pre)
+    lending _ (omega (arith, s .good)) (p .program .ensures) (s .pre)
 
 returns : tie.Need-returns
 returns c =
     let w = c .before .before in
     let p = w .before .before .before .before .before .before .before .before .before in
     let s = p .before .before .before in
-    answers-start (omega (arith, s .good)) (p .program .ensures) (s .pre) (s .args .a) (s .args .b) (s .args .c) (w .ahead .ensures)
+    answers-start _ (omega (arith, s .good)) (p .program .ensures) (s .pre) (s .args .a) (s .args .b) (s .args .c) (w .ahead .ensures)
 
 pub lend-spec : {M : Type 1} → statement M
 lend-spec =

@@ -38,7 +38,10 @@ goes-on-requires : tie.Need-goes-on-requires Inv-loop μ-loop
 goes-on-requires c κs = search needs
 
 returns : tie.Need-returns Inv-loop μ-loop
-returns c ed = let l = c .before .before .before in walk-stops (l .before .loop .inv) (l .loop-test .taken) (c .before .before .truth .ensures) ed (sym (c .before .goes-on .ensures) ∙ not-true _ (c .if1 .taken)) ∙ ap stepVerdict (check-one ed _ _)
+returns c ed =
+    let l = c .before .before .before in
+    walk-stops (l .before .loop .inv) (l .loop-test .taken) (c .before .before .truth .ensures) ed (sym (c .before .goes-on .ensures) ∙ not-true _ (c .if1 .taken))
+    ∙ ap stepVerdict (check-one ed _ _)
 
 add-p-2 : tie.Need-add-p-2 Inv-loop μ-loop
 add-p-2 c = let x = switch-bytes (walk-here (c .before .before .before .before .loop .inv) (c .before .before .before .loop-test .taken) .stands) in omega (arith, x .long, x .inside)

@@ -30,7 +30,12 @@ goes-on-requires : tie.Need-goes-on-requires Inv-loop μ-loop
 goes-on-requires c κs = search needs
 
 returns : tie.Need-returns Inv-loop μ-loop
-returns c ed = let m = c .before .before in let l = m .before .before .before in check-stops ed _ _ _ _ (l .loop .j) (m .before .before .loop-test .taken) (m .before .place .ensures) (m .mode-check .ensures ed) (sym (c .before .goes-on .ensures) ∙ not-true _ (c .if1 .taken)) ∙ sym (ap stepVerdict (l .loop .inv .1 ed))
+returns c ed =
+    let m = c .before .before in
+    let l = m .before .before .before in
+    let out = sym (c .before .goes-on .ensures) ∙ not-true _ (c .if1 .taken) in
+    check-stops ed _ _ _ _ (l .loop .j) (m .before .before .loop-test .taken) (m .before .place .ensures) (m .mode-check .ensures ed) out
+    ∙ sym (ap stepVerdict (l .loop .inv .1 ed))
 
 add-j : tie.Need-add-j Inv-loop μ-loop
 add-j c = omega arith
@@ -39,7 +44,11 @@ loop-less : tie.Need-loop-less Inv-loop μ-loop
 loop-less c = omega arith
 
 loop-again : tie.Need-loop-again Inv-loop μ-loop
-loop-again c = let m = c .before .before in let l = m .before .before .before in (omega arith, λ ed. l .loop .inv .1 ed ∙ check-next ed _ _ _ _ (l .loop .j) (m .before .before .loop-test .taken) (m .before .place .ensures) (m .mode-check .ensures ed) (sym (c .before .goes-on .ensures) ∙ not-false _ (c .if1 .left)))
+loop-again c =
+    let m = c .before .before in
+    let l = m .before .before .before in
+    let on = sym (c .before .goes-on .ensures) ∙ not-false _ (c .if1 .left) in
+    (omega arith, λ ed. l .loop .inv .1 ed ∙ check-next ed _ _ _ _ (l .loop .j) (m .before .before .loop-test .taken) (m .before .place .ensures) (m .mode-check .ensures ed) on)
 
 returns-2 : tie.Need-returns-2 Inv-loop μ-loop
 returns-2 c ed = check-end ed _ _ _ _ (c .before .loop .j) (c .loop-test .left) ∙ sym (ap stepVerdict (c .before .loop .inv .1 ed))

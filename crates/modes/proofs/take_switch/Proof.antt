@@ -50,7 +50,10 @@ same-length : tie.Need-same-length
 same-length c = search needs
 
 returns-2 : tie.Need-returns-2
-returns-2 c = let p = c .before .before .before in record { leaves = λ ed. no-switch-left ed _ _ _ _ _ _ (current p) (no-switch (mode p) (c .before .before .switches-at .result) (p .before .before .before .before .before .args .k) (c .before .before .switches-at .ensures) (c .if2 .taken)) }
+returns-2 c =
+    let p = c .before .before .before in
+    let n = c .before .before .switches-at in
+    record { leaves = λ ed. no-switch-left ed _ _ _ _ _ _ (current p) (no-switch (mode p) (n .result) (p .before .before .before .before .before .args .k) (n .ensures) (c .if2 .taken)) }
 
 switch-at-requires : tie.Need-switch-at-requires
 switch-at-requires c κs = (mode (c .before .before .before), c .before .before .switches-at .ensures, c .if2 .left)
@@ -76,7 +79,10 @@ same-length-2 c = search needs
 returns-3 : tie.Need-returns-3
 returns-3 c = let q = c .before .before .before .before in
     let w = there q in
-    record { leaves = λ ed. taken-left ed _ _ _ _ _ _ (current (q .before .before .before .before)) (w .0) (w .1) _ (c .before .before .before .truth .ensures .answer ed (w .0) (here q)) (sym (c .before .before .goes-on .ensures) ∙ c .before .if3 .taken) (sym (switch-bytes (here q) .target)) }
+    let m = current (q .before .before .before .before) in
+    let t = c .before .before .before .truth .ensures in
+    let on = sym (c .before .before .goes-on .ensures) ∙ c .before .if3 .taken in
+    record { leaves = λ ed. taken-left ed _ _ _ _ _ _ m (w .0) (w .1) _ (t .answer ed (w .0) (here q)) on (sym (switch-bytes (here q) .target)) }
 
 same-length-3 : tie.Need-same-length-3
 same-length-3 c = search needs
@@ -84,7 +90,9 @@ same-length-3 c = search needs
 returns-4 : tie.Need-returns-4
 returns-4 c = let q = c .before .before .before in
     let w = there q in
-    record { leaves = λ ed. not-taken-left ed _ _ _ _ _ _ (current (q .before .before .before .before)) (w .0) (w .1) _ (c .before .before .truth .ensures .answer ed (w .0) (here q)) (sym (c .before .goes-on .ensures) ∙ c .if3 .left) }
+    let m = current (q .before .before .before .before) in
+    let t = c .before .before .truth .ensures in
+    record { leaves = λ ed. not-taken-left ed _ _ _ _ _ _ m (w .0) (w .1) _ (t .answer ed (w .0) (here q)) (sym (c .before .goes-on .ensures) ∙ c .if3 .left) }
 
 pub take-switch-spec : {M : Type 1} → statement M
 take-switch-spec =

@@ -5,9 +5,11 @@ use native.Mathlib.Omega.{arith}
 use lib.ListN.{length, length-append}
 use Rattle.semantics.specs.Bytes.{bigEndian}
 use Rattle.semantics.specs.Run.{setNumber, valueBytes, recordBytes}
+use Rattle.edition.specs.Editions.{editionOf}
 use Rattle.nodeset.specs.Sets.{members}
 use Rattle.codec.proofs.Writing.{put-more, wrote-as}
-use Rattle.records.proofs.Records.{set-length, values-length}
+use Rattle.records.proofs.Records.{values-length}
+use Rattle.records.proofs.SetBytes.{length-bytes}
 use borrow.Author.Needs.{needs}
 use Rattle.records.proofs.put_record.Statement.{statement}
 use Rattle.records.proofs.put_record.Tie as tie
@@ -39,10 +41,10 @@ returns c = let t' = c .before .before in
     let q = q' .put-set in
     let r = r' .put-values in
     let t = t' .put-slice in
-    let S = bigEndian 8 (setNumber (members (a .acting .now))) in
+    let S = bigEndian (editionOf (a .ed) .set-bytes) (setNumber (members (a .acting .now))) in
     let Q = flatMap valueBytes (a .values .now) in
     let h : a .i ≤ length (a .d .now) = omega (arith, s .pre .0) in
-    let e = set-length (setNumber (members (a .acting .now))) in
+    let e = length-bytes (editionOf (a .ed) .set-bytes) (setNumber (members (a .acting .now))) in
     let n = values-length (a .values .now) in
     let m = length-append (a .answer ∷ S) Q in
     let one = put-more (p .ensures .1) (q .ensures .1) h (p .ensures .0) in

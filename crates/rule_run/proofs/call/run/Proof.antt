@@ -12,35 +12,25 @@ refused-requires : tie.Need-refused-requires
 refused-requires c κs = search needs
 
 returns : tie.Need-returns
-returns c = c .refused .ensures _ ∙ by-file (c .before .before .before .before .before .before .before .args .file .now) (c .before .before .before .before .before .before .before .args .start .now) (c .before .before .before .before .before .before .before .args .events .now) (c .before .before .before .before .before .before .before .args .records .now) (c .before .before .index .ensures) (c .before .if1 .taken)
+returns c = c .refused .ensures _ ∙ by-file _ (c .before .before .before .before .before .before .before .args .file .now) (c .before .before .before .before .before .before .before .args .start .now) (c .before .before .before .before .before .before .before .args .events .now) (c .before .before .before .before .before .before .before .args .records .now) (c .before .before .index .ensures) (c .before .if1 .taken)
 
 admit-requires : tie.Need-admit-requires
-admit-requires c κs = room-of (c .before .before .before .before .before .before .before .args .file .now) (c .before .before .before .before .before .before .before .args .start .now) (c .before .before .before .before .before .before .before .args .events .now) (c .before .before .before .before .before .before .before .args .records .now) (c .before .before .index .ensures) (c .before .if1 .left)
+admit-requires c κs = room-of _ (c .before .before .before .before .before .before .before .args .file .now) (c .before .before .before .before .before .before .before .args .start .now) (c .before .before .before .before .before .before .before .args .events .now) (c .before .before .before .before .before .before .before .args .records .now) (c .before .before .index .ensures) (c .before .if1 .left)
 
 refused-requires-2 : tie.Need-refused-requires-2
 refused-requires-2 c κs = search needs
 
 returns-2 : tie.Need-returns-2
-returns-2 c =
-    let c7 = c .before .before .before .before .before .before .before in
-    let start = c7 .before .before .before in
-    c .refused2 .ensures _ ∙ by-admission (start .args .file .now) (start .args .start .now) (start .args .events .now) (start .args .records .now) (c .before .before .before .before .before .index .ensures) (c .before .before .before .before .if1 .left) (λ p k. c .before .before .admit .ensures p k _ _ refl refl) (c .before .if2 .taken)
+returns-2 c = c .refused2 .ensures _ ∙ by-admission _ (c .before .before .before .before .before .before .before .before .before .before .args .file .now) (c .before .before .before .before .before .before .before .before .before .before .args .start .now) (c .before .before .before .before .before .before .before .before .before .before .args .events .now) (c .before .before .before .before .before .before .before .before .before .before .args .records .now) (c .before .before .before .before .before .index .ensures) (c .before .before .before .before .if1 .left) (λ p k. c .before .before .admit .ensures p k _ _ refl refl) (c .before .if2 .taken)
 
 lend-requires : tie.Need-lend-requires
-lend-requires c κs =
-    let c7 = c .before .before .before .before .before .before .before in
-    let start = c7 .before .before .before in
-    (c .before .before .before .before .before .index .ensures, admitting (start .args .file .now) (start .args .start .now) (start .args .events .now) (start .args .records .now) (c .before .before .before .before .before .index .ensures) (c .before .before .before .before .if1 .left) (λ p k. c .before .before .admit .ensures p k _ _ refl refl) (c .before .if2 .left))
+lend-requires c κs = (c .before .before .before .before .before .index .ensures, admitting _ (c .before .before .before .before .before .before .before .before .before .before .args .file .now) (c .before .before .before .before .before .before .before .before .before .before .args .start .now) (c .before .before .before .before .before .before .before .before .before .before .args .events .now) (c .before .before .before .before .before .before .before .before .before .before .args .records .now) (c .before .before .before .before .before .index .ensures) (c .before .before .before .before .if1 .left) (λ p k. c .before .before .admit .ensures p k _ _ refl refl) (c .before .if2 .left))
 
 same-length : tie.Need-same-length
 same-length c = search needs
 
 returns-3 : tie.Need-returns-3
-returns-3 c =
-    let c7 = c .before .before .before .before .before .before .before in
-    let index-then = c7 .before in
-    let start = index-then .before .before .before .before .before in
-    by-events (start .args .file .now) (start .args .start .now) (start .args .events .now) (start .args .records .now) (index-then .index .ensures) (c .before .before .before .before .before .before .before .if1 .left) (λ p k. c .before .before .before .before .before .admit .ensures p k _ _ refl refl) (c .before .before .before .before .if2 .left) (c .before .before .lend .ensures)
+returns-3 c = by-events _ (c .before .before .before .before .before .before .before .before .before .before .before .before .before .args .file .now) (c .before .before .before .before .before .before .before .before .before .before .before .before .before .args .start .now) (c .before .before .before .before .before .before .before .before .before .before .before .before .before .args .events .now) (c .before .before .before .before .before .before .before .before .before .before .before .before .before .args .records .now) (c .before .before .before .before .before .before .before .before .index .ensures) (c .before .before .before .before .before .before .before .if1 .left) (λ p k. c .before .before .before .before .before .admit .ensures p k _ _ refl refl) (c .before .before .before .before .if2 .left) (c .before .before .lend .ensures)
 
 pub run-spec : {M : Type 1} → statement M
 run-spec =

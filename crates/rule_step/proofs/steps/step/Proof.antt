@@ -9,25 +9,16 @@ none-requires : tie.Need-none-requires
 none-requires c κs = shown-words (c .before .before .before .before .before .pre .stands)
 
 returns : tie.Need-returns
-returns c = λ s o d i g f. step-over s o d i g f _ (c .before .none .ensures .yes (c .if1 .taken))
+returns c = λ s o d i g f. step-over _ s o d i g f _ (c .before .none .ensures .yes (c .if1 .taken))
 
 judge-requires : tie.Need-judge-requires
-judge-requires c κs =
-    let i = c .before .before .before in
-    judging (i .before .before .before .before .before .before .before .pre) (i .before .none .ensures .no (i .if1 .left))
+judge-requires c κs = judging _ (c .before .before .before .before .before .before .before .before .before .before .pre) (c .before .before .before .before .none .ensures .no (c .before .before .before .if1 .left))
 
 settled-requires : tie.Need-settled-requires
-settled-requires c κs =
-    let j = c .before .before .before .before in
-    let i = j .before .before .before .before in
-    let s = i .before .before .before .before .before .before .before in
-    movable (s .args .e) (s .pre) (i .before .none .ensures .no (i .if1 .left)) (j .judge .ensures)
+settled-requires c κs = movable _ (c .before .before .before .before .before .before .before .before .before .before .before .before .before .before .before .args .e) (c .before .before .before .before .before .before .before .before .before .before .before .before .before .before .before .pre) (c .before .before .before .before .before .before .before .before .before .none .ensures .no (c .before .before .before .before .before .before .before .before .if1 .left)) (c .before .before .before .before .judge .ensures)
 
 returns-2 : tie.Need-returns-2
-returns-2 c =
-    let j = c .before .before .before .before .before in
-    let i = j .before .before .before .before in
-    λ s o d k g f. step-at s o d k g f _ (i .before .none .ensures .no (i .if1 .left)) (j .judge .ensures) (c .settled .ensures)
+returns-2 c = λ s o d k g f. step-at _ s o d k g f _ (c .before .before .before .before .before .before .before .before .before .before .none .ensures .no (c .before .before .before .before .before .before .before .before .before .if1 .left)) (c .before .before .before .before .before .judge .ensures) (c .settled .ensures _)
 
 pub step-spec : {M : Type 1} → statement M
 step-spec =

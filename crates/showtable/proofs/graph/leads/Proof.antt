@@ -4,10 +4,10 @@ use Rattle.showtable.proofs.graph.leads.Statement.{statement}
 use Rattle.showtable.proofs.graph.leads.Tie as tie
 
 abbrev Inv-loop : tie.InvT-loop
-Inv-loop t p to q₀ left₀ steps₀ q left steps = Unit {0}
+Inv-loop t p to ed q₀ left₀ steps₀ q left steps = Unit {0}
 
 abbrev μ-loop : tie.MeasureT-loop
-μ-loop t p to q₀ left₀ steps₀ q left steps = steps
+μ-loop t p to ed q₀ left₀ steps₀ q left steps = steps
 
 on-requires : tie.Need-on-requires Inv-loop μ-loop
 on-requires c κs = tt
@@ -36,6 +36,9 @@ is-to-requires c κs = tt
 returns : tie.Need-returns Inv-loop μ-loop
 returns c = tt
 
+entry-bytes-requires : tie.Need-entry-bytes-requires Inv-loop μ-loop
+entry-bytes-requires c κs = tt
+
 on-requires-3 : tie.Need-on-requires-3 Inv-loop μ-loop
 on-requires-3 c κs = tt
 
@@ -54,5 +57,5 @@ returns-2 c = tt
 pub leads-spec : {M : Type 1} → statement M
 leads-spec =
     tie.close
-    (tie.spec Inv-loop μ-loop on-requires loop-holds sub-steps at-requires on-requires-2 loop-less loop-again is-to-requires returns on-requires-3 sub-left
-    loop-less-2 loop-again-2 returns-2)
+    (tie.spec Inv-loop μ-loop on-requires loop-holds sub-steps at-requires on-requires-2 loop-less loop-again is-to-requires returns entry-bytes-requires
+    on-requires-3 sub-left loop-less-2 loop-again-2 returns-2)

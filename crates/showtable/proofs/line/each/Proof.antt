@@ -4,16 +4,10 @@ use Rattle.showtable.proofs.line.each.Statement.{statement}
 use Rattle.showtable.proofs.line.each.Tie as tie
 
 abbrev Inv-loop : tie.InvT-loop
-Inv-loop t p pattern count q₀ n₀ q n = Unit {0}
+Inv-loop t p count pattern ed q₀ n₀ q n = Unit {0}
 
 abbrev μ-loop : tie.MeasureT-loop
-μ-loop t p pattern count q₀ n₀ q n = count - n
-
-at-requires : tie.Need-at-requires Inv-loop μ-loop
-at-requires c κs = tt
-
-on-requires : tie.Need-on-requires Inv-loop μ-loop
-on-requires c κs = tt
+μ-loop t p count pattern ed q₀ n₀ q n = count - n
 
 loop-holds : tie.Need-loop-holds Inv-loop μ-loop
 loop-holds c = tt
@@ -36,4 +30,4 @@ returns c = tt
 pub each-spec : {M : Type 1} → statement M
 each-spec =
     tie.close
-    (tie.spec Inv-loop μ-loop at-requires on-requires loop-holds show-requires add-n loop-less loop-again returns)
+    (tie.spec Inv-loop μ-loop loop-holds show-requires add-n loop-less loop-again returns)

@@ -6,10 +6,10 @@ use Rattle.showtable.proofs.line.show.Statement.{statement}
 use Rattle.showtable.proofs.line.show.Tie as tie
 
 abbrev Inv-loop : tie.InvT-loop
-Inv-loop t p n pattern q₀ number₀ bars₀ i₀ q number bars i = Unit {0}
+Inv-loop t p n pattern ed q₀ number₀ bars₀ i₀ q number bars i = Unit {0}
 
 abbrev μ-loop : tie.MeasureT-loop
-μ-loop t p n pattern q₀ number₀ bars₀ i₀ q number bars i = length pattern - i
+μ-loop t p n pattern ed q₀ number₀ bars₀ i₀ q number bars i = length pattern - i
 
 loop-holds : tie.Need-loop-holds Inv-loop μ-loop
 loop-holds c = tt

@@ -3,10 +3,10 @@ use Rattle.showtable.proofs.locations.location.Statement.{statement}
 use Rattle.showtable.proofs.locations.location.Tie as tie
 
 abbrev Inv-loop : tie.InvT-loop
-Inv-loop t acts p n q₀ left₀ q left = Unit {0}
+Inv-loop t acts p n ed q₀ left₀ q left = Unit {0}
 
 abbrev μ-loop : tie.MeasureT-loop
-μ-loop t acts p n q₀ left₀ q left = left
+μ-loop t acts p n ed q₀ left₀ q left = left
 
 heading-requires : tie.Need-heading-requires Inv-loop μ-loop
 heading-requires c κs = tt
@@ -22,6 +22,9 @@ loop-holds c = tt
 
 entry-requires : tie.Need-entry-requires Inv-loop μ-loop
 entry-requires c κs = tt
+
+entry-bytes-requires : tie.Need-entry-bytes-requires Inv-loop μ-loop
+entry-bytes-requires c κs = tt
 
 on-requires-2 : tie.Need-on-requires-2 Inv-loop μ-loop
 on-requires-2 c κs = tt
@@ -41,4 +44,5 @@ returns c = tt
 pub location-spec : {M : Type 1} → statement M
 location-spec =
     tie.close
-    (tie.spec Inv-loop μ-loop heading-requires on-requires at-requires loop-holds entry-requires on-requires-2 sub-left loop-less loop-again returns)
+    (tie.spec Inv-loop μ-loop heading-requires on-requires at-requires loop-holds entry-requires entry-bytes-requires on-requires-2 sub-left loop-less
+    loop-again returns)

@@ -4,10 +4,10 @@ use Rattle.showtable.proofs.locations.show.Statement.{statement}
 use Rattle.showtable.proofs.locations.show.Tie as tie
 
 abbrev Inv-loop : tie.InvT-loop
-Inv-loop t acts p count q₀ n₀ q n = Unit {0}
+Inv-loop t acts p ed count q₀ n₀ q n = Unit {0}
 
 abbrev μ-loop : tie.MeasureT-loop
-μ-loop t acts p count q₀ n₀ q n = count - n
+μ-loop t acts p ed count q₀ n₀ q n = count - n
 
 two-requires : tie.Need-two-requires Inv-loop μ-loop
 two-requires c κs = tt

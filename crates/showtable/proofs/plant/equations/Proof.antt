@@ -3,10 +3,10 @@ use Rattle.showtable.proofs.plant.equations.Statement.{statement}
 use Rattle.showtable.proofs.plant.equations.Tie as tie
 
 abbrev Inv-loop : tie.InvT-loop
-Inv-loop t p q₀ n₀ left₀ q n left = Unit {0}
+Inv-loop t p ed q₀ n₀ left₀ q n left = Unit {0}
 
 abbrev μ-loop : tie.MeasureT-loop
-μ-loop t p q₀ n₀ left₀ q n left = left
+μ-loop t p ed q₀ n₀ left₀ q n left = left
 
 on-requires : tie.Need-on-requires Inv-loop μ-loop
 on-requires c κs = tt

@@ -4,10 +4,10 @@ use Rattle.showtable.proofs.plant.modes.Statement.{statement}
 use Rattle.showtable.proofs.plant.modes.Tie as tie
 
 abbrev Inv-loop : tie.InvT-loop
-Inv-loop t p count q₀ n₀ q n = Unit {0}
+Inv-loop t p ed count q₀ n₀ q n = Unit {0}
 
 abbrev μ-loop : tie.MeasureT-loop
-μ-loop t p count q₀ n₀ q n = count - n
+μ-loop t p ed count q₀ n₀ q n = count - n
 
 at-requires : tie.Need-at-requires Inv-loop μ-loop
 at-requires c κs = tt

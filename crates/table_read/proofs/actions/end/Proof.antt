@@ -1,24 +1,33 @@
 -- The length is missing, too low, too high or past the end, or the operand's form decides: one law of ActionForms each.
 use native.Mathlib.Omega.{arith}
-use Rattle.table_read.proofs.ActionForms.{action-none, action-low, action-high, action-short, action-ok, action-bad}
+use Rattle.table_read.proofs.ActionForms.{action-none, action-low, action-high, action-short, action-here, no-action-here}
 use borrow.Author.Needs.{needs}
 use Rattle.table_read.proofs.actions.end.Statement.{statement}
 use Rattle.table_read.proofs.actions.end.Tie as tie
 
+width-requires : tie.Need-width-requires
+width-requires c κs = search needs
+
+sub-if1 : tie.Need-sub-if1
+sub-if1 c = search needs
+
 returns : tie.Need-returns
-returns c = action-none _ _ (omega arith)
+returns c = action-none _ _ _ (omega arith)
 
-shared-slice-read-l : tie.Need-shared-slice-read-l
-shared-slice-read-l c = search needs
+number-requires : tie.Need-number-requires
+number-requires c κs = search needs
 
-cast-l : tie.Need-cast-l
-cast-l c = omega (arith, c .shared-slice-known2 .given (c .before .before .before .args .at))
+add-if2 : tie.Need-add-if2
+add-if2 c = search needs
 
 returns-2 : tie.Need-returns-2
-returns-2 c = action-low _ _ (omega arith) (omega arith)
+returns-2 c = action-low _ _ _ (omega arith) (omega arith)
+
+add-if3 : tie.Need-add-if3
+add-if3 c = search needs
 
 returns-3 : tie.Need-returns-3
-returns-3 c = action-high _ _ (omega arith) (omega arith)
+returns-3 c = action-high _ _ _ (omega arith) (omega arith)
 
 sub-if4 : tie.Need-sub-if4
 sub-if4 c = search needs
@@ -27,7 +36,7 @@ sub-if4-2 : tie.Need-sub-if4-2
 sub-if4-2 c = search needs
 
 returns-4 : tie.Need-returns-4
-returns-4 c = action-short _ _ (omega arith) (omega arith) (omega arith) (omega arith)
+returns-4 c = action-short _ _ _ (omega arith) (omega arith) (omega arith) (omega arith)
 
 add-b : tie.Need-add-b
 add-b c = search needs
@@ -40,6 +49,12 @@ add-b-3 c = search needs
 
 add-e : tie.Need-add-e
 add-e c = search needs
+
+sub-e : tie.Need-sub-e
+sub-e c = search needs
+
+add-e-2 : tie.Need-add-e-2
+add-e-2 c = search needs
 
 add-operand : tie.Need-add-operand
 add-operand c = search needs
@@ -63,13 +78,17 @@ operand-requires : tie.Need-operand-requires
 operand-requires c κs = search needs
 
 returns-5 : tie.Need-returns-5
-returns-5 c = action-ok _ _ (omega arith) (omega arith) (omega arith) (omega arith) (c .before .operand .ensures) (c .if5 .taken)
+returns-5 c =
+    let n = c .before .before .before .before .before .before .before in
+    action-here _ _ _ (n .before .before .width .ensures) (n .number .ensures) (omega arith) (omega arith) (omega arith) (omega arith) (c .before .operand .ensures) (c .if5 .taken)
 
 returns-6 : tie.Need-returns-6
-returns-6 c = action-bad _ _ (omega arith) (omega arith) (omega arith) (omega arith) (c .before .operand .ensures) (c .if5 .left)
+returns-6 c =
+    let n = c .before .before .before .before .before .before .before in
+    no-action-here _ _ _ (n .before .before .width .ensures) (n .number .ensures) (omega arith) (omega arith) (omega arith) (omega arith) (c .before .operand .ensures) (c .if5 .left)
 
 pub end-spec : {M : Type 1} → statement M
 end-spec =
     tie.close
-    (tie.spec returns shared-slice-read-l cast-l returns-2 returns-3 sub-if4 sub-if4-2 returns-4 add-b add-b-2 add-b-3 add-e add-operand add-operand-2
-    shared-slice-read-operand sub-operand part-operand-start part-operand-end operand-requires returns-5 returns-6)
+    (tie.spec width-requires sub-if1 returns number-requires add-if2 returns-2 add-if3 returns-3 sub-if4 sub-if4-2 returns-4 add-b add-b-2 add-b-3 add-e
+    sub-e add-e-2 add-operand add-operand-2 shared-slice-read-operand sub-operand part-operand-start part-operand-end operand-requires returns-5 returns-6)

@@ -16,13 +16,13 @@ abbrev Begins : Type 0
 Begins = lts.Start (index-reads.Asked, index-reads.Learnt, put-locations-reads.Asked, put-locations-reads.Learnt, ranges-reads.Asked, ranges-reads.Learnt) reads.Pre reads.Post
 
 -- the arrays of an index that is lent by value
-kinds-long : (s : Begins) → length (s .args .x .actions .kinds) ≡ 64
+kinds-long : (s : Begins) → length (s .args .x .actions .kinds) ≡ 256
 kinds-long s = search needs
 
-starts-long : (s : Begins) → length (s .args .x .actions .starts) ≡ 64
+starts-long : (s : Begins) → length (s .args .x .actions .starts) ≡ 256
 starts-long s = search needs
 
-ends-long : (s : Begins) → length (s .args .x .actions .ends) ≡ 64
+ends-long : (s : Begins) → length (s .args .x .actions .ends) ≡ 256
 ends-long s = search needs
 
 places-long : (s : Begins) → length (s .args .x .locations .places) ≡ 1024
@@ -47,12 +47,12 @@ put-locations-requires : tie.Need-put-locations-requires
 put-locations-requires c κs = omega (arith, places-long (c .before .before .before .before .before .before .before .before .before .before .before .before .before .before))
 
 returns : tie.Need-returns
-returns c = λ f t e small j.
+returns c = λ ed f t e small j.
     let c4 = c .before .before .before .before in
     let s = c4 .before .before .before .before .before .before .before .before .before .before .before .before in
     let x = s .args .x in
     let i = c4 .index .ensures in
-    rw (c .before .put-locations .ensures) (table-lent f small e j
+    rw (c .before .put-locations .ensures) (table-lent ed f small e j
     (filled-still (c4 .index .result) (x .locations .places) (x .parts .locations) i (omega (arith, modes-long s)) (omega (arith, kinds-long s)) (omega (arith, starts-long s)) (omega (arith, ends-long s)))
     (location-in (c4 .index .result) (x .locations .places) (x .parts .locations) (i .long) (omega (arith, places-long s)))
     (c .ranges .ensures))

@@ -5,7 +5,7 @@ use Rattle.table_read.proofs.operands.switches.Statement.{statement}
 use Rattle.table_read.proofs.operands.switches.Tie as tie
 
 returns : tie.Need-returns
-returns c = λ cs d v. switches-nothing v cs _ (c .if1 .taken)
+returns c = λ ed cs d v. switches-nothing ed v cs _ (c .if1 .taken)
 
 shared-slice-read-mode-exists : tie.Need-shared-slice-read-mode-exists
 shared-slice-read-mode-exists c = search needs
@@ -23,7 +23,7 @@ mode-exists-requires : tie.Need-mode-exists-requires
 mode-exists-requires c κs = search needs
 
 returns-2 : tie.Need-returns-2
-returns-2 c = λ cs d v. switches-to v cs _ (c .before .before .before .if1 .left) (c .mode-exists .ensures cs d)
+returns-2 c = λ ed cs d v. switches-to ed v cs _ (c .before .before .before .if1 .left) (c .mode-exists .ensures cs d)
 
 pub switches-spec : {M : Type 1} → statement M
 switches-spec =

@@ -5,29 +5,25 @@ use Rattle.table_step.proofs.steps.moved.Statement.{statement}
 use Rattle.table_step.proofs.steps.moved.Tie as tie
 
 location-requires : tie.Need-location-requires
-location-requires c κs = row-here (c .before .pre)
+location-requires c κs = row-here _ (c .before .pre)
 
 target-requires : tie.Need-target-requires
-target-requires c κs = located-at (c .location .ensures) (c .before .before .pre)
+target-requires c κs = located-at _ (c .location .ensures) (c .before .before .pre)
 
 returns : tie.Need-returns
-returns c = λ rs t m. moved-to-end (found-at (c .before .before .before .before .location .ensures) (c .before .before .before .target .ensures)) rs t m (c .before .before .if1 .taken) (c .end .ensures .0) (c .end .ensures .1)
+returns c = λ rs t m. moved-to-end _ (found-at _ (c .before .before .before .before .location .ensures) (c .before .before .before .target .ensures)) rs t m (c .before .before .if1 .taken) (c .end .ensures .0) (c .end .ensures .1)
 
 returns-2 : tie.Need-returns-2
-returns-2 c = λ rs t m. moved-to-halt (found-at (c .before .before .before .before .before .location .ensures) (c .before .before .before .before .target .ensures)) rs t m (c .before .before .if2 .taken) (c .end2 .ensures .0) (c .end2 .ensures .1)
+returns-2 c = λ rs t m. moved-to-halt _ (found-at _ (c .before .before .before .before .before .location .ensures) (c .before .before .before .before .target .ensures)) rs t m (c .before .before .if2 .taken) (c .end2 .ensures .0) (c .end2 .ensures .1)
 
 location-requires-2 : tie.Need-location-requires-2
-location-requires-2 c κs = row-next (found-at (c .before .before .before .location .ensures) (c .before .before .target .ensures)) (c .before .before .before .before .before .pre) (c .before .if1 .left) (c .if2 .left)
+location-requires-2 c κs = row-next _ (found-at _ (c .before .before .before .location .ensures) (c .before .before .target .ensures)) (c .before .before .before .before .before .pre) (c .before .if1 .left) (c .if2 .left)
 
 acting-requires : tie.Need-acting-requires
-acting-requires c κs =
-    let l = c .before in
-    located-next (found-at (l .before .before .before .before .location .ensures) (l .before .before .before .target .ensures)) (l .location2 .ensures) (l .before .before .before .before .before .before .pre) (l .before .before .if1 .left) (l .before .if2 .left)
+acting-requires c κs = located-next _ (found-at _ (c .before .before .before .before .before .location .ensures) (c .before .before .before .before .target .ensures)) (c .before .location2 .ensures) (c .before .before .before .before .before .before .before .pre) (c .before .before .before .if1 .left) (c .before .before .if2 .left)
 
 returns-3 : tie.Need-returns-3
-returns-3 c =
-    let l = c .before .before in
-    λ rs t m. moved-on (found-at (l .before .before .before .before .location .ensures) (l .before .before .before .target .ensures)) rs t m (l .before .before .if1 .left) (l .before .if2 .left) (gathered-at (l .location2 .ensures) (c .acting .ensures))
+returns-3 c = λ rs t m. moved-on _ (found-at _ (c .before .before .before .before .before .before .location .ensures) (c .before .before .before .before .before .target .ensures)) rs t m (c .before .before .before .before .if1 .left) (c .before .before .before .if2 .left) (gathered-at _ (c .before .before .location2 .ensures) (c .acting .ensures))
 
 pub moved-spec : {M : Type 1} → statement M
 moved-spec =

@@ -7,24 +7,24 @@ use Rattle.table_step.proofs.steps.settled.Statement.{statement}
 use Rattle.table_step.proofs.steps.settled.Tie as tie
 
 moved-requires : tie.Need-moved-requires
-moved-requires c κs = moving-as (c .before .before .v2 .given .1) (c .before .before .before .before .before .pre)
+moved-requires c κs = moving-as _ (c .before .before .v2 .given .1) (c .before .before .before .before .before .pre)
 
 returns : tie.Need-returns
-returns c = λ rs t m h vs ms e vs' ms' l. settled-away (programOfTable t) _ _ _ (acts-here h) vs ms e vs' ms' l (c .before .v .given .1) (stands-at h)
+returns c = λ rs t m h vs ms e vs' ms' l. settled-away _ (programOfTable t) _ _ _ (acts-here _ h) vs ms e vs' ms' l (c .before .v .given .1) (stands-at _ h)
 
 returns-2 : tie.Need-returns-2
-returns-2 c = λ rs t m h vs ms e vs' ms' l. ended t (c .end .ensures .0) (c .end .ensures .1) (λ s. settled-above (programOfTable t) _ _ _ (acts-here h) vs ms e vs' ms' l (c .before .before .enum-told .given .1) s)
+returns-2 c = λ rs t m h vs ms e vs' ms' l. ended _ t (c .end .ensures .0) (c .end .ensures .1) (λ s. settled-above _ (programOfTable t) _ _ _ (acts-here _ h) vs ms e vs' ms' l (c .before .before .enum-told .given .1) s)
 
 returns-3 : tie.Need-returns-3
-returns-3 c = λ rs t m h vs ms e vs' ms' l. ended t (c .end2 .ensures .0) (c .end2 .ensures .1) (λ s. settled-below (programOfTable t) _ _ _ (acts-here h) vs ms e vs' ms' l (c .before .before .enum-told2 .given .1) s)
+returns-3 c = λ rs t m h vs ms e vs' ms' l. ended _ t (c .end2 .ensures .0) (c .end2 .ensures .1) (λ s. settled-below _ (programOfTable t) _ _ _ (acts-here _ h) vs ms e vs' ms' l (c .before .before .enum-told2 .given .1) s)
 
 returns-4 : tie.Need-returns-4
-returns-4 c = λ rs t m h vs ms e vs' ms' l. settled-stay (programOfTable t) _ _ _ (acts-here h) vs ms e vs' ms' l (c .enum-told3 .given .1) (stands-at h)
+returns-4 c = λ rs t m h vs ms e vs' ms' l. settled-stay _ (programOfTable t) _ _ _ (acts-here _ h) vs ms e vs' ms' l (c .enum-told3 .given .1) (stands-at _ h)
 
 returns-5 : tie.Need-returns-5
 returns-5 c =
     let q = c .before .before .before .v2 .given .1 in
-    λ rs t m h vs ms e vs' ms' l. settled-move (programOfTable t) _ _ _ (acts-here h) vs ms e vs' ms' l q (c .moved .ensures rs t (movable-as q m))
+    λ rs t m h vs ms e vs' ms' l. settled-move _ (programOfTable t) _ _ _ (acts-here _ h) vs ms e vs' ms' l q (c .moved .ensures rs t (movable-as _ q m))
 
 pub settled-spec : {M : Type 1} → statement M
 settled-spec =

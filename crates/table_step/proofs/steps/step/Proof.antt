@@ -5,23 +5,16 @@ use Rattle.table_step.proofs.steps.step.Statement.{statement}
 use Rattle.table_step.proofs.steps.step.Tie as tie
 
 returns : tie.Need-returns
-returns c = λ t o d g f. step-over t o d g f _ (c .if1 .taken)
+returns c = λ t o d g f. step-over _ t o d g f _ (c .if1 .taken)
 
 judge-requires : tie.Need-judge-requires
-judge-requires c κs = judging (c .before .before .before .before .before .before .pre) (c .before .before .before .if1 .left)
+judge-requires c κs = judging _ (c .before .before .before .before .before .before .pre) (c .before .before .before .if1 .left)
 
 settled-requires : tie.Need-settled-requires
-settled-requires c κs =
-    let j = c .before .before .before .before in
-    let i = j .before .before .before .before in
-    let s = i .before .before .before in
-    moving (s .args .e) (s .pre) (i .if1 .left) (j .judge .ensures)
+settled-requires c κs = moving _ (c .before .before .before .before .before .before .before .before .before .before .before .args .e) (c .before .before .before .before .before .before .before .before .before .before .before .pre) (c .before .before .before .before .before .before .before .before .if1 .left) (c .before .before .before .before .judge .ensures)
 
 returns-2 : tie.Need-returns-2
-returns-2 c =
-    let j = c .before .before .before .before .before in
-    let i = j .before .before .before .before in
-    λ t o d g f. step-at t o d g f _ (i .if1 .left) (j .judge .ensures) (c .settled .ensures)
+returns-2 c = λ t o d g f. step-at _ t o d g f _ (c .before .before .before .before .before .before .before .before .before .if1 .left) (c .before .before .before .before .before .judge .ensures) (c .settled .ensures)
 
 pub step-spec : {M : Type 1} → statement M
 step-spec =
