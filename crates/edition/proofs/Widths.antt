@@ -1,9 +1,8 @@
--- The width of an edition's numbers.
-use mathlib.Core.Path.{_≡_, refl, ap}
-use Prim.Native.Nat.{ℕ, _≤_, _<_}
+-- The width of an edition's numbers, and how large its other numbers are.
+use mathlib.Core.Path.{_≡_, ap}
+use Prim.Native.Nat.{_≤_}
 use lib.Dec.{lit≤}
 use Rattle.semantics.specs.Bytes.{Width, one-byte, two-bytes, widthOf}
-use Rattle.semantics.specs.Editions.{capacity}
 use Rattle.edition.specs.Editions.{editionOf}
 use Rattle.edition.specs.declared.Edition.{Edition}
 use Rattle.edition.specs.declared.Edition.the-variants.{First, Second}
@@ -33,3 +32,12 @@ pub width-high : (w : Width) → widthOf w ≤ 2
 unfolding widthOf
 width-high one-byte = lit≤ tt
 width-high two-bytes = lit≤ tt
+
+-- ---- of any edition that code goes by
+pub few-set-bytes : (e : Edition) → editionOf e .set-bytes ≤ 32
+few-set-bytes First = lit≤ tt
+few-set-bytes Second = lit≤ tt
+
+pub few-event-bytes : (e : Edition) → editionOf e .event-bytes ≤ 4
+few-event-bytes First = lit≤ tt
+few-event-bytes Second = lit≤ tt

@@ -5,6 +5,9 @@ ghost use Prim.Native.Nat.{_+_, _*_, _≤_};
 ghost use Rattle.semantics.specs.Bytes.{widthOf};
 ghost use Rattle.edition.specs.Editions.{editionOf};
 
+// The most nodes of any edition: arrays by node are so long.
+pub const NODES: usize = 256;
+
 // An enum and no struct of numbers: every value of it is an edition.
 pub enum Edition {
     First,

@@ -14,7 +14,7 @@ use Rattle.semantics.specs.Run as Run
 use Rattle.semantics.specs.Run.{Action, _>>=_, _>>_, allow, valued, isWait, walk, checkWaits}
 use Rattle.semantics.specs.TableFile.{WAIT}
 use Rattle.codec.specs.Parts.{between, partAt}
-use Rattle.nodeset.specs.Sets.{mem, members, NextIn}
+use Rattle.nodeset.specs.Sets.{mem, members, MemberFrom}
 use Rattle.nodeset.proofs.Firsts.{membersOn, on-start, on-next, on-member, on-beyond}
 use Rattle.effects.specs.Verdicts.{doneVerdict, stepVerdict, goesOn, truthVerdict}
 use Rattle.execution.specs.Operands.{Few, KindsOf}
@@ -36,12 +36,12 @@ few-bounded ed f e = record { below = λ n m. (let h = f .below n m in omega (ar
 pub record At (ws : List ℕ) (n : ℕ) : Type 0 where
   pub member : n < 256 → mem ws n ≡ true
 
-pub at-next : {ws : List ℕ} {n end m : ℕ} → NextIn ws n end m → At ws m
-at-next x = record { member = x .member }
+pub at-next : {ws : List ℕ} {n end m : ℕ} → MemberFrom ws n end m → At ws m
+at-next x = record { member = x .found }
 
 module _ {ws : List ℕ} {end : ℕ} (few : Bounded ws end) where
-  on-first : {m : ℕ} → NextIn ws 0 end m → members ws ≡ membersOn ws m
-  on-first x = on-start ws ∙ on-next ws 0 end (few .below) x
+  on-first : {m : ℕ} → MemberFrom ws 0 end m → members ws ≡ membersOn ws m
+  on-first x = on-start ws ∙ on-next ws 0 end (few .below) (x .next)
 
   on-end : (n : ℕ) → 256 ≤ n → membersOn ws n ≡ []
   on-end n e = on-beyond ws n e
@@ -50,8 +50,8 @@ module _ {ws : List ℕ} {end : ℕ} (few : Bounded ws end) where
   on-here : (n : ℕ) → n < 256 → At ws n → membersOn ws n ≡ n ∷ membersOn ws (n + 1)
   on-here n h x = on-member ws n h (x .member h)
 
-  on-behind : (n : ℕ) {m : ℕ} → NextIn ws (n + 1) end m → membersOn ws (n + 1) ≡ membersOn ws m
-  on-behind n x = on-next ws (n + 1) end (few .below) x
+  on-behind : (n : ℕ) {m : ℕ} → MemberFrom ws (n + 1) end m → membersOn ws (n + 1) ≡ membersOn ws m
+  on-behind n x = on-next ws (n + 1) end (few .below) (x .next)
 
 -- ---- all of them are waits
 -- is node n a wait, by its kind?
@@ -66,7 +66,7 @@ abbrev pub all : List ℕ → List ℕ → ℕ → Bool
 all ks ws n = every (isWaitKind ks) (membersOn ws n)
 
 module _ (ks ws : List ℕ) {end : ℕ} (few : Bounded ws end) where
-  pub all-start : {m : ℕ} → NextIn ws 0 end m → every (isWaitKind ks) (members ws) ≡ all ks ws m
+  pub all-start : {m : ℕ} → MemberFrom ws 0 end m → every (isWaitKind ks) (members ws) ≡ all ks ws m
   all-start x = ap (every (isWaitKind ks)) (on-first few x)
 
   module _ (n : ℕ) (h : n < 256) (x : At ws n) where
@@ -74,7 +74,7 @@ module _ (ks ws : List ℕ) {end : ℕ} (few : Bounded ws end) where
     unfolding every
     all-out e = ap (every (isWaitKind ks)) (on-here few n h x) ∙ rw (e, every) refl
 
-    pub all-on : {m : ℕ} → NextIn ws (n + 1) end m → isWaitKind ks n ≡ true → all ks ws n ≡ all ks ws m
+    pub all-on : {m : ℕ} → MemberFrom ws (n + 1) end m → isWaitKind ks n ≡ true → all ks ws n ≡ all ks ws m
     unfolding every
     all-on g e = ap (every (isWaitKind ks)) (on-here few n h x) ∙ rw (e, every) (ap (every (isWaitKind ks)) (on-behind few n g))
 
@@ -107,14 +107,14 @@ module _ (ed : Edition) (vs : List ℤ) (cut : ℕ → List ℕ) (ws : List ℕ)
   abbrev asks : List ℕ → Run.Verdict (Unit {0})
   asks l = checkWaits ed vs (map cut l)
 
-  pub still-start : {m : ℕ} → NextIn ws 0 end m → checkWaits ed vs (map cut (members ws)) ≡ stillFrom ed vs cut ws m
+  pub still-start : {m : ℕ} → MemberFrom ws 0 end m → checkWaits ed vs (map cut (members ws)) ≡ stillFrom ed vs cut ws m
   still-start x = ap asks (on-first few x)
 
   module _ (n : ℕ) (h : n < 256) (x : At ws n) (r : Verdict) (e : r ≡ stepVerdict (checkWaits ed vs (cut n ∷ []))) where
     pub still-out : goesOn r ≡ false → r ≡ stepVerdict (stillFrom ed vs cut ws n)
     still-out f = walk-out ed 31 vs (cut n) (map cut (membersOn ws (n + 1))) r (e ∙ sym (still-one ed vs (cut n))) f ∙ sym (ap (λ l. stepVerdict (asks l)) (on-here few n h x))
 
-    pub still-on : {m : ℕ} → NextIn ws (n + 1) end m → goesOn r ≡ true → stillFrom ed vs cut ws n ≡ stillFrom ed vs cut ws m
+    pub still-on : {m : ℕ} → MemberFrom ws (n + 1) end m → goesOn r ≡ true → stillFrom ed vs cut ws n ≡ stillFrom ed vs cut ws m
     still-on g f = ap asks (on-here few n h x) ∙ walk-on ed 31 vs (cut n) (map cut (membersOn ws (n + 1))) r (e ∙ sym (still-one ed vs (cut n))) f ∙ ap asks (on-behind few n g)
 
   pub still-end : (n : ℕ) → 256 ≤ n → Stay ≡ stepVerdict (stillFrom ed vs cut ws n)

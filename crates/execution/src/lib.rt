@@ -25,12 +25,12 @@ fn all_wait(ix: &[usize; program::ENTRIES], acting: &[u64; 4], ed: Edition) -> b
     ensures { λ b. ⌜ ((f : ℕ → Action) → KindsOf f (kindRow (now (ix .entry))) (now (acting .entry)) → b ≡ every (λ n. isWait (f n)) (members (now (acting .entry)))) ⌝ }
 {
     let end = edition::node_limit(ed);
-    let mut n = nodeset::next(acting, 0, end);
+    let mut n = nodeset::member_from(acting, 0, end);
     while n < nodeset::NODES {
         if program::kind(ix, n) != program::kinds::WAIT {
             return false;
         }
-        n = nodeset::next(acting, n + 1, end);
+        n = nodeset::member_from(acting, n + 1, end);
     }
     true
 }
@@ -59,13 +59,13 @@ fn all_still(
         (map (partAt (now (t .entry)) (startRow (now (ix .entry))) (endRow (now (ix .entry)))) (members (now (acting .entry))))) ⌝ }
 {
     let end = edition::node_limit(ed);
-    let mut n = nodeset::next(acting, 0, end);
+    let mut n = nodeset::member_from(acting, 0, end);
     while n < nodeset::NODES {
         let r = still(t, ix, values, n);
         if !effects::goes_on(r) {
             return r;
         }
-        n = nodeset::next(acting, n + 1, end);
+        n = nodeset::member_from(acting, n + 1, end);
     }
     Verdict::Stay
 }

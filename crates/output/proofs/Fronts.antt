@@ -6,15 +6,12 @@ use Prim.Native.Nat.{ℕ, _*_, _/_, _≤_, _<_}
 use native.Mathlib.Nat.{mul-le-mul, div-lt-iff-lt-mul}
 use native.Mathlib.Omega.{arith}
 use borrow.Author.Tests.{le-leb, lt-leb}
-use lib.Dec.{leb, lit≤}
+use lib.Dec.{leb}
 use lib.ListN.{length}
 use lib.Seq.{length-take-le}
 use Rattle.semantics.specs.Editions.{Edition}
 use Rattle.semantics.proofs.Facts.{true-not-false}
 use Rattle.semantics.specs.Calls.{eventCount, recordLength, recordSize}
-use Rattle.edition.specs.Editions.{editionOf}
-use Rattle.edition.specs.declared.Edition as enum
-use Rattle.edition.specs.declared.Edition.the-variants.{First, Second}
 use Rattle.io.specs.Counts.{Counts}
 use Rattle.output.specs.Written.{eventRoom, inRoom, RecordsTake}
 
@@ -26,11 +23,6 @@ all-of n m h = rw (le-leb n m h) refl
 
 pub none-of : (n m : ℕ) → m < n → _≡_ {A = ℕ} 0 (cond (leb n m) n 0)
 none-of n m h = rw (lt-leb n m h) refl
-
--- ---- the numbers of an edition are small
-pub events-few : (ed : enum.Edition) → editionOf ed .event-bytes ≤ 4
-events-few First = lit≤ tt
-events-few Second = lit≤ tt
 
 -- ---- one law for each return
 module _ (ed : Edition) (e v s : ℕ) where

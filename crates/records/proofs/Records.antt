@@ -5,19 +5,15 @@ use mathlib.Core.List.{List, [], _∷_, _++_, flatMap, append-assoc, append-nil}
 use Prim.Native.Nat.{ℕ, _+_, _*_, _≤_, _<_}
 use native.Mathlib.Omega.{arith}
 use borrow.Author.Tests.{leb-true}
-use lib.Dec.{lit≤}
 use lib.IntN.{ℤ, pos}
 use lib.ListN.{length, getD, take}
 use lib.Seq.{take-suc}
 use native.Mathlib.Numerals.{add-one}
 use Rattle.semantics.specs.Bytes.{out4}
-use Rattle.semantics.specs.Editions as papers
+use Rattle.semantics.specs.Editions.{Edition}
 use Rattle.semantics.specs.Plant.{Plant}
 use Rattle.semantics.specs.Run.{valueBytes}
 use Rattle.semantics.specs.Calls.{eventCount, recordSize, roomForRecords}
-use Rattle.edition.specs.Editions.{editionOf}
-use Rattle.edition.specs.declared.Edition.{Edition}
-use Rattle.edition.specs.declared.Edition.the-variants.{First, Second}
 
 -- ---- the values
 pub values-more : (vs : List ℤ) (j : ℕ) → j < length vs → flatMap valueBytes (take j vs) ++ valueBytes (getD vs j (pos 0)) ≡ flatMap valueBytes (take (j + 1) vs)
@@ -33,12 +29,7 @@ unfolding flatMap valueBytes out4
 values-length [] = refl
 values-length (v ∷ l) = let ih = values-length l in omega arith
 
--- ---- of a set of acting nodes
-pub set-few : (ed : Edition) → editionOf ed .set-bytes ≤ 32
-set-few First = lit≤ tt
-set-few Second = lit≤ tt
-
 -- ---- 22 has left room for the records of all events
-pub room-for : (ed : papers.Edition) (p : Plant) (events records : List ℕ) → roomForRecords ed p events records ≡ true → eventCount ed events * recordSize ed p ≤ length records
+pub room-for : (ed : Edition) (p : Plant) (events records : List ℕ) → roomForRecords ed p events records ≡ true → eventCount ed events * recordSize ed p ≤ length records
 unfolding roomForRecords
 room-for ed p events records h = leb-true _ (length records) h

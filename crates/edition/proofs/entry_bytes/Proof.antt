@@ -1,5 +1,4 @@
 use native.Mathlib.Omega.{arith}
-use Rattle.semantics.specs.Bytes.{widthOf}
 use Rattle.edition.specs.Editions.{editionOf}
 use Rattle.edition.proofs.Widths.{width-high}
 use borrow.Author.Needs.{needs}

@@ -1,6 +1,4 @@
-use mathlib.Core.Path.{ap}
 use Rattle.semantics.specs.Bytes.{widthOf}
-use Rattle.edition.specs.Editions.{editionOf}
 use borrow.Author.Needs.{needs}
 use Rattle.edition.proofs.width.Statement.{statement}
 use Rattle.edition.proofs.width.Tie as tie

@@ -21,13 +21,13 @@ Inv-loop t ix acting values end n₀ n = At acting n × ((ed : Edition) → chec
 abbrev μ-loop : tie.MeasureT-loop
 μ-loop t ix acting values end n₀ n = 256 - n
 
-next-requires : tie.Need-next-requires Inv-loop μ-loop
-next-requires c κs = (omega (arith, few-bounded _ (c .before .before .pre .0) (c .node-limit .ensures) .small), c .before .before .pre .0 .words)
+member-from-requires : tie.Need-member-from-requires Inv-loop μ-loop
+member-from-requires c κs = (omega arith, omega (arith, few-bounded _ (c .before .before .pre .0) (c .node-limit .ensures) .small), c .before .before .pre .0 .words)
 
 loop-holds : tie.Need-loop-holds Inv-loop μ-loop
 loop-holds c =
     let a = c .before .before .before .args in
-    (at-next (c .next .ensures), λ ed. still-start ed (a .values .now) (partAt (a .t .now) (startRow (a .ix .now)) (endRow (a .ix .now))) _ (few-bounded _ (c .before .before .before .pre .0) (c .before .node-limit .ensures)) (c .next .ensures))
+    (at-next (c .member-from .ensures), λ ed. still-start ed (a .values .now) (partAt (a .t .now) (startRow (a .ix .now)) (endRow (a .ix .now))) _ (few-bounded _ (c .before .before .before .pre .0) (c .before .node-limit .ensures)) (c .member-from .ensures))
 
 still-requires : tie.Need-still-requires Inv-loop μ-loop
 still-requires c κs = let l = c .before .loop in (omega (arith, few-bounded _ (c .before .before .before .before .before .pre .0) (c .before .before .before .node-limit .ensures) .small, c .loop-test .taken), c .before .before .before .before .before .pre .1 .cut (l .n) (l .inv .0 .member (c .loop-test .taken)))
@@ -42,21 +42,21 @@ returns c =
     still-out _ (a .values .now) (partAt (a .t .now) (startRow (a .ix .now)) (endRow (a .ix .now))) _ (few-bounded _ (c .before .before .before .before .before .before .before .before .pre .0) (c .before .before .before .before .before .before .node-limit .ensures)) (l .n) (c .before .before .before .loop-test .taken) (l .inv .0) _ (c .before .before .still .ensures _) (sym (c .before .goes-on .ensures) ∙ not-true _ (c .if1 .taken))
     ∙ sym (ap stepVerdict (l .inv .1 _))
 
-add-next : tie.Need-add-next Inv-loop μ-loop
-add-next c = omega (arith, c .before .before .before .loop-test .taken)
+add-member-from : tie.Need-add-member-from Inv-loop μ-loop
+add-member-from c = omega (arith, c .before .before .before .loop-test .taken)
 
-next-requires-2 : tie.Need-next-requires-2 Inv-loop μ-loop
-next-requires-2 c κs = (omega (arith, few-bounded _ (c .before .before .before .before .before .before .before .before .pre .0) (c .before .before .before .before .before .before .node-limit .ensures) .small), c .before .before .before .before .before .before .before .before .pre .0 .words)
+member-from-requires-2 : tie.Need-member-from-requires-2 Inv-loop μ-loop
+member-from-requires-2 c κs = (omega (arith, c .before .before .before .loop-test .taken), omega (arith, few-bounded _ (c .before .before .before .before .before .before .before .before .pre .0) (c .before .before .before .before .before .before .node-limit .ensures) .small), c .before .before .before .before .before .before .before .before .pre .0 .words)
 
 loop-less : tie.Need-loop-less Inv-loop μ-loop
-loop-less c = omega (arith, c .next2 .ensures .from, c .before .before .before .before .loop-test .taken)
+loop-less c = omega (arith, c .member-from2 .ensures .next .from, c .before .before .before .before .loop-test .taken)
 
 loop-again : tie.Need-loop-again Inv-loop μ-loop
 loop-again c =
     let l = c .before .before .before .before .before .loop in
     let a = c .before .before .before .before .before .before .before .before .before .args in (
-      at-next (c .next2 .ensures),
-      λ ed. l .inv .1 ed ∙ still-on ed (a .values .now) (partAt (a .t .now) (startRow (a .ix .now)) (endRow (a .ix .now))) _ (few-bounded _ (c .before .before .before .before .before .before .before .before .before .pre .0) (c .before .before .before .before .before .before .before .node-limit .ensures)) (l .n) (c .before .before .before .before .loop-test .taken) (l .inv .0) _ (c .before .before .before .still .ensures ed) (c .next2 .ensures) (sym (c .before .before .goes-on .ensures) ∙ not-false _ (c .before .if1 .left)),
+      at-next (c .member-from2 .ensures),
+      λ ed. l .inv .1 ed ∙ still-on ed (a .values .now) (partAt (a .t .now) (startRow (a .ix .now)) (endRow (a .ix .now))) _ (few-bounded _ (c .before .before .before .before .before .before .before .before .before .pre .0) (c .before .before .before .before .before .before .before .node-limit .ensures)) (l .n) (c .before .before .before .before .loop-test .taken) (l .inv .0) _ (c .before .before .before .still .ensures ed) (c .member-from2 .ensures) (sym (c .before .before .goes-on .ensures) ∙ not-false _ (c .before .if1 .left)),
     )
 
 returns-2 : tie.Need-returns-2 Inv-loop μ-loop
@@ -67,4 +67,4 @@ returns-2 c =
 pub all-still-spec : {M : Type 1} → statement M
 all-still-spec =
     tie.close
-    (tie.spec Inv-loop μ-loop (λ c κs. search needs) next-requires loop-holds still-requires goes-on-requires returns add-next next-requires-2 loop-less loop-again returns-2)
+    (tie.spec Inv-loop μ-loop (λ c κs. search needs) member-from-requires loop-holds still-requires goes-on-requires returns add-member-from member-from-requires-2 loop-less loop-again returns-2)

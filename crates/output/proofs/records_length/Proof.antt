@@ -2,13 +2,13 @@
 use native.Mathlib.Omega.{arith}
 use borrow.Author.Needs.{needs}
 use Rattle.edition.specs.Editions.{editionOf}
-use Rattle.records.proofs.Records.{set-few}
-use Rattle.output.proofs.Fronts.{events-few, too-long, too-many, too-many-cases, records-are, records-few}
+use Rattle.edition.proofs.Widths.{few-set-bytes, few-event-bytes}
+use Rattle.output.proofs.Fronts.{too-long, too-many, too-many-cases, records-are, records-few}
 use Rattle.output.proofs.records_length.Statement.{statement}
 use Rattle.output.proofs.records_length.Tie as tie
 
 mul-if1 : tie.Need-mul-if1
-mul-if1 c = omega (arith, c .event-bytes .ensures, events-few (c .before .args .ed))
+mul-if1 c = omega (arith, c .event-bytes .ensures, few-event-bytes (c .before .args .ed))
 
 returns : tie.Need-returns
 returns c =
@@ -36,7 +36,7 @@ mul-result c =
     let b = c .before .before .before .before in
     let a = b .before .args in
     let few = records-few (editionOf (a .ed)) (a .events) (a .variables) (a .selectors) (b .event-bytes .ensures) (omega arith) (c .record-length .ensures) in
-    omega (arith, few (set-few (a .ed)) (omega arith) (omega arith))
+    omega (arith, few (few-set-bytes (a .ed)) (omega arith) (omega arith))
 
 returns-4 : tie.Need-returns-4
 returns-4 c =

@@ -1,8 +1,6 @@
 -- What the events ask and leave: `asking-of`, `whole-of` (Calling).
 use mathlib.Core.Path.{sym}
-use Prim.Native.Nat.{_^_, _<_}
 use native.Mathlib.Omega.{arith}
-use lib.ListN.{length}
 use lib.Seq.{length-take-le}
 use borrow.Author.Needs.{needs}
 use Rattle.table_run.proofs.Calling.{values-there, modes-there, asked-of, asking-of, whole-of}

@@ -1,6 +1,6 @@
 -- The loop keeps `Going` for every table that is asked for; each need is one of its laws (execution Loops).
-use mathlib.Core.Path.{_≡_, refl}
-use Prim.Native.Nat.{_-_, _/_, _^_, _≤_, _<_}
+use mathlib.Core.Path.{_≡_}
+use Prim.Native.Nat.{_-_, _^_, _≤_, _<_}
 use native.Mathlib.Omega.{arith}
 use lib.ListN.{length}
 use borrow.Author.Needs.{needs}

@@ -1,11 +1,10 @@
 -- The set has the nodes of the first j entries (`Gathering`).
-use mathlib.Core.Path.{_≡_, sym, _∙_}
+use mathlib.Core.Path.{_≡_}
 use Prim.Native.Nat.{_-_, _≤_}
 use native.Mathlib.Omega.{arith}
 use lib.ListN.{getD}
 use borrow.Author.Needs.{needs}
 use Rattle.edition.specs.Editions.{editionOf}
-use Rattle.edition.proofs.Widths.{width-high}
 use Rattle.table_step.proofs.EntryTurns.{count-before-end, entry-inside, entry-small, Gathering, gather-start, gather-next, gather-end}
 use Rattle.table_step.proofs.entries.acting.Statement.{statement}
 use Rattle.table_step.proofs.entries.acting.Tie as tie
