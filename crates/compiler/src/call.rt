@@ -1,12 +1,12 @@
 // The call "compiling": conditions 1 to 11, 34 and 12 to 14, in order, and the table.
 use edition::Edition;
+use edition::NODES;
 use numbering::spot::Spot;
 use schedule_read::call::ScheduleIndex;
 use schedule_read::parts::Parts;
 use sizes::Measured;
 use table_write::actions;
 use table_write::table;
-use tree_read::NODES;
 ghost use mathlib.Core.Path.{_≡_};
 ghost use mathlib.Core.List.{List};
 ghost use Prim.Native.Nat.{ℕ, _+_, _-_, _≤_, _<_};
@@ -100,13 +100,9 @@ fn made(x: ScheduleIndex, m: Measured, ed: Edition) -> Plan
     requires { ⌜ Ready (editionOf ed) x m ⌝ }
     ensures { λ r. ⌜ (r .refusal ≡ 0) × (((f : List ℕ) → Found (editionOf ed) f x m → Planned (editionOf ed) f r)) ⌝ }
 {
-    let nodes = x.nodes;
-    let kinds = nodes.kinds;
-    let starts = nodes.starts;
-    let ends = nodes.ends;
-    let count = nodes.count;
-    let acts = schedule_read::actions::kinds(&kinds, count);
-    let list = actions::measured(&acts, &starts, &ends, count, ed);
+    let count = x.nodes.count;
+    let acts = schedule_read::actions::kinds(&x.nodes.kinds, count);
+    let list = actions::measured(&acts, &x.nodes.starts, &x.nodes.ends, count, ed);
     let size = row_bytes(m.locations, m.entries, ed);
     Plan {
         refusal: 0,
@@ -131,11 +127,7 @@ fn planned(file: &[u8], ed: Edition) -> Plan
     if refusal != 0 {
         return no_plan(refusal, x);
     }
-    let nodes = x.nodes;
-    let subtrees = x.subtrees;
-    let kinds = nodes.kinds;
-    let subs = subtrees.ends;
-    let m = sizes::of(&kinds, &subs);
+    let m = sizes::of(&x.nodes.kinds, &x.subtrees.ends);
     if m.over {
         return no_plan(13, x);
     }

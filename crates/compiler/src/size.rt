@@ -25,11 +25,7 @@ pub fn of(file: &[u8]) -> TableSize
             entries: 0,
         };
     }
-    let nodes = x.nodes;
-    let subtrees = x.subtrees;
-    let kinds = nodes.kinds;
-    let ends = subtrees.ends;
-    let m = sizes::of(&kinds, &ends);
+    let m = sizes::of(&x.nodes.kinds, &x.subtrees.ends);
     if m.over {
         return TableSize {
             refusal: 0,

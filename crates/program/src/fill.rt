@@ -47,11 +47,11 @@ fn put_kinds(ix: &mut [usize; ENTRIES], from: &[u8])
 
 // All rows but that of locations: of a plant whose equations start at `equations` in the file, and of nodes with actions of these kinds whose
 // operands start and end there in a section that starts at `operands`.
-pub fn index(
+pub fn index<'a>(
     p: PlantRead,
-    kinds: &[u8],
-    starts: &[usize],
-    ends: &[usize],
+    kinds: &'a [u8],
+    starts: &'a [usize],
+    ends: &'a [usize],
     equations: usize,
     operands: usize,
 ) -> [usize; ENTRIES]

@@ -2,7 +2,7 @@
 use mathlib.Core.Path.{_≡_, refl, sym, ap, subst, _∙_}
 use mathlib.Core.Bool.{Bool, true, false, _&&_, and-true}
 use mathlib.Core.List.{List}
-use mathlib.Core.Option.{some}
+use mathlib.Core.Option.{none, some}
 use Prim.Native.Nat.{ℕ, _-_, _≤_}
 use native.Mathlib.Omega.{arith}
 use lib.ListN.{length, take, drop}
@@ -29,15 +29,16 @@ use Rattle.plant.proofs.PlantLaws.{passed-all, passes, variables-of, variables-
 use Rattle.schedule_read.specs.FileParts.{noParts, partsIn, partsRead, partsOf, sectionsAt}
 use Rattle.schedule_read.specs.Indexed.{NodesIn, Indexed}
 use Rattle.tree_read.specs.Index.{notNodes, nodesOf}
-use Rattle.tree_read.specs.Ends.{noTree, TreeAt, TreeIn}
-use Rattle.schedule_read.specs.ScheduleFile.{numbers, noSchedule, IndexAt, ScheduleIndexed, SectionsIndexed, PlantAt, Planted, NodesJudged}
+use Rattle.tree_read.specs.Ends.{noTree, treeTold, TreeAt, TreeIn}
+use Rattle.schedule_read.specs.ScheduleFile.{numbers, noSchedule, IndexAt, ScheduleIndexed, SectionsIndexed, SectionsLaid, PlantAt, Planted, NodesJudged}
 use Rattle.schedule_read.specs.declared.call.FileRead.{FileRead}
 use Rattle.schedule_read.specs.declared.call.ScheduleIndex.{ScheduleIndex}
+use Rattle.schedule_read.specs.declared.call.Held.{Held}
 use Rattle.schedule_read.specs.declared.parts.Parts.{Parts}
 use Rattle.tree_read.specs.declared.nodes.Nodes.{Nodes}
 use Rattle.tree_read.specs.declared.tree.Subtrees.{Subtrees}
 use Rattle.schedule_read.proofs.PartsStand.{Accepted, accepted-parts, layout-number}
-use Rattle.tree_read.proofs.NodeIndex.{not-nodes, nodes-accepted, nodes-refused, indexed}
+use Rattle.tree_read.proofs.NodeIndex.{not-nodes, nodes-accepted, indexed}
 use Rattle.schedule_read.proofs.FoundNodes.{found-nodes}
 use Rattle.tree_read.proofs.LaidTree.{tree-at, tree-accepted, tree-refused}
 
@@ -134,13 +135,13 @@ module _ (ed : Edition) {es s : List ℕ} (n : Nodes) {v c : ℕ} {modes : List 
     nodes-passed x y z ns d p e = rw (sym (h .names ns d p e) ∙ x, sym (h .parts ns d p e) ∙ y, sym (h .reads ns d p e) ∙ z) refl
 
 -- ---- 4 to 8
-module _ (ed : Edition) (at-parts : Parts) (vs es s : List ℕ) {p : PlantRead} (h : p ≡ plantOf ed vs es) where
+module _ (ed : Edition) (vs es s : List ℕ) {p : PlantRead} (h : p ≡ plantOf ed vs es) where
   sections : FileSections
   sections = record { variables = vs; equations = es; schedule = s }
 
-  pub by-plant : {ix : ScheduleIndex} → (p .refusal ≡ 0 → ⊥) → ix ≡ noSchedule ed (p .refusal) → SectionsIndexed ed at-parts vs es s ix
+  pub by-plant : (at-parts : Parts) {ix : ScheduleIndex} → (p .refusal ≡ 0 → ⊥) → ix ≡ noSchedule ed (p .refusal) → SectionsIndexed ed at-parts vs es s ix
   unfolding judgeFileSections plantOf plantAnswer refusedPlant acceptedPlant _>>=_
-  by-plant {ix} z x = record { at = go (judgePlant ed vs es) refl }
+  by-plant at-parts {ix} z x = record { at = go (judgePlant ed vs es) refl }
     where
       go : (j : Judged Plant) → judgePlant ed vs es ≡ j → IndexAt ed at-parts (judgeFileSections ed (record { variables = vs; equations = es; schedule = s })) ix
       go (refused n) e = answer-refused ed at-parts {j = judgeFileSections ed (record { variables = vs; equations = es; schedule = s })} (rw e refl) (x ∙ ap (λ (p : PlantRead). noSchedule ed (p .refusal)) (h ∙ ap plantAnswer e))
@@ -176,11 +177,11 @@ module _ (ed : Edition) (at-parts : Parts) (vs es s : List ℕ) {p : PlantRead} 
     planted = record { plant = plant; at = plant-at; room = subst (λ (p : PlantRead). p .selectors ≤ length (p .modes)) (sym h) (modes-room ed vs es plant-is) }
 
     -- ---- 9
-    module _ {n : Nodes} (k : n ≡ nodesOf ed s) where
-      pub by-nodes : {ix : ScheduleIndex} → (n .refusal ≡ 0 → ⊥) → ix ≡ noSchedule ed 9 → SectionsIndexed ed at-parts vs es s ix
-      unfolding judgeFileSections need _>>=_
-      by-nodes y x = record { at = answer-refused ed at-parts (go-then _ plant-is ∙ rw (nodes-refused ed s (λ i. y (ap (λ (n : Nodes). n .refusal) k ∙ i))) refl) x }
+    pub by-nodes : (at-parts : Parts) {ix : ScheduleIndex} → nodesIn ed s ≡ none → ix ≡ noSchedule ed 9 → SectionsIndexed ed at-parts vs es s ix
+    unfolding judgeFileSections need _>>=_
+    by-nodes at-parts y x = record { at = answer-refused ed at-parts (go-then _ plant-is ∙ rw y refl) x }
 
+    module _ {n : Nodes} (k : n ≡ nodesOf ed s) where
       module _ (y : n .refusal ≡ 0) where
         ns : List Node
         ns = nodes-accepted ed s (sym (ap (λ (n : Nodes). n .refusal) k) ∙ y) .0
@@ -197,9 +198,9 @@ module _ (ed : Edition) (at-parts : Parts) (vs es s : List ℕ) {p : PlantRead} 
 
         -- ---- 10
         module _ {t : Subtrees} (w : TreeIn ed s t) where
-          pub by-tree : {ix : ScheduleIndex} → t .ok ≡ false → ix ≡ noSchedule ed 10 → SectionsIndexed ed at-parts vs es s ix
+          pub by-tree : (at-parts : Parts) {ix : ScheduleIndex} → t .ok ≡ false → ix ≡ noSchedule ed 10 → SectionsIndexed ed at-parts vs es s ix
           unfolding judgeFileSections need _>>=_
-          by-tree x v = record { at = answer-refused ed at-parts (go-then _ plant-is ∙ go-need 9 _ nodes-are ∙ rw (tree-refused ed s nodes-are w x) refl) v }
+          by-tree at-parts x v = record { at = answer-refused ed at-parts (go-then _ plant-is ∙ go-need 9 _ nodes-are ∙ rw (tree-refused ed s nodes-are w x) refl) v }
 
           -- ---- 11, 34 and 12
           module _ (x : t .ok ≡ true) {r : ℕ} (q : NodesJudged ed es s n (p .variables) (p .selectors) (p .modes) (p .driven) r) where
@@ -217,9 +218,9 @@ module _ (ed : Edition) (at-parts : Parts) (vs es s : List ℕ) {p : PlantRead} 
             unfolding judgeFileSections sections
             after-10 = go-then _ plant-is ∙ go-need 9 _ nodes-are ∙ go-need 10 _ tree-is
 
-            pub by-last : {ix : ScheduleIndex} → (r ≡ 0 → ⊥) → ix ≡ noSchedule ed r → SectionsIndexed ed at-parts vs es s ix
+            pub by-last : (at-parts : Parts) {ix : ScheduleIndex} → (r ≡ 0 → ⊥) → ix ≡ noSchedule ed r → SectionsIndexed ed at-parts vs es s ix
             unfolding sections refusalOf
-            by-last {ix} v y = record { at = go (judgeNodes ed plant ns) refl }
+            by-last at-parts {ix} v y = record { at = go (judgeNodes ed plant ns) refl }
               where
                 go : (j : Judged (Unit {0})) → judgeNodes ed plant ns ≡ j → IndexAt ed at-parts (judgeFileSections ed sections) ix
                 go (refused m) e = answer-refused ed at-parts (after-10 ∙ then-refused _ e) (y ∙ ap (noSchedule ed) (last ∙ ap refusalOf e))
@@ -228,9 +229,9 @@ module _ (ed : Edition) (at-parts : Parts) (vs es s : List ℕ) {p : PlantRead} 
             subtrees-at : TreeAt (n .kinds) (n .count) tree t
             subtrees-at = subst (λ (n : Nodes). TreeAt (n .kinds) (n .count) tree t) (sym k) (tree-at ed s nodes-are w tree-is)
 
-            pub all-passed : r ≡ 0 → SectionsIndexed ed at-parts vs es s (record { refusal = 0; parts = at-parts; plant = p; nodes = n; subtrees = t })
+            pub all-passed : (at-parts : Parts) → r ≡ 0 → SectionsIndexed ed at-parts vs es s (record { refusal = 0; parts = at-parts; plant = p; nodes = n; subtrees = t })
             unfolding sections refusalOf
-            all-passed v = record { at = go (judgeNodes ed plant ns) refl }
+            all-passed at-parts v = record { at = go (judgeNodes ed plant ns) refl }
               where
                 ix : ScheduleIndex
                 ix = record { refusal = 0; parts = at-parts; plant = p; nodes = n; subtrees = t }
@@ -238,6 +239,22 @@ module _ (ed : Edition) (at-parts : Parts) (vs es s : List ℕ) {p : PlantRead} 
                 go : (j : Judged (Unit {0})) → judgeNodes ed plant ns ≡ j → IndexAt ed at-parts (judgeFileSections ed sections) ix
                 go (refused m) e = let i : r ≡ m = last ∙ ap refusalOf e in absurd (omega (arith, some-number ed plant ns e))
                 go (accepted m) e = subst (λ j. IndexAt ed at-parts j ix) (sym (after-10 ∙ then-accepted _ e)) (record { refusal = refl; parts = refl; plant = h; nodes = k; subtrees = subtrees-at })
+
+-- ---- as the code has them: whether there is a tree, and the number that was found
+module _ (ed : Edition) (s : List ℕ) (b : Bool) (ends : List ℕ) where
+  pub tree-missing : b ≡ false → TreeIn ed s (treeTold b ends) → TreeIn ed s noTree
+  tree-missing e = subst (λ b. TreeIn ed s (treeTold b ends)) e
+
+  pub tree-there : b ≡ true → TreeIn ed s (treeTold b ends) → TreeIn ed s (record { ok = true; ends = ends })
+  tree-there e = subst (λ b. TreeIn ed s (treeTold b ends)) e
+
+module _ {ed : Edition} {vs es s : List ℕ} {x : Held} {ks bs ends subs : List ℕ} where
+  pub unfit : {n : ℕ} → x .refusal ≡ n → (n ≡ 0 → ⊥) → ((p : Parts) → SectionsIndexed ed p vs es s (noSchedule ed n)) → SectionsLaid ed vs es s x ks bs ends subs
+  unfit e z h = record { refused = λ y p. subst (λ m. SectionsIndexed ed p vs es s (noSchedule ed m)) (sym e) (h p); found = λ y. absurd (z (sym e ∙ y)) }
+
+pub same-index : {q : Parts} {p : PlantRead} {t u : Subtrees} {n m : Nodes} → t ≡ u → n ≡ m →
+    _≡_ {A = ScheduleIndex} (record { refusal = 0; parts = q; plant = p; subtrees = t; nodes = n }) (record { refusal = 0; parts = q; plant = p; subtrees = u; nodes = m })
+same-index e f = cc
 
 -- ---- the counts of the call
 abbrev countsIn : ScheduleIndex → FileRead

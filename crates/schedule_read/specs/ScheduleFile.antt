@@ -1,6 +1,6 @@
 -- The call "reading a schedule" (1 to 11, 34, 12), as the code answers it and in the parts that the code has.
 use mathlib.Core.Path.{_≡_}
-use mathlib.Core.Bool.{Bool}
+use mathlib.Core.Bool.{Bool, true}
 use mathlib.Core.List.{List}
 use mathlib.Core.Option.{some}
 use Prim.Native.Nat.{ℕ, _≤_}
@@ -16,12 +16,13 @@ use Rattle.plant.specs.ModeCounts.{ModesAt}
 use Rattle.plant.specs.Driven.{DrivenAt}
 use Rattle.plant.specs.PlantRead.{refusedPlant, plantOf}
 use Rattle.schedule_read.specs.FileParts.{noParts, partsOf}
-use Rattle.tree_read.specs.Index.{notNodes, nodesOf}
-use Rattle.tree_read.specs.Ends.{noTree, TreeAt}
+use Rattle.tree_read.specs.Index.{notNodes, nodesAs, nodesOf}
+use Rattle.tree_read.specs.Ends.{noTree, treeTold, TreeAt}
 use Rattle.schedule_read.specs.Indexed.{NodesIn}
 use Rattle.tree_read.specs.declared.nodes.Nodes.{Nodes}
 use Rattle.schedule_read.specs.declared.call.FileRead.{FileRead}
 use Rattle.schedule_read.specs.declared.call.ScheduleIndex.{ScheduleIndex}
+use Rattle.schedule_read.specs.declared.call.Held.{Held}
 use Rattle.schedule_read.specs.declared.parts.Parts.{Parts}
 
 -- the four numbers in the code's type
@@ -52,6 +53,17 @@ pub record ScheduleIndexed (ed : Edition) (f : List ℕ) (ix : ScheduleIndex) : 
 -- 4 to 11, 34 and 12, of the sections that stand there
 pub record SectionsIndexed (ed : Edition) (p : Parts) (vs es s : List ℕ) (ix : ScheduleIndex) : Type 0 where
   pub at : IndexAt ed p (judgeFileSections ed (record { variables = vs; equations = es; schedule = s })) ix
+
+-- the same of sections that stand anywhere, by what the code found: the number, or the plant, the count and the arrays
+pub record SectionsLaid (ed : Edition) (vs es s : List ℕ) (x : Held) (kinds starts ends subs : List ℕ) : Type 0 where
+  pub refused : (x .refusal ≡ 0 → ⊥) → (p : Parts) → SectionsIndexed ed p vs es s (noSchedule ed (x .refusal))
+  pub found : x .refusal ≡ 0 → (p : Parts) → SectionsIndexed ed p vs es s (record {
+    refusal = 0;
+    parts = p;
+    plant = x .plant;
+    subtrees = treeTold true subs;
+    nodes = nodesAs (x .count) kinds starts ends;
+  })
 
 -- p is a plant of v variables and c selectors with these equations and mode counts, and these variables are driven
 pub record PlantAt (es : List ℕ) (v c : ℕ) (modes : List ℕ) (driven : List Bool) (p : Plant) : Type 0 where

@@ -2,7 +2,7 @@
 ghost use Prim.Native.Nat.{_≤_};
 ghost use lib.ListN.{length};
 ghost use Rattle.schedule_read.specs.Actions.{ActsAs, ActionKinds};
-use tree_read::NODES;
+use edition::NODES;
 
 // of a node of kind k; 0 where it has no action
 fn kind(k: u8) -> u8

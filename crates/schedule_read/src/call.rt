@@ -1,12 +1,14 @@
 // The call "reading a schedule": conditions 1 to 11, 34 and 12, in order.
 ghost use mathlib.Core.Path.{_≡_};
 ghost use Prim.Native.Nat.{_≤_};
+ghost use lib.ListN.{replicate};
 ghost use Rattle.semantics.specs.Editions.{edition1};
 ghost use Rattle.semantics.specs.Editions as papers;
 ghost use Rattle.edition.specs.Editions.{editionOf};
 ghost use Rattle.schedules.specs.Calls.{readSchedule};
 ghost use Rattle.schedule_read.specs.Indexed.{Indexed};
-ghost use Rattle.schedule_read.specs.ScheduleFile.{numbers, noSchedule, SectionsIndexed, ScheduleIndexed, Planted, NodesJudged};
+ghost use Rattle.schedule_read.specs.ScheduleFile.{numbers, noSchedule, SectionsLaid, ScheduleIndexed, Planted, NodesJudged};
+ghost use Rattle.tree_read.specs.Index.{nodesAs};
 ghost use Rattle.schedule_read.specs.Lent.{SchedulePrograms};
 use super::actions;
 use super::assignments;
@@ -15,11 +17,11 @@ use super::operands;
 use super::parts;
 use super::parts::Parts;
 use edition::Edition;
+use edition::NODES;
 use plant::equations::both;
 use plant::sections::PlantRead;
 use program::Program;
 use program::fill;
-use tree_read::NODES;
 use tree_read::nodes;
 use tree_read::nodes::Nodes;
 use tree_read::tree;
@@ -39,8 +41,8 @@ pub struct ScheduleIndex {
     pub refusal: u8,
     pub parts: Parts,
     pub plant: PlantRead,
-    pub nodes: Nodes,
     pub subtrees: Subtrees,
+    pub nodes: Nodes,
 }
 
 fn refused(n: u8) -> ScheduleIndex
@@ -54,33 +56,37 @@ fn refused(n: u8) -> ScheduleIndex
         refusal: n,
         parts: parts,
         plant: plant,
-        nodes: nodes,
         subtrees: subtrees,
+        nodes: nodes,
     }
 }
 
 // 11, 34 and 12, or 0, in one pass: 11 of any node comes before 34 of any, and that before 12 of any node or switch;
-// n is the nodes' index in s, modes has the mode counts of the equations es, driven which variables they drive
+// the m nodes stand in s as these arrays say, modes has the mode counts of the equations es, driven which variables they drive
 fn checked(
     es: &[u8],
     s: &[u8],
-    n: Nodes,
+    kinds: &[u8; NODES],
+    starts: &[usize; NODES],
+    ends: &[usize; NODES],
+    m: usize,
     variables: usize,
     selectors: usize,
     modes: &[usize],
     driven: &[bool],
 ) -> u8
-    requires { ⌜ Indexed (now s) n × Planted (now es) variables selectors (now modes) (now driven) ⌝ }
-    ensures { λ r. ⌜ ((ed : papers.Edition) → NodesJudged ed (now (es .entry)) (now (s .entry)) n variables selectors (now (modes .entry)) (now (driven .entry)) r) ⌝ }
+    requires { ⌜ Indexed (now s) (nodesAs m (now kinds) (now starts) (now ends)) × Planted (now es) variables selectors (now modes) (now driven) ⌝ }
+    ensures { λ r. ⌜ ((ed : papers.Edition) → NodesJudged ed (now (es .entry)) (now (s .entry)) (nodesAs m (now (kinds .entry)) (now (starts .entry)) (now (ends .entry))) variables selectors
+        (now (modes .entry)) (now (driven .entry)) r) ⌝ }
 {
     let mut named = true;
     let mut parted = true;
     let mut read = plant::truths::read(es, variables);
     let mut i = 0;
-    while i < n.count {
-        let k = n.kinds[i];
-        let b = n.starts[i];
-        let e = n.ends[i];
+    while i < m {
+        let k = kinds[i];
+        let b = starts[i];
+        let e = ends[i];
         named = both(named, names::one(k, &s[b..e], variables, selectors, modes));
         parted = both(parted, assignments::one(k, &s[b..e], driven));
         read = both(read, operands::one(k, &s[b..e], variables));
@@ -95,37 +101,70 @@ fn checked(
     if read { 0 } else { 12 }
 }
 
-// 4 to 11, 34 and 12, of the three sections that stand at these places
-fn sections(parts: Parts, vs: &[u8], es: &[u8], s: &[u8], ed: Edition) -> ScheduleIndex
-    ensures { λ r. ⌜ SectionsIndexed (editionOf ed) parts (now (vs .entry)) (now (es .entry)) (now (s .entry)) r ⌝ }
+// 4 to 11, 34 and 12, or 0: what the sections are found to hold but for the arrays
+struct Held {
+    refusal: u8,
+    plant: PlantRead,
+    count: usize,
+}
+
+fn unfit(n: u8) -> Held
+    ensures { λ r. ⌜ r .refusal ≡ n ⌝ }
+{
+    let plant = plant::sections::refused(0);
+    Held {
+        refusal: n,
+        plant: plant,
+        count: 0,
+    }
+}
+
+// 4 to 11, 34 and 12, of three sections; the nodes and where their subtrees end are laid in arrays that hold zeros
+fn sections(
+    vs: &[u8],
+    es: &[u8],
+    s: &[u8],
+    kinds: &mut [u8; NODES],
+    starts: &mut [usize; NODES],
+    ends: &mut [usize; NODES],
+    subs: &mut [usize; NODES],
+    ed: Edition,
+) -> Held
+    requires { ⌜ (now kinds ≡ replicate 256 0) × (now starts ≡ replicate 256 0) × (now ends ≡ replicate 256 0) × (now subs ≡ replicate 256 0) ⌝ }
+    ensures { λ r. ⌜ SectionsLaid (editionOf ed) (now (vs .entry)) (now (es .entry)) (now (s .entry)) r (now (kinds .exit)) (now (starts .exit)) (now (ends .exit)) (now (subs .exit)) ⌝ }
 {
     let p = plant::sections::read(vs, es);
     let first = p.refusal;
     if first != 0 {
-        return refused(first);
+        return unfit(first);
     }
-    let n = nodes::read(s, ed);
-    if n.refusal != 0 {
-        return refused(9);
+    let n = nodes::read(s, kinds, starts, ends, ed);
+    if n == 0 {
+        return unfit(9);
+    }
+    if !tree::read(s, kinds, starts, n, subs) {
+        return unfit(10);
     }
     let variables = p.variables;
     let selectors = p.selectors;
     let modes = p.modes;
     let driven = p.driven;
-    let t = tree::read(s, n);
-    if !t.ok {
-        return refused(10);
-    }
-    let last = checked(es, s, n, variables, selectors, &modes, &driven);
-    if last != 0 {
-        return refused(last);
-    }
-    ScheduleIndex {
-        refusal: 0,
-        parts: parts,
+    let last = checked(
+        es,
+        s,
+        kinds,
+        starts,
+        ends,
+        n,
+        variables,
+        selectors,
+        &modes,
+        &driven,
+    );
+    Held {
+        refusal: last,
         plant: p,
-        nodes: n,
-        subtrees: t,
+        count: n,
     }
 }
 
@@ -143,7 +182,32 @@ pub fn index(file: &[u8], ed: Edition) -> ScheduleIndex
     let d = p.equations_to;
     let e = p.schedule_from;
     let f = p.schedule_to;
-    sections(p, &file[a..b], &file[c..d], &file[e..f], ed)
+    let mut kinds = [0u8; NODES];
+    let mut starts = [0usize; NODES];
+    let mut ends = [0usize; NODES];
+    let mut subs = [0usize; NODES];
+    let x = sections(
+        &file[a..b],
+        &file[c..d],
+        &file[e..f],
+        &mut kinds,
+        &mut starts,
+        &mut ends,
+        &mut subs,
+        ed,
+    );
+    let second = x.refusal;
+    if second != 0 {
+        return refused(second);
+    }
+    let plant = x.plant;
+    ScheduleIndex {
+        refusal: 0,
+        parts: p,
+        plant: plant,
+        subtrees: tree::found(subs),
+        nodes: nodes::found(x.count, kinds, starts, ends),
+    }
 }
 
 pub fn read(file: &[u8]) -> FileRead

@@ -1,5 +1,6 @@
 // The action section of a table (18, but for the operands), and where each node's operand stands.
 use edition::Edition;
+use edition::NODES;
 ghost use mathlib.Core.Path.{_≡_};
 ghost use Prim.Native.Nat.{_≤_};
 ghost use lib.ListN.{length};
@@ -9,9 +10,6 @@ ghost use Rattle.semantics.specs.Tables.{nodeExists};
 ghost use Rattle.semantics.specs.TableFile.{actionKind, actionOfKind, readAction, readActionCount};
 ghost use Rattle.table_read.specs.Ends.{Ends, EndsWith, follows, orZero};
 ghost use Rattle.table_read.specs.ActionIndex.{nodeOf, actionsOf, noActions};
-
-// the most nodes of any edition
-const NODES: usize = 256;
 
 // 0, or the number that applies; how many actions there are; by node, the kind of its action and where the operand starts and ends, or 0, 0 and 0
 pub struct Actions {

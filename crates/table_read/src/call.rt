@@ -116,15 +116,12 @@ pub fn read(table: &[u8]) -> TableRead
     ensures { λ r. ⌜ r ≡ tableNumbers (readTable edition1 (now (table .entry))) ⌝ }
 {
     let x = index(table, Edition::First);
-    let plant = x.plant;
-    let actions = x.actions;
-    let locations = x.locations;
     TableRead {
         refusal: x.refusal,
-        variables: plant.variables,
-        selectors: plant.selectors,
-        actions: actions.count,
-        locations: locations.count,
+        variables: x.plant.variables,
+        selectors: x.plant.selectors,
+        actions: x.actions.count,
+        locations: x.locations.count,
     }
 }
 
@@ -132,23 +129,15 @@ pub fn read(table: &[u8]) -> TableRead
 pub fn program(x: TableIndex) -> Program
     ensures { λ r. ⌜ TablePrograms x r ⌝ }
 {
-    let parts = x.parts;
-    let plant = x.plant;
-    let actions = x.actions;
-    let locations = x.locations;
-    let kinds = actions.kinds;
-    let starts = actions.starts;
-    let ends = actions.ends;
-    let places = locations.places;
     let mut index = fill::index(
-        plant,
-        &kinds,
-        &starts,
-        &ends,
-        parts.equations,
-        parts.actions,
+        x.plant,
+        &x.actions.kinds,
+        &x.actions.starts,
+        &x.actions.ends,
+        x.parts.equations,
+        x.parts.actions,
     );
-    fill::put_locations(&mut index, &places, parts.locations);
-    let ranges = fill::ranges(plant);
+    fill::put_locations(&mut index, &x.locations.places, x.parts.locations);
+    let ranges = fill::ranges(x.plant);
     Program { index, ranges }
 }

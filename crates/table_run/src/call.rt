@@ -25,9 +25,8 @@ fn lend(
     requires { ⌜ (ix ≡ tableIndex (editionOf ed) (now table)) × Admitting (editionOf ed) (now table) asked (now events) (now records) ⌝ }
     ensures { λ r. ⌜ Carried (editionOf ed) (now (table .entry)) asked (now (events .entry)) (now (records .entry)) r (now (records .exit)) ⌝ }
 {
-    let plant = ix.plant;
-    let variables = plant.variables;
-    let selectors = plant.selectors;
+    let variables = ix.plant.variables;
+    let selectors = ix.plant.selectors;
     let lent = table_read::call::program(ix);
     let ranges = lent.ranges;
     let mut values = asked.values;
@@ -53,8 +52,7 @@ pub fn run(table: &[u8], start: &[u8], events: &[u8], records: &mut [u8]) -> Ran
     if first != 0 {
         return records::refused(first);
     }
-    let plant = ix.plant;
-    let asked = start_read::admission::admit(plant, start, events.len(), records.len(), ed);
+    let asked = start_read::admission::admit(ix.plant, start, events.len(), records.len(), ed);
     let second = asked.refusal;
     if second != 0 {
         return records::refused(second);

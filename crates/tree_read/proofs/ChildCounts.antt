@@ -14,7 +14,7 @@ use Rattle.schedules.specs.Nodes.{Node, nodesIn}
 use Rattle.schedules.specs.Trees.{children}
 use Rattle.codec.specs.Parts.{between}
 use Rattle.codec.specs.Padding.{pad}
-use Rattle.tree_read.specs.Index.{nodesOf}
+use Rattle.tree_read.specs.Index.{nodesOf, nodesAs, IndexOf}
 use Rattle.tree_read.specs.Walks.{Makes}
 use Rattle.tree_read.specs.declared.nodes.Nodes.{Nodes}
 use Rattle.codec.proofs.Padding.{pad-none, pad-map-snoc}
@@ -90,18 +90,35 @@ counts-more ed s cs i v {ns} h l e k =
 counts-all : (ed : Edition) (s cs : List ℕ) (i : ℕ) {ns : List Node} → nodesIn ed s ≡ some ns → nodesOf ed s .count ≤ i → cs ≡ pad 256 0 (map children (take i ns)) → cs ≡ pad 256 0 (map children ns)
 counts-all ed s cs i {ns} h l e = let n = indexed ed s h .counted in e ∙ ap (λ z. pad 256 0 (map children z)) (take-all i ns (omega arith))
 
--- as the code has them: the index is a parameter, of some edition
+-- an index, of some edition
 module _ (s : List ℕ) (r : Nodes) (k : (ed : Edition) × (r ≡ nodesOf ed s)) where
-  pub few : r .count ≤ 256
-  few = rw (k .1) (few-nodes (k .0) s)
+  few-in : r .count ≤ 256
+  few-in = rw (k .1) (few-nodes (k .0) s)
 
-  pub node-made : (i : ℕ) → i < r .count → (x : Node) × Makes s (getD (r .kinds) i 0) (getD (r .starts) i 0) x
-  node-made i = rw (k .1) (λ l. let p = present (k .0) s i l in let x = known (k .0) s (p .1) i (omega (arith, indexed (k .0) s (p .1) .counted)) in (x .node, x .made))
+  made-in : (i : ℕ) → i < r .count → (x : Node) × Makes s (getD (r .kinds) i 0) (getD (r .starts) i 0) x
+  made-in i = rw (k .1) (λ l. let p = present (k .0) s i l in let x = known (k .0) s (p .1) i (omega (arith, indexed (k .0) s (p .1) .counted)) in (x .node, x .made))
 
 module _ (ed : Edition) (s : List ℕ) (r : Nodes) (e : r ≡ nodesOf ed s) where
-  pub counts-next : (cs : List ℕ) (i v : ℕ) (ns : List Node) → nodesIn ed s ≡ some ns → i < r .count → cs ≡ pad 256 0 (map children (take i ns)) →
+  next-in : (cs : List ℕ) (i v : ℕ) (ns : List Node) → nodesIn ed s ≡ some ns → i < r .count → cs ≡ pad 256 0 (map children (take i ns)) →
       ((x : Node) → Makes s (getD (r .kinds) i 0) (getD (r .starts) i 0) x → v ≡ children x) → set cs i v ≡ pad 256 0 (map children (take (i + 1) ns))
-  counts-next cs i v ns h = rw e (counts-more ed s cs i v h)
+  next-in cs i v ns h = rw e (counts-more ed s cs i v h)
 
-  pub counts-end : (cs : List ℕ) (i : ℕ) (ns : List Node) → nodesIn ed s ≡ some ns → r .count ≤ i → cs ≡ pad 256 0 (map children (take i ns)) → cs ≡ pad 256 0 (map children ns)
-  counts-end cs i ns h = rw e (counts-all ed s cs i h)
+  end-in : (cs : List ℕ) (i : ℕ) (ns : List Node) → nodesIn ed s ≡ some ns → r .count ≤ i → cs ≡ pad 256 0 (map children (take i ns)) → cs ≡ pad 256 0 (map children ns)
+  end-in cs i ns h = rw e (counts-all ed s cs i h)
+
+-- as the code has them: two arrays and the count
+module _ (s ks bs : List ℕ) (m : ℕ) where
+  module _ (k : (ed : Edition) × IndexOf ed s ks bs m) where
+    pub few : m ≤ 256
+    few = few-in s (nodesAs m ks bs (k .1 .0)) (k .0, k .1 .1)
+
+    pub node-made : (i : ℕ) → i < m → (x : Node) × Makes s (getD ks i 0) (getD bs i 0) x
+    node-made = made-in s (nodesAs m ks bs (k .1 .0)) (k .0, k .1 .1)
+
+  module _ (ed : Edition) (k : IndexOf ed s ks bs m) where
+    pub counts-next : (cs : List ℕ) (i v : ℕ) (ns : List Node) → nodesIn ed s ≡ some ns → i < m → cs ≡ pad 256 0 (map children (take i ns)) →
+        ((x : Node) → Makes s (getD ks i 0) (getD bs i 0) x → v ≡ children x) → set cs i v ≡ pad 256 0 (map children (take (i + 1) ns))
+    counts-next = next-in ed s (nodesAs m ks bs (k .0)) (k .1)
+
+    pub counts-end : (cs : List ℕ) (i : ℕ) (ns : List Node) → nodesIn ed s ≡ some ns → m ≤ i → cs ≡ pad 256 0 (map children (take i ns)) → cs ≡ pad 256 0 (map children ns)
+    counts-end = end-in ed s (nodesAs m ks bs (k .0)) (k .1)

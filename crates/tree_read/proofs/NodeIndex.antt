@@ -20,7 +20,7 @@ use Rattle.codec.proofs.Reading.{drop-past, drop-some, number-front, no-front, 
 use Rattle.codec.proofs.Known.{not-lost, after-front, snoc-none, times-length}
 use Rattle.codec.proofs.Loops.{loop-start, loop-next, counted}
 use Rattle.codec.proofs.Places.{places-start, places-length, places-more, places-count, placed}
-use Rattle.tree_read.specs.Index.{kindAt, startAt, endAt, nodePlaces, noNodes, index, nodesRead, nodesOf, notNodes, isRead, NodeAt, NodesAt}
+use Rattle.tree_read.specs.Index.{kindAt, startAt, endAt, nodePlaces, noNodes, nodesAs, NodesLaid, index, nodesRead, nodesOf, notNodes, isRead, NodeAt, NodesAt}
 use Rattle.tree_read.specs.declared.nodes.Nodes.{Nodes}
 use Rattle.codec.proofs.Padding.{pad-none, pad-map-snoc, pad-map, length-pad}
 use Rattle.tree_read.proofs.NodeForms.{was, takes-node}
@@ -43,10 +43,6 @@ no-section ed s h = rw (no-front (ed .width) s h) refl
 
 pub not-nodes : (ed : Edition) → notNodes ed ≡ noNodes 9
 not-nodes ed = nodes-none ed [] (no-section ed [] (width-low (ed .width)))
-
--- every refused section has the same answer
-pub nodes-refuse : (ed : Edition) (s : List ℕ) → nodesIn ed s ≡ none → notNodes ed ≡ nodesOf ed s
-nodes-refuse ed s e = not-nodes ed ∙ sym (nodes-none ed s e)
 
 module _ (ed : Edition) (s : List ℕ) (i : wide ed ≤ length s) where
   pub too-few : numAt ed s 0 < 1 → nodesIn ed s ≡ none
@@ -84,8 +80,8 @@ module _ (ed : Edition) (s : List ℕ) where
         ∙ ap (λ l. pad 256 0 (map f l)) (sym (places-more (readNode ed) i t u))
 
 -- w, l and n are what code holds: the bytes of a length, a length, the node count
-pub fill-start : (ed : Edition) (s : List ℕ) {w : ℕ} → w ≡ wide ed → w ≤ length s → Filled ed s (replicate 256 0) (replicate 256 0) (replicate 256 0) 0 w
-fill-start ed s e h = rw e (record {
+pub fill-start : (ed : Edition) (s : List ℕ) {w : ℕ} {ks bs es : List ℕ} → w ≡ wide ed → w ≤ length s → ks ≡ replicate 256 0 → bs ≡ replicate 256 0 → es ≡ replicate 256 0 → Filled ed s ks bs es 0 w
+fill-start ed s e h x y z = rw (e, x, y, z) (record {
   took = loop-start (readNode ed) Any Any s (wide ed) tt (omega arith);
   kinds = filled-none ed s (kindAt ed s);
   starts = filled-none ed s (startAt ed);
@@ -148,6 +144,14 @@ module _ (ed : Edition) (s ks bs es : List ℕ) (i p : ℕ) (f : Filled ed s ks 
       let m : length ns ≡ i = counted (readNode ed) i (f .took) in
       let e : nodesIn ed s ≡ some ns = whole-is ∙ rw (all-read j, drop-past p s k) refl in
       rw (f .kinds, f .starts, f .ends, ← j, ← m) (sym (nodes-some ed s e))
+
+-- ---- the answer, with the arrays
+module _ {ed : Edition} {s : List ℕ} {ks bs es : List ℕ} where
+  pub none-laid : nodesIn ed s ≡ none → NodesLaid ed s 0 ks bs es
+  none-laid e = record { refused = λ z. e; found = λ z. absurd (z refl) }
+
+  pub all-laid : {n : ℕ} → 1 ≤ n → nodesAs n ks bs es ≡ nodesOf ed s → NodesLaid ed s n ks bs es
+  all-laid h e = record { refused = λ z. absurd (omega arith); found = λ z. e }
 
 -- ---- what the index says of each node
 module _ (ed : Edition) (s : List ℕ) (n : ℕ) {ns : List Node} {m : List ℕ} (a : wide ed ≤ length s) (t : times n (readNode ed) (drop (wide ed) s) ≡ read ns m) (i : ℕ) (h : i < n) where
@@ -227,11 +231,3 @@ nodes-accepted ed s h = go (nodesIn ed s) refl
     go : (o : Option (List Node)) → nodesIn ed s ≡ o → (ns : List Node) × (o ≡ some ns)
     go none e = nine-not-none (ap (λ (r : Nodes). r .refusal) (sym (nodes-none ed s e)) ∙ h)
     go (some ns) e = (ns, refl)
-
-pub nodes-refused : (ed : Edition) (s : List ℕ) → (nodesOf ed s .refusal ≡ 0 → ⊥) → nodesIn ed s ≡ none
-unfolding index
-nodes-refused ed s h = go (nodesIn ed s) refl
-  where
-    go : (o : Option (List Node)) → nodesIn ed s ≡ o → o ≡ none
-    go none e = refl
-    go (some ns) e = absurd (h (ap (λ (r : Nodes). r .refusal) (nodes-some ed s e)))

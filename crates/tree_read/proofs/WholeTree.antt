@@ -1,23 +1,25 @@
 -- The walk of node 0 against condition 10.
 use mathlib.Core.Path.{_≡_, refl, sym, ap, _∙_, subst}
-use mathlib.Core.Bool.{true}
+use mathlib.Core.Bool.{Bool, true, false}
 use mathlib.Core.List.{List, [], _∷_, map}
 use mathlib.Core.Option.{Option, none, some}
 use Prim.Native.Nat.{ℕ, zero, suc, _+_, _≤_, _<_}
 use native.Mathlib.Omega.{arith}
+use borrow.Author.Tests.{eqb-true, eq-eqb}
+use lib.Dec.{eqb}
 use lib.ListN.{length, getD, take, drop, replicate, length-drop, length-map, length-replicate}
 use lib.Seq.{take-at}
 use Rattle.semantics.specs.Editions.{Edition}
 use Rattle.semantics.specs.Refusals.{refusalOf, need, _>>=_}
-use Rattle.semantics.proofs.Facts.{none-not-some, some-is, at-below}
+use Rattle.semantics.proofs.Facts.{none-not-some, some-is, at-below, true-not-false}
 use Rattle.semantics.proofs.Judging.{go-need}
 use Rattle.schedules.specs.Nodes.{Node, nodesIn}
 use Rattle.schedules.specs.Trees.{Tree, children, Walked, lost, walked, readTree, noneLeft, treeOf}
 use Rattle.schedules.specs.Laid.{Laid}
 use Rattle.schedules.specs.Files.{judgeTree}
 use Rattle.codec.specs.Padding.{pad}
-use Rattle.tree_read.specs.Index.{nodesOf}
-use Rattle.tree_read.specs.Ends.{noTree, TreeAt, TreeRead, TreeIn}
+use Rattle.tree_read.specs.Index.{nodesOf, IndexOf}
+use Rattle.tree_read.specs.Ends.{noTree, treeTold, TreeAt, TreeRead, TreeIn}
 use Rattle.tree_read.specs.PaperNumbers.{paperWalk}
 use Rattle.tree_read.specs.Walks.{Parent, Counts, KindsOf, Kept, TreeWalked}
 use Rattle.tree_read.specs.declared.nodes.Nodes.{Nodes}
@@ -78,10 +80,10 @@ lies-over {kinds} {e} {t} {count} k p l = record {
 }
 
 -- what the walk of node 0 says of any nodes with these child counts
-abbrev Root : List ℕ → List ℕ → Walk → Type 0
-Root ks e w = (ns : List Node) → Counts ks ns → (f : ℕ) → length ks ≤ 0 + f → TreeWalked ns 0 (replicate 256 0) e (readTree f 0 (drop 0 ns)) w
+abbrev Root : List ℕ → List ℕ → List ℕ → Walk → Type 0
+Root ks d e w = (ns : List Node) → Counts ks ns → (f : ℕ) → length ks ≤ 0 + f → TreeWalked ns 0 d e (readTree f 0 (drop 0 ns)) w
 
-module _ (ed : Edition) (s cs e : List ℕ) (w : Walk) (c : (ns : List Node) → nodesIn ed s ≡ some ns → cs ≡ pad 256 0 (map children ns)) (p : Root (take (nodesOf ed s .count) cs) e w) where
+module _ (ed : Edition) (s cs e : List ℕ) (w : Walk) (c : (ns : List Node) → nodesIn ed s ≡ some ns → cs ≡ pad 256 0 (map children ns)) (p : Root (take (nodesOf ed s .count) cs) (replicate 256 0) e w) where
   -- the walk from node 0 on, where there are nodes
   root : {ns : List Node} → nodesIn ed s ≡ some ns → TreeWalked ns 0 (replicate 256 0) e (readTree (length ns) 0 ns) w
   root {ns} h =
@@ -128,35 +130,45 @@ module _ (ed : Edition) (s cs e : List ℕ) (w : Walk) (c : (ns : List Node) →
           let same : length ns ≡ j = next-same q (k .0 .answer) in
           absurd (omega (arith, ap length (k .0 .rest) ∙ length-drop j ns))
 
--- ---- as the code has them: the index is a parameter
-module _ (ed : Edition) (s cs e : List ℕ) (w : Walk) (r : Nodes) (i : r ≡ nodesOf ed s) (c : (ns : List Node) → nodesIn ed s ≡ some ns → cs ≡ pad 256 0 (map children ns)) (p : Root (take (r .count) cs) e w) where
-  given : Root (take (nodesOf ed s .count) cs) e w
-  given = rw i at p
+-- ---- as the code has them: two arrays and the count, and ends over d
+module _ (ed : Edition) (s ks bs : List ℕ) (n : ℕ) (x : IndexOf ed s ks bs n) (cs d e : List ℕ) (w : Walk) (c : (ns : List Node) → nodesIn ed s ≡ some ns → cs ≡ pad 256 0 (map children ns))
+    (z : d ≡ replicate 256 0) (p : Root (take n cs) d e w) where
+  count-is : n ≡ nodesOf ed s .count
+  count-is = ap (λ (r : Nodes). r .count) (x .1)
 
-  counted : {ns : List Node} → nodesIn ed s ≡ some ns → r .count ≡ length ns
-  counted h = ap (λ (x : Nodes). x .count) i ∙ sym (indexed ed s h .counted)
+  given : Root (take (nodesOf ed s .count) cs) (replicate 256 0) e w
+  given = subst (λ m. Root (take m cs) (replicate 256 0) e w) count-is (subst (λ l. Root (take n cs) l e w) z p)
 
-  pub tree-found : {m : ℕ} → w ≡ Next m → m ≡ r .count → TreeIn ed s (record { ok = true; ends = e })
-  tree-found {m} q g = go (nodesIn ed s) refl
+  counted : {ns : List Node} → nodesIn ed s ≡ some ns → n ≡ length ns
+  counted h = count-is ∙ sym (indexed ed s h .counted)
+
+  found : {m : ℕ} → w ≡ Next m → m ≡ n → TreeIn ed s (record { ok = true; ends = e })
+  found {m} q g = go (nodesIn ed s) refl
     where
       go : (o : Option (List Node)) → nodesIn ed s ≡ o → TreeIn ed s (record { ok = true; ends = e })
       go none h = not-10 q (empty ed s cs e w c given h)
       go (some ns) h = of-nodes ed s h (is-tree ed s cs e w c given h (q ∙ ap Next (g ∙ counted h)))
 
-  module _ {t : Subtrees} (n : t ≡ noTree) where
-    pub tree-over : {m : ℕ} → w ≡ Next m → (m ≡ r .count → ⊥) → m ≤ r .count → TreeIn ed s t
-    tree-over {m} q g b = go (nodesIn ed s) refl
-      where
-        go : (o : Option (List Node)) → nodesIn ed s ≡ o → TreeIn ed s t
-        go none h = no-nodes ed s h n
-        go (some ns) h =
-            let z = counted h in
-            let l : m < length ns = omega arith in
-            none-made ed s h (is-over ed s cs e w c given h q l) n
+  over : {m : ℕ} → w ≡ Next m → (m ≡ n → ⊥) → m ≤ n → TreeIn ed s noTree
+  over {m} q g b = go (nodesIn ed s) refl
+    where
+      go : (o : Option (List Node)) → nodesIn ed s ≡ o → TreeIn ed s noTree
+      go none h = no-nodes ed s h refl
+      go (some ns) h =
+          let z = counted h in
+          let l : m < length ns = omega arith in
+          none-made ed s h (is-over ed s cs e w c given h q l) refl
 
-    pub tree-lost : w ≡ Lost → TreeIn ed s t
-    tree-lost q = go (nodesIn ed s) refl
-      where
-        go : (o : Option (List Node)) → nodesIn ed s ≡ o → TreeIn ed s t
-        go none h = no-nodes ed s h n
-        go (some ns) h = none-made ed s h (is-lost ed s cs e w c given h q) n
+  pub tree-told : {m : ℕ} → w ≡ Next m → m ≤ n → TreeIn ed s (treeTold (eqb m n) e)
+  tree-told {m} q l = go (eqb m n) refl
+    where
+      go : (b : Bool) → eqb m n ≡ b → TreeIn ed s (treeTold b e)
+      go true h = found q (eqb-true m n h)
+      go false h = over q (λ g. true-not-false (sym (eq-eqb m n g) ∙ h)) l
+
+  pub tree-lost : w ≡ Lost → TreeIn ed s noTree
+  tree-lost q = go (nodesIn ed s) refl
+    where
+      go : (o : Option (List Node)) → nodesIn ed s ≡ o → TreeIn ed s noTree
+      go none h = no-nodes ed s h refl
+      go (some ns) h = none-made ed s h (is-lost ed s cs e w c given h q) refl

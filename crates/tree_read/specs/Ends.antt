@@ -1,6 +1,6 @@
 -- Condition 10, and where the subtree of each node ends.
 use mathlib.Core.Path.{_≡_}
-use mathlib.Core.Bool.{true, false}
+use mathlib.Core.Bool.{Bool, true, false}
 use mathlib.Core.List.{List}
 use Prim.Native.Nat.{ℕ, _≤_}
 use lib.ListN.{length, getD, replicate}
@@ -14,6 +14,11 @@ use Rattle.tree_read.specs.declared.tree.Subtrees.{Subtrees}
 
 abbrev pub noTree : Subtrees
 noTree = record { ok = false; ends = replicate 256 0 }
+
+-- what a walk tells of nodes that make one tree, or do not, by the ends that it laid
+abbrev pub treeTold : Bool → List ℕ → Subtrees
+treeTold true ends = record { ok = true; ends = ends }
+treeTold false ends = noTree
 
 -- the tree t, of so many nodes, lies in their kinds and the ends; behind its last node the ends are 0
 pub record TreeAt (kinds : List ℕ) (count : ℕ) (t : Tree) (r : Subtrees) : Type 0 where

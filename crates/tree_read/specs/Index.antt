@@ -2,12 +2,13 @@
 use mathlib.Core.Path.{_≡_}
 use mathlib.Core.Bool.{Bool, true, false}
 use mathlib.Core.List.{List, [], map}
+use mathlib.Core.Option.{none}
 use Prim.Native.Nat.{ℕ, _+_, _≤_, _<_}
 use lib.ListN.{length, getD, drop, replicate, getElem?}
 use Rattle.semantics.specs.Bytes.{Read, broken, read}
 use Rattle.semantics.specs.Editions.{Edition}
 use Rattle.semantics.specs.Refusals.{Judged, refused, accepted}
-use Rattle.schedules.specs.Nodes.{Node, kindOf, nodeOf, readNode}
+use Rattle.schedules.specs.Nodes.{Node, kindOf, nodeOf, readNode, nodesIn}
 use Rattle.schedules.specs.Files.{judgeNodeSection}
 use Rattle.codec.specs.Numbers.{wide, numAt}
 use Rattle.codec.specs.Parts.{partAt}
@@ -50,6 +51,10 @@ nodesRead ed s (accepted ns) = index ed s (length ns)
 unfoldable pub nodesOf : Edition → List ℕ → Nodes
 nodesOf ed s = nodesRead ed s (judgeNodeSection ed s)
 
+-- an index by its arrays
+abbrev pub nodesAs : ℕ → List ℕ → List ℕ → List ℕ → Nodes
+nodesAs n kinds starts ends = record { refusal = 0; count = n; kinds = kinds; starts = starts; ends = ends }
+
 -- the answer to every section that breaks its layout: that to one without bytes
 abbrev pub notNodes : Edition → Nodes
 notNodes ed = nodesOf ed []
@@ -71,6 +76,15 @@ pub record NodesAt (ed : Edition) (s kinds starts ends : List ℕ) (count : ℕ)
   pub entries : (i : ℕ) → i < count → NodeAt s kinds starts ends ns i
 
 -- ---- for the code's own contracts
+-- a section that was read into these arrays, and the count that was answered: 0 where it breaks its layout
+pub record NodesLaid (ed : Edition) (s : List ℕ) (n : ℕ) (kinds starts ends : List ℕ) : Type 0 where
+  pub refused : n ≡ 0 → nodesIn ed s ≡ none
+  pub found : (n ≡ 0 → ⊥) → nodesAs n kinds starts ends ≡ nodesOf ed s
+
+-- n nodes of s, of these kinds, whose payloads start there
+abbrev pub IndexOf : Edition → List ℕ → List ℕ → List ℕ → ℕ → Type 0
+IndexOf ed s kinds starts n = (ends : List ℕ) × (nodesAs n kinds starts ends ≡ nodesOf ed s)
+
 unfoldable pub isRead : {A : Type 0} → Read A → Bool
 isRead broken = false
 isRead (read a s) = true

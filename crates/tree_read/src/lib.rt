@@ -1,6 +1,3 @@
 // The nodes of a schedule section (9) and their tree (10).
 pub mod nodes;
 pub mod tree;
-
-// the most nodes of any edition
-pub const NODES: usize = 256;

@@ -2,26 +2,44 @@
 use edition::Edition;
 ghost use mathlib.Core.Path.{_≡_};
 ghost use Prim.Native.Nat.{ℕ, _≤_};
-ghost use lib.ListN.{length, drop};
+ghost use lib.ListN.{length, drop, replicate};
 ghost use Rattle.semantics.specs.Bytes.{isSome};
 ghost use Rattle.semantics.specs.Editions as papers;
 ghost use Rattle.edition.specs.Editions.{editionOf};
 ghost use Rattle.schedules.specs.Nodes.{Node, kindOf, childCount, nodeOf, readNode};
-ghost use Rattle.tree_read.specs.Index.{isRead, notNodes, nodesOf};
+ghost use Rattle.tree_read.specs.Index.{isRead, notNodes, nodesAs, NodesLaid};
 
 pub struct Nodes {
     pub refusal: u8,
     pub count: usize,
-    pub kinds: [u8; crate::NODES],
-    pub starts: [usize; crate::NODES],
-    pub ends: [usize; crate::NODES],
+    pub kinds: [u8; edition::NODES],
+    pub starts: [usize; edition::NODES],
+    pub ends: [usize; edition::NODES],
+}
+
+// nodes that stand in these arrays
+pub fn found(
+    count: usize,
+    kinds: [u8; edition::NODES],
+    starts: [usize; edition::NODES],
+    ends: [usize; edition::NODES],
+) -> Nodes
+    ensures { λ r. ⌜ r ≡ nodesAs count kinds starts ends ⌝ }
+{
+    Nodes {
+        refusal: 0,
+        count,
+        kinds,
+        starts,
+        ends,
+    }
 }
 
 pub fn refused() -> Nodes
     ensures { λ r. ⌜ ((ed : papers.Edition) → r ≡ notNodes ed) ⌝ }
 {
-    let kinds = [0u8; crate::NODES];
-    let places = [0usize; crate::NODES];
+    let kinds = [0u8; edition::NODES];
+    let places = [0usize; edition::NODES];
     Nodes {
         refusal: 9,
         count: 0,
@@ -82,28 +100,33 @@ fn node(s: &[u8], at: usize, ed: Edition) -> bool
     payload(s[at + w], &s[b..e])
 }
 
-pub fn read(s: &[u8], ed: Edition) -> Nodes
-    ensures { λ r. ⌜ r ≡ nodesOf (editionOf ed) (now (s .entry)) ⌝ }
+// The nodes of a section, laid in arrays that hold zeros: how many there are, or 0 where the section breaks its layout.
+pub fn read(
+    s: &[u8],
+    kinds: &mut [u8; edition::NODES],
+    starts: &mut [usize; edition::NODES],
+    ends: &mut [usize; edition::NODES],
+    ed: Edition,
+) -> usize
+    requires { ⌜ (now kinds ≡ replicate 256 0) × (now starts ≡ replicate 256 0) × (now ends ≡ replicate 256 0) ⌝ }
+    ensures { λ r. ⌜ NodesLaid (editionOf ed) (now (s .entry)) r (now (kinds .exit)) (now (starts .exit)) (now (ends .exit)) ⌝ }
 {
     let w = edition::width(ed);
     if s.len() < w {
-        return refused();
+        return 0;
     }
     let n = codec::number(s, 0, ed);
     if n < 1 {
-        return refused();
+        return 0;
     }
     if n > edition::node_limit(ed) {
-        return refused();
+        return 0;
     }
-    let mut kinds = [0u8; crate::NODES];
-    let mut starts = [0usize; crate::NODES];
-    let mut ends = [0usize; crate::NODES];
     let mut p = w;
     let mut i = 0;
     while i < n {
         if !node(s, p, ed) {
-            return refused();
+            return 0;
         }
         let e = p + w + codec::number(s, p, ed);
         kinds[i] = s[p + w];
@@ -113,13 +136,7 @@ pub fn read(s: &[u8], ed: Edition) -> Nodes
         i += 1;
     }
     if p < s.len() {
-        return refused();
+        return 0;
     }
-    Nodes {
-        refusal: 0,
-        count: n,
-        kinds: kinds,
-        starts: starts,
-        ends: ends,
-    }
+    n
 }

@@ -1,21 +1,21 @@
 // The tree that the nodes of a schedule make (10): where the subtree of each node ends.
-use super::nodes::Nodes;
 ghost use mathlib.Core.Path.{_≡_};
+ghost use mathlib.Core.Bool.{true};
 ghost use mathlib.Core.List.{List, map};
 ghost use mathlib.Core.Option.{some};
 ghost use Prim.Native.Nat.{_≤_};
-ghost use lib.ListN.{length};
+ghost use lib.ListN.{length, replicate};
 ghost use Rattle.semantics.specs.Editions.{Edition};
 ghost use Rattle.schedules.specs.Nodes.{Node, nodesIn};
 ghost use Rattle.schedules.specs.Trees.{children};
 ghost use Rattle.codec.specs.Padding.{pad};
-ghost use Rattle.tree_read.specs.Index.{nodesOf};
-ghost use Rattle.tree_read.specs.Ends.{noTree, TreeIn};
+ghost use Rattle.tree_read.specs.Index.{IndexOf};
+ghost use Rattle.tree_read.specs.Ends.{noTree, TreeIn, treeTold};
 ghost use Rattle.tree_read.specs.Walks.{Makes, NodeWalked, NodesWalked};
 
 pub struct Subtrees {
+    pub ends: [usize; edition::NODES],
     pub ok: bool,
-    pub ends: [usize; crate::NODES],
 }
 
 enum Walk {
@@ -24,10 +24,17 @@ enum Walk {
     Lost,
 }
 
+// the subtrees of one tree
+pub fn found(ends: [usize; edition::NODES]) -> Subtrees
+    ensures { λ r. ⌜ r ≡ treeTold true ends ⌝ }
+{
+    Subtrees { ok: true, ends }
+}
+
 pub fn no_tree() -> Subtrees
     ensures { λ r. ⌜ r ≡ noTree ⌝ }
 {
-    let ends = [0usize; crate::NODES];
+    let ends = [0usize; edition::NODES];
     Subtrees {
         ok: false,
         ends: ends,
@@ -51,16 +58,20 @@ fn children_of(s: &[u8], k: u8, start: usize) -> u8
     0
 }
 
-// the child counts of the nodes, whatever edition they were read in
-fn child_counts(s: &[u8], n: Nodes) -> [u8; crate::NODES]
-    requires { ⌜ ((ed : Edition) × (n ≡ nodesOf ed (now s))) ⌝ }
-    ensures { λ r. ⌜ ((ed : Edition) (ns : List Node) → n ≡ nodesOf ed (now (s .entry)) → nodesIn ed (now (s .entry)) ≡ some ns → r ≡ pad 256 0 (map children ns)) ⌝ }
+// the child counts of m nodes of these kinds whose payloads start there
+fn child_counts(
+    s: &[u8],
+    kinds: &[u8; edition::NODES],
+    starts: &[usize; edition::NODES],
+    m: usize,
+) -> [u8; edition::NODES]
+    requires { ⌜ ((ed : Edition) × IndexOf ed (now s) (now kinds) (now starts) m) ⌝ }
+    ensures { λ r. ⌜ ((ed : Edition) (ns : List Node) → IndexOf ed (now (s .entry)) (now (kinds .entry)) (now (starts .entry)) m → nodesIn ed (now (s .entry)) ≡ some ns → r ≡ pad 256 0 (map children ns)) ⌝ }
 {
-    let m = n.count;
-    let mut counts = [0u8; crate::NODES];
+    let mut counts = [0u8; edition::NODES];
     let mut i = 0;
     while i < m {
-        counts[i] = children_of(s, n.kinds[i], n.starts[i]);
+        counts[i] = children_of(s, kinds[i], starts[i]);
         i += 1;
     }
     counts
@@ -99,26 +110,22 @@ fn forest(counts: &[u8], ends: &mut [usize], n: usize, k: u8) -> Walk
     }
 }
 
-// n is the index of the nodes of s, whatever edition they were read in
-pub fn read(s: &[u8], n: Nodes) -> Subtrees
-    requires { ⌜ ((ed : Edition) × (n ≡ nodesOf ed (now s))) ⌝ }
-    ensures { λ r. ⌜ ((ed : Edition) → n ≡ nodesOf ed (now (s .entry)) → TreeIn ed (now (s .entry)) r) ⌝ }
+// Of the m nodes of s, whatever edition they were read in: whether they make just one tree. Where they do, the ends of their subtrees are laid in an array
+// that holds zeros.
+pub fn read(
+    s: &[u8],
+    kinds: &[u8; edition::NODES],
+    starts: &[usize; edition::NODES],
+    m: usize,
+    ends: &mut [usize; edition::NODES],
+) -> bool
+    requires { ⌜ ((ed : Edition) × IndexOf ed (now s) (now kinds) (now starts) m) × (now ends ≡ replicate 256 0) ⌝ }
+    ensures { λ r. ⌜ ((ed : Edition) → IndexOf ed (now (s .entry)) (now (kinds .entry)) (now (starts .entry)) m → TreeIn ed (now (s .entry)) (treeTold r (now (ends .exit)))) ⌝ }
 {
-    let m = n.count;
-    let counts = child_counts(s, n);
-    let mut ends = [0usize; crate::NODES];
-    let w = node(&counts[..m], &mut ends, 0);
+    let counts = child_counts(s, kinds, starts, m);
+    let w = node(&counts[..m], ends, 0);
     match w {
-        Walk::Next(e) => {
-            if e == m {
-                Subtrees {
-                    ok: true,
-                    ends: ends,
-                }
-            } else {
-                no_tree()
-            }
-        }
-        Walk::Lost => no_tree(),
+        Walk::Next(e) => e == m,
+        Walk::Lost => false,
     }
 }

@@ -10,42 +10,30 @@ use Rattle.compiler.proofs.call.made.Tie as tie
 
 kinds-requires : tie.Need-kinds-requires
 kinds-requires c κs =
-    let s = c .before .before .before .before .before in
-    let n = s .pre .found .promise .nodes in
-    let e = editionOf (s .args .ed) .entries-fit in
+    let n = c .before .before .before .pre .found .promise .nodes in
+    let e = editionOf (c .before .before .before .args .ed) .entries-fit in
     (omega (arith, n .few, e), omega (arith, n .few, e, n .kinds-full))
 
 measured-requires : tie.Need-measured-requires
 measured-requires c κs =
-    let s = c .before .before .before .before .before .before .before .before .before in
-    listed (s .pre .found) (c .before .before .before .kinds3 .ensures)
+    listed (c .before .before .before .before .before .before .before .before .before .before .pre .found) (c .before .before .before .before .before .before .kinds .ensures)
 
 table-length-requires : tie.Need-table-length-requires
 table-length-requires c κs =
-    let s = c .before .before .before .before .before .before .before .before .before .before .before in
-    let f = s .pre .found in
+    let f = c .before .before .before .before .before .before .before .before .before .before .before .before .before .pre .found in
     let v = f .promise .variables .inside in
     let q = f .promise .equations .inside in
-    let l : c .before .measured .result .at ≤ 52224 = omega (arith, c .before .measured .ensures .short, f .promise .nodes .few, editionOf (s .args .ed) .entries-fit) in
-    ((v .ordered, q .ordered), (omega (arith, v .inside, f .short), omega (arith, q .inside, f .short), l, c .row-bytes .ensures .1))
+    let l : c .before .before .measured .result .at ≤ 52224 = omega (arith, c .before .before .measured .ensures .short, f .promise .nodes .few, editionOf (c .before .before .before .before .before .before .before .before .before .before .before .before .before .args .ed) .entries-fit) in
+    ((v .ordered, q .ordered), (omega (arith, v .inside, f .short), omega (arith, q .inside, f .short), l, c .before .row-bytes .ensures .1))
 
 returns : tie.Need-returns
 returns c = (
   refl,
-  λ f g. plan-made _ g (c .before .before .before .before .before .before .kinds3 .ensures) (c .before .before .measured .ensures) refl (c .before .row-bytes .ensures .0)
+  λ f g. plan-made _ g (c .before .before .before .before .before .before .before .before .before .before .kinds .ensures) (c .before .before .before .measured .ensures) refl (c .before .before .row-bytes .ensures .0)
       (c .table-length .ensures),
 )
 
 pub made-spec : {M : Type 1} → statement M
 made-spec =
     tie.close
-    (tie.spec
-    (λ c. search needs)
-    kinds-requires
-    (λ c. search needs)
-    (λ c. search needs)
-    (λ c. search needs)
-    measured-requires
-    (λ c κs. search needs)
-    table-length-requires
-    returns)
+    (tie.spec kinds-requires (λ c. search needs) measured-requires (λ c κs. search needs) table-length-requires returns)

@@ -1,5 +1,4 @@
 -- The index refuses, or the size of its tree is told.
-use mathlib.Core.Path.{sym}
 use borrow.Author.Needs.{needs}
 use Rattle.semantics.specs.Editions.{edition1}
 use Rattle.compiler.proofs.SizeStages.{size-refused, size-over, size-exact}
@@ -10,34 +9,17 @@ use Rattle.compiler.proofs.size.of.Tie as tie
 returns : tie.Need-returns
 returns c = size-refused edition1 (c .before .before .before .args .file .now) (c .before .index .ensures) (c .if1 .taken)
 
-slice-aggregate-of-2 : tie.Need-slice-aggregate-of-2
-slice-aggregate-of-2 c =
-    let d = c .before .before .before .before .before .before in
-    sym (indexed edition1 (d .before .before .before .args .file .now) (d .before .index .ensures) (d .if1 .left) .promise .ends-full)
-
 of-requires : tie.Need-of-requires
 of-requires c κs =
-    let d = c .before .before .before .before .before .before in
-    planted (indexed edition1 (d .before .before .before .args .file .now) (d .before .index .ensures) (d .if1 .left))
+    planted (indexed edition1 (c .before .before .before .before .before .before .before .before .args .file .now) (c .before .before .before .before .before .before .index .ensures) (c .before .before .before .before .before .if1 .left))
 
 returns-2 : tie.Need-returns-2
 returns-2 c =
-    let d = c .before .before .before .before .before .before .before .before in
-    size-over (indexed edition1 (d .before .before .before .args .file .now) (d .before .index .ensures) (d .if1 .left)) (c .before .of .ensures) (c .if2 .taken)
+    size-over (indexed edition1 (c .before .before .before .before .before .before .before .before .before .before .args .file .now) (c .before .before .before .before .before .before .before .before .index .ensures) (c .before .before .before .before .before .before .before .if1 .left)) (c .before .of .ensures) (c .if2 .taken)
 
 returns-3 : tie.Need-returns-3
 returns-3 c =
-    let d = c .before .before .before .before .before .before .before .before in
-    size-exact (indexed edition1 (d .before .before .before .args .file .now) (d .before .index .ensures) (d .if1 .left)) (c .before .of .ensures) (c .if2 .left)
+    size-exact (indexed edition1 (c .before .before .before .before .before .before .before .before .before .before .args .file .now) (c .before .before .before .before .before .before .before .before .index .ensures) (c .before .before .before .before .before .before .before .if1 .left)) (c .before .of .ensures) (c .if2 .left)
 
 pub of-spec : {M : Type 1} → statement M
-of-spec =
-    tie.close
-    (tie.spec
-    (λ c κs. search needs)
-    returns
-    (λ c. search needs)
-    slice-aggregate-of-2
-    of-requires
-    returns-2
-    returns-3)
+of-spec = tie.close (tie.spec (λ c κs. search needs) returns of-requires returns-2 returns-3)

@@ -57,7 +57,7 @@ loop-holds c =
     )
 
 at-requires-2 : tie.Need-at-requires-2 Inv-loop μ-loop
-at-requires-2 c κs = let q = c .before .before .before .before .before .before .before .before .before .before .before .before .before .before .before .pre in going-event _ (programOf (q .schedule)) (c .before .loop .inv .3 (q .schedule) (q .asked)) (omega (arith, c .before .loop .inv .1, c .loop-test .taken))
+at-requires-2 c κs = let q = c .before .before .before .before .before .before .before .before .before .before .before .before .before .before .before .pre in omega (arith, going-event _ (programOf (q .schedule)) (c .before .loop .inv .3 (q .schedule) (q .asked)) (omega (arith, c .before .loop .inv .1, c .loop-test .taken)))
 
 step-requires : tie.Need-step-requires Inv-loop μ-loop
 step-requires c κs =

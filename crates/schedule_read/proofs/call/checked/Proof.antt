@@ -10,20 +10,21 @@ use Rattle.semantics.specs.Sections.{Selector, Equation}
 use Rattle.schedules.specs.Nodes.{nodeNamed, nodeParted, nodeReads}
 use Rattle.plant.specs.ModeCounts.{ModesAt}
 use Rattle.plant.specs.Driven.{DrivenAt}
+use Rattle.tree_read.specs.Index.{nodesAs}
 use Rattle.schedule_read.proofs.Passing.{Telling, made, tell-start, tell-next, tell-end}
 use Rattle.schedule_read.proofs.Stages.{equations-there, told, by-11, by-34, by-12, nodes-passed}
 use Rattle.schedule_read.proofs.call.checked.Statement.{statement}
 use Rattle.schedule_read.proofs.call.checked.Tie as tie
 
 abbrev Inv-loop : tie.InvT-loop
-Inv-loop es s variables selectors modes driven n named₀ parted₀ read₀ i₀ named parted read i =
-    (i ≤ n .count)
-    × (((ed : Edition) (cs : List Selector) → ModesAt modes selectors cs → Telling ed (nodeNamed variables cs) s n i true named)
-    × (((ed : Edition) (qs : List Equation) → DrivenAt driven qs → Telling ed (nodeParted qs) s n i true parted)
-    × ((ed : Edition) → Telling ed (nodeReads ed variables) s n i read₀ read)))
+Inv-loop es s kinds starts ends m variables selectors modes driven named₀ parted₀ read₀ i₀ named parted read i =
+    (i ≤ m)
+    × (((ed : Edition) (cs : List Selector) → ModesAt modes selectors cs → Telling ed (nodeNamed variables cs) s (nodesAs m kinds starts ends) i true named)
+    × (((ed : Edition) (qs : List Equation) → DrivenAt driven qs → Telling ed (nodeParted qs) s (nodesAs m kinds starts ends) i true parted)
+    × ((ed : Edition) → Telling ed (nodeReads ed variables) s (nodesAs m kinds starts ends) i read₀ read)))
 
 abbrev μ-loop : tie.MeasureT-loop
-μ-loop es s variables selectors modes driven n named₀ parted₀ read₀ i₀ named parted read i = n .count - i
+μ-loop es s kinds starts ends m variables selectors modes driven named₀ parted₀ read₀ i₀ named parted read i = m - i
 
 read-requires : tie.Need-read-requires Inv-loop μ-loop
 read-requires c κs = let p = c .before .before .before .before .pre .1 in (equations-there p, p .at .few)
@@ -33,128 +34,106 @@ loop-holds c = (omega arith, (λ ed cs d. tell-start _, (λ ed qs d. tell-start 
 
 element-copy-out-k : tie.Need-element-copy-out-k Inv-loop μ-loop
 element-copy-out-k c =
-    let l = c .before in
-    let d = l .before .before .before .before .before .before .pre .0 in
+    let d = c .before .before .before .before .before .before .before .pre .0 in
     omega (arith, d .at .few, d .edition .entries-fit)
 
 element-copy-out-b : tie.Need-element-copy-out-b Inv-loop μ-loop
 element-copy-out-b c =
-    let l = c .before .before in
-    let d = l .before .before .before .before .before .before .pre .0 in
+    let d = c .before .before .before .before .before .before .before .before .pre .0 in
     omega (arith, d .at .few, d .edition .entries-fit)
 
 element-copy-out-e : tie.Need-element-copy-out-e Inv-loop μ-loop
 element-copy-out-e c =
-    let l = c .before .before .before in
-    let d = l .before .before .before .before .before .before .pre .0 in
+    let d = c .before .before .before .before .before .before .before .before .before .pre .0 in
     omega (arith, d .at .few, d .edition .entries-fit)
 
 sub-one : tie.Need-sub-one Inv-loop μ-loop
 sub-one c =
-    let t = c .before .before .before in
-    let d = t .before .before .before .before .before .before .before .pre .0 .at in
-    d .entries (t .before .loop .i) (t .loop-test .taken) .ordered
+    let d = c .before .before .before .before .before .before .before .before .before .before .pre .0 .at in
+    d .entries (c .before .before .before .before .loop .i) (c .before .before .before .loop-test .taken) .ordered
 
 part-one-end : tie.Need-part-one-end Inv-loop μ-loop
 part-one-end c =
-    let t = c .before .before .before in
-    let d = t .before .before .before .before .before .before .before .pre .0 .at in
-    d .entries (t .before .loop .i) (t .loop-test .taken) .inside
+    let d = c .before .before .before .before .before .before .before .before .before .before .pre .0 .at in
+    d .entries (c .before .before .before .before .loop .i) (c .before .before .before .loop-test .taken) .inside
 
 one-requires : tie.Need-one-requires Inv-loop μ-loop
 one-requires c κs =
-    let t = c .before .before .before .before in
-    let p = t .before .before .before .before .before .before .before .pre in
-    (made (t .before .loop .i) (t .loop-test .taken) (p .0), p .1 .room)
+    let p = c .before .before .before .before .before .before .before .before .before .before .before .pre in
+    (made (c .before .before .before .before .before .loop .i) (c .before .before .before .before .loop-test .taken) (p .0), p .1 .room)
 
 sub-one-2 : tie.Need-sub-one-2 Inv-loop μ-loop
 sub-one-2 c =
-    let t = c .before .before .before .before .before .before in
-    let d = t .before .before .before .before .before .before .before .pre .0 .at in
-    d .entries (t .before .loop .i) (t .loop-test .taken) .ordered
+    let d = c .before .before .before .before .before .before .before .before .before .before .before .before .before .pre .0 .at in
+    d .entries (c .before .before .before .before .before .before .before .loop .i) (c .before .before .before .before .before .before .loop-test .taken) .ordered
 
 part-one-end-2 : tie.Need-part-one-end-2 Inv-loop μ-loop
 part-one-end-2 c =
-    let t = c .before .before .before .before .before .before in
-    let d = t .before .before .before .before .before .before .before .pre .0 .at in
-    d .entries (t .before .loop .i) (t .loop-test .taken) .inside
+    let d = c .before .before .before .before .before .before .before .before .before .before .before .before .before .pre .0 .at in
+    d .entries (c .before .before .before .before .before .before .before .loop .i) (c .before .before .before .before .before .before .loop-test .taken) .inside
 
 one-requires-2 : tie.Need-one-requires-2 Inv-loop μ-loop
 one-requires-2 c κs =
-    let t = c .before .before .before .before .before .before .before in
-    let p = t .before .before .before .before .before .before .before .pre in
-    made (t .before .loop .i) (t .loop-test .taken) (p .0)
+    let p = c .before .before .before .before .before .before .before .before .before .before .before .before .before .before .pre in
+    made (c .before .before .before .before .before .before .before .before .loop .i) (c .before .before .before .before .before .before .before .loop-test .taken) (p .0)
 
 sub-one-3 : tie.Need-sub-one-3 Inv-loop μ-loop
 sub-one-3 c =
-    let o = c .before .before .before in
-    let t = o .before .before .before .before .before .before in
-    let d = t .before .before .before .before .before .before .before .pre .0 .at in
-    d .entries (t .before .loop .i) (t .loop-test .taken) .ordered
+    let d = c .before .before .before .before .before .before .before .before .before .before .before .before .before .before .before .before .pre .0 .at in
+    d .entries (c .before .before .before .before .before .before .before .before .before .before .loop .i) (c .before .before .before .before .before .before .before .before .before .loop-test .taken) .ordered
 
 part-one-end-3 : tie.Need-part-one-end-3 Inv-loop μ-loop
 part-one-end-3 c =
-    let o = c .before .before .before in
-    let t = o .before .before .before .before .before .before in
-    let d = t .before .before .before .before .before .before .before .pre .0 .at in
-    d .entries (t .before .loop .i) (t .loop-test .taken) .inside
+    let d = c .before .before .before .before .before .before .before .before .before .before .before .before .before .before .before .before .pre .0 .at in
+    d .entries (c .before .before .before .before .before .before .before .before .before .before .loop .i) (c .before .before .before .before .before .before .before .before .before .loop-test .taken) .inside
 
 one-requires-3 : tie.Need-one-requires-3 Inv-loop μ-loop
 one-requires-3 c κs =
-    let o = c .before .before .before .before in
-    let t = o .before .before .before .before .before .before in
-    let p = t .before .before .before .before .before .before .before .pre in
-    (made (t .before .loop .i) (t .loop-test .taken) (p .0), p .1 .at .few)
+    let p = c .before .before .before .before .before .before .before .before .before .before .before .before .before .before .before .before .before .pre in
+    (made (c .before .before .before .before .before .before .before .before .before .before .before .loop .i) (c .before .before .before .before .before .before .before .before .before .before .loop-test .taken) (p .0), p .1 .at .few)
 
 loop-again : tie.Need-loop-again Inv-loop μ-loop
 loop-again c =
-    let p = c .before .before .before in
-    let m = p .before .before .before in
-    let t = m .before .before .before .before .before .before in
-    let g = t .before .loop .inv .1 in (
+    let g = c .before .before .before .before .before .before .before .before .before .before .before .before .before .loop .inv .1 in (
       omega arith,
       (
-        λ ed cs d. tell-next _ (t .loop-test .taken) (g .0 ed cs d) (m .before .one .ensures cs d) (m .both .ensures),
+        λ ed cs d. tell-next _ (c .before .before .before .before .before .before .before .before .before .before .before .before .loop-test .taken) (g .0 ed cs d) (c .before .before .before .before .before .before .before .one .ensures cs d) (c .before .before .before .before .before .before .both .ensures),
         (
-          λ ed qs d. tell-next _ (t .loop-test .taken) (g .1 .0 ed qs d) (p .before .one2 .ensures qs d) (p .both2 .ensures),
-          λ ed. tell-next _ (t .loop-test .taken) (g .1 .1 ed) (c .before .one3 .ensures ed) (c .both3 .ensures),
+          λ ed qs d. tell-next _ (c .before .before .before .before .before .before .before .before .before .before .before .before .loop-test .taken) (g .1 .0 ed qs d) (c .before .before .before .before .one2 .ensures qs d) (c .before .before .before .both2 .ensures),
+          λ ed. tell-next _ (c .before .before .before .before .before .before .before .before .before .before .before .before .loop-test .taken) (g .1 .1 ed) (c .before .one3 .ensures ed) (c .both3 .ensures),
         ),
       ),
     )
 
 returns : tie.Need-returns Inv-loop μ-loop
 returns c =
-    let l = c .before .before in
-    let g = l .loop .inv .1 in
-    let n = l .before .before .before .before .before .before .args .t3 in
-    λ ed. by-11 ed n (told ed n (λ cs d. tell-end _ (omega arith) (g .0 ed cs d)) (λ qs d. tell-end _ (omega arith) (g .1 .0 ed qs d)) (l .before .read .ensures ed)
+    let g = c .before .before .loop .inv .1 in
+    let n = nodesAs (c .before .before .before .before .before .before .before .before .args .m) (c .before .before .before .before .before .before .before .before .args .kinds .now) (c .before .before .before .before .before .before .before .before .args .starts .now) (c .before .before .before .before .before .before .before .before .args .ends .now) in
+    λ ed. by-11 ed n (told ed n (λ cs d. tell-end _ (omega arith) (g .0 ed cs d)) (λ qs d. tell-end _ (omega arith) (g .1 .0 ed qs d)) (c .before .before .before .read .ensures ed)
     (tell-end _ (omega arith) (g .1 .1 ed)))
     (not-true _ (c .if1 .taken))
 
 returns-2 : tie.Need-returns-2 Inv-loop μ-loop
 returns-2 c =
-    let l = c .before .before .before in
-    let g = l .loop .inv .1 in
-    let n = l .before .before .before .before .before .before .args .t3 in
-    λ ed. by-34 ed n (told ed n (λ cs d. tell-end _ (omega arith) (g .0 ed cs d)) (λ qs d. tell-end _ (omega arith) (g .1 .0 ed qs d)) (l .before .read .ensures ed)
+    let g = c .before .before .before .loop .inv .1 in
+    let n = nodesAs (c .before .before .before .before .before .before .before .before .before .args .m) (c .before .before .before .before .before .before .before .before .before .args .kinds .now) (c .before .before .before .before .before .before .before .before .before .args .starts .now) (c .before .before .before .before .before .before .before .before .before .args .ends .now) in
+    λ ed. by-34 ed n (told ed n (λ cs d. tell-end _ (omega arith) (g .0 ed cs d)) (λ qs d. tell-end _ (omega arith) (g .1 .0 ed qs d)) (c .before .before .before .before .read .ensures ed)
     (tell-end _ (omega arith) (g .1 .1 ed)))
     (not-false _ (c .before .if1 .left)) (not-true _ (c .if2 .taken))
 
 returns-3 : tie.Need-returns-3 Inv-loop μ-loop
 returns-3 c =
-    let l = c .before .before .before .before in
-    let g = l .loop .inv .1 in
-    let n = l .before .before .before .before .before .before .args .t3 in
-    λ ed. nodes-passed ed n (told ed n (λ cs d. tell-end _ (omega arith) (g .0 ed cs d)) (λ qs d. tell-end _ (omega arith) (g .1 .0 ed qs d)) (l .before .read .ensures ed)
+    let g = c .before .before .before .before .loop .inv .1 in
+    let n = nodesAs (c .before .before .before .before .before .before .before .before .before .before .args .m) (c .before .before .before .before .before .before .before .before .before .before .args .kinds .now) (c .before .before .before .before .before .before .before .before .before .before .args .starts .now) (c .before .before .before .before .before .before .before .before .before .before .args .ends .now) in
+    λ ed. nodes-passed ed n (told ed n (λ cs d. tell-end _ (omega arith) (g .0 ed cs d)) (λ qs d. tell-end _ (omega arith) (g .1 .0 ed qs d)) (c .before .before .before .before .before .read .ensures ed)
     (tell-end _ (omega arith) (g .1 .1 ed)))
     (not-false _ (c .before .before .if1 .left)) (not-false _ (c .before .if2 .left)) (c .if3 .taken)
 
 returns-4 : tie.Need-returns-4 Inv-loop μ-loop
 returns-4 c =
-    let l = c .before .before .before .before in
-    let g = l .loop .inv .1 in
-    let n = l .before .before .before .before .before .before .args .t3 in
-    λ ed. by-12 ed n (told ed n (λ cs d. tell-end _ (omega arith) (g .0 ed cs d)) (λ qs d. tell-end _ (omega arith) (g .1 .0 ed qs d)) (l .before .read .ensures ed)
+    let g = c .before .before .before .before .loop .inv .1 in
+    let n = nodesAs (c .before .before .before .before .before .before .before .before .before .before .args .m) (c .before .before .before .before .before .before .before .before .before .before .args .kinds .now) (c .before .before .before .before .before .before .before .before .before .before .args .starts .now) (c .before .before .before .before .before .before .before .before .before .before .args .ends .now) in
+    λ ed. by-12 ed n (told ed n (λ cs d. tell-end _ (omega arith) (g .0 ed cs d)) (λ qs d. tell-end _ (omega arith) (g .1 .0 ed qs d)) (c .before .before .before .before .before .read .ensures ed)
     (tell-end _ (omega arith) (g .1 .1 ed)))
     (not-false _ (c .before .before .if1 .left)) (not-false _ (c .before .if2 .left)) (c .if3 .left)
 

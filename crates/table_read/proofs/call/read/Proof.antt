@@ -7,7 +7,7 @@ index-requires : tie.Need-index-requires
 index-requires c κs = search needs
 
 returns : tie.Need-returns
-returns c = counts-are _ (c .before .before .before .before .before .args .table .now) (c .before .before .before .index .ensures)
+returns c = counts-are _ (c .before .before .args .table .now) (c .index .ensures)
 
 pub read-spec : {M : Type 1} → statement M
 read-spec = tie.close (tie.spec index-requires returns)

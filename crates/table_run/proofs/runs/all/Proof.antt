@@ -35,7 +35,7 @@ loop-holds c =
     (omega arith, events-counted _ _ (c .event-bytes .ensures), omega (arith, c .before .before .before .before .before .before .before .before .before .good), λ t a. going-start _ (programOfTable t) (c .before .none .ensures) (a .may) (at-start t (first-stands _ (a .lent) (c .before .before .before .before .location .ensures) (c .before .before .acting2 .ensures))))
 
 at-requires : tie.Need-at-requires Inv-loop μ-loop
-at-requires c κs = let q = c .before .before .before .before .before .before .before .before .before .before .before .pre in going-event _ (programOfTable (q .table)) (c .before .loop .inv .3 (q .table) (q .asked)) (omega (arith, c .before .loop .inv .1, c .loop-test .taken))
+at-requires c κs = let q = c .before .before .before .before .before .before .before .before .before .before .before .pre in omega (arith, going-event _ (programOfTable (q .table)) (c .before .loop .inv .3 (q .table) (q .asked)) (omega (arith, c .before .loop .inv .1, c .loop-test .taken)))
 
 step-requires : tie.Need-step-requires Inv-loop μ-loop
 step-requires c κs =
