@@ -129,15 +129,19 @@ pub fn read(table: &[u8]) -> TableRead
 pub fn program(x: TableIndex) -> Program
     ensures { λ r. ⌜ TablePrograms x r ⌝ }
 {
+    let kinds = x.actions.kinds;
+    let starts = x.actions.starts;
+    let ends = x.actions.ends;
+    let places = x.locations.places;
     let mut index = fill::index(
         x.plant,
-        &x.actions.kinds,
-        &x.actions.starts,
-        &x.actions.ends,
+        &kinds,
+        &starts,
+        &ends,
         x.parts.equations,
         x.parts.actions,
     );
-    fill::put_locations(&mut index, &x.locations.places, x.parts.locations);
+    fill::put_locations(&mut index, &places, x.parts.locations);
     let ranges = fill::ranges(x.plant);
     Program { index, ranges }
 }
