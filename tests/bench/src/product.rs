@@ -16,6 +16,8 @@ type Run = unsafe extern "C" fn(
 ) -> u8;
 
 extern "C" {
+    fn zimtleiter_read_schedule(file: *const u8, file_len: usize) -> u8;
+    fn zimtleiter_read_table(table: *const u8, table_len: usize) -> u8;
     fn zimtleiter_size(file: *const u8, file_len: usize, locations: *mut u64, entries: *mut u64) -> u8;
     fn zimtleiter_compile(file: *const u8, file_len: usize, table: *mut u8, room: usize, length: *mut u64, comparisons: *mut u64) -> u8;
     fn zimtleiter_rule_run(
@@ -45,6 +47,16 @@ extern "C" {
         faulted: *mut u64,
     ) -> u8;
     fn zimtleiter_practice(seed: u32, count: u64, events: *mut u8, room: usize, length: *mut u64) -> u8;
+}
+
+pub fn read_schedule(file: &[u8]) -> u8 {
+    // SAFETY: the pointer is lent with its length.
+    unsafe { zimtleiter_read_schedule(file.as_ptr(), file.len()) }
+}
+
+pub fn read_table(table: &[u8]) -> u8 {
+    // SAFETY: as above
+    unsafe { zimtleiter_read_table(table.as_ptr(), table.len()) }
 }
 
 pub fn compile(file: &[u8], table: &mut [u8]) -> Result<Compiled, u8> {

@@ -19,6 +19,14 @@ extern "C" {
 #[repr(C, align(4096))]
 struct Stack([u8; SIZE]);
 
+/// A call of the product: one of the cases, or reading what it is made of.
+#[derive(Clone, Copy)]
+enum Call<'a> {
+    Make(&'a Work),
+    ReadSchedule(&'a [u8]),
+    ReadTable(&'a [u8]),
+}
+
 /// The product's call alone: a function that can make another's too has a larger frame.
 #[inline(never)]
 fn call(w: &Work, out: &mut [u8]) {
@@ -32,23 +40,26 @@ fn call(w: &Work, out: &mut [u8]) {
 }
 
 /// The call to make, or none, and its buffer.
-struct Task<'a>(Option<&'a Work>, &'a mut [u8]);
+struct Task<'a>(Option<Call<'a>>, &'a mut [u8]);
 
 extern "C" fn enter(task: *mut c_void) -> *mut c_void {
     // SAFETY: `taken` hands a task that lives until the thread is joined.
     let task = unsafe { &mut *(task as *mut Task) };
-    if let Some(w) = task.0 {
-        call(w, task.1);
+    match task.0 {
+        Some(Call::Make(w)) => call(w, task.1),
+        Some(Call::ReadSchedule(f)) => assert_eq!(product::read_schedule(f), 0),
+        Some(Call::ReadTable(t)) => assert_eq!(product::read_table(t), 0),
+        None => {}
     }
     std::ptr::null_mut()
 }
 
 /// Bytes of the stack that the thread wrote.
-fn taken(w: Option<&Work>, out: &mut [u8]) -> usize {
+fn taken(c: Option<Call>, out: &mut [u8]) -> usize {
     // SAFETY: a Stack is bytes.
     let mut stack: Box<Stack> = unsafe { Box::new_uninit().assume_init() };
     stack.0.fill(PAINT);
-    let mut task = Task(w, out);
+    let mut task = Task(c, out);
     let (mut a, mut id) = (Attributes([0; 64]), 0);
     // SAFETY: pthread_attr_t has 56 bytes on x86-64 Linux; stack and task outlive the thread.
     unsafe {
@@ -71,20 +82,31 @@ pub fn measure() {
         works.push(Work::Rules(runs()));
     }
     let own = taken(None, &mut []);
-    let mut most = [0; 5];
+    let mut most = [0; 7];
     for w in &works {
-        let kind = match w {
-            Work::Compile(_) => 0,
-            Work::Rules(_) => 1,
-            Work::Table(..) => 2,
-            Work::Size(_) => 3,
-            Work::Practice { .. } => 4,
+        let (kind, read) = match w {
+            Work::Compile(_) => (0, None),
+            Work::Rules(r) => (1, Some((5, Call::ReadSchedule(&r.file)))),
+            Work::Table(t, _) => (2, Some((6, Call::ReadTable(t)))),
+            Work::Size(_) => (3, None),
+            Work::Practice { .. } => (4, None),
         };
         let mut out = vec![0; room(w)];
         assert!(matches!(perform(Who::Product, w, &mut out)[0], 0 | 13), "a case that is refused");
-        most[kind] = most[kind].max(taken(Some(w), &mut out) - own);
+        for (kind, c) in [Some((kind, Call::Make(w))), read].into_iter().flatten() {
+            most[kind] = most[kind].max(taken(Some(c), &mut out) - own);
+        }
     }
-    for (name, n) in ["compiling", "a run by the rules", "a run of a table", "the size of a schedule", "practice events"].iter().zip(most) {
+    let names = [
+        "compiling",
+        "a run by the rules",
+        "a run of a table",
+        "the size of a schedule",
+        "practice events",
+        "reading a schedule",
+        "reading a table",
+    ];
+    for (name, n) in names.iter().zip(most) {
         println!("{name}: {n} bytes of stack");
     }
 }
