@@ -1,5 +1,5 @@
 -- The mission's demands as theorems about the definitions: each statement written out, under the sentence that it settles, and proved by one citation.
--- They hold for a tree of any size and over any edition, so that of the definitions 256 nodes need no second proof: `edition-256` shows that such an edition is one.
+-- They hold for a tree of any size and over any edition, so that of the definitions 256 nodes need no second proof: `edition-2` has such an edition.
 -- The contracts of the calls in code cite `edition1`.
 -- "Every call ends, on any bytes": the definitions are total, the contract of each call says that it returns what its definition gives, and asks nothing of the bytes (no `requires`).
 -- What a statement, or a group of them, rules out is named by two wrong products that it does not let by.
@@ -587,12 +587,7 @@ bytes-only-table-run = TableBytes.table-run-bytes
 pub edition-1 : (edition1 .version ≡ 1) × (edition1 .nodes ≡ 64) × (capacity (edition1 .width) ≡ 256) × (edition1 .set-bytes ≡ 8) × (edition1 .event-bytes ≡ 3)
 edition-1 = (refl, refl, refl, refl, refl)
 
--- the numbers of the second edition: "version byte 2", "up to 256 nodes", numbers "of two bytes", "32 bytes" and "4 bytes" of document 02, item 6.
--- Ruled out: a second edition of 255 nodes; an event of 3 bytes in it.
+-- the numbers of the second edition: "version byte 2", "up to 256 nodes", numbers "of two bytes", "32 bytes" and "4 bytes" of document 02, item 6. It keeps what every edition keeps.
+-- Ruled out: a second edition of 255 nodes; an event of 3 bytes in it; statements over editions that only the first one meets.
 pub edition-2 : (edition2 .version ≡ 2) × (edition2 .nodes ≡ 256) × (capacity (edition2 .width) ≡ 65536) × (edition2 .set-bytes ≡ 32) × (edition2 .event-bytes ≡ 4)
 edition-2 = (refl, refl, refl, refl, refl)
-
--- an edition of 256 nodes keeps what every edition keeps.
--- Ruled out: statements over editions that only the first one meets; an edition of 256 nodes whose records have no bit for the last of them.
-pub edition-256 : (ed : Edition) × (ed .nodes ≡ 256)
-edition-256 = (edition2, refl)

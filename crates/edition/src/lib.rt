@@ -1,5 +1,5 @@
-// The editions of the formats, and what differs between them. All else that reads or writes bytes takes an edition and asks here.
-// Request 7's bytes of a variable and of a constant belong here as well: both editions have the same so far.
+// The editions of the formats, and what differs between them: code that depends on it takes an edition and asks here.
+// Request 7's bytes of a variable and of a constant belong here as well.
 ghost use mathlib.Core.Path.{_≡_};
 ghost use Prim.Native.Nat.{_+_, _*_, _≤_};
 ghost use Rattle.semantics.specs.Bytes.{widthOf};

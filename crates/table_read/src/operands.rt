@@ -6,7 +6,7 @@ ghost use mathlib.Core.List.{List};
 ghost use Prim.Native.Nat.{ℕ, _≤_};
 ghost use lib.ListN.{length};
 ghost use Rattle.edition.specs.Editions.{editionOf};
-ghost use Rattle.semantics.specs.Editions as editions;
+ghost use Rattle.semantics.specs.Editions as papers;
 ghost use Rattle.semantics.specs.Sections.{Selector};
 ghost use Rattle.semantics.specs.TableFile.{an-assignment, a-switch, actionKind, actionOfKind};
 ghost use Rattle.plant.specs.ModeCounts.{ModesAt};
@@ -16,7 +16,7 @@ ghost use Rattle.table_read.specs.OperandForms.{fitsHere, AllFit};
 // a variable, then a number
 fn assigns(b: &[u8], variables: usize) -> bool
     requires { ⌜ variables ≤ 32 ⌝ }
-    ensures { λ r. ⌜ ((ed : editions.Edition) (cs : List Selector) → r ≡ fitsHere ed variables cs (actionOfKind an-assignment (now (b .entry)))) ⌝ }
+    ensures { λ r. ⌜ ((ed : papers.Edition) (cs : List Selector) → r ≡ fitsHere ed variables cs (actionOfKind an-assignment (now (b .entry)))) ⌝ }
 {
     if b.len() < 1 {
         return true;
@@ -30,7 +30,7 @@ fn assigns(b: &[u8], variables: usize) -> bool
 // a selector, then a mode
 fn switches(b: &[u8], selectors: usize, modes: &[usize]) -> bool
     requires { ⌜ selectors ≤ length (now modes) ⌝ }
-    ensures { λ r. ⌜ ((ed : editions.Edition) (cs : List Selector) → ModesAt (now (modes .entry)) selectors cs → (variables : ℕ) →
+    ensures { λ r. ⌜ ((ed : papers.Edition) (cs : List Selector) → ModesAt (now (modes .entry)) selectors cs → (variables : ℕ) →
         r ≡ fitsHere ed variables cs (actionOfKind a-switch (now (b .entry)))) ⌝ }
 {
     if b.len() != 2 {
@@ -42,7 +42,7 @@ fn switches(b: &[u8], selectors: usize, modes: &[usize]) -> bool
 // one operand; true where the kind is none or the operand has not its form
 fn fits(k: u8, b: &[u8], variables: usize, selectors: usize, modes: &[usize]) -> bool
     requires { ⌜ (variables ≤ 32) × (selectors ≤ length (now modes)) ⌝ }
-    ensures { λ r. ⌜ ((ed : editions.Edition) (cs : List Selector) → ModesAt (now (modes .entry)) selectors cs → r ≡ fitsHere ed variables cs (actionOfKind (actionKind k) (now (b .entry)))) ⌝ }
+    ensures { λ r. ⌜ ((ed : papers.Edition) (cs : List Selector) → ModesAt (now (modes .entry)) selectors cs → r ≡ fitsHere ed variables cs (actionOfKind (actionKind k) (now (b .entry)))) ⌝ }
 {
     match k {
         paper::actions::TEST => expression::truth_reads(b, variables),
