@@ -8,9 +8,11 @@ use super::parts;
 use super::parts::Parts;
 use edition::Edition;
 use plant::sections::PlantRead;
-use program::Program;
+use program::ENTRIES;
+use program::RANGES;
 use program::fill;
 ghost use mathlib.Core.Path.{_≡_};
+ghost use lib.ListN.{length};
 ghost use Rattle.edition.specs.Editions.{editionOf};
 ghost use Rattle.semantics.specs.Editions.{edition1};
 ghost use Rattle.semantics.specs.Calls.{readTable};
@@ -128,27 +130,21 @@ pub fn read(table: &[u8]) -> TableRead
     }
 }
 
-// an index as a run looks things up in it, with places in the whole table
-pub fn program(x: TableIndex) -> Program
-    ensures { λ r. ⌜ TablePrograms x r ⌝ }
+// an index as a run looks things up in it, with places in the whole table: its rows are put, and its ranges and rates given
+pub fn program(x: TableIndex, index: &mut [usize; ENTRIES]) -> [i32; RANGES]
+    requires { ⌜ length (now index) ≡ 2048 ⌝ }
+    ensures { λ r. ⌜ TablePrograms x (now (index .exit)) r ⌝ }
 {
-    let parts = x.parts;
     let plant = x.plant;
-    let actions = x.actions;
-    let locations = x.locations;
-    let kinds = actions.kinds;
-    let starts = actions.starts;
-    let ends = actions.ends;
-    let places = locations.places;
-    let mut index = fill::index(
+    fill::put_index(
+        index,
         plant,
-        &kinds,
-        &starts,
-        &ends,
-        parts.equations,
-        parts.actions,
+        &x.actions.kinds,
+        &x.actions.starts,
+        &x.actions.ends,
+        x.parts.equations,
+        x.parts.actions,
     );
-    fill::put_locations(&mut index, &places, parts.locations);
-    let ranges = fill::ranges(plant);
-    Program { index, ranges }
+    fill::put_locations(index, &x.locations.places, x.parts.locations);
+    fill::ranges(plant)
 }

@@ -28,13 +28,13 @@ fn lend(
     let plant = ix.plant;
     let variables = plant.variables;
     let selectors = plant.selectors;
-    let lent = table_read::call::program(ix);
-    let ranges = lent.ranges;
+    let mut index = [0usize; program::ENTRIES];
+    let ranges = table_read::call::program(ix, &mut index);
     let mut values = asked.values;
     let mut modes = asked.modes;
     runs::all(
         table,
-        &lent.index,
+        &index,
         &ranges,
         events,
         &mut values[..variables],
