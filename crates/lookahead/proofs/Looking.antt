@@ -17,7 +17,6 @@ use Rattle.semantics.proofs.Admission.{Starts, start-passed}
 use Rattle.semantics.proofs.CallsHold.{start-values}
 use Rattle.codec.proofs.Padding.{take-pad}
 use Rattle.program.specs.Lent.{Lent, lent}
-use Rattle.program.specs.declared.Program.{Program}
 use Rattle.event.specs.declared.Event.{Event}
 use Rattle.table_read.specs.TableIndex.{tableIndex}
 use Rattle.table_read.specs.Lent.{TableLent, TablePrograms}
@@ -52,11 +51,11 @@ three-steps ed {t = t} d g f a b c k1 k2 k3 =
     sym (λ i. record { refusal = 0; first = e1 i .answer; second = e2 i .answer; third = e3 i .answer })
 
 -- ---- a table that was read is lent with its start
-module _ (ed : Edition) {f : List ℕ} (small : length f < 2 ^ 64) {x : TableIndex} {start : Admitted} {r : Program} (k : TablePrograms x r) where
-  pub lending : Admitting ed f x start → Lending ed (lent f (r .index) (r .ranges)) (startIn x start .values) (startIn x start .modes)
+module _ (ed : Edition) {f : List ℕ} (small : length f < 2 ^ 64) {x : TableIndex} {start : Admitted} {is : List ℕ} {rs : List ℤ} (k : TablePrograms x is rs) where
+  pub lending : Admitting ed f x start → Lending ed (lent f is rs) (startIn x start .values) (startIn x start .modes)
   lending a = record { table = a .table; lent = k ed f (a .table) (a .is) small (a .admits .judged); fits = a .admits .fits }
 
-  pub answers-start : Admitting ed f x start → (a b c : Event) {n : Answers} → AnswersAll ed (lent f (r .index) (r .ranges)) (startIn x start .values) (startIn x start .modes) a b c n
+  pub answers-start : Admitting ed f x start → (a b c : Event) {n : Answers} → AnswersAll ed (lent f is rs) (startIn x start .values) (startIn x start .modes) a b c n
       → AnswersStart ed f x start a b c n
   answers-start q a b c w = λ t m. w t (k ed f t (q .is) small (m .judged)) (m .fits)
 

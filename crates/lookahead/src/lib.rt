@@ -75,13 +75,13 @@ fn lend(
     let plant = x.plant;
     let variables = plant.variables;
     let selectors = plant.selectors;
-    let p = table_read::call::program(x);
-    let ranges = p.ranges;
+    let mut index = [0usize; program::ENTRIES];
+    let ranges = table_read::call::program(x, &mut index);
     let mut values = start.values;
     let mut modes = start.modes;
     ahead(
         table,
-        &p.index,
+        &index,
         &ranges,
         a,
         b,

@@ -26,7 +26,7 @@ module _ (ix ps : List ℕ) (i by : ℕ) (h : i + length ps ≤ 2048) (l : lengt
       let m = length-map ps (shiftedBy by) in
       in-row 0 (map (shiftedBy by) ps) ix i k (omega arith) (omega arith) ∙ map-at (shiftedBy by) ps k b
 
--- the four rows that `index` fills, one after the other
+-- the four rows that `put_index` fills, one after the other
 module _ (p : PlantRead) (ks ss es : List ℕ) (e o : ℕ) (ix₀ : List ℕ) {ix₁ ix₂ ix₃ ix : List ℕ} (long : length ix₀ ≡ 2048)
     (modes-few : length (p .«mode_offsets») ≤ 256) (ks-few : length ks ≤ 256) (ss-few : length ss ≤ 256) (es-few : length es ≤ 256)
     (a : ix₁ ≡ sets ix₀ 0 (map (shiftedBy e) (p .«mode_offsets»))) (b : ix₂ ≡ sets ix₁ 256 ks) (c : ix₃ ≡ sets ix₂ 512 (map (shiftedBy o) ss)) (d : ix ≡ sets ix₃ 768 (map (shiftedBy o) es)) where

@@ -47,24 +47,22 @@ fn put_kinds(ix: &mut [usize; ENTRIES], from: &[u8])
 
 // All rows but that of locations: of a plant whose equations start at `equations` in the file, and of nodes with actions of these kinds whose
 // operands start and end there in a section that starts at `operands`.
-pub fn index<'a>(
+pub fn put_index<'a>(
+    ix: &mut [usize; ENTRIES],
     p: PlantRead,
     kinds: &'a [u8],
     starts: &'a [usize],
     ends: &'a [usize],
     equations: usize,
     operands: usize,
-) -> [usize; ENTRIES]
-    requires { ⌜ (length (now kinds) ≤ 256) × (length (now starts) ≤ 256) × (length (now ends) ≤ 256) ⌝ }
-    ensures { λ r. ⌜ Filled p (now (kinds .entry)) (now (starts .entry)) (now (ends .entry)) equations operands r ⌝ }
+)
+    requires { ⌜ (length (now ix) ≡ 2048) × (length (now kinds) ≤ 256) × (length (now starts) ≤ 256) × (length (now ends) ≤ 256) ⌝ }
+    ensures { λ _. ⌜ Filled p (now (kinds .entry)) (now (starts .entry)) (now (ends .entry)) equations operands (now (ix .exit)) ⌝ }
 {
-    let modes = p.mode_offsets;
-    let mut ix = [0usize; ENTRIES];
-    put_places(&mut ix, 0, &modes, equations);
-    put_kinds(&mut ix, kinds);
-    put_places(&mut ix, super::STARTS, starts, operands);
-    put_places(&mut ix, super::ENDS, ends, operands);
-    ix
+    put_places(ix, 0, &p.mode_offsets, equations);
+    put_kinds(ix, kinds);
+    put_places(ix, super::STARTS, starts, operands);
+    put_places(ix, super::ENDS, ends, operands);
 }
 
 // the row of locations, in a section that starts at `by`
@@ -91,12 +89,9 @@ fn put_row(rs: &mut [i32; RANGES], i: usize, from: &[i32])
 pub fn ranges(p: PlantRead) -> [i32; RANGES]
     ensures { λ r. ⌜ r ≡ p .lows ++ (p .highs ++ p .steady) ⌝ }
 {
-    let lows = p.lows;
-    let highs = p.highs;
-    let steady = p.steady;
     let mut rs = [0i32; RANGES];
-    put_row(&mut rs, 0, &lows);
-    put_row(&mut rs, super::HIGHS, &highs);
-    put_row(&mut rs, super::STEADY, &steady);
+    put_row(&mut rs, 0, &p.lows);
+    put_row(&mut rs, super::HIGHS, &p.highs);
+    put_row(&mut rs, super::STEADY, &p.steady);
     rs
 }

@@ -29,12 +29,6 @@ const STEADY: usize = 2 * paper::VARIABLES;
 
 pub const RANGES: usize = 3 * paper::VARIABLES;
 
-// both, as a reader hands them on
-pub struct Program {
-    pub index: [usize; ENTRIES],
-    pub ranges: [i32; RANGES],
-}
-
 // where a mode stands: i is 8 * j + m for mode m of selector j
 pub fn mode_place(ix: &[usize; ENTRIES], i: usize) -> usize
     requires { ⌜ i < 2048 ⌝ }

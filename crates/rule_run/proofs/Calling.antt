@@ -2,6 +2,7 @@
 use mathlib.Core.Path.{_≡_, refl, ap, _∙_}
 use mathlib.Core.List.{List}
 use Prim.Native.Nat.{ℕ, _^_, _≤_, _<_}
+use lib.IntN.{ℤ}
 use lib.ListN.{length, take}
 use Rattle.semantics.specs.Editions.{Edition}
 use Rattle.semantics.specs.Refusals.{refused, accepted, refusalOf, _>>=_}
@@ -12,7 +13,6 @@ use Rattle.schedules.specs.Calls.{programOf, ruleProgram, ruleRun}
 use Rattle.plant.specs.declared.sections.PlantRead.{PlantRead}
 use Rattle.plant.proofs.PlantLaws.{variables-of, selectors-of}
 use Rattle.program.specs.Lent.{lent}
-use Rattle.program.specs.declared.Program.{Program}
 use Rattle.schedule_read.specs.ScheduleFile.{ScheduleIndexed}
 use Rattle.schedule_read.specs.Lent.{SchedulePrograms}
 use Rattle.schedule_read.specs.declared.call.ScheduleIndex.{ScheduleIndex}
@@ -41,7 +41,8 @@ module _ (ed : Edition) (f : List ℕ) {ix : ScheduleIndex} (h : ScheduleIndexed
     selectors-are : ix .plant .selectors ≡ length (selectors (s .plant))
     selectors-are = ap (λ (x : PlantRead). x .selectors) (vow .plant) ∙ selectors-of _ _ _ (vow .plant-judged)
 
-    pub asked-of : {r : Program} → length f < 2 ^ 64 → SchedulePrograms ix r → Asked ed s (lent f (r .index) (r .ranges)) (ix .nodes .kinds) (ix .subtrees .ends) (take (ix .plant .variables) (asked .values)) (take (ix .plant .selectors) (asked .modes)) events d
+    pub asked-of : {is : List ℕ} {rs : List ℤ} → length f < 2 ^ 64 → SchedulePrograms ix is rs →
+        Asked ed s (lent f is rs) (ix .nodes .kinds) (ix .subtrees .ends) (take (ix .plant .variables) (asked .values)) (take (ix .plant .selectors) (asked .modes)) events d
     asked-of small p = record { lent = p ed f s h small (a .judged); tree = vow .tree; may = rw (variables-are, selectors-are) (a .may) }
 
     -- by the schedule's counts
@@ -63,7 +64,8 @@ module _ (ed : Edition) (f : List ℕ) {ix : ScheduleIndex} (h : ScheduleIndexed
     pub modes-there : ix .plant .selectors ≤ length (asked .modes)
     modes-there = rw selectors-are (take-full _ (asked .modes) (a .may .fits .modes))
 
-  pub asking-of : {r : Program} → length f < 2 ^ 64 → SchedulePrograms ix r → Admitting ed f asked events d → Asking ed (lent f (r .index) (r .ranges)) (ix .nodes .kinds) (ix .subtrees .ends) (take (ix .plant .variables) (asked .values)) (take (ix .plant .selectors) (asked .modes)) events d
+  pub asking-of : {is : List ℕ} {rs : List ℤ} → length f < 2 ^ 64 → SchedulePrograms ix is rs → Admitting ed f asked events d →
+      Asking ed (lent f is rs) (ix .nodes .kinds) (ix .subtrees .ends) (take (ix .plant .variables) (asked .values)) (take (ix .plant .selectors) (asked .modes)) events d
   asking-of small p a = record { schedule = a .schedule; asked = asked-of (a .admits) small p }
 
 -- ---- the call

@@ -37,13 +37,13 @@ fn lend(
     let kinds = nodes.kinds;
     let trees = ix.subtrees;
     let subtrees = trees.ends;
-    let lent = schedule_read::call::program(ix);
-    let ranges = lent.ranges;
+    let mut index = [0usize; program::ENTRIES];
+    let ranges = schedule_read::call::program(ix, &mut index);
     let mut values = asked.values;
     let mut modes = asked.modes;
     runs::all(
         file,
-        &lent.index,
+        &index,
         &ranges,
         &kinds,
         &subtrees,

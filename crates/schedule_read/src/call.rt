@@ -1,7 +1,7 @@
 // The call "reading a schedule": conditions 1 to 11, 34 and 12, in order.
 ghost use mathlib.Core.Path.{_≡_};
 ghost use Prim.Native.Nat.{_≤_};
-ghost use lib.ListN.{replicate};
+ghost use lib.ListN.{length, replicate};
 ghost use Rattle.semantics.specs.Editions.{edition1};
 ghost use Rattle.semantics.specs.Editions as papers;
 ghost use Rattle.edition.specs.Editions.{editionOf};
@@ -20,7 +20,8 @@ use edition::Edition;
 use edition::NODES;
 use plant::equations::both;
 use plant::sections::PlantRead;
-use program::Program;
+use program::ENTRIES;
+use program::RANGES;
 use program::fill;
 use tree_read::nodes;
 use tree_read::nodes::Nodes;
@@ -234,9 +235,10 @@ fn entries(nodes: usize) -> usize
     nodes
 }
 
-// an index as a run looks things up in it, with places in the whole file
-pub fn program(x: ScheduleIndex) -> Program
-    ensures { λ r. ⌜ SchedulePrograms x r ⌝ }
+// an index as a run looks things up in it, with places in the whole file: its rows are put, and its ranges and rates given
+pub fn program(x: ScheduleIndex, index: &mut [usize; ENTRIES]) -> [i32; RANGES]
+    requires { ⌜ length (now index) ≡ 2048 ⌝ }
+    ensures { λ r. ⌜ SchedulePrograms x (now (index .exit)) r ⌝ }
 {
     let parts = x.parts;
     let plant = x.plant;
@@ -246,7 +248,8 @@ pub fn program(x: ScheduleIndex) -> Program
     let ends = nodes.ends;
     let m = entries(nodes.count);
     let acts = actions::kinds(&kinds, m);
-    let index = fill::index(
+    fill::put_index(
+        index,
         plant,
         &acts[..m],
         &starts[..m],
@@ -254,6 +257,5 @@ pub fn program(x: ScheduleIndex) -> Program
         parts.equations_from,
         parts.schedule_from,
     );
-    let ranges = fill::ranges(plant);
-    Program { index, ranges }
+    fill::ranges(plant)
 }

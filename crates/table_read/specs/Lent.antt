@@ -3,6 +3,7 @@ use mathlib.Core.Path.{_≡_}
 use mathlib.Core.List.{List}
 use mathlib.Core.Option.{some}
 use Prim.Native.Nat.{ℕ, _^_, _≤_, _<_}
+use lib.IntN.{ℤ}
 use lib.ListN.{length, getD}
 use Rattle.semantics.specs.Editions.{Edition}
 use Rattle.semantics.specs.Refusals.{accepted}
@@ -10,7 +11,6 @@ use Rattle.semantics.specs.Run.{Action}
 use Rattle.semantics.specs.TableFile.{locationLimit}
 use Rattle.semantics.specs.Tables.{Table, actionAt, entriesAt, judgeTable}
 use Rattle.program.specs.Lent.{Lent, lent, PlantLent, NodeLent}
-use Rattle.program.specs.declared.Program.{Program}
 use Rattle.table_read.specs.declared.call.TableIndex.{TableIndex}
 use Rattle.table_read.specs.Promised.{LocationPromised}
 use Rattle.table_read.specs.TableIndex.{tableIndex}
@@ -31,6 +31,6 @@ pub record TableLent (ed : Edition) (t : Table) (l : Lent) : Type 0 where
   pub locations : LocationsLent ed t l
   pub some-location : 1 ≤ length (t .locations)
 
--- where x is the index of an accepted table, of a length that a slice can have, r lends it together with the table's bytes
-abbrev pub TablePrograms : TableIndex → Program → Type 0
-TablePrograms x r = (ed : Edition) (f : List ℕ) (t : Table) → x ≡ tableIndex ed f → length f < 2 ^ 64 → judgeTable ed f ≡ accepted t → TableLent ed t (lent f (r .index) (r .ranges))
+-- where x is the index of an accepted table, of a length that a slice can have, ix and rs lend it together with the table's bytes
+abbrev pub TablePrograms : TableIndex → List ℕ → List ℤ → Type 0
+TablePrograms x ix rs = (ed : Edition) (f : List ℕ) (t : Table) → x ≡ tableIndex ed f → length f < 2 ^ 64 → judgeTable ed f ≡ accepted t → TableLent ed t (lent f ix rs)

@@ -8,9 +8,11 @@ use super::parts;
 use super::parts::Parts;
 use edition::Edition;
 use plant::sections::PlantRead;
-use program::Program;
+use program::ENTRIES;
+use program::RANGES;
 use program::fill;
 ghost use mathlib.Core.Path.{_≡_};
+ghost use lib.ListN.{length};
 ghost use Rattle.edition.specs.Editions.{editionOf};
 ghost use Rattle.semantics.specs.Editions.{edition1};
 ghost use Rattle.semantics.specs.Calls.{readTable};
@@ -125,23 +127,21 @@ pub fn read(table: &[u8]) -> TableRead
     }
 }
 
-// an index as a run looks things up in it, with places in the whole table
-pub fn program(x: TableIndex) -> Program
-    ensures { λ r. ⌜ TablePrograms x r ⌝ }
+// an index as a run looks things up in it, with places in the whole table: its rows are put, and its ranges and rates given
+pub fn program(x: TableIndex, index: &mut [usize; ENTRIES]) -> [i32; RANGES]
+    requires { ⌜ length (now index) ≡ 2048 ⌝ }
+    ensures { λ r. ⌜ TablePrograms x (now (index .exit)) r ⌝ }
 {
-    let kinds = x.actions.kinds;
-    let starts = x.actions.starts;
-    let ends = x.actions.ends;
-    let places = x.locations.places;
-    let mut index = fill::index(
-        x.plant,
-        &kinds,
-        &starts,
-        &ends,
+    let plant = x.plant;
+    fill::put_index(
+        index,
+        plant,
+        &x.actions.kinds,
+        &x.actions.starts,
+        &x.actions.ends,
         x.parts.equations,
         x.parts.actions,
     );
-    fill::put_locations(&mut index, &places, x.parts.locations);
-    let ranges = fill::ranges(x.plant);
-    Program { index, ranges }
+    fill::put_locations(index, &x.locations.places, x.parts.locations);
+    fill::ranges(plant)
 }

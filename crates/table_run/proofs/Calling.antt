@@ -2,6 +2,7 @@
 use mathlib.Core.Path.{_≡_, refl, ap, _∙_}
 use mathlib.Core.List.{List}
 use Prim.Native.Nat.{ℕ, _^_, _≤_, _<_}
+use lib.IntN.{ℤ}
 use lib.ListN.{length, take}
 use Rattle.semantics.specs.Editions.{Edition}
 use Rattle.semantics.specs.Refusals.{refused, accepted, _>>=_}
@@ -11,7 +12,6 @@ use Rattle.semantics.specs.Calls.{judgeAdmission, report, programOfTable, table
 use Rattle.plant.specs.declared.sections.PlantRead.{PlantRead}
 use Rattle.plant.proofs.PlantLaws.{variables-of, selectors-of}
 use Rattle.program.specs.Lent.{lent}
-use Rattle.program.specs.declared.Program.{Program}
 use Rattle.table_read.specs.TableIndex.{tableIndex}
 use Rattle.table_read.specs.Lent.{TablePrograms}
 use Rattle.table_read.specs.declared.call.TableIndex.{TableIndex}
@@ -37,7 +37,8 @@ module _ (ed : Edition) (f : List ℕ) {ix : TableIndex} (h : ix ≡ tableIndex 
     selectors-are : ix .plant .selectors ≡ length (selectors (t .plant))
     selectors-are = ap (λ (x : PlantRead). x .selectors) (plant-read ed f h (a .judged)) ∙ selectors-of _ _ _ (opened ed f (a .judged) .plant)
 
-    pub asked-of : {r : Program} → length f < 2 ^ 64 → TablePrograms ix r → Asked ed t (lent f (r .index) (r .ranges)) (take (ix .plant .variables) (asked .values)) (take (ix .plant .selectors) (asked .modes)) events d
+    pub asked-of : {is : List ℕ} {rs : List ℤ} → length f < 2 ^ 64 → TablePrograms ix is rs →
+        Asked ed t (lent f is rs) (take (ix .plant .variables) (asked .values)) (take (ix .plant .selectors) (asked .modes)) events d
     asked-of small p = record { lent = p ed f t h small (a .judged); may = rw (variables-are, selectors-are) (a .may) }
 
     -- by the table's counts
@@ -52,7 +53,8 @@ module _ (ed : Edition) (f : List ℕ) {ix : TableIndex} (h : ix ≡ tableIndex 
     pub modes-there : ix .plant .selectors ≤ length (asked .modes)
     modes-there = rw selectors-are (take-full _ (asked .modes) (a .may .fits .modes))
 
-  pub asking-of : {r : Program} → length f < 2 ^ 64 → TablePrograms ix r → Admitting ed f asked events d → Asking ed (lent f (r .index) (r .ranges)) (take (ix .plant .variables) (asked .values)) (take (ix .plant .selectors) (asked .modes)) events d
+  pub asking-of : {is : List ℕ} {rs : List ℤ} → length f < 2 ^ 64 → TablePrograms ix is rs → Admitting ed f asked events d →
+      Asking ed (lent f is rs) (take (ix .plant .variables) (asked .values)) (take (ix .plant .selectors) (asked .modes)) events d
   asking-of small p a = record { table = a .table; asked = asked-of (a .admits) small p }
 
 -- ---- the call

@@ -25,15 +25,16 @@ fn lend(
     requires { ⌜ (ix ≡ tableIndex (editionOf ed) (now table)) × Admitting (editionOf ed) (now table) asked (now events) (now records) ⌝ }
     ensures { λ r. ⌜ Carried (editionOf ed) (now (table .entry)) asked (now (events .entry)) (now (records .entry)) r (now (records .exit)) ⌝ }
 {
-    let variables = ix.plant.variables;
-    let selectors = ix.plant.selectors;
-    let lent = table_read::call::program(ix);
-    let ranges = lent.ranges;
+    let plant = ix.plant;
+    let variables = plant.variables;
+    let selectors = plant.selectors;
+    let mut index = [0usize; program::ENTRIES];
+    let ranges = table_read::call::program(ix, &mut index);
     let mut values = asked.values;
     let mut modes = asked.modes;
     runs::all(
         table,
-        &lent.index,
+        &index,
         &ranges,
         events,
         &mut values[..variables],

@@ -8,29 +8,28 @@ use Rattle.lookahead.proofs.lend.Statement.{statement}
 use Rattle.lookahead.proofs.lend.Tie as tie
 
 array-borrow-prefix-values : tie.Need-array-borrow-prefix-values
-array-borrow-prefix-values c = let s = c .before .before .before .before .before .before .before .before .before in s .pre .values
+array-borrow-prefix-values c = c .before .before .before .before .before .before .before .before .pre .values
 
 slice-aggregate-ahead : tie.Need-slice-aggregate-ahead
-slice-aggregate-ahead c = let s = c .before .before .before .before .before .before .before .before .before .before in sym (length-take-le _ _ (s .pre .values))
+slice-aggregate-ahead c = sym (length-take-le _ _ (c .before .before .before .before .before .before .before .before .before .pre .values))
 
 array-borrow-prefix-modes : tie.Need-array-borrow-prefix-modes
-array-borrow-prefix-modes c = let s = c .before .before .before .before .before .before .before .before .before .before in s .pre .modes
+array-borrow-prefix-modes c = c .before .before .before .before .before .before .before .before .before .pre .modes
 
 slice-aggregate-ahead-2 : tie.Need-slice-aggregate-ahead-2
-slice-aggregate-ahead-2 c = let s = c .before .before .before .before .before .before .before .before .before .before .before in sym (length-take-le _ _ (s .pre .modes))
+slice-aggregate-ahead-2 c = sym (length-take-le _ _ (c .before .before .before .before .before .before .before .before .before .before .pre .modes))
 
 ahead-requires : tie.Need-ahead-requires
 ahead-requires c κs =
-    let p = c .before .before .before .before .before .before .before .before in
-    let s = p .before .before .before in
-    lending _ (omega (arith, s .good)) (p .program .ensures) (s .pre)
+    let c6 = c .before .before .before .before .before .before in
+    let c10 = c6 .before .before .before .before in
+    lending _ (omega (arith, c10 .good)) (c6 .program .ensures) (c10 .pre)
 
 returns : tie.Need-returns
 returns c =
-    let w = c .before .before in
-    let p = w .before .before .before .before .before .before .before .before .before in
-    let s = p .before .before .before in
-    answers-start _ (omega (arith, s .good)) (p .program .ensures) (s .pre) (s .args .a) (s .args .b) (s .args .c) (w .ahead .ensures)
+    let c9 = c .before .before .before .before .before .before .before .before .before in
+    let c13 = c9 .before .before .before .before in
+    answers-start _ (omega (arith, c13 .good)) (c9 .program .ensures) (c13 .pre) (c13 .args .a) (c13 .args .b) (c13 .args .c) (c .before .before .ahead .ensures)
 
 pub lend-spec : {M : Type 1} → statement M
 lend-spec =
