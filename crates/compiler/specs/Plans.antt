@@ -2,7 +2,7 @@
 use mathlib.Core.Path.{_≡_}
 use mathlib.Core.List.{List}
 use Prim.Native.Nat.{ℕ, _*_, _≤_, _<_}
-use lib.ListN.{length}
+use lib.ListN.{length, getD}
 use Rattle.semantics.specs.Editions.{Edition}
 use Rattle.semantics.specs.Refusals.{accepted}
 use Rattle.semantics.specs.TableFile.{locationLimit}
@@ -12,11 +12,17 @@ use Rattle.schedules.specs.Compiling.{testsOf, tableOf, judgeTableOf}
 use Rattle.schedules.specs.Sizes.{sizeOf}
 use Rattle.schedule_read.specs.declared.call.ScheduleIndex.{ScheduleIndex}
 use Rattle.schedule_read.specs.Promised.{Promised}
+use Rattle.schedule_read.specs.ScheduleFile.{ScheduleIndexed}
 use Rattle.sizes.specs.declared.Measured.{Measured as Sizes}
 use Rattle.numbering.specs.Meeting.{testsIn}
 use Rattle.table_write.specs.ActionTable.{actionsTo, Operands, Measured}
 use Rattle.table_write.specs.LocationTable.{Counts}
 use Rattle.compiler.specs.declared.call.Plan.{Plan}
+
+-- ix is the index of the file f, which is of bytes
+pub record IndexOf (ed : Edition) (f : List ℕ) (ix : ScheduleIndex) : Type 0 where
+  pub indexed : ScheduleIndexed ed f ix
+  pub bytes : (i : ℕ) → getD f i 0 < 256
 
 -- f is the file of a schedule that is not refused; ix is its index, and m has the numbers of its locations and entries
 pub record Found (ed : Edition) (f : List ℕ) (ix : ScheduleIndex) (m : Sizes) : Type 0 where
@@ -34,17 +40,17 @@ pub record Ready (ed : Edition) (ix : ScheduleIndex) (m : Sizes) : Type 0 where
   pub file : List ℕ
   pub found : Found ed file ix m
 
--- the table of a schedule that the file was read as: its parts counted, and its length
-pub record Planned (ed : Edition) (f : List ℕ) (p : Plan) : Type 0 where
+-- the table of a schedule that the file with this index was read as: its parts counted, and its length
+pub record Planned (ed : Edition) (f : List ℕ) (ix : ScheduleIndex) (p : Plan) : Type 0 where
   pub schedule : Schedule
-  pub promise : Promised ed f (p .index) schedule
+  pub promise : Promised ed f ix schedule
   pub judged : judgeTableOf ed f ≡ accepted (tableOf ed schedule)
   pub short : length f < 65536
   pub full : length (p .acts) ≡ 256
   pub tests : testsIn (p .acts) ≡ testsOf (schedule .nodes)
-  pub operands : Operands ed (schedule .sections .schedule) (p .acts) (p .index .nodes .starts) (p .index .nodes .ends) (p .index .nodes .count)
-  pub actions : actionsTo (schedule .sections .schedule) (p .acts) (p .index .nodes .starts) (p .index .nodes .ends) (p .index .nodes .count) ≡ actionsOf (schedule .nodes)
-  pub list : Measured ed (p .acts) (p .index .nodes .starts) (p .index .nodes .ends) (p .index .nodes .count) (p .list .count) (p .list .at)
-  pub rows : Counts ed (p .index .nodes .kinds) (p .index .subtrees .ends) (p .acts) (p .rows .count) (p .rows .at) (schedule .root)
+  pub operands : Operands ed (schedule .sections .schedule) (p .acts) (ix .nodes .starts) (ix .nodes .ends) (ix .nodes .count)
+  pub actions : actionsTo (schedule .sections .schedule) (p .acts) (ix .nodes .starts) (ix .nodes .ends) (ix .nodes .count) ≡ actionsOf (schedule .nodes)
+  pub list : Measured ed (p .acts) (ix .nodes .starts) (ix .nodes .ends) (ix .nodes .count) (p .list .count) (p .list .at)
+  pub rows : Counts ed (ix .nodes .kinds) (ix .subtrees .ends) (p .acts) (p .rows .count) (p .rows .at) (schedule .root)
   pub fits : p .length < 4294967296
   pub whole : p .length ≡ length (tableOf ed schedule)
