@@ -132,16 +132,23 @@ pub fn program(x: TableIndex, index: &mut [usize; ENTRIES]) -> [i32; RANGES]
     requires { ⌜ length (now index) ≡ 2048 ⌝ }
     ensures { λ r. ⌜ TablePrograms x (now (index .exit)) r ⌝ }
 {
+    let parts = x.parts;
     let plant = x.plant;
+    let actions = x.actions;
+    let locations = x.locations;
+    let kinds = actions.kinds;
+    let starts = actions.starts;
+    let ends = actions.ends;
+    let places = locations.places;
     fill::put_index(
         index,
         plant,
-        &x.actions.kinds,
-        &x.actions.starts,
-        &x.actions.ends,
-        x.parts.equations,
-        x.parts.actions,
+        &kinds,
+        &starts,
+        &ends,
+        parts.equations,
+        parts.actions,
     );
-    fill::put_locations(index, &x.locations.places, x.parts.locations);
+    fill::put_locations(index, &places, parts.locations);
     fill::ranges(plant)
 }
