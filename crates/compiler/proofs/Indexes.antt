@@ -1,21 +1,13 @@
--- The index of a file; of one that was not refused, its schedule.
+-- The index of a file that was not refused, and its schedule.
 use mathlib.Core.Path.{_≡_}
 use mathlib.Core.List.{List}
 use Prim.Native.Nat.{ℕ}
-use native.Mathlib.Omega.{arith}
-use mir.Syntax.{w8}
-use mir.Val.{Fits}
-use lib.ListN.{getD}
 use Rattle.semantics.specs.Editions.{Edition}
 use Rattle.schedules.specs.Files.{Schedule}
 use Rattle.moves.specs.Contracts.{Planted}
 use Rattle.schedule_read.specs.ScheduleFile.{ScheduleIndexed}
 use Rattle.schedule_read.specs.declared.call.ScheduleIndex.{ScheduleIndex}
 use Rattle.schedule_read.proofs.Promises.{Promised, index-schedule, promised}
-use Rattle.compiler.specs.Plans.{IndexOf}
-
-pub index-of : {ed : Edition} {f : List ℕ} {ix : ScheduleIndex} → ScheduleIndexed ed f ix → ((i : ℕ) → Fits w8 (getD f i 0)) → IndexOf ed f ix
-index-of h b = record { indexed = h; bytes = λ i. omega (arith, b i) }
 
 pub record Indexed (ed : Edition) (f : List ℕ) (ix : ScheduleIndex) : Type 0 where
   pub schedule : Schedule

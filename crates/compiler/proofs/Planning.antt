@@ -53,9 +53,9 @@ pub told-refused : {j : Judged (List ℕ)} {n a b : ℕ} → (n ≡ 0 → ⊥) �
 unfolding compiledInto refusalOf
 told-refused z e p = rw e (record { number = p .0; length = p .1; numbered = λ y. z (ap refusalOf y) })
 
-pub told-planned : (ed : Edition) {f : List ℕ} {ix : ScheduleIndex} {p : Plan} → p .refusal ≡ 0 → Planned ed f ix p → Told (judgeTableOf ed f) (p .refusal) (p .length)
+pub told-planned : (ed : Edition) {f : List ℕ} {ix : ScheduleIndex} {p : Plan} → Planned ed f ix p → Told (judgeTableOf ed f) 0 (p .length)
 unfolding compiledInto
-told-planned ed z g = rw (g .judged) (record { number = z; length = g .whole; numbered = λ y. let z : _≡_ {A = ℕ} 0 1 = cc in omega arith })
+told-planned ed g = rw (g .judged) (record { number = refl; length = g .whole; numbered = λ y. let z : _≡_ {A = ℕ} 0 1 = cc in omega arith })
 
 module _ {j : Judged (List ℕ)} {a b : ℕ} (t : Told j a b) where
   pub told-refuses : (a ≡ 0 → ⊥) → j ≡ refused a

@@ -2,7 +2,7 @@
 use mathlib.Core.Path.{_≡_}
 use mathlib.Core.List.{List}
 use Prim.Native.Nat.{ℕ, _*_, _≤_, _<_}
-use lib.ListN.{length, getD}
+use lib.ListN.{length}
 use Rattle.semantics.specs.Editions.{Edition}
 use Rattle.semantics.specs.Refusals.{accepted}
 use Rattle.semantics.specs.TableFile.{locationLimit}
@@ -12,17 +12,11 @@ use Rattle.schedules.specs.Compiling.{testsOf, tableOf, judgeTableOf}
 use Rattle.schedules.specs.Sizes.{sizeOf}
 use Rattle.schedule_read.specs.declared.call.ScheduleIndex.{ScheduleIndex}
 use Rattle.schedule_read.specs.Promised.{Promised}
-use Rattle.schedule_read.specs.ScheduleFile.{ScheduleIndexed}
 use Rattle.sizes.specs.declared.Measured.{Measured as Sizes}
 use Rattle.numbering.specs.Meeting.{testsIn}
 use Rattle.table_write.specs.ActionTable.{actionsTo, Operands, Measured}
 use Rattle.table_write.specs.LocationTable.{Counts}
 use Rattle.compiler.specs.declared.call.Plan.{Plan}
-
--- ix is the index of the file f, which is of bytes
-pub record IndexOf (ed : Edition) (f : List ℕ) (ix : ScheduleIndex) : Type 0 where
-  pub indexed : ScheduleIndexed ed f ix
-  pub bytes : (i : ℕ) → getD f i 0 < 256
 
 -- f is the file of a schedule that is not refused; ix is its index, and m has the numbers of its locations and entries
 pub record Found (ed : Edition) (f : List ℕ) (ix : ScheduleIndex) (m : Sizes) : Type 0 where

@@ -22,7 +22,7 @@ ghost use Rattle.schedules.specs.Calls as calls;
 ghost use Rattle.schedules.specs.TableSizes.{rowsLength, lengthOfParts};
 ghost use Rattle.table_write.specs.Pieces.{Put};
 ghost use Rattle.compiler.specs.Answers.{Told, returned};
-ghost use Rattle.compiler.specs.Plans.{IndexOf, Found, Ready, Planned};
+ghost use Rattle.compiler.specs.Plans.{Found, Ready, Planned};
 
 // 0, the length of the table and the comparisons of numbering; or the first number that applies, and 0
 pub struct Compiled {
@@ -37,10 +37,9 @@ pub struct TableLength {
     pub length: usize,
 }
 
-// What is known of a table before it is written, beside the file's index: 1 to 11, 34, 12, 13 and its length; the kinds of the nodes' actions,
+// What is known of a table before it is written, beside the file's index: its length, the kinds of the nodes' actions,
 // how many actions and locations there are and the bytes of their rows.
 struct Plan {
-    refusal: u8,
     length: usize,
     acts: [u8; NODES],
     list: Spot,
@@ -54,19 +53,6 @@ fn refused(n: u8) -> Compiled
         refusal: n,
         length: 0,
         comparisons: 0,
-    }
-}
-
-// no table
-fn no_plan(n: u8) -> Plan
-    ensures { λ r. ⌜ (r .refusal ≡ n) × (r .length ≡ 0) ⌝ }
-{
-    Plan {
-        refusal: n,
-        length: 0,
-        acts: [0; NODES],
-        list: Spot { count: 0, at: 0 },
-        rows: Spot { count: 0, at: 0 },
     }
 }
 
@@ -96,14 +82,13 @@ fn table_length(q: Parts, list: usize, rows: usize, ed: Edition) -> usize
 // what the table is made of
 fn made(x: ScheduleIndex, m: Measured, ed: Edition) -> Plan
     requires { ⌜ Ready (editionOf ed) x m ⌝ }
-    ensures { λ r. ⌜ (r .refusal ≡ 0) × (((f : List ℕ) → Found (editionOf ed) f x m → Planned (editionOf ed) f x r)) ⌝ }
+    ensures { λ r. ⌜ ((f : List ℕ) → Found (editionOf ed) f x m → Planned (editionOf ed) f x r) ⌝ }
 {
     let count = x.nodes.count;
     let acts = schedule_read::actions::kinds(&x.nodes.kinds, count);
     let list = actions::measured(&acts, &x.nodes.starts, &x.nodes.ends, count, ed);
     let size = row_bytes(m.locations, m.entries, ed);
     Plan {
-        refusal: 0,
         length: table_length(x.parts, list.at, size, ed),
         acts: acts,
         list: list,
@@ -112,23 +97,6 @@ fn made(x: ScheduleIndex, m: Measured, ed: Edition) -> Plan
             at: size,
         },
     }
-}
-
-// 1 to 11, 34, 12 and 13, and what the table is made of
-fn planned(x: ScheduleIndex, ed: Edition) -> Plan
-    requires { ⌜ ((f : List ℕ) × IndexOf (editionOf ed) f x) ⌝ }
-    ensures told { λ r. ⌜ ((f : List ℕ) → IndexOf (editionOf ed) f x → Told (judgeTableOf (editionOf ed) f) (r .refusal) (r .length)) ⌝ }
-    ensures planned { λ r. ⌜ ((f : List ℕ) → IndexOf (editionOf ed) f x → r .refusal ≡ 0 → Planned (editionOf ed) f x r) ⌝ }
-{
-    let refusal = x.refusal;
-    if refusal != 0 {
-        return no_plan(refusal);
-    }
-    let m = sizes::of(&x.nodes.kinds, &x.subtrees.ends);
-    if m.over {
-        return no_plan(13);
-    }
-    made(x, m, ed)
 }
 
 // The table that was planned, at the front of a buffer that has room for it; its length, and the comparisons of numbering.
@@ -179,11 +147,15 @@ pub fn compile(file: &[u8], table: &mut [u8]) -> Compiled
     ensures { λ r. ⌜ returned (r .refusal) (r .length) (r .comparisons) (now (table .exit)) ≡ calls.compile edition1 (now (file .entry)) (now (table .entry)) ⌝ }
 {
     let x = schedule_read::call::index(file, Edition::First);
-    let p = planned(x, Edition::First);
-    let refusal = p.refusal;
+    let refusal = x.refusal;
     if refusal != 0 {
         return refused(refusal);
     }
+    let m = sizes::of(&x.nodes.kinds, &x.subtrees.ends);
+    if m.over {
+        return refused(13);
+    }
+    let p = made(x, m, Edition::First);
     if table.len() < p.length {
         return refused(14);
     }
@@ -201,9 +173,22 @@ pub fn measure(file: &[u8]) -> TableLength
     ensures { λ r. ⌜ Told (judgeTableOf edition1 (now (file .entry))) (r .refusal) (r .length) ⌝ }
 {
     let x = schedule_read::call::index(file, Edition::First);
-    let p = planned(x, Edition::First);
+    if x.refusal != 0 {
+        return TableLength {
+            refusal: x.refusal,
+            length: 0,
+        };
+    }
+    let m = sizes::of(&x.nodes.kinds, &x.subtrees.ends);
+    if m.over {
+        return TableLength {
+            refusal: 13,
+            length: 0,
+        };
+    }
+    let p = made(x, m, Edition::First);
     TableLength {
-        refusal: p.refusal,
+        refusal: 0,
         length: p.length,
     }
 }
