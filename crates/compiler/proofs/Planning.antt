@@ -53,9 +53,9 @@ pub told-refused : {j : Judged (List ℕ)} {n a b : ℕ} → (n ≡ 0 → ⊥) �
 unfolding compiledInto refusalOf
 told-refused z e p = rw e (record { number = p .0; length = p .1; numbered = λ y. z (ap refusalOf y) })
 
-pub told-planned : (ed : Edition) {f : List ℕ} {ix : ScheduleIndex} {p : Plan} → Planned ed f ix p → Told (judgeTableOf ed f) 0 (p .length)
+pub told-planned : (ed : Edition) {f : List ℕ} {p : Plan} → p .refusal ≡ 0 → Planned ed f p → Told (judgeTableOf ed f) (p .refusal) (p .length)
 unfolding compiledInto
-told-planned ed g = rw (g .judged) (record { number = refl; length = g .whole; numbered = λ y. let z : _≡_ {A = ℕ} 0 1 = cc in omega arith })
+told-planned ed z g = rw (g .judged) (record { number = z; length = g .whole; numbered = λ y. let z : _≡_ {A = ℕ} 0 1 = cc in omega arith })
 
 module _ {j : Judged (List ℕ)} {a b : ℕ} (t : Told j a b) where
   pub told-refuses : (a ≡ 0 → ⊥) → j ≡ refused a
@@ -183,11 +183,11 @@ module _ {ed : Edition} {f : List ℕ} {ix : ScheduleIndex} {m : Sizes} (g : Fou
       let e = ap (λ (k : ℕ). k * (widthOf (ed .width) + 4)) (g .entries) in
       omega (arith, table-of-length ed t tree-read few, slice-length (g .promise .variables), slice-length (g .promise .equations), b, w, a, out-length (ed .width) (length l), g .locations, e)
 
-pub plan-made : {ed : Edition} {f : List ℕ} {ix : ScheduleIndex} {m : Sizes} (p : Plan) (g : Found ed f ix m) → ActionKinds (ix .nodes .kinds) (ix .nodes .count) (p .acts) →
-    Measured ed (p .acts) (ix .nodes .starts) (ix .nodes .ends) (ix .nodes .count) (p .list .count) (p .list .at) →
+pub plan-made : {ed : Edition} {f : List ℕ} {m : Sizes} (p : Plan) (g : Found ed f (p .index) m) → ActionKinds (p .index .nodes .kinds) (p .index .nodes .count) (p .acts) →
+    Measured ed (p .acts) (p .index .nodes .starts) (p .index .nodes .ends) (p .index .nodes .count) (p .list .count) (p .list .at) →
     p .rows .count ≡ m .locations → p .rows .at ≡ rowsLength ed (m .locations) (m .entries) →
-    (p .length ≡ lengthIn ed (ix .parts) (p .list .at) (p .rows .at)) × (p .length < 4294967296) → Planned ed f ix p
-plan-made {ed = ed} {ix = ix} p g e l n b k = record {
+    (p .length ≡ lengthIn ed (p .index .parts) (p .list .at) (p .rows .at)) × (p .length < 4294967296) → Planned ed f p
+plan-made {ed = ed} p g e l n b k = record {
   schedule = g .schedule;
   promise = g .promise;
   judged = g .judged;
@@ -199,5 +199,5 @@ plan-made {ed = ed} {ix = ix} p g e l n b k = record {
   list = l;
   rows = plan-rows g e n b;
   fits = k .1;
-  whole = k .0 ∙ ap (lengthIn ed (ix .parts) (p .list .at)) b ∙ plan-long g e l;
+  whole = k .0 ∙ ap (lengthIn ed (p .index .parts) (p .list .at)) b ∙ plan-long g e l;
 }

@@ -16,7 +16,6 @@ use Rattle.schedules.specs.Comparisons.{comparisons}
 use Rattle.schedules.specs.Compiling.{scheduleLocations, scheduleComparisons, tableOf, judgeTableOf}
 use Rattle.schedules.specs.Calls.{fileComparisons}
 use Rattle.numbering.specs.Located.{ComparisonsAre}
-use Rattle.schedule_read.specs.declared.call.ScheduleIndex.{ScheduleIndex}
 use Rattle.schedule_read.specs.Promised.{Slice}
 use Rattle.table_write.specs.ActionTable.{actionsTo, Operands}
 use Rattle.table_write.specs.LocationTable.{sectionOf, Counted, LocationsPut}
@@ -36,21 +35,21 @@ between-length g = ap length (g .is) ∙ slice-length g
 regroup : (h a b c d : List ℕ) → ((h ++ (a ++ (b ++ []))) ++ c) ++ d ≡ h ++ (a ++ (b ++ (c ++ d)))
 regroup h a b c d = simp append-assoc
 
-module _ {ed : Edition} {f : List ℕ} {ix : ScheduleIndex} {p : Plan} (g : Planned ed f ix p) where
+module _ {ed : Edition} {f : List ℕ} {p : Plan} (g : Planned ed f p) where
   abbrev vs : List ℕ
-  vs = between f (ix .parts .«variables_from») (ix .parts .«variables_to»)
+  vs = between f (p .index .parts .«variables_from») (p .index .parts .«variables_to»)
 
   abbrev es : List ℕ
-  es = between f (ix .parts .«equations_from») (ix .parts .«equations_to»)
+  es = between f (p .index .parts .«equations_from») (p .index .parts .«equations_to»)
 
   abbrev sch : List ℕ
-  sch = between f (ix .parts .«schedule_from») (ix .parts .«schedule_to»)
+  sch = between f (p .index .parts .«schedule_from») (p .index .parts .«schedule_to»)
 
   abbrev front : List ℕ
   front = tableHead ed (p .length) ++ copiedThen vs es []
 
   abbrev acts : List NodeAction
-  acts = actionsTo sch (p .acts) (ix .nodes .starts) (ix .nodes .ends) (ix .nodes .count)
+  acts = actionsTo sch (p .acts) (p .index .nodes .starts) (p .index .nodes .ends) (p .index .nodes .count)
 
   -- what its parts are asked for
   pub front-fits : (length vs < 65536) × (length es < 65536) × (p .length < 4294967296)
@@ -59,7 +58,7 @@ module _ {ed : Edition} {f : List ℕ} {ix : ScheduleIndex} {p : Plan} (g : Plan
       let e = g .promise .equations in
       (omega (arith, between-length v, v .inside .inside, g .short), omega (arith, between-length e, e .inside .inside, g .short), g .fits)
 
-  pub operands : Operands ed sch (p .acts) (ix .nodes .starts) (ix .nodes .ends) (ix .nodes .count)
+  pub operands : Operands ed sch (p .acts) (p .index .nodes .starts) (p .index .nodes .ends) (p .index .nodes .count)
   operands = rw (g .promise .schedule .is) (g .operands)
 
   -- where they stand
@@ -99,15 +98,15 @@ module _ {ed : Edition} {f : List ℕ} {ix : ScheduleIndex} {p : Plan} (g : Plan
       )
 
   -- where the locations stand
-  pub counted : {d : List ℕ} {i : ℕ} → i + (p .rows .at + 6) ≤ length d → Counted ed (ix .nodes .kinds) (ix .subtrees .ends) (p .acts) (p .rows .count) (p .rows .at) d i
+  pub counted : {d : List ℕ} {i : ℕ} → i + (p .rows .at + 6) ≤ length d → Counted ed (p .index .nodes .kinds) (p .index .subtrees .ends) (p .acts) (p .rows .count) (p .rows .at) d i
   counted h = record { tree = g .schedule .root; has = g .rows; room = omega (arith, rows-long) }
 
   pub table-written : {d d₁ d₂ d′ : List ℕ} {i j r : ℕ} → Put d 0 front d₁ i →
       Put d₁ i (actionSection (writeActions ed acts)) d₂ j →
-      LocationsPut ed (ix .nodes .kinds) (ix .subtrees .ends) (p .acts) (p .rows .count) (p .rows .at) d₂ j d′ r →
+      LocationsPut ed (p .index .nodes .kinds) (p .index .subtrees .ends) (p .acts) (p .rows .count) (p .rows .at) d₂ j d′ r →
       (t : List ℕ) → judgeTableOf ed f ≡ accepted t → Put d 0 t d′ r
   table-written a b x t h = put-as (table-is ∙ accepted-is (sym (g .judged) ∙ h)) (put-then (put-then a b (omega arith)) (x .of (g .schedule .root) (g .rows)) (omega arith))
 
-  pub comparisons-made : {n : ℕ} → ComparisonsAre (ix .nodes .kinds) (ix .subtrees .ends) (p .acts) n → n ≡ fileComparisons (judgeFile ed f)
+  pub comparisons-made : {n : ℕ} → ComparisonsAre (p .index .nodes .kinds) (p .index .subtrees .ends) (p .acts) n → n ≡ fileComparisons (judgeFile ed f)
   unfolding fileComparisons scheduleComparisons
   comparisons-made x = x .is (g .schedule .root) (g .rows .lies) ∙ ap (λ (tests : ℕ → Bool). comparisons tests (g .schedule .root)) (g .tests) ∙ sym (ap fileComparisons (g .promise .judged))

@@ -34,17 +34,17 @@ pub record Ready (ed : Edition) (ix : ScheduleIndex) (m : Sizes) : Type 0 where
   pub file : List ℕ
   pub found : Found ed file ix m
 
--- the table of a schedule that the file with this index was read as: its parts counted, and its length
-pub record Planned (ed : Edition) (f : List ℕ) (ix : ScheduleIndex) (p : Plan) : Type 0 where
+-- the table of a schedule that the file was read as: its parts counted, and its length
+pub record Planned (ed : Edition) (f : List ℕ) (p : Plan) : Type 0 where
   pub schedule : Schedule
-  pub promise : Promised ed f ix schedule
+  pub promise : Promised ed f (p .index) schedule
   pub judged : judgeTableOf ed f ≡ accepted (tableOf ed schedule)
   pub short : length f < 65536
   pub full : length (p .acts) ≡ 256
   pub tests : testsIn (p .acts) ≡ testsOf (schedule .nodes)
-  pub operands : Operands ed (schedule .sections .schedule) (p .acts) (ix .nodes .starts) (ix .nodes .ends) (ix .nodes .count)
-  pub actions : actionsTo (schedule .sections .schedule) (p .acts) (ix .nodes .starts) (ix .nodes .ends) (ix .nodes .count) ≡ actionsOf (schedule .nodes)
-  pub list : Measured ed (p .acts) (ix .nodes .starts) (ix .nodes .ends) (ix .nodes .count) (p .list .count) (p .list .at)
-  pub rows : Counts ed (ix .nodes .kinds) (ix .subtrees .ends) (p .acts) (p .rows .count) (p .rows .at) (schedule .root)
+  pub operands : Operands ed (schedule .sections .schedule) (p .acts) (p .index .nodes .starts) (p .index .nodes .ends) (p .index .nodes .count)
+  pub actions : actionsTo (schedule .sections .schedule) (p .acts) (p .index .nodes .starts) (p .index .nodes .ends) (p .index .nodes .count) ≡ actionsOf (schedule .nodes)
+  pub list : Measured ed (p .acts) (p .index .nodes .starts) (p .index .nodes .ends) (p .index .nodes .count) (p .list .count) (p .list .at)
+  pub rows : Counts ed (p .index .nodes .kinds) (p .index .subtrees .ends) (p .acts) (p .rows .count) (p .rows .at) (schedule .root)
   pub fits : p .length < 4294967296
   pub whole : p .length ≡ length (tableOf ed schedule)

@@ -37,10 +37,12 @@ pub struct TableLength {
     pub length: usize,
 }
 
-// What is known of a table before it is written, beside the file's index: its length, the kinds of the nodes' actions,
+// What is known of a table before it is written: 1 to 11, 34, 12, 13 and its length; where the file's sections and nodes stand, the kinds of the nodes' actions,
 // how many actions and locations there are and the bytes of their rows.
 struct Plan {
+    refusal: u8,
     length: usize,
+    index: ScheduleIndex,
     acts: [u8; NODES],
     list: Spot,
     rows: Spot,
@@ -53,6 +55,20 @@ fn refused(n: u8) -> Compiled
         refusal: n,
         length: 0,
         comparisons: 0,
+    }
+}
+
+// no table
+fn no_plan(n: u8, x: ScheduleIndex) -> Plan
+    ensures { λ r. ⌜ (r .refusal ≡ n) × (r .length ≡ 0) ⌝ }
+{
+    Plan {
+        refusal: n,
+        length: 0,
+        index: x,
+        acts: [0; NODES],
+        list: Spot { count: 0, at: 0 },
+        rows: Spot { count: 0, at: 0 },
     }
 }
 
@@ -82,14 +98,16 @@ fn table_length(q: Parts, list: usize, rows: usize, ed: Edition) -> usize
 // what the table is made of
 fn made(x: ScheduleIndex, m: Measured, ed: Edition) -> Plan
     requires { ⌜ Ready (editionOf ed) x m ⌝ }
-    ensures { λ r. ⌜ ((f : List ℕ) → Found (editionOf ed) f x m → Planned (editionOf ed) f x r) ⌝ }
+    ensures { λ r. ⌜ (r .refusal ≡ 0) × (((f : List ℕ) → Found (editionOf ed) f x m → Planned (editionOf ed) f r)) ⌝ }
 {
     let count = x.nodes.count;
     let acts = schedule_read::actions::kinds(&x.nodes.kinds, count);
     let list = actions::measured(&acts, &x.nodes.starts, &x.nodes.ends, count, ed);
     let size = row_bytes(m.locations, m.entries, ed);
     Plan {
+        refusal: 0,
         length: table_length(x.parts, list.at, size, ed),
+        index: x,
         acts: acts,
         list: list,
         rows: Spot {
@@ -99,19 +117,30 @@ fn made(x: ScheduleIndex, m: Measured, ed: Edition) -> Plan
     }
 }
 
+// 1 to 11, 34, 12 and 13, and what the table is made of
+fn planned(file: &[u8], ed: Edition) -> Plan
+    ensures told { λ r. ⌜ Told (judgeTableOf (editionOf ed) (now (file .entry))) (r .refusal) (r .length) ⌝ }
+    ensures planned { λ r. ⌜ (r .refusal ≡ 0 → Planned (editionOf ed) (now (file .entry)) r) ⌝ }
+{
+    let x = schedule_read::call::index(file, ed);
+    let refusal = x.refusal;
+    if refusal != 0 {
+        return no_plan(refusal, x);
+    }
+    let m = sizes::of(&x.nodes.kinds, &x.subtrees.ends);
+    if m.over {
+        return no_plan(13, x);
+    }
+    made(x, m, ed)
+}
+
 // The table that was planned, at the front of a buffer that has room for it; its length, and the comparisons of numbering.
-fn write(
-    file: &[u8],
-    table: &mut [u8],
-    x: ScheduleIndex,
-    p: Plan,
-    comparisons: &mut u64,
-    ed: Edition,
-) -> usize
-    requires { ⌜ Planned (editionOf ed) (now file) x p × (p .length ≤ length (now table)) ⌝ }
+fn write(file: &[u8], table: &mut [u8], p: Plan, comparisons: &mut u64, ed: Edition) -> usize
+    requires { ⌜ Planned (editionOf ed) (now file) p × (p .length ≤ length (now table)) ⌝ }
     ensures written { λ r. ⌜ ((t : List ℕ) → judgeTableOf (editionOf ed) (now (file .entry)) ≡ accepted t → Put (now (table .entry)) 0 t (now (table .exit)) r) ⌝ }
     ensures comparisons { λ _. ⌜ now (comparisons .exit) ≡ calls.fileComparisons (judgeFile (editionOf ed) (now (file .entry))) ⌝ }
 {
+    let x = p.index;
     let parts = x.parts;
     let a = parts.variables_from;
     let b = parts.variables_to;
@@ -146,21 +175,16 @@ fn write(
 pub fn compile(file: &[u8], table: &mut [u8]) -> Compiled
     ensures { λ r. ⌜ returned (r .refusal) (r .length) (r .comparisons) (now (table .exit)) ≡ calls.compile edition1 (now (file .entry)) (now (table .entry)) ⌝ }
 {
-    let x = schedule_read::call::index(file, Edition::First);
-    let refusal = x.refusal;
+    let p = planned(file, Edition::First);
+    let refusal = p.refusal;
     if refusal != 0 {
         return refused(refusal);
     }
-    let m = sizes::of(&x.nodes.kinds, &x.subtrees.ends);
-    if m.over {
-        return refused(13);
-    }
-    let p = made(x, m, Edition::First);
     if table.len() < p.length {
         return refused(14);
     }
     let mut made = 0;
-    let end = write(file, table, x, p, &mut made, Edition::First);
+    let end = write(file, table, p, &mut made, Edition::First);
     Compiled {
         refusal: 0,
         length: end,
@@ -172,23 +196,9 @@ pub fn compile(file: &[u8], table: &mut [u8]) -> Compiled
 pub fn measure(file: &[u8]) -> TableLength
     ensures { λ r. ⌜ Told (judgeTableOf edition1 (now (file .entry))) (r .refusal) (r .length) ⌝ }
 {
-    let x = schedule_read::call::index(file, Edition::First);
-    if x.refusal != 0 {
-        return TableLength {
-            refusal: x.refusal,
-            length: 0,
-        };
-    }
-    let m = sizes::of(&x.nodes.kinds, &x.subtrees.ends);
-    if m.over {
-        return TableLength {
-            refusal: 13,
-            length: 0,
-        };
-    }
-    let p = made(x, m, Edition::First);
+    let p = planned(file, Edition::First);
     TableLength {
-        refusal: 0,
+        refusal: p.refusal,
         length: p.length,
     }
 }

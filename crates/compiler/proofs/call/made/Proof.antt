@@ -30,8 +30,11 @@ table-length-requires c κs =
 returns : tie.Need-returns
 returns c =
     let c3 = c .before .before .before in
-    let c10 = c3 .before .before .before .before .before .before .before in
-    λ f g. plan-made _ g (c10 .kinds .ensures) (c3 .measured .ensures) refl (c .before .before .row-bytes .ensures .0) (c .table-length .ensures)
+    let c10 = c3 .before .before .before .before .before .before .before in (
+      refl,
+      λ f g. plan-made _ g (c10 .kinds .ensures) (c3 .measured .ensures) refl (c .before .before .row-bytes .ensures .0)
+          (c .table-length .ensures),
+    )
 
 pub made-spec : {M : Type 1} → statement M
 made-spec =

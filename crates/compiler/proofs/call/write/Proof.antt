@@ -8,44 +8,40 @@ use Rattle.compiler.proofs.call.write.Tie as tie
 
 put-front-requires : tie.Need-put-front-requires
 put-front-requires c κs =
-    let c14 = c .before .before .before .before .before .before .before .before .before .before .before .before .before .before in
-    let c15 = c14 .before in
-    let g = c15 .pre .0 in
-    (front-fits g, omega (arith, planned-long g, front-planned g, c15 .pre .1))
+    let h = c .before .before .before .before .before .before .before .before in
+    let s = h .before .before .before .before .before .before .before .before in
+    let g = s .pre .0 in
+    (front-fits g, omega (arith, planned-long g, front-planned g, s .pre .1))
 
 put-actions-requires : tie.Need-put-actions-requires
 put-actions-requires c κs =
-    let c7 = c .before .before .before .before .before .before .before in
-    let c21 = c7 .before .before .before .before .before .before .before .before .before .before .before .before .before .before in
-    let c23 = c21 .before .before in
-    let g = c23 .pre .0 in
-    let p = c7 .put-front in
-    ((operands g, g .list), omega (arith, planned-long g, front-planned g, list-long g, c23 .pre .1, p .ensures .ends, p .kept .1 .1 .0))
+    let h = c .before .before .before .before .before .before .before .before .before .before .before .before in
+    let s = h .before .before .before .before .before .before .before .before .before .before .before .before in
+    let g = s .pre .0 in
+    let p = c .before .before .before .before .before .before .before .put-front in
+    ((operands g, g .list), omega (arith, planned-long g, front-planned g, list-long g, s .pre .1, p .ensures .ends, p .kept .1 .1 .0))
 
 slice-aggregate-put-locations : tie.Need-slice-aggregate-put-locations
 slice-aggregate-put-locations c =
-    let c14 = c .before .before .before .before .before .before .before .before .before .before .before .before .before .before in
-    let c27 = c14 .before .before .before .before .before .before .before .before .before .before .before .before .before in
-    sym (c27 .pre .0 .promise .nodes .kinds-full)
+    let h = c .before .before .before .before .before .before .before .before .before .before .before .before .before .before in
+    let c28 = h .before .before .before .before .before .before .before .before .before .before .before .before .before .before in
+    sym (c28 .pre .0 .promise .nodes .kinds-full)
 
 put-locations-requires : tie.Need-put-locations-requires
 put-locations-requires c κs =
-    let c7 = c .before .before .before .before .before .before .before in
-    let c15 = c7 .before .before .before .before .before .before .before .before in
-    let c29 = c15 .before .before .before .before .before .before .before .before .before .before .before .before .before .before in
-    let c31 = c29 .before .before in
-    let g = c31 .pre .0 in
+    let c15 = c .before .before .before .before .before .before .before .before .before .before .before .before .before .before .before in
+    let s = c15 .before .before .before .before .before .before .before .before .before .before .before .before .before .before .before .before .before in
+    let g = s .pre .0 in
     let p = c15 .put-front in
-    let q = c7 .put-actions in
-    (counted g (omega (arith, planned-long g, front-planned g, list-long g, c31 .pre .1, p .ensures .ends, p .kept .1 .1 .0, q .ensures .ends, q .kept .1 .1 .1 .1 .1 .1 .0)), omega (arith, g .full))
+    let q = c .before .before .before .before .before .before .before .put-actions in
+    (counted g (omega (arith, planned-long g, front-planned g, list-long g, s .pre .1, p .ensures .ends, p .kept .1 .1 .0, q .ensures .ends, q .kept .1 .1 .1 .1 .1 .1 .0)), omega (arith, g .full))
 
 returns : tie.Need-returns
 returns c =
     let c10 = c .before .before .before .before .before .before .before .before .before .before in
     let c18 = c10 .before .before .before .before .before .before .before .before in
-    let c32 = c18 .before .before .before .before .before .before .before .before .before .before .before .before .before .before in
-    let c34 = c32 .before .before in
-    let g = c34 .pre .0 in
+    let c35 = c18 .before .before .before .before .before .before .before .before .before .before .before .before .before .before .before .before .before in
+    let g = c35 .pre .0 in
     let l = c .before .before .put-locations .ensures in
     (table-written g (c18 .put-front .ensures) (c10 .put-actions .ensures) (l .0), comparisons-made g (l .1))
 
