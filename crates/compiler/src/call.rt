@@ -127,7 +127,11 @@ fn planned(file: &[u8], ed: Edition) -> Plan
     if refusal != 0 {
         return no_plan(refusal, x);
     }
-    let m = sizes::of(&x.nodes.kinds, &x.subtrees.ends);
+    let nodes = x.nodes;
+    let subtrees = x.subtrees;
+    let kinds = nodes.kinds;
+    let subs = subtrees.ends;
+    let m = sizes::of(&kinds, &subs);
     if m.over {
         return no_plan(13, x);
     }

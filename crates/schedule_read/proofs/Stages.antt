@@ -248,8 +248,8 @@ module _ (ed : Edition) (s : List ℕ) (b : Bool) (ends : List ℕ) where
   pub tree-there : b ≡ true → TreeIn ed s (treeTold b ends) → TreeIn ed s (record { ok = true; ends = ends })
   tree-there e = subst (λ b. TreeIn ed s (treeTold b ends)) e
 
-module _ {ed : Edition} {vs es s : List ℕ} {x : Held} {ks bs ends subs : List ℕ} where
-  pub unfit : {n : ℕ} → x .refusal ≡ n → (n ≡ 0 → ⊥) → ((p : Parts) → SectionsIndexed ed p vs es s (noSchedule ed n)) → SectionsLaid ed vs es s x ks bs ends subs
+module _ {ed : Edition} {vs es s : List ℕ} {plant : PlantRead} {x : Held} {ks bs ends subs : List ℕ} where
+  pub unfit : {n : ℕ} → x .refusal ≡ n → (n ≡ 0 → ⊥) → ((p : Parts) → SectionsIndexed ed p vs es s (noSchedule ed n)) → SectionsLaid ed vs es s plant x ks bs ends subs
   unfit e z h = record { refused = λ y p. subst (λ m. SectionsIndexed ed p vs es s (noSchedule ed m)) (sym e) (h p); found = λ y. absurd (z (sym e ∙ y)) }
 
 pub same-index : {q : Parts} {p : PlantRead} {t u : Subtrees} {n m : Nodes} → t ≡ u → n ≡ m →

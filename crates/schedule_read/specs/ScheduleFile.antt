@@ -15,6 +15,7 @@ use Rattle.schedules.specs.Calls.{ScheduleRead}
 use Rattle.plant.specs.ModeCounts.{ModesAt}
 use Rattle.plant.specs.Driven.{DrivenAt}
 use Rattle.plant.specs.PlantRead.{refusedPlant, plantOf}
+use Rattle.plant.specs.declared.sections.PlantRead.{PlantRead}
 use Rattle.schedule_read.specs.FileParts.{noParts, partsOf}
 use Rattle.tree_read.specs.Index.{notNodes, nodesAs, nodesOf}
 use Rattle.tree_read.specs.Ends.{noTree, treeTold, TreeAt}
@@ -54,13 +55,13 @@ pub record ScheduleIndexed (ed : Edition) (f : List ℕ) (ix : ScheduleIndex) : 
 pub record SectionsIndexed (ed : Edition) (p : Parts) (vs es s : List ℕ) (ix : ScheduleIndex) : Type 0 where
   pub at : IndexAt ed p (judgeFileSections ed (record { variables = vs; equations = es; schedule = s })) ix
 
--- the same of sections that stand anywhere, by what the code found: the number, or the plant, the count and the arrays
-pub record SectionsLaid (ed : Edition) (vs es s : List ℕ) (x : Held) (kinds starts ends subs : List ℕ) : Type 0 where
+-- the same of sections that stand anywhere, by the plant and what the code found: the number, or the count and the arrays
+pub record SectionsLaid (ed : Edition) (vs es s : List ℕ) (plant : PlantRead) (x : Held) (kinds starts ends subs : List ℕ) : Type 0 where
   pub refused : (x .refusal ≡ 0 → ⊥) → (p : Parts) → SectionsIndexed ed p vs es s (noSchedule ed (x .refusal))
   pub found : x .refusal ≡ 0 → (p : Parts) → SectionsIndexed ed p vs es s (record {
     refusal = 0;
     parts = p;
-    plant = x .plant;
+    plant = plant;
     subtrees = treeTold true subs;
     nodes = nodesAs (x .count) kinds starts ends;
   })

@@ -1,11 +1,13 @@
 // The call "reading a schedule": conditions 1 to 11, 34 and 12, in order.
 ghost use mathlib.Core.Path.{_≡_};
-ghost use Prim.Native.Nat.{_≤_};
+ghost use mathlib.Core.List.{List};
+ghost use Prim.Native.Nat.{ℕ, _≤_};
 ghost use lib.ListN.{length, replicate};
 ghost use Rattle.semantics.specs.Editions.{edition1};
 ghost use Rattle.semantics.specs.Editions as papers;
 ghost use Rattle.edition.specs.Editions.{editionOf};
 ghost use Rattle.schedules.specs.Calls.{readSchedule};
+ghost use Rattle.plant.specs.PlantRead.{plantOf};
 ghost use Rattle.schedule_read.specs.Indexed.{Indexed};
 ghost use Rattle.schedule_read.specs.ScheduleFile.{numbers, noSchedule, SectionsLaid, ScheduleIndexed, Planted, NodesJudged};
 ghost use Rattle.tree_read.specs.Index.{nodesAs};
@@ -102,27 +104,25 @@ fn checked(
     if read { 0 } else { 12 }
 }
 
-// 4 to 11, 34 and 12, or 0: what the sections are found to hold but for the arrays
+// 4 to 11, 34 and 12, or 0; how many nodes there are
 struct Held {
     refusal: u8,
-    plant: PlantRead,
     count: usize,
 }
 
 fn unfit(n: u8) -> Held
     ensures { λ r. ⌜ r .refusal ≡ n ⌝ }
 {
-    let plant = plant::sections::refused(0);
     Held {
         refusal: n,
-        plant: plant,
         count: 0,
     }
 }
 
-// 4 to 11, 34 and 12, of three sections; the nodes and where their subtrees end are laid in arrays that hold zeros
+// 4 to 11, 34 and 12, of the plant p, of the section with its equations and of the one with the nodes; these and where their subtrees end are laid in
+// arrays that hold zeros
 fn sections(
-    vs: &[u8],
+    p: PlantRead,
     es: &[u8],
     s: &[u8],
     kinds: &mut [u8; NODES],
@@ -131,10 +131,11 @@ fn sections(
     subs: &mut [usize; NODES],
     ed: Edition,
 ) -> Held
-    requires { ⌜ (now kinds ≡ replicate 256 0) × (now starts ≡ replicate 256 0) × (now ends ≡ replicate 256 0) × (now subs ≡ replicate 256 0) ⌝ }
-    ensures { λ r. ⌜ SectionsLaid (editionOf ed) (now (vs .entry)) (now (es .entry)) (now (s .entry)) r (now (kinds .exit)) (now (starts .exit)) (now (ends .exit)) (now (subs .exit)) ⌝ }
+    requires { ⌜ ((vs : List ℕ) × (p ≡ plantOf (editionOf ed) vs (now es))) × (now kinds ≡ replicate 256 0) × (now starts ≡ replicate 256 0) × (now ends ≡ replicate 256 0)
+        × (now subs ≡ replicate 256 0) ⌝ }
+    ensures { λ r. ⌜ ((vs : List ℕ) → p ≡ plantOf (editionOf ed) vs (now (es .entry)) → SectionsLaid (editionOf ed) vs (now (es .entry)) (now (s .entry)) p r
+        (now (kinds .exit)) (now (starts .exit)) (now (ends .exit)) (now (subs .exit))) ⌝ }
 {
-    let p = plant::sections::read(vs, es);
     let first = p.refusal;
     if first != 0 {
         return unfit(first);
@@ -164,7 +165,6 @@ fn sections(
     );
     Held {
         refusal: last,
-        plant: p,
         count: n,
     }
 }
@@ -187,8 +187,9 @@ pub fn index(file: &[u8], ed: Edition) -> ScheduleIndex
     let mut starts = [0usize; NODES];
     let mut ends = [0usize; NODES];
     let mut subs = [0usize; NODES];
+    let plant = plant::sections::read(&file[a..b], &file[c..d]);
     let x = sections(
-        &file[a..b],
+        plant,
         &file[c..d],
         &file[e..f],
         &mut kinds,
@@ -201,7 +202,6 @@ pub fn index(file: &[u8], ed: Edition) -> ScheduleIndex
     if second != 0 {
         return refused(second);
     }
-    let plant = x.plant;
     ScheduleIndex {
         refusal: 0,
         parts: p,

@@ -23,75 +23,68 @@ use Rattle.schedule_read.proofs.call.sections.Tie as tie
 
 returns : tie.Need-returns
 returns c =
-    let a = c .before .before .before .before .before .before .args in
-    let ed = editionOf (a .ed) in
-    unfit (c .unfit .ensures) (c .before .if1 .taken) (λ p. by-plant ed (a .vs .now) (a .es .now) (a .s .now) (c .before .before .read .ensures ed) p (c .before .if1 .taken) refl)
+    let a = c .before .before .before .before .args in
+    λ vs h. unfit (c .unfit .ensures) (c .before .if1 .taken) (λ q. by-plant (editionOf (a .ed)) vs (a .es .now) (a .s .now) h q (c .before .if1 .taken) refl)
 
-read-requires-2 : tie.Need-read-requires-2
-read-requires-2 c κs =
-    let c8 = c .before .before .before .before .before .before .before .before in
-    (c8 .pre .0, c8 .pre .1, c8 .pre .2)
+read-requires : tie.Need-read-requires
+read-requires c κs =
+    let c6 = c .before .before .before .before .before .before in
+    (c6 .pre .1, c6 .pre .2, c6 .pre .3)
 
 returns-2 : tie.Need-returns-2
 returns-2 c =
     let c6 = c .before .before .before .before .before .before in
-    let c7 = c6 .before in
-    let c11 = c7 .before .before .before .before in
-    let a = c11 .args in
-    let ed = editionOf (a .ed) in
-    unfit (c .unfit2 .ensures) (λ z. omega arith)
-    (λ p. by-nodes ed (a .vs .now) (a .es .now) (a .s .now) (c7 .read .ensures ed) (c6 .if1 .left) p (c .before .before .read2 .ensures .refused (c .before .if2 .taken)) refl)
+    let c9 = c6 .before .before .before in
+    let a = c9 .args in
+    λ vs h. unfit (c .unfit2 .ensures) (λ z. omega arith)
+    (λ q. by-nodes (editionOf (a .ed)) vs (a .es .now) (a .s .now) h (c6 .if1 .left) q (c .before .before .read .ensures .refused (c .before .if2 .taken)) refl)
 
-read-requires-3 : tie.Need-read-requires-3
-read-requires-3 c κs =
+read-requires-2 : tie.Need-read-requires-2
+read-requires-2 c κs =
     let c3 = c .before .before .before in
     let c4 = c3 .before in
-    let c13 = c4 .before .before .before .before .before .before .before .before .before in
-    ((_, (_, c4 .read2 .ensures .found (c3 .if2 .left))), c13 .pre .3)
+    let c11 = c4 .before .before .before .before .before .before .before in
+    ((_, (_, c4 .read .ensures .found (c3 .if2 .left))), c11 .pre .4)
 
 returns-3 : tie.Need-returns-3
 returns-3 c =
     let c6 = c .before .before .before .before .before .before in
     let c7 = c6 .before in
     let c11 = c7 .before .before .before .before in
-    let c12 = c11 .before in
-    let c16 = c12 .before .before .before .before in
-    let a = c16 .args in
+    let c14 = c11 .before .before .before in
+    let a = c14 .args in
     let ed = editionOf (a .ed) in
-    let n = c7 .read2 .ensures .found (c6 .if2 .left) in
-    let w = tree-missing ed _ (c .before .before .read3 .result) _ (not-true _ (c .before .if3 .taken)) (c .before .before .read3 .ensures ed (_, n)) in
-    unfit (c .unfit3 .ensures) (λ z. omega arith)
-    (λ p. by-tree ed (a .vs .now) (a .es .now) (a .s .now) (c12 .read .ensures ed) (c11 .if1 .left) n refl w p refl refl)
+    let n = c7 .read .ensures .found (c6 .if2 .left) in
+    let w = tree-missing ed _ (c .before .before .read2 .result) _ (not-true _ (c .before .if3 .taken)) (c .before .before .read2 .ensures ed (_, n)) in
+    λ vs h. unfit (c .unfit3 .ensures) (λ z. omega arith) (λ q. by-tree ed vs (a .es .now) (a .s .now) h (c11 .if1 .left) n refl w q refl refl)
 
 slice-aggregate-checked : tie.Need-slice-aggregate-checked
 slice-aggregate-checked c =
     let c16 = c .before .before .before .before .before .before .before .before .before .before .before .before .before .before .before .before in
-    let c17 = c16 .before in
-    let c21 = c17 .before .before .before .before in
-    let a = c21 .args in
-    let ed = editionOf (a .ed) in
-    sym (counts-full ed (a .vs .now) (a .es .now) (a .s .now) (c17 .read .ensures ed) (c16 .if1 .left))
+    let c19 = c16 .before .before .before in
+    let a = c19 .args in
+    let p = c19 .pre .0 in
+    sym (counts-full (editionOf (a .ed)) (p .0) (a .es .now) (a .s .now) (p .1) (c16 .if1 .left))
 
 slice-aggregate-checked-2 : tie.Need-slice-aggregate-checked-2
 slice-aggregate-checked-2 c =
     let c17 = c .before .before .before .before .before .before .before .before .before .before .before .before .before .before .before .before .before in
-    let c18 = c17 .before in
-    let c22 = c18 .before .before .before .before in
-    let a = c22 .args in
-    let ed = editionOf (a .ed) in
-    sym (marks-full ed (a .vs .now) (a .es .now) (a .s .now) (c18 .read .ensures ed) (c17 .if1 .left))
+    let c20 = c17 .before .before .before in
+    let a = c20 .args in
+    let p = c20 .pre .0 in
+    sym (marks-full (editionOf (a .ed)) (p .0) (a .es .now) (a .s .now) (p .1) (c17 .if1 .left))
 
 checked-requires : tie.Need-checked-requires
 checked-requires c κs =
     let c12 = c .before .before .before .before .before .before .before .before .before .before .before .before in
     let c13 = c12 .before in
     let c17 = c13 .before .before .before .before in
-    let c18 = c17 .before in
-    let c22 = c18 .before .before .before .before in
-    let a = c22 .args in
+    let c20 = c17 .before .before .before in
+    let a = c20 .args in
+    let p = c20 .pre .0 in
     let ed = editionOf (a .ed) in (
-      index-of ed (a .vs .now) (a .es .now) (a .s .now) (c18 .read .ensures ed) (c17 .if1 .left) (c13 .read2 .ensures .found (c12 .if2 .left)) refl,
-      planted ed (a .vs .now) (a .es .now) (a .s .now) (c18 .read .ensures ed) (c17 .if1 .left),
+      index-of ed (p .0) (a .es .now) (a .s .now) (p .1) (c17 .if1 .left) (c13 .read .ensures .found (c12 .if2 .left)) refl,
+      planted ed (p .0) (a .es .now) (a .s .now) (p .1) (c17 .if1 .left),
     )
 
 returns-4 : tie.Need-returns-4
@@ -101,19 +94,18 @@ returns-4 c =
     let c13 = c9 .before .before .before .before in
     let c14 = c13 .before in
     let c18 = c14 .before .before .before .before in
-    let c19 = c18 .before in
-    let c23 = c19 .before .before .before .before in
-    let a = c23 .args in
+    let c21 = c18 .before .before .before in
+    let a = c21 .args in
     let ed = editionOf (a .ed) in
-    let n = c14 .read2 .ensures .found (c13 .if2 .left) in
-    let w = tree-there ed _ (c9 .read3 .result) _ (not-false _ (c8 .if3 .left)) (c9 .read3 .ensures ed (_, n)) in
-    record {
-      refused = λ z p. by-last ed (a .vs .now) (a .es .now) (a .s .now) (c19 .read .ensures ed) (c18 .if1 .left) n refl w refl (c .checked .ensures ed) p z refl;
-      found = λ z p. all-passed ed (a .vs .now) (a .es .now) (a .s .now) (c19 .read .ensures ed) (c18 .if1 .left) n refl w refl (c .checked .ensures ed) p z;
+    let n = c14 .read .ensures .found (c13 .if2 .left) in
+    let w = tree-there ed _ (c9 .read2 .result) _ (not-false _ (c8 .if3 .left)) (c9 .read2 .ensures ed (_, n)) in
+    λ vs h. record {
+      refused = λ z q. by-last ed vs (a .es .now) (a .s .now) h (c18 .if1 .left) n refl w refl (c .checked .ensures ed) q z refl;
+      found = λ z q. all-passed ed vs (a .es .now) (a .s .now) h (c18 .if1 .left) n refl w refl (c .checked .ensures ed) q z;
     }
 
 pub sections-spec : {M : Type 1} → statement M
 sections-spec =
     tie.close
-    (tie.spec (λ c κs. search needs) (λ c κs. search needs) returns read-requires-2 (λ c κs. search needs) returns-2 read-requires-3
-    (λ c κs. search needs) returns-3 slice-aggregate-checked slice-aggregate-checked-2 checked-requires returns-4)
+    (tie.spec (λ c κs. search needs) returns read-requires (λ c κs. search needs) returns-2 read-requires-2 (λ c κs. search needs) returns-3
+    slice-aggregate-checked slice-aggregate-checked-2 checked-requires returns-4)
