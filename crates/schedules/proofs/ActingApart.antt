@@ -160,7 +160,7 @@ module _ (a b : ℕ) where
       ⊎_elim (λ k. two-now (listed-node t (among-mem a (nodes_of t) (and_left x y k))) (listed-some ts (among-mem b (nodes_of_all ts) (and_right x y k)))) (λ k. two-later (turn-there ts k))
       (or_cases (x && y) (stands_before a b ts) h)
 
-  turn-here : {ts : Forest} {t u : Tree} {i j : ℕ} → i < j → NthChild t ts i → NthChild u ts j → NodeIn a t → NodeIn b u → stands_before a b ts ≡ true
+  turn-here : {t u : Tree} {ts : Forest} {i j : ℕ} → i < j → NthChild t ts i → NthChild u ts j → NodeIn a t → NodeIn b u → stands_before a b ts ≡ true
   unfolding stands_before
   turn-here l nth_here nth_here h k = absurd (omega arith)
   turn-here {t = t} {u = u} l (nth_here {ts = ts}) (nth_later d) h k =
@@ -182,7 +182,7 @@ module _ (a b : ℕ) where
       above : j ≤ i → j < i
       above l = by_cases (ltb j i) (λ e. ltb-true j i e) (λ e. (let q = ltb-false j i e in absurd (f (omega arith))))
 
-  child-told : {ts : Forest} {t : Tree} {i : ℕ} → NthChild t ts i → different_children a b t ≡ true → any_different a b ts ≡ true
+  child-told : {t : Tree} {ts : Forest} {i : ℕ} → NthChild t ts i → different_children a b t ≡ true → any_different a b ts ≡ true
   unfolding any_different
   child-told (nth_here {ts = ts}) h = or_left (any_different a b ts) h
   child-told (nth_later {u = u} c) h = or_right (different_children a b u) (child-told c h)

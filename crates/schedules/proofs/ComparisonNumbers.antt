@@ -66,6 +66,8 @@ module _ {A : Type 0} (eq? : (x y : A) → Dec (x ≡ y)) (all : List A) (d : Di
   compared-by-numbers : (met l : List A) (ks : List ℕ) → meet eq? met l ≡ all → Each (λ x k. get_elem? all k ≡ some x) l ks → comparisons_from eq? met l ≡ by_numbers (length met) ks
   unfolding comparisons_from by_numbers
   compared-by-numbers met [] [] e each_nil = refl
+  compared-by-numbers met [] (k ∷ ks) e f = elim f [ ]
+  compared-by-numbers met (x ∷ l) [] e f = elim f [ ]
   compared-by-numbers met (x ∷ l) (k ∷ ks) e (each_cons h i) = go (λ m f. compared-by-numbers m l ks f i) (number_of eq? x met) refl
     where
       go : ((m : List A) → meet eq? m l ≡ all → comparisons_from eq? m l ≡ by_numbers (length m) ks) → (o : Option ℕ) → number_of eq? x met ≡ o →

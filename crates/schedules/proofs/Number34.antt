@@ -14,7 +14,7 @@ use Rattle.semantics.specs.Refusals.{Judged, refused, accepted, ◌>>=◌, refus
 use Rattle.semantics.specs.Plant.{Plant}
 use Rattle.semantics.specs.Run.{no_counts}
 use Rattle.semantics.specs.Calls.{judge_run, report, table_program, table_run_of, read_table_of}
-use Rattle.semantics.specs.Conditions.{Condition, First, here, further, Clear, one_clear, Firsts, refuses, accepts, table_conditions, run_conditions, table_run_conditions}
+use Rattle.semantics.specs.Conditions.{none_left, Condition, First, here, further, Clear, one_clear, Firsts, refuses, accepts, table_conditions, run_conditions, table_run_conditions}
 use Rattle.semantics.specs.Tables.{judge_table}
 use Rattle.semantics.specs.Proper.{Driven}
 use Rattle.semantics.proofs.Facts.{true-not-false, by_cases, all-mem, at_mem}
@@ -40,6 +40,7 @@ one-first (further e f) (here g k) = true-not-false (sym g ∙ e)
 one-first (further e f) (further g h) = one-first f h
 
 none_first : {n : ℕ} {l : List Condition} → Clear l → First n l → ⊥
+none_first none_left f = elim f [ ]
 none_first (one_clear e k) (here f h) = true-not-false (sym f ∙ e)
 none_first (one_clear e k) (further f g) = none_first k g
 

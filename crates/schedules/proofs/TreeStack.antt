@@ -147,7 +147,7 @@ mutual
 
 what-follows : {ts : Forest} {n : ℕ} (ms ns : List Node) → WrittenAll ts n (ms ++ ns) → (os : Forest) × WrittenAll os (n + length ms) ns
 what-follows {ts} {n} [] ns w = (ts, subst (λ i. WrittenAll ts i ns) (omega arith) w)
-what-follows {n = n} (x ∷ ms) ns w = let a = opened w in let b = what-follows ms ns a.written in (b.0, subst (λ i. WrittenAll b.0 i ns) (omega arith) b.1)
+what-follows {ts = ts} {n = n} (x ∷ ms) ns w = let a = opened w in let b = what-follows {ts = a.all} ms ns a.written in (b.0, subst (λ i. WrittenAll b.0 i ns) (omega arith) b.1)
 
 -- the first k trees of a stack are those of the nodes ms
 pub record TopTrees (k : ℕ) (ts : Forest) (n : ℕ) (ms ns : List Node) : Type 0 where

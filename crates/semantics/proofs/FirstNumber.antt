@@ -7,7 +7,7 @@ use Prim.Native.Nat.{ℕ}
 use borrow.Author.Tests.{eq-eqb}
 use lib.Dec.{eqb}
 use lib.ListN.{length, drop}
-use Rattle.semantics.specs.Bytes.{every, is_some}
+use Rattle.semantics.specs.Bytes.{all_nil, every, is_some}
 use Rattle.semantics.specs.Editions.{Edition}
 use Rattle.semantics.specs.Refusals.{Judged, refused, accepted, ◌>>=◌, ◌>>◌, ensure, need, with_one_number, refusal_of}
 use Rattle.semantics.specs.Sections.{Variable, variables_in, equations_in}
@@ -51,7 +51,8 @@ by-need n (some a) {b} e f = after e (f a refl)
 pub lacks : (n : ℕ) (l : List Condition) → every (λ (c : Condition). not (eqb c.refusal n)) l ≡ true → All (λ (c : Condition). c.refusal ≡ n → ⊥) l
 lacks n l h = all_map (λ c k e. true-not-false (sym k ∙ ap not (eq-eqb c.refusal n e))) (every-all (λ (c : Condition). not (eqb c.refusal n)) l h)
 
-pub first-not : {l : List Condition} {m n : ℕ} → All (λ (c : Condition). c.refusal ≡ n → ⊥) l → First m l → m ≡ n → ⊥
+pub first-not : {n m : ℕ} {l : List Condition} → All (λ (c : Condition). c.refusal ≡ n → ⊥) l → First m l → m ≡ n → ⊥
+first-not all_nil f z = elim f [ ]
 first-not (all_cons h k) (here e f) z = h (f ∙ z)
 first-not (all_cons h k) (further e f) z = first-not k f z
 

@@ -185,7 +185,7 @@ flat-there {A} f (x ∷ l) n i = go (Memᴰ.append_cases (f x) i) (flat-there f 
     go (inl i) h = (x, first refl, i)
     go (inr i) h = let p = h i in (p.0, later p.1, p.2)
 
-flat-here : {A : Type 0} (f : A → List ℕ) {l : List A} {x : A} {n : ℕ} → Mem x l → Mem n (f x) → Mem n (flat_map f l)
+flat-here : {A : Type 0} (f : A → List ℕ) {x : A} {n : ℕ} {l : List A} → Mem x l → Mem n (f x) → Mem n (flat_map f l)
 unfolding flat_map
 flat-here f {n = n} (first {xs = l} e) i = Memᴰ.append_left (flat_map f l) (subst (λ x. Mem n (f x)) e i)
 flat-here f (later {x = x} k) i = Memᴰ.append_right (f x) (flat-here f k i)

@@ -48,7 +48,7 @@ module _ (k : ℕ) (few : k ≤ location_limit) where
   coded-false (fit_test h i) = coded-on _ i
 
 -- ---- the entry of a node is found
-entry-mem : {es : List Entry} {e : Entry} → Mem e es → Mem e.node (entry_nodes es)
+entry-mem : {e : Entry} {es : List Entry} → Mem e es → Mem e.node (entry_nodes es)
 unfolding entry_nodes
 entry-mem (first h) = first (ap (λ (e : Entry). e.node) h)
 entry-mem (later m) = later (entry-mem m)

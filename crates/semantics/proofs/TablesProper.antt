@@ -122,7 +122,7 @@ module _ (ed : Edition) (p : Plant) where
 
 -- ---- locations
 -- the action of a node that is listed
-mem-node : {l : List NodeAction} {a : NodeAction} → Mem a l → Mem a.node (action_nodes l)
+mem-node : {a : NodeAction} {l : List NodeAction} → Mem a l → Mem a.node (action_nodes l)
 unfolding action_nodes
 mem-node (first e) = first (ap (λ (a : NodeAction). a.node) e)
 mem-node (later m) = later (mem-node m)

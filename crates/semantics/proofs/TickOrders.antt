@@ -29,6 +29,7 @@ record ToFront (t : List ℕ) (ts : List (List ℕ)) : Type 0 where
   permuted : Permuted ts (t ∷ rest)
 
 to_front : {t : List ℕ} {ts : List (List ℕ)} → Mem t ts → ToFront t ts
+to_front {t = t} {ts = []} m = elim m [ ]
 to_front {ts = u ∷ us} (first h) = record { rest = us; permuted = perm-cons (sym h) (Permᴰ.refl us) }
 to_front {ts = u ∷ us} (later m) = let r = to_front m in record { rest = u ∷ r.rest; permuted = perm-trans (perm-cons refl r.permuted) (perm-swap refl refl) }
 

@@ -118,7 +118,7 @@ all-declared [] {ys} (all_cons b h) k e = subst (λ l. (length l ≡ 0) × All B
 all-declared (z ∷ zs) {ys} (all_cons {x = x} {l = xs} b h) k e =
     let p = then_ok (declared x z) _ e in
     let q = then_ok (all_declared xs zs) _ p.2 in
-    let i = all-declared zs h (omega arith) q.1 in
+    let i = all-declared {xs = xs} zs h (omega arith) q.1 in
     subst (λ l. (length l ≡ suc (length zs)) × All Bits32 l) (ok-is q.2) (ap suc i.0, all_cons (ranged-bytes x.minimum x.maximum z b.low b.high p.1) i.1)
 
 length-added : (rate : ℕ → ℤ) (v : ℕ) (zs : List ℤ) → length (added rate v zs) ≡ length zs
