@@ -32,27 +32,9 @@
  * under 100. 128 KiB are room for any of them.
  *
  * Schedule files, tables, starting values, events and records are those of
- * document 01, with items 1 to 6 of document 02 (practice events; faults above
- * and below their range; RESET and REINITIAL parted; comparisons of compiling;
- * independent branches; the senior paper); numbers of several bytes are
- * big-endian.
- *
- * Editions. Byte 0 of a file or table tells its edition, 1 or 2; a schedule's
- * table is of the schedule's edition. What differs:
- *                                        edition 1   edition 2
- *   nodes of a schedule, and actions
- *     of a table, at most                       64         256
- *   node count, action count, a node's
- *     number, a node's or action's length   1 byte     2 bytes
- *   an event                               3 bytes     4 bytes
- *   the set of a record                    8 bytes    32 bytes
- * All else is the same, and so are the calls: a run takes events and writes
- * records of the edition of its file or table. An event is
- *              edition 1     edition 2
- *   tick       0 0 0         0 0 0 0
- *   pick       1 n 0         1 high low 0   of node 256 * high + low
- *   switch     2 s k         2 s k 0        switch k of selector s
- * Practice events are of edition 1.
+ * document 01, with items 1 to 4 of document 02 (practice events; faults above
+ * and below their range; RESET and REINITIAL parted; comparisons of compiling);
+ * numbers of several bytes are big-endian.
  */
 #ifndef ZIMTLEITER_H
 #define ZIMTLEITER_H
@@ -60,21 +42,8 @@
 #include <stddef.h>
 #include <stdint.h>
 
-/*
- * Bytes that are room for the table of any schedule, and of any schedule of
- * edition 1. The limits of edition 2 give at most 1,633,799, those of edition 1
- * at most 394,311.
- */
-#define ZIMTLEITER_TABLE_ROOM 1640000
-#define ZIMTLEITER_TABLE_ROOM_EDITION_1 400000
-
-/*
- * The bytes of an event, and of a record with so many variables and selectors:
- * of an edition, which is byte 0 of an accepted file or table.
- */
-#define ZIMTLEITER_EVENT_BYTES(edition) ((size_t)((edition) == 2 ? 4 : 3))
-#define ZIMTLEITER_RECORD_BYTES(edition, variables, selectors) \
-    ((size_t)((edition) == 2 ? 33 : 9) + 4 * (size_t)(variables) + (size_t)(selectors))
+/* Bytes that are room for any table: document 01's limits give 394,311. */
+#define ZIMTLEITER_TABLE_ROOM 400000
 
 /* Bytes that are room for any list of practice events: 10,000 of 3 bytes. */
 #define ZIMTLEITER_PRACTICE_ROOM 30000
@@ -88,7 +57,7 @@
  * nothing:
  *  23  the run is over
  *  24  the event's kind is unknown, or an unused byte is not 0
- *  25  the picked node is not acting, or there is no such node
+ *  25  the picked node is not acting
  *  26  there is no such switch
  *  27  a tick while some acting node is no CONTINUE
  *  28  the switch check of a pick or tick stops at a true switch
@@ -114,7 +83,7 @@ extern "C" {
 /*
  * Reads a schedule file and judges it. Returns 0, or the first of these that
  * applies, in this order
- *   1  the file has under 3 bytes, or byte 0 is neither 1 nor 2
+ *   1  the file has under 3 bytes, or byte 0 is not 1
  *   2  its length field is not its length
  *   3  the three sections do not fill it just so
  *   4  the variable count or section length is wrong
@@ -146,8 +115,7 @@ uint8_t zimtleiter_size(const uint8_t *file, size_t file_len,
 
 /*
  * Reads a table and judges it. Returns 0, or
- *  15  the table has under 5 bytes, byte 0 is neither 1 nor 2, or its length
- *      field is not its length
+ *  15  the table has under 5 bytes, or a wrong version or length
  *  16  its four sections do not fill it
  *  17  its first two sections break 4 to 8 or 12
  *  18  the action section: a count, node number, kind, length or operand is
@@ -178,17 +146,15 @@ uint8_t zimtleiter_compile(const uint8_t *file, size_t file_len,
                            uint64_t *comparisons);
 
 /*
- * Runs a schedule by the rules over a list of events. Returns 0, a number as
- * zimtleiter_read_schedule does, or
+ * Runs a schedule by the rules over a list of events, 3 bytes each. Returns 0,
+ * a number as zimtleiter_read_schedule does, or
  *  20  the starting values (4 bytes each, then modes) have a wrong length,
  *      value or mode
- *  21  the event bytes are not a multiple of 3, in edition 2 of 4
+ *  21  the event bytes are not a multiple of 3
  *  22  the record buffer is too short
  * On 0 one record for each event stands at the front of records, in their
- * order, and the bytes behind are as they were. A record has the answer, the
- * set of acting nodes (8 bytes, in edition 2 32: one number, bit n for node n,
- * 0 once the run is over), 4 bytes for each variable and 1 for each selector:
- * ZIMTLEITER_RECORD_BYTES in all. The counts are those of the events
+ * order, and the bytes behind are as they were. A record has 9 bytes, 4 for
+ * each variable and 1 for each selector. The counts are those of the events
  * answered 200 to 202 (taken), 23 to 31 (turned away) and 203 or 204 (faulted,
  * of which there is one at most).
  */
@@ -211,8 +177,7 @@ uint8_t zimtleiter_table_run(const uint8_t *table, size_t table_len,
                              uint64_t *turned_away, uint64_t *faulted);
 
 /*
- * Writes practice events from a seed: so many, 3 bytes each, for either run of
- * a file or table of edition 1.
+ * Writes practice events from a seed: so many, 3 bytes each, for either run.
  * Returns 0, or
  *  32  the count is above 10,000
  *  33  the lent buffer is shorter than 3 times the count
@@ -220,8 +185,7 @@ uint8_t zimtleiter_table_run(const uint8_t *table, size_t table_len,
  * they were. ZIMTLEITER_PRACTICE_ROOM bytes are enough for any. A seed and a
  * count give the same list on every machine, and a shorter list is the front of
  * a longer one from the same seed. Each event is a tick, a pick of a node below
- * 64, or a switch below 8 of a selector below 8; no such run answers one with
- * 24.
+ * 64, or a switch below 8 of a selector below 8; no run answers one with 24.
  */
 uint8_t zimtleiter_practice(uint32_t seed, uint64_t count,
                             uint8_t *events, size_t room, uint64_t *length);

@@ -4,8 +4,7 @@
  * list of events, from its own initial values and modes, and compares the two
  * runs. Where an event faults, it says which and on which side.
  * both SCHEDULE EVENTS
- * both SCHEDULE SEED COUNT: the events are COUNT practice events from SEED, for
- * a schedule of edition 1
+ * both SCHEDULE SEED COUNT: the events are COUNT practice events from SEED
  */
 #include "zimtleiter.h"
 
@@ -202,23 +201,16 @@ int main(int argc, char **argv)
     uint8_t n = zimtleiter_read_schedule(file.at, file.length);
     if (n != 0)
         refused("reading the schedule", n);
-    uint8_t edition = file.at[0];
-    if (argc == 4 && edition != 1) {
-        fputs("both: practice events are of edition 1, and so must be the schedule\n", stderr);
-        exit(2);
-    }
     struct bytes start = initial_start(file.at);
     print_size(file);
     struct bytes table = compiled(file);
-    /* a start has 4 bytes for each variable and 1 for each selector, as a record has */
-    size_t size = ZIMTLEITER_RECORD_BYTES(edition, 0, start.length);
-    size_t count = events.length / ZIMTLEITER_EVENT_BYTES(edition);
-    size_t room = count * size;
+    size_t size = 9 + start.length;
+    size_t room = events.length / 3 * size;
     struct run a = by_rules(file, start, events, room);
     struct run b = by_table(table, start, events, room);
     print_fault(a, size);
     int agree = same(a, b);
-    printf("%zu records of %zu bytes: %s\n", count, size, agree ? "the same" : "different");
+    printf("%zu records of %zu bytes: %s\n", events.length / 3, size, agree ? "the same" : "different");
     free(file.at);
     free(events.at);
     free(start.at);

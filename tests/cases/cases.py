@@ -1,6 +1,51 @@
-"""The tests of cases_test that are made by hand, of edition 1: each with a name, its bytes, and what documents 01 and 02 give for it,
-read from the papers and not from a program. The bench papers K1 to K11 of document 01 stand in the names."""
-from testing import *
+"""The tests of cases_test that are made by hand: each with a name, its bytes, and what documents 01 and 02 give for it,
+read from the papers and not from a program. The bench papers K1 to K11 of document 01 stand in the names.
+
+What the paper gives: parts split by ';'. A part is a line of a call as cases_test writes it, `CALL R, NUMBERS`, of a run with
+its answers behind it where they are told (`200 x3` is an answer three times in a row), or `table = HEX`, `records = HEX`."""
+from comparisons import of_resets
+from forms import *
+
+
+def test(kind, name, program, begin, es, says, rooms):
+    """Prints the test as a line of fields."""
+    assert says, name
+    print(kind, name, program.hex(), begin.hex(), events(es).hex(), *rooms, says, sep="\t")
+
+
+def of_schedule(name, file, begin, es, says, table_room=2000, record_room=2000, other_room=None):
+    """All calls on a schedule, and on its table where it compiles. Examining's other records get a byte more where nothing else is said."""
+    other_room = record_room + 1 if other_room is None else other_room
+    test("schedule", name, file, begin, es, says, (table_room, record_room, other_room))
+
+
+def of_table(name, table, begin, es, says, record_room=2000):
+    """The two calls on a table."""
+    test("table", name, table, begin, es, says, (0, record_room, 0))
+
+
+def unexamined(n):
+    return f"examine {n}, 0 0 0 0 0 0 0 0"
+
+
+def tight(name, file, begin, es, counts, table, comparisons, records):
+    """With just the room that a table and records of so many bytes take, and with a byte less for one of the three buffers."""
+    compiled = f"compile 0, {table} {comparisons}"
+    runs = f"rules 0, {counts}; by table 0, {counts}"
+    examined = f"examine 0, {table} {counts} {counts} 1"
+    of_schedule(f"{name}: just the room", file, begin, es, f"{compiled}; {runs}; {examined}", table, records, records)
+    says = f"compile 14, 0 0; rules 0, {counts}; {unexamined(14)}"
+    of_schedule(f"{name}: a byte less for the table", file, begin, es, says, table - 1, records, records)
+    says = f"{compiled}; rules 22, 0 0 0; by table 22, 0 0 0; {unexamined(22)}"
+    of_schedule(f"{name}: a byte less for the records", file, begin, es, says, table, records - 1, records)
+    says = f"{compiled}; {runs}; {unexamined(22)}"
+    of_schedule(f"{name}: a byte less for the other records", file, begin, es, says, table, records, records - 1)
+
+
+def changed(b, at, v):
+    """b with another byte at a place."""
+    return b[:at] + bytes([v]) + b[at + 1 :]
+
 
 # K1, spelled as in the papers: document 02 makes node 1 a REINITIAL
 K1 = bytes.fromhex(
@@ -23,11 +68,38 @@ of_schedule("K1 K4, from 9", K1, start([9]), "p1 p2",
 tight("K1 K4", K1, start([9]), "p1 p2", "2 0 0", 75, 1, 26)
 of_table("K1's table as in the paper", K1_TABLE, start([9]), "p1 p2", "read table 0, 1 0 2 2; by table 0, 2 0 0: 200 201")
 
+# what most files below have: one variable from 0 to 10, no equation, and one node, a RESET; some have a REINITIAL in its place
+V = variables((0, 10, 0))
+NO_EQUATION = equations()
+LEAF = reset(0, const(1))
+REINITIAL_LEAF = reinitial(0, const(1))
+Z = start([0])
+
+
+def refused(n, name, file, begin=Z, es="p0"):
+    """All calls on it are refused with n."""
+    says = f"read {n}, 0 0 0; size {n}, 0 0; compile {n}, 0 0; rules {n}, 0 0 0; {unexamined(n)}"
+    of_schedule(f"{n}: {name}", file, begin, es, says)
+
+
+def tree(t, es=NO_EQUATION, vs=V):
+    return schedule(vs, es, t)
+
+
+def plant(*es, vs=V, leaf=LEAF):
+    return schedule(vs, equations(*es), leaf)
+
+
+def with_reinitial(*es):
+    """With these equations, and a REINITIAL as the one node."""
+    return plant(*es, leaf=REINITIAL_LEAF)
+
+
 # 1, 2, 3
 refused(1, "empty file (K11)", b"")
 refused(1, "two bytes", b"\x01\x00")
 refused(1, "version 0", changed(K1, 0, 0))
-refused(1, "version 3", changed(K1, 0, 3))
+refused(1, "version 2", changed(K1, 0, 2))
 refused(2, "01 00 04 (K11)", b"\x01\x00\x04")
 refused(2, "length one less", changed(K1, 2, 55))
 refused(2, "length one more", changed(K1, 2, 57))
@@ -59,6 +131,7 @@ of_schedule("32 variables, the whole range", WIDE, start([HIGHEST] * 32), "p0",
     "read 0, 32 0 1; rules 0, 1 0 0: 201; read table 0, 32 0 1 1; by table 0, 1 0 0")
 
 # 6, 7, 8
+ONE_MODE = case(0, mode())
 refused(6, "empty equation section", file_of(V, b"", nodes(LEAF)))
 refused(6, "17 equations", schedule(V, equations(*[ONE_MODE] * 17), LEAF))
 refused(6, "an equation missing", file_of(V, changed(equations(ONE_MODE), 0, 2), nodes(LEAF)))
@@ -100,6 +173,11 @@ of_schedule("one variable in two modes", with_reinitial(case(0, mode([(0, 1)]), 
     "read 0, 1 1 1; rules 0, 1 0 0: 201")
 
 # 9, 10, 11
+def raw(*ns, count=None):
+    """A file of these nodes' bytes, with another count where one is given."""
+    return file_of(V, NO_EQUATION, bytes([len(ns) if count is None else count]) + b"".join(bytes([len(n)]) + n for n in ns))
+
+
 refused(9, "empty schedule section", file_of(V, NO_EQUATION, b""))
 refused(9, "no nodes", file_of(V, NO_EQUATION, b"\x00"))
 refused(9, "65 nodes", tree(parallel(*[STOP] * 64)))
@@ -133,6 +211,15 @@ refused(11, "SWITCH to a missing mode", schedule(V, equations(ONE_MODE), switch(
 refused(11, "11 later than what 12 is for", tree(sequence(reset(0, b""), reset(1, const(1)))))
 
 # lengths of a node: 1 (STOP), 200 and 201
+def long_number(n):
+    """A number of n bytes, of depth 10 at most: sums of variable 0, and negations to make up the length."""
+    whole = (n - 2) // 3
+    zeros = [var(0)] * (whole + 1)
+    while len(zeros) > 1:
+        zeros = [add(*zeros[i : i + 2]) if i + 1 < len(zeros) else zeros[i] for i in range(0, len(zeros), 2)]
+    return negs((n - 2) % 3, zeros[0])
+
+
 of_schedule("a node of length 200", tree(reset(0, long_number(198))), Z, "p0",
     "read 0, 1 0 1; rules 0, 1 0 0: 201; compile 0, 240 0; read table 0, 1 0 1 1")
 refused(9, "a node of length 201", tree(reset(0, long_number(199))))
@@ -140,6 +227,14 @@ of_schedule("a node of length 1", tree(STOP), Z, "p0 p0",
     "read 0, 1 0 1; rules 0, 1 1 0: 202 23; compile 0, 41 0; read table 0, 1 0 1 1; by table 0, 1 1 0")
 
 # 12
+def number(n):
+    return tree(reset(0, n))
+
+
+def truth(t):
+    return tree(until(t))
+
+
 def switched(t):
     return plant(case(0, mode([], [(0, t)])))
 
@@ -225,28 +320,43 @@ of_schedule("K6: WHILE over a RESET", tree(loop(lt(var(0), const(2)), reset(0, a
     "size 0, 2 2; compile 0, 67 2; rules 0, 5 2 0: 25 200 25 200 x3 201; read table 0, 1 0 2 2")
 of_schedule("K7: PARALLEL of STOP and CONTINUE", tree(parallel(STOP, until(TRUE))), Z, "t p2 p1 p1",
     "size 0, 2 3; compile 0, 56 1; rules 0, 2 2 0: 27 200 202 23; read table 0, 1 0 2 2")
-of_schedule("K8: PARALLEL of ten RESETs", tree(parallel(*TEN_RESETS)), Z, "p10 p9 p8 p7 p6 p5 p4 p3 p2 p1",
+RESETS = [reset(0, const(1))] * 10
+# K8's comparisons, those with a RESET before it, and those with STOPs beside the RESETs, so that the location without RESETs is there too
+K8_COMPARED, K8_COMPARED_BEHIND_ONE, K8_COMPARED_BESIDE_STOPS = 3074628, 3079739, 3084867
+assert K8_COMPARED == of_resets(10)
+assert K8_COMPARED_BEHIND_ONE == of_resets(10, before=1)
+assert K8_COMPARED_BESIDE_STOPS == of_resets(10, beside_stops=True)
+of_schedule("K8: PARALLEL of ten RESETs", tree(parallel(*RESETS)), Z, "p10 p9 p8 p7 p6 p5 p4 p3 p2 p1",
     f"size 0, 1023 5120; rules 0, 10 0 0: 200 x9 201; compile 0, 26745 {K8_COMPARED}; read table 0, 1 0 10 1023; by table 0, 10 0 0; "
     "examine 0, 26745 10 0 0 10 0 0 1", table_room=65536)
-of_schedule("K8: one RESET before it", tree(sequence(LEAF, parallel(*TEN_RESETS))), Z, "p1 p3 p12 p3",
+of_schedule("K8: one RESET before it", tree(sequence(LEAF, parallel(*RESETS))), Z, "p1 p3 p12 p3",
     f"size 0, 1024 5121; rules 0, 3 1 0: 200 x3 25; compile 0, 26760 {K8_COMPARED_BEHIND_ONE}; read table 0, 1 0 11 1024", table_room=65536)
-tight("K8: one RESET before it", tree(sequence(LEAF, parallel(*TEN_RESETS))), Z, "p1 p3 p12 p3", "3 1 0", 26760,
+tight("K8: one RESET before it", tree(sequence(LEAF, parallel(*RESETS))), Z, "p1 p3 p12 p3", "3 1 0", 26760,
     K8_COMPARED_BEHIND_ONE, 52)
-of_schedule("K8: two RESETs before it", tree(sequence(LEAF, LEAF, parallel(*TEN_RESETS))), Z, "p1 p2 p4",
+of_schedule("K8: two RESETs before it", tree(sequence(LEAF, LEAF, parallel(*RESETS))), Z, "p1 p2 p4",
     "read 0, 1 0 14; size 0, 1025 0; rules 0, 3 0 0: 200 x3; compile 13, 0 0; " + unexamined(13), table_room=65536)
 # the most entries that 64 nodes give: 53 STOPs act at each of 1,024 locations, one for each set of RESETs that are left.
 # 11 + 53 nodes; 18 + 13 + 1 + 10 * 9 + 53 * 3 + 1,024 + 5 * (53 * 1,024 + 5,120) bytes
-WIDEST = tree(parallel(*TEN_RESETS, *[STOP] * 53))
+WIDEST = tree(parallel(*RESETS, *[STOP] * 53))
 of_schedule("the widest table", WIDEST, Z, "p1 p10 p1 p11",
     "read 0, 1 0 64; size 0, 1024 59392; rules 0, 3 1 0: 200 x2 25 202; read table 0, 1 0 63 1024; by table 0, 3 1 0; "
     f"compile 0, 298265 {K8_COMPARED_BESIDE_STOPS}", table_room=298265)
 of_schedule("the widest table, a byte too few", WIDEST, Z, "p1", "compile 14, 0 0; " + unexamined(14), table_room=298264)
+W = variables((LOWEST, HIGHEST, 0))
 of_schedule("K9: negating the lowest", tree(reset(0, neg(var(0))), vs=W), start([LOWEST]), "p0 p0", "rules 0, 0 1 1: 203 23")
 of_schedule("K9: negating the next", tree(reset(0, neg(var(0))), vs=W), start([LOWEST + 1]), "p0", "rules 0, 1 0 0: 201")
 of_schedule("K9: true or a fault", truth(either(TRUE, FAULT_ABOVE)), Z, "p0", "rules 0, 0 0 1: 203")
 of_schedule("false and a fault", truth(both(FALSE, FAULT_ABOVE)), Z, "t", "rules 0, 0 0 1: 203")
 of_schedule("a fault or true", truth(either(FAULT_ABOVE, TRUE)), Z, "p0", "rules 0, 0 0 1: 203")
 of_schedule("not a fault", truth(no(FAULT_ABOVE)), Z, "p0", "rules 0, 0 0 1: 203")
+
+# what is counted of a run of one event with this answer: taken, turned away, faulted
+ONE_EVENT = {n: "1 0 0" for n in (200, 201, 202)} | {n: "0 1 0" for n in range(23, 32)} | {n: "0 0 1" for n in (203, 204)}
+
+
+def answered(n):
+    return f"rules 0, {ONE_EVENT[n]}: {n}"
+
 
 # results at the borders of 32 bits, in a RESET of a variable with the whole range
 for name, n, answer in [
@@ -319,16 +429,21 @@ for name, t, length, comparisons in [
 of_schedule("14: K1 with 74 bytes", K1, start([9]), "p1", "read 0, 1 0 3; rules 0, 1 0 0: 200; compile 14, 0 0", table_room=74)
 of_schedule("K1 with 75 bytes", K1, start([9]), "p1", "compile 0, 75 1; by table 0, 1 0 0", table_room=75)
 of_schedule("14: K1 with none", K1, start([9]), "p1", "compile 14, 0 0", table_room=0)
-of_schedule("13 before 14", tree(sequence(LEAF, LEAF, parallel(*TEN_RESETS))), Z, "", "compile 13, 0 0; " + unexamined(13), table_room=0)
+of_schedule("13 before 14", tree(sequence(LEAF, LEAF, parallel(*RESETS))), Z, "", "compile 13, 0 0; " + unexamined(13), table_room=0)
 of_schedule("14 before 20 and 21", K1, start([11]), "x00", "compile 14, 0 0; rules 20, 0 0 0; " + unexamined(14), table_room=74)
 
 
 # Tables around 65,536 bytes. Ten RESETs and seven STOPs in a PARALLEL: 1,024 locations, each RESET in 512 of them, each STOP in all;
 # five bytes an entry. With the plant: 5 + 15 + (2 + E) + 3 + 10 * 9 + 7 * 3 + 6 + 1024 + 5 * (10 * 512 + 7 * 1024) = 62,606 + E,
 # where E = 8 and the switches of its one CASE.
-AROUND_64K = parallel(*TEN_RESETS, *[STOP] * 7)
-EXACT = filled(224, lt(const(2), var(0)), AROUND_64K)
-OVER = filled(224, lt(const(2), neg(var(0))), AROUND_64K)
+def filled(last):
+    """224 switches of 13 bytes that are false, and one that makes up the length."""
+    es = equations(case(0, mode([], [(0, lt(const(2), const(1)))] * 224 + [(0, last)])))
+    return schedule(V, es, parallel(*RESETS, *[STOP] * 7))
+
+
+EXACT = filled(lt(const(2), var(0)))
+OVER = filled(lt(const(2), neg(var(0))))
 of_schedule("a table of 65,536 bytes", EXACT, start([0], [0]), "p1 s0.224 s0.225 p17",
     f"size 0, 1024 12288; compile 0, 65536 {K8_COMPARED_BESIDE_STOPS}; read table 0, 1 1 17 1024; by table 0, 2 2 0", table_room=65536)
 of_schedule("14: a table of 65,536 bytes in 65,535", EXACT, start([0], [0]), "p1", "compile 14, 0 0", table_room=65535)
@@ -336,7 +451,7 @@ of_schedule("14: a table of 65,537 bytes in 65,536", OVER, start([0], [0]), "p1"
 of_schedule("a table of 65,537 bytes", OVER, start([0], [0]), "p1 p10 p2",
     f"compile 0, 65537 {K8_COMPARED_BESIDE_STOPS}; read table 0, 1 1 17 1024; by table 0, 3 0 0", table_room=65537)
 # ten RESETs and 53 STOPs: 5 + 15 + 3 + 3 + 10 * 9 + 53 * 3 + 6 + 1024 + 5 * (5120 + 53 * 1024)
-of_schedule("the longest rows", tree(parallel(*TEN_RESETS, *[STOP] * 53)), Z, "p10 p1 p63",
+of_schedule("the longest rows", tree(parallel(*RESETS, *[STOP] * 53)), Z, "p10 p1 p63",
     f"size 0, 1024 59392; compile 0, 298265 {K8_COMPARED_BESIDE_STOPS}; read table 0, 1 0 63 1024", table_room=298265)
 
 # 20, 21, 22
@@ -366,7 +481,14 @@ of_schedule("22 counts what is after the end", K1, start([9]), "p1 p2 t",
     "rules 22, 0 0 0; by table 22, 0 0 0; " + unexamined(22), record_room=38)
 
 # events: 23 to 31 and 204, in a plant with a valve: closed, open, draining
-FILL = schedule(TANK, equations(VALVE), FILL_AND_DRAIN)
+VALVE = case(
+    0,
+    mode([], [(1, le(var(0), const(1)))]),
+    mode([(0, 3), (1, -1)], [(0, le(const(8), var(0))), (2, eq(var(1), const(4))), (1, ne(var(0), var(0)))]),
+    mode([(0, -2)]),
+)
+TANK = variables((0, 10, 5), (0, 9, 9))
+FILL = schedule(TANK, equations(VALVE), sequence(switch(0, 1), until(le(const(7), var(0))), switch(0, 2), until(FALSE)))
 of_schedule("24: senseless events", FILL, start([5, 9], [0]), "x030000 xFF0000 x000100 x000001 x010101 x01FF01 x030101 p1",
     "rules 0, 1 7 0: 24 x7 200")
 of_schedule("24 after 23", tree(STOP), Z, "p0 xFF0000", "rules 0, 1 1 0: 202 23")
@@ -392,6 +514,11 @@ of_schedule("a switch to its own mode", plant(case(0, mode([], [(0, TRUE)]))), s
 # the switch check: it stops at the first that is true or faults
 def checked(*cases_, t=LEAF):
     return schedule(V, equations(*cases_), t)
+
+
+def one(*truths):
+    """A CASE of one mode with these switches."""
+    return case(0, mode([], [(0, t) for t in truths]))
 
 
 for name, cs, modes, answer in [
@@ -437,6 +564,7 @@ of_schedule("an IF that faults", tree(either_of(FAULT_ABOVE, LEAF, LEAF)), Z, "p
 of_schedule("a RESET below the range", number(const(-1)), start([5]), "p0", "rules 0, 0 0 1: 204")
 of_schedule("a RESET above the range", number(const(11)), start([5]), "p0", "rules 0, 0 0 1: 203")
 of_schedule("a REINITIAL at the border", tree(reinitial(0, const(10)), equations(rate(0, 1))), start([5]), "p0", "rules 0, 1 0 0: 201")
+WAITING = until(FALSE)
 of_schedule("a tick past the highest number", schedule(W, equations(rate(0, 1)), WAITING), start([HIGHEST - 1]), "t t t",
     "rules 0, 1 1 1: 200 203 23")
 of_schedule("a tick past the lowest number", schedule(W, equations(rate(0, LOWEST)), WAITING), start([-1]), "t", "rules 0, 0 0 1: 204")
@@ -805,9 +933,13 @@ refused(34, "K1 with a rate of a second variable in place of the first's",
 
 
 # Tables: 15 to 19
+def refused_table(n, name, table, begin=Z, es="p0"):
+    of_table(f"{n}: {name}", table, begin, es, f"read table {n}, 0 0 0 0; by table {n}, 0 0 0")
+
+
 refused_table(15, "empty table", b"")
 refused_table(15, "four bytes", b"\x01\x00\x00\x00")
-refused_table(15, "version 3", changed(K1_TABLE, 0, 3))
+refused_table(15, "version 2", changed(K1_TABLE, 0, 2))
 refused_table(15, "length one less", changed(K1_TABLE, 4, 74))
 refused_table(15, "length one more", changed(K1_TABLE, 4, 76))
 refused_table(15, "the length's upper byte", changed(K1_TABLE, 1, 1))
@@ -821,7 +953,21 @@ refused_table(16, "the fourth length's upper byte", changed(K1_TABLE, 57, 1))
 THREE = n2(len(V)) + V + n2(1) + NO_EQUATION + n2(4) + actions((0, 5, b""))
 refused_table(16, "the fourth section missing", b"\x01" + n4(5 + len(THREE)) + THREE)
 
-ACTS, LOCS = actions(*OWN_ACTIONS), locations(*OWN_LOCATIONS)
+ACTS = actions((0, 1, le(var(0), const(3))), (1, 2, TRUE), (2, 3, b"\x00" + const(2)), (5, 5, b""))
+LOCS = locations([(0, 1, FINISHED), (1, 0, NONE)], [(2, FINISHED, NONE), (5, HALTED, NONE)])
+
+
+def acted(*acts, es=NO_EQUATION):
+    """A table of these actions, whose one location has the first."""
+    n, kind, _ = acts[0]
+    targets = {1: (0, 0), 5: (HALTED, NONE)}.get(kind, (0, NONE))
+    return table_of(V, es, actions(*acts), locations([(n, *targets)]))
+
+
+def located(locs):
+    return table_of(V, NO_EQUATION, ACTS, locs)
+
+
 of_table("a table of our own", located(LOCS), Z, "p2 p1 p0 p0 p2 p2", "read table 0, 1 0 4 2; by table 0, 3 3 0: 25 200 x2 25 201 23")
 of_table("its STOP", located(LOCS), start([3]), "t p0 p5 p5", "read table 0, 1 0 4 2; by table 0, 2 2 0: 27 200 202 23")
 of_table("its test is false", located(LOCS), start([4]), "p0 p0", "by table 0, 1 1 0: 201 23")

@@ -1,21 +1,6 @@
-"""The forms of document 01 as bytes: expressions, the three sections of a schedule, tables, starts, events and records.
+"""The forms of document 01 as bytes: expressions, the three sections of a schedule, tables, starts and events."""
 
-A form that document 02, item 6, alters takes an edition, the first where nothing else is said."""
-
-# how many bytes each edition has for a node count, an action count, a node number, and the length of a node or an action
-WIDE = {1: 1, 2: 2}
-# for an event, and for the set of acting nodes in a record
-EVENT = {1: 3, 2: 4}
-SET = {1: 8, 2: 32}
-
-
-def edition_of(program):
-    """The edition of a schedule or a table, which is its byte 0; the first where there is none."""
-    return 2 if program[:1] == b"\x02" else 1
-
-
-def wide(n, edition):
-    return n.to_bytes(WIDE[edition], "big")
+TICK = bytes([0, 0, 0])
 
 
 def n2(n):
@@ -168,41 +153,40 @@ def switch(selector, m):
 STOP = node(9)
 
 
-def nodes(ns, edition=1):
-    return wide(len(ns), edition) + b"".join(wide(len(n), edition) + n for n in ns)
+def nodes(ns):
+    return bytes([len(ns) % 256]) + b"".join(bytes([len(n)]) + n for n in ns)
 
 
 # files
-def file_of(vs, es, ns, edition=1):
+def file_of(vs, es, ns, version=1):
     """A schedule file of three sections of bytes."""
     body = b"".join(n2(len(x)) + x for x in (vs, es, ns))
-    return bytes([edition]) + n2(3 + len(body)) + body
+    return bytes([version]) + n2(3 + len(body)) + body
 
 
-def schedule(vs, es, tree, edition=1):
-    return file_of(vs, es, nodes(tree, edition), edition)
+def schedule(vs, es, tree):
+    return file_of(vs, es, nodes(tree))
 
 
-def table_of(vs, es, acts, locs, edition=1):
+def table_of(vs, es, acts, locs, version=1):
     """A table of four sections of bytes."""
     body = b"".join(n2(len(x)) + x for x in (vs, es, acts)) + n4(len(locs)) + locs
-    return bytes([edition]) + n4(5 + len(body)) + body
+    return bytes([version]) + n4(5 + len(body)) + body
 
 
-def actions(*acts, edition=1):
+def actions(*acts):
     """(node, kind, operand) each."""
-    rows = [wide(n, edition) + bytes([k]) + o for n, k, o in acts]
-    return wide(len(rows), edition) + b"".join(wide(len(a), edition) + a for a in rows)
+    return bytes([len(acts)]) + b"".join(bytes([2 + len(o), n, k]) + o for n, k, o in acts)
 
 
 FINISHED, HALTED, NONE = 0xFFFE, 0xFFFD, 0xFFFF
 
 
-def locations(*ls, edition=1):
+def locations(*ls):
     """A list of (node, target, target on false) for each location."""
     out = n2(len(ls))
     for l in ls:
-        out += bytes([len(l)]) + b"".join(wide(n, edition) + n2(a) + n2(b) for n, a, b in l)
+        out += bytes([len(l)]) + b"".join(bytes([n]) + n2(a) + n2(b) for n, a, b in l)
     return out
 
 
@@ -211,22 +195,17 @@ def start(values, modes=()):
     return b"".join(i4(v) for v in values) + bytes(modes)
 
 
-def events(text, edition=1):
-    """t is a tick, p3 picks node 3, s1.2 takes switch 2 of selector 1, x020304 is bytes as they stand."""
+def events(text):
+    """t is a tick, p3 picks node 3, s1.2 takes switch 2 of selector 1, x020304 is three bytes as they stand."""
     out = b""
     for w in text.split():
         if w == "t":
-            out += bytes(EVENT[edition])
+            out += TICK
         elif w[0] == "p":
-            out += b"\x01" + wide(int(w[1:]), edition) + b"\x00"
+            out += bytes([1, int(w[1:]), 0])
         elif w[0] == "s":
-            out += bytes([2, *map(int, w[1:].split("."))]).ljust(EVENT[edition], b"\x00")
+            a, b = w[1:].split(".")
+            out += bytes([2, int(a), int(b)])
         else:
             out += bytes.fromhex(w[1:])
     return out
-
-
-def record(answer, acting, values, modes=(), edition=1):
-    """Bit n of the set is for node n, and the set is one big-endian number."""
-    acting = sum(1 << n for n in acting).to_bytes(SET[edition], "big")
-    return bytes([answer]) + acting + start(values, modes)

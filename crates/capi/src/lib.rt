@@ -1,7 +1,7 @@
 // The seven calls for C, each under its plain name: include/zimtleiter.h declares them.
 // A lent slice is a pointer and a length there, a `&mut u64` a pointer. No call asks anything of its bytes.
 ghost use Rattle.std.specs.Prelude.{◌≡◌};
-ghost use Rattle.semantics.specs.Editions.{edition_in};
+ghost use Rattle.semantics.specs.Editions.{edition1};
 ghost use Rattle.semantics.specs.Calls.{read_table_of, table_run_of};
 ghost use Rattle.semantics.specs.Practice.{practice};
 ghost use Rattle.schedules.specs.Calls.{read_schedule, size, compile, rule_run_of};
@@ -14,7 +14,7 @@ use records::Ran;
 // 0, or the first of 1 to 11, 34, 12 that applies
 #[unsafe(no_mangle)]
 pub extern "C" fn zimtleiter_read_schedule(file: &[u8]) -> u8
-    ensures { result ≡ (read_schedule (edition_in file.now) file.now).refusal }
+    ensures { result ≡ (read_schedule edition1 file.now).refusal }
 {
     let x = schedule_read::call::read(file);
     x.refusal
@@ -23,7 +23,7 @@ pub extern "C" fn zimtleiter_read_schedule(file: &[u8]) -> u8
 // 0, or the first of 15 to 19 that applies
 #[unsafe(no_mangle)]
 pub extern "C" fn zimtleiter_read_table(table: &[u8]) -> u8
-    ensures { result ≡ (read_table_of (edition_in table.now) table.now).refusal }
+    ensures { result ≡ (read_table_of edition1 table.now).refusal }
 {
     let x = table_read::call::read(table);
     x.refusal
@@ -32,7 +32,7 @@ pub extern "C" fn zimtleiter_read_table(table: &[u8]) -> u8
 // 0 and the numbers of locations and entries, or 1,025 and 0 where 13 would apply; or the first of 1 to 11, 34, 12 that applies, and both 0
 #[unsafe(no_mangle)]
 pub extern "C" fn zimtleiter_size(file: &[u8], locations: &mut u64, entries: &mut u64) -> u8
-    ensures { sized result locations.new entries.new ≡ size (edition_in file.now) file.now }
+    ensures { sized result locations.new entries.new ≡ size edition1 file.now }
 {
     let x = compiler::size::of(file);
     *locations = x.locations as u64;
@@ -48,7 +48,7 @@ pub extern "C" fn zimtleiter_compile(
     length: &mut u64,
     comparisons: &mut u64,
 ) -> u8
-    ensures { returned result length.new comparisons.new table.new ≡ compile (edition_in file.now) file.now table.old }
+    ensures { returned result length.new comparisons.new table.new ≡ compile edition1 file.now table.old }
 {
     let x = compiler::call::compile(file, table);
     *length = x.length as u64;
@@ -80,7 +80,7 @@ pub extern "C" fn zimtleiter_rule_run(
     faulted: &mut u64,
 ) -> u8
     ensures { ran result taken.new turned_away.new faulted.new records.new
-        ≡ rule_run_of (edition_in file.now) file.now start.now events.now records.old }
+        ≡ rule_run_of edition1 file.now start.now events.now records.old }
 {
     let by_rules = rule_run::call::run(file, start, events, records);
     counted(by_rules, taken, turned_away, faulted)
@@ -98,7 +98,7 @@ pub extern "C" fn zimtleiter_table_run(
     faulted: &mut u64,
 ) -> u8
     ensures { ran result taken.new turned_away.new faulted.new records.new
-        ≡ table_run_of (edition_in table.now) table.now start.now events.now records.old }
+        ≡ table_run_of edition1 table.now start.now events.now records.old }
 {
     let by_table = table_run::call::run(table, start, events, records);
     counted(by_table, taken, turned_away, faulted)

@@ -74,23 +74,18 @@ fn made(
         & written(c, table, records, lent_table, lent_records, lent_others)
 }
 
-fn untouched_table() -> [u8; stored::TABLE]
-    ensures { 1700000 ≡ length result }
-{
-    [UNTOUCHED; stored::TABLE]
-}
-
-fn untouched_records() -> [u8; stored::RECORDS]
+// as long as the longest table and the longest records
+fn lent() -> [u8; 420000]
     ensures { 420000 ≡ length result }
 {
-    [UNTOUCHED; stored::RECORDS]
+    [UNTOUCHED; 420000]
 }
 
 // the call with as many bytes lent as the case says
 fn call(c: Case, file: &[u8], table: &[u8], start: &[u8], events: &[u8], records: &[u8]) -> bool {
-    let mut lent_table = untouched_table();
-    let mut lent_records = untouched_records();
-    let mut lent_others = untouched_records();
+    let mut lent_table = lent();
+    let mut lent_records = lent();
+    let mut lent_others = lent();
     let a = output::front(c.table_room, &lent_table);
     let b = output::front(c.record_room, &lent_records);
     let d = output::front(c.other_room, &lent_others);

@@ -13,11 +13,11 @@ pub const NAME: usize = 255;
 
 pub const FILE: usize = 65600;
 
-pub const TABLE: usize = 1700000;
+pub const TABLE: usize = 420000;
 
 pub const START: usize = 200;
 
-pub const EVENTS: usize = 40100;
+pub const EVENTS: usize = 30100;
 
 pub const RECORDS: usize = 420000;
 

@@ -1,6 +1,6 @@
 -- The mission's demands as theorems about the definitions: each statement written out, under the sentence that it settles, and proved by one citation.
--- They hold for a tree of any size and over any edition, so that 256 nodes need no second proof: `edition-2` has such an edition.
--- The contracts of the calls in code cite them with `edition_in` of the bytes that are lent (Senior).
+-- They hold for a tree of any size and over any edition, so that of the definitions 256 nodes need no second proof: `edition-2` has such an edition.
+-- The contracts of the calls in code cite `edition1`.
 -- "Every call ends, on any bytes": the definitions are total, the contract of each call says that it returns what its definition gives, and asks nothing of the bytes (no `requires`).
 -- What a statement, or a group of them, rules out is named by two wrong products that it does not let by.
 use mathlib.Core.Path.{◌≡◌, refl}

@@ -39,12 +39,12 @@ pub practice-front-written : (seed m n : ℕ) (a b : List ℕ) → m ≤ n → (
     take (practice seed m a).written (practice seed m a).events ≡ take (practice seed m a).written (practice seed n b).events
 practice-front-written = Call.practice-front
 
--- the events that a run of edition 1 cuts from the list are those that were drawn, in their order, and each names a node below 64 or a selector and a switch below 8.
+-- the events that a run cuts from the list are those that were drawn, in their order, and each names a node below 64 or a selector and a switch below 8.
 -- Ruled out: the two bits as the event's first byte, so that a pick of 2 reads as a switch; a tick that keeps its six bits.
 pub practice-read : (seed count : ℕ) → (map (event_in edition1) (events_of edition1 (practice_list seed count)) ≡ drawn seed count) × All PracticeLimits (drawn seed count)
 practice-read seed count = (Call.list_read seed count, Call.all-limits seed count)
 
--- no event of it is answered 24, in a run of any accepted schedule or table of edition 1 (`sound-rules`, `sound-table`), from its start or any situation that it comes to.
+-- no event of it is answered 24, in a run of any accepted schedule or table (`sound-rules`, `sound-table`), from its start or any situation that it comes to.
 -- Ruled out: an event whose kind is 3; a pick with a third byte that is not 0.
 pub practice-never-24 : {S : Type 0} (p : Plant) (c : Control S) → Sound p c → (s : Situation S) → Standing c s → (seed count : ℕ) →
     All (λ (o : Answered S). o.answer ≡ 24 → ⊥) (answers edition1 p c s (events_of edition1 (practice_list seed count)))

@@ -1,4 +1,6 @@
 // Numbers in bytes, by position: big-endian, signed ones in two's complement.
+#![tactic(auto)]
+
 ghost use Rattle.std.specs.Prelude.{◌≡◌, ◌∷◌, [], ◌+◌, ◌%◌, ◌≤◌, ◌<◌, length, get_or};
 ghost use Rattle.semantics.specs.Bytes as bytes;
 ghost use Rattle.semantics.specs.Run.{value_bytes};

@@ -1,6 +1,6 @@
 // The call "compiling": conditions 1 to 11, 34 and 12 to 14, in order, and the table.
 ghost use Rattle.std.specs.Prelude.{◌≡◌, List, ℕ, ◌+◌, ◌-◌, ◌≤◌, ◌<◌, length};
-ghost use Rattle.semantics.specs.Editions.{edition_in};
+ghost use Rattle.semantics.specs.Editions.{edition1};
 ghost use Rattle.semantics.specs.Bytes.{width_of};
 ghost use Rattle.semantics.specs.Refusals.{refused, accepted};
 ghost use Rattle.semantics.specs.TableFile.{location_limit};
@@ -176,10 +176,9 @@ fn write(file: &[u8], table: &mut [u8], p: Plan, comparisons: &mut u64, ed: Edit
 }
 
 pub fn compile(file: &[u8], table: &mut [u8]) -> Compiled
-    ensures { returned result.refusal result.length result.comparisons table.new ≡ calls.compile (edition_in file.now) file.now table.old }
+    ensures { returned result.refusal result.length result.comparisons table.new ≡ calls.compile edition1 file.now table.old }
 {
-    let ed = edition::of(file);
-    let p = planned(file, ed);
+    let p = planned(file, Edition::First);
     let refusal = p.refusal;
     if refusal != 0 {
         return refused(refusal);
@@ -188,7 +187,7 @@ pub fn compile(file: &[u8], table: &mut [u8]) -> Compiled
         return refused(14);
     }
     let mut made = 0;
-    let end = write(file, table, p, &mut made, ed);
+    let end = write(file, table, p, &mut made, Edition::First);
     Compiled {
         refusal: 0,
         length: end,
@@ -198,9 +197,9 @@ pub fn compile(file: &[u8], table: &mut [u8]) -> Compiled
 
 // 1 to 11, 34, 12 and 13, and the length of the table that compiling would write
 pub fn measure(file: &[u8]) -> TableLength
-    ensures { Told (judge_table_of (edition_in file.now) file.now) result.refusal result.length }
+    ensures { Told (judge_table_of edition1 file.now) result.refusal result.length }
 {
-    let p = planned(file, edition::of(file));
+    let p = planned(file, Edition::First);
     TableLength {
         refusal: p.refusal,
         length: p.length,

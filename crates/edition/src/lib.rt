@@ -1,5 +1,7 @@
 // The editions of the formats, and what differs between them: code that depends on it takes an edition and asks here.
 // Request 7's bytes of a variable and of a constant belong here as well.
+#![tactic(auto)]
+
 ghost use Rattle.std.specs.Prelude.{◌≡◌, ◌+◌, ◌*◌, ◌≤◌};
 ghost use Rattle.semantics.specs.Bytes.{width_of};
 ghost use Rattle.semantics.specs.Editions.{edition_in};

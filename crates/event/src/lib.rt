@@ -53,20 +53,9 @@ fn decoded(s: &[u8], ed: Edition) -> Event
 }
 
 // The event at a place of a list.
-fn cut(events: &[u8], at: usize, ed: Edition) -> Event
-    requires { at + (edition_of ed).event_bytes ≤ length events.now }
-    ensures { Decodes (edition_of ed) (take (edition_of ed).event_bytes (drop at events.now)) result }
-{
-    decoded(&events[at..at + edition::event_bytes(ed)], ed)
-}
-
-// The same, with the edition's lengths constants in each case.
 pub fn at(events: &[u8], at: usize, ed: Edition) -> Event
     requires { at + (edition_of ed).event_bytes ≤ length events.now }
     ensures { Decodes (edition_of ed) (take (edition_of ed).event_bytes (drop at events.now)) result }
 {
-    match ed {
-        Edition::First => cut(events, at, Edition::First),
-        Edition::Second => cut(events, at, Edition::Second),
-    }
+    decoded(&events[at..at + edition::event_bytes(ed)], ed)
 }

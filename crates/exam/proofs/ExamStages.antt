@@ -1,5 +1,5 @@
 -- Examining judged in order: what each answer makes of the whole.
-use mathlib.Core.Path.{◌≡◌, refl, sym, ap, subst, ◌∙◌}
+use mathlib.Core.Path.{◌≡◌, refl, sym, ap, ◌∙◌}
 use mathlib.Core.Bool.{Bool, true, false}
 use mathlib.Core.List.{List}
 use mathlib.Core.Option.{some}
@@ -8,13 +8,12 @@ use native.Mathlib.Omega.{arith}
 use borrow.Author.Tests.{le-leb}
 use lib.ListN.{length, take, drop, length-append}
 use Rattle.semantics.specs.Bytes.{overwrite}
-use Rattle.semantics.specs.Editions.{Edition, edition_in, OfEdition}
+use Rattle.semantics.specs.Editions.{Edition}
 use Rattle.semantics.specs.Refusals.{Judged, refused, accepted, ◌>>=◌, ◌>>◌, ensure, refusal_of}
 use Rattle.semantics.specs.Plant.{Plant}
 use Rattle.semantics.specs.Starts.{Start}
 use Rattle.semantics.specs.Calls.{Ran, judge_admission, judge_run, table_run_of, event_count, record_size, room_for_records}
 use Rattle.semantics.proofs.Judging as Judging
-use Rattle.semantics.proofs.EditionBytes.{edition-told}
 use Rattle.semantics.proofs.Admission.{Admits, start-judged, admission-passed}
 use Rattle.semantics.proofs.FirstNumber.{admission-first}
 use Rattle.semantics.proofs.CallsHold.{accepted-of}
@@ -23,7 +22,6 @@ use Rattle.schedules.specs.Compiling.{judge_table_of, judge_compile}
 use Rattle.schedules.specs.Calls as S
 use Rattle.schedules.specs.Calls.{rule_program, rule_run_of, compile, compiled_into}
 use Rattle.schedules.proofs.Agreement.{Taken, compile-taken}
-use Rattle.schedules.proofs.FileEditions.{table-edition}
 use Rattle.schedules.specs.Exam as Exam
 use Rattle.schedules.specs.Exam.{judge_exam, agreed, reported, refused_exam, exam_table, examined, exam_of}
 use Rattle.exam.specs.Examining.{examined_with, Room}
@@ -109,16 +107,11 @@ pub record Admitted (ed : Edition) (file start events table records others : Lis
   pub schedule : Schedule
   pub schedule_read : judge_file ed file ≡ accepted schedule
   pub judged : judge_exam ed file start events table records others ≡ accepted (event_count ed events * record_size ed schedule.plant)
-  pub taken : (compile ed file table).refusal ≡ 0
   pub compiled : (compile ed file table).written ≤ length (compile ed file table).table
 
 table-long : (ed : Edition) (file table : List ℕ) {t : List ℕ} → judge_compile ed file table ≡ accepted t → (compile ed file table).written ≤ length (compile ed file table).table
 unfolding compile compiled_into overwrite
 table-long ed file table {t} e = rw e (simp length-append (omega arith))
-
-table_taken : (ed : Edition) (file table : List ℕ) {t : List ℕ} → judge_compile ed file table ≡ accepted t → (compile ed file table).refusal ≡ 0
-unfolding compile compiled_into
-table_taken ed file table e = rw e refl
 
 pub admitted : (ed : Edition) (file start events table records others : List ℕ) → refusal_of (judge_exam ed file start events table records others) ≡ 0 → Admitted ed file start events table records others
 unfolding judge_exam
@@ -130,7 +123,6 @@ admitted ed file start events table records others z =
       schedule = k.of;
       schedule_read = k.of_file;
       judged = x.1 ∙ ap accepted (sym (exam-length ed file start events table records others k.of_file x.1));
-      taken = table_taken ed file table a.1;
       compiled = table-long ed file table a.1;
     }
 
@@ -214,14 +206,3 @@ module _ (ed : Edition) (file start events table records others : List ℕ) wher
       go : (j : Judged ℕ) → n ≡ refusal_of j → refused_exam n table records others ≡ examined ed file start events table records others j
       go (refused m) e = ap (λ n. refused_exam n table records others) e
       go (accepted m) e = absurd (z e)
-
--- ---- the table is run by its own byte 0, which is its file's
-module _ (file start events table records others : List ℕ) {m l k : ℕ} {tb : List ℕ} (h : returned m l k tb ≡ compile (edition_in file) file table)
-    (z : refusal_of (judge_exam (edition_in file) file start events table records others) ≡ 0) where
-  own-edition : edition_in (take l tb) ≡ edition_in file
-  own-edition =
-      let a = admitted (edition_in file) file start events table records others z in
-      edition-told (subst (λ (x : S.Compiled). OfEdition (take x.written x.table) (edition_in file)) (sym h) (table-edition file table a.taken))
-
-  pub by-own : {x : Ran} → x ≡ table_run_of (edition_in (take l tb)) (take l tb) start events others → x ≡ table_run_of (edition_in file) (take l tb) start events others
-  by-own e = e ∙ ap (λ d. table_run_of d (take l tb) start events others) own-edition

@@ -1,6 +1,6 @@
 // The call "examining": a schedule compiled, run by the rules and run by its table, and the two runs compared.
 ghost use Rattle.std.specs.Prelude.{◌≡◌, List, ℕ, ◌≤◌, length};
-ghost use Rattle.semantics.specs.Editions.{edition_in};
+ghost use Rattle.semantics.specs.Editions.{edition1};
 ghost use Rattle.semantics.specs.Refusals.{refusal_of, accepted};
 ghost use Rattle.semantics.specs.Calls.{records_size};
 ghost use Rattle.schedules.specs.Files.{Schedule, judge_file};
@@ -48,7 +48,7 @@ fn judged(
     others: usize,
 ) -> u8
     ensures { (es ts rs os : List ℕ) → length es ≡ events → length ts ≡ table → length rs ≡ records → length os ≡ others
-        → result ≡ refusal_of (judge_exam (edition_in file.now) file.now start.now es ts rs os) }
+        → result ≡ refusal_of (judge_exam edition1 file.now start.now es ts rs os) }
 {
     let m = compiler::call::measure(file);
     let first = m.refusal;
@@ -68,10 +68,10 @@ fn judged(
 
 // the length of a run's records, for which there is room
 fn records_length(file: &[u8], events: &[u8], records: &[u8]) -> usize
-    requires { Room (edition_in file.now) file.now events.now records.now }
-    ensures { (s : Schedule) → judge_file (edition_in file.now) file.now ≡ accepted s → result ≡ records_size (edition_in file.now) s.plant events.now }
+    requires { Room edition1 file.now events.now records.now }
+    ensures { (s : Schedule) → judge_file edition1 file.now ≡ accepted s → result ≡ records_size edition1 s.plant events.now }
 {
-    let ed = edition::of(file);
+    let ed = Edition::First;
     let s = schedule_read::call::read(file);
     events.len() / edition::event_bytes(ed) * records::record_length(s.variables, s.selectors, ed)
 }
@@ -100,9 +100,9 @@ fn agreed(r: Ran, t: Ran, a: &[u8], b: &[u8]) -> bool
 
 // the same of the whole record buffers
 fn compared(file: &[u8], events: &[u8], r: Ran, t: Ran, a: &[u8], b: &[u8]) -> bool
-    requires { Room (edition_in file.now) file.now events.now a.now × Room (edition_in file.now) file.now events.now b.now }
-    ensures { (s : Schedule) → judge_file (edition_in file.now) file.now ≡ accepted s
-        → result ≡ Exam.agreed (records_size (edition_in file.now) s.plant events.now) (ran_with r a.now) (ran_with t b.now) }
+    requires { Room edition1 file.now events.now a.now × Room edition1 file.now events.now b.now }
+    ensures { (s : Schedule) → judge_file edition1 file.now ≡ accepted s
+        → result ≡ Exam.agreed (records_size edition1 s.plant events.now) (ran_with r a.now) (ran_with t b.now) }
 {
     let size = records_length(file, events, a);
     agreed(r, t, &a[..size], &b[..size])
@@ -117,7 +117,7 @@ pub fn examine(
     others: &mut [u8],
 ) -> Examined
     ensures { examined_with result table.new records.new others.new
-        ≡ exam_of (edition_in file.now) file.now start.now events.now table.old records.old others.old }
+        ≡ exam_of edition1 file.now start.now events.now table.old records.old others.old }
 {
     let n = judged(
         file,

@@ -1,16 +1,17 @@
 // The start that a schedule file itself gives.
 ghost use Rattle.std.specs.Prelude.{◌≡◌};
-ghost use Rattle.semantics.specs.Editions.{edition_in};
+ghost use Rattle.semantics.specs.Editions.{edition1};
 ghost use Rattle.initial_start.specs.Held.{held};
 ghost use Rattle.initial_start.specs.Initial.{schedule_start};
 
 use super::Start;
+use edition::Edition;
 
 // none where the file is refused: no section of it stands anywhere then
 pub fn start(file: &[u8]) -> Start
-    ensures { result ≡ held (schedule_start (edition_in file.now) file.now) }
+    ensures { result ≡ held (schedule_start edition1 file.now) }
 {
-    let x = schedule_read::call::index(file, edition::of(file));
+    let x = schedule_read::call::index(file, Edition::First);
     let p = x.parts;
     super::between(
         file,

@@ -24,19 +24,17 @@ fn failed(program: &[u8], name: &[u8]) {
     os::fail(name);
 }
 
-fn overlong(program: &[u8], name: &[u8], most: usize, unit: &[u8]) {
+fn overlong(program: &[u8], name: &[u8], most: usize) {
     io::write_all(2, program);
     io::write_all(2, b": ");
     io::write_all(2, name);
-    io::write_all(2, b": more than ");
+    io::write_all(2, b": longer than ");
     io::print_decimal(2, most as u64);
-    io::write_all(2, b" ");
-    io::write_all(2, unit);
-    io::write_all(2, b"\n");
+    io::write_all(2, b" bytes\n");
 }
 
-// whether nothing follows what was read, the most that there may be
-fn ended(fd: i32, program: &[u8], name: &[u8], most: usize, unit: &[u8]) -> bool {
+// whether nothing follows what was read
+fn ended(fd: i32, program: &[u8], name: &[u8], most: usize) -> bool {
     let mut more = [0u8; 1];
     let got = libc::read(fd, &mut more);
     if got < 0 {
@@ -44,18 +42,18 @@ fn ended(fd: i32, program: &[u8], name: &[u8], most: usize, unit: &[u8]) -> bool
         return false;
     }
     if got > 0 {
-        overlong(program, name, most, unit);
+        overlong(program, name, most);
         return false;
     }
     true
 }
 
 // the file of an open descriptor; what a call of the system reads no contract can say
-fn read(fd: i32, program: &[u8], name: &[u8], buf: &mut [u8], most: usize, unit: &[u8]) -> Loaded
+fn read(fd: i32, program: &[u8], name: &[u8], buf: &mut [u8]) -> Loaded
     ensures { IsPrefixLen result.length buf.new }
 {
     let length = io::read_full(fd, buf);
-    if !ended(fd, program, name, most, unit) {
+    if !ended(fd, program, name, buf.len()) {
         return nothing(buf);
     }
     Loaded {
@@ -68,8 +66,7 @@ fn read(fd: i32, program: &[u8], name: &[u8], buf: &mut [u8], most: usize, unit:
 pub fn standard(program: &[u8], buf: &mut [u8]) -> Loaded
     ensures { IsPrefixLen result.length buf.new }
 {
-    let most = buf.len();
-    read(0, program, b"standard input", buf, most, b"bytes")
+    read(0, program, b"standard input", buf)
 }
 
 // standard input as far as the buffer goes; where it cannot be read, a message on standard error under the program's name
@@ -92,14 +89,6 @@ pub fn standard_front(program: &[u8], buf: &mut [u8]) -> Loaded
 pub fn load(i: usize, program: &[u8], buf: &mut [u8]) -> Loaded
     ensures { IsPrefixLen result.length buf.new }
 {
-    let most = buf.len();
-    load_units(i, program, buf, most, b"bytes")
-}
-
-// the same where the buffer holds so many of these units: the message speaks of them
-pub fn load_units(i: usize, program: &[u8], buf: &mut [u8], most: usize, unit: &[u8]) -> Loaded
-    ensures { IsPrefixLen result.length buf.new }
-{
     let mut path = io::buffer();
     let n = os::arg(i, &mut path);
     if os::errno() != 0 {
@@ -111,14 +100,7 @@ pub fn load_units(i: usize, program: &[u8], buf: &mut [u8], most: usize, unit: &
         failed(program, &path[..n]);
         return nothing(buf);
     }
-    let got = read(fd, program, &path[..n], buf, most, unit);
+    let got = read(fd, program, &path[..n], buf);
     libc::close(fd);
     got
-}
-
-// whether argument i is this word
-pub fn is_argument(i: usize, word: &[u8]) -> bool {
-    let mut given = io::buffer();
-    let n = os::arg(i, &mut given);
-    check::same(&given[..n], word)
 }

@@ -1,6 +1,6 @@
 // What a run of a table would answer to three events, with no record written.
 ghost use Rattle.std.specs.Prelude.{◌≡◌};
-ghost use Rattle.semantics.specs.Editions.{edition_in};
+ghost use Rattle.semantics.specs.Editions.{edition1};
 ghost use Rattle.edition.specs.Editions.{edition_of};
 ghost use Rattle.program.specs.Lent.{lent};
 ghost use Rattle.lookahead.specs.Ahead.{no_answers, three_answers};
@@ -95,20 +95,19 @@ fn lend(
 
 // The answers to three events at the start of a run of the table.
 pub fn three(table: &[u8], start: &[u8], a: Event, b: Event, c: Event) -> Answers
-    ensures { result ≡ three_answers (edition_in table.now) table.now start.now a b c }
+    ensures { result ≡ three_answers edition1 table.now start.now a b c }
 {
-    let ed = edition::of(table);
-    let x = table_read::call::index(table, ed);
+    let x = table_read::call::index(table, Edition::First);
     let unread = x.refusal;
     if unread != 0 {
         return refused(unread);
     }
     let plant = x.plant;
     // no events and no records: 20 alone is judged
-    let asked = start_read::admission::admit(plant, start, 0, 0, ed);
+    let asked = start_read::admission::admit(plant, start, 0, 0, Edition::First);
     let unfit = asked.refusal;
     if unfit != 0 {
         return refused(unfit);
     }
-    lend(x, asked, table, a, b, c, ed)
+    lend(x, asked, table, a, b, c, Edition::First)
 }

@@ -14,15 +14,10 @@ const SEED_MOST: u64 = 4294967295;
 // a count has 64 bits; the call's own limit is far below
 const COUNT_MOST: u64 = 18446744073709551615;
 
-// practice events are of the first edition
-const EVENT_BYTES: usize = 3;
-
-const EVENT_ROOM: usize = output::room::EVENTS * EVENT_BYTES;
-
-fn event_buffer() -> [u8; EVENT_ROOM]
+fn event_buffer() -> [u8; output::EVENT_ROOM]
     ensures { 30000 ≡ length result }
 {
-    [0; EVENT_ROOM]
+    [0; output::EVENT_ROOM]
 }
 
 // on standard error the program's name and what is wrong with an argument

@@ -13,7 +13,7 @@ use Rattle.semantics.specs.Editions.{Edition}
 use Rattle.semantics.proofs.Facts.{true-not-false}
 use Rattle.semantics.specs.Calls.{event_count, record_length_of, record_size}
 use Rattle.io.specs.Counts.{IsPrefixLen}
-use Rattle.output.specs.Written.{event_room, in_room, record_room_for, RecordsTake}
+use Rattle.output.specs.Written.{event_room, in_room, RecordsTake}
 
 pub counts : (n : ℕ) (l : List ℕ) → n ≤ length l → IsPrefixLen n l
 counts n l h = (h, sym (length-take-le n l h))
@@ -28,7 +28,7 @@ none_of n m h = rw (lt-leb n m h) refl
 module _ (ed : Edition) (e v s : ℕ) where
   -- no room
   outside : in_room ed e v s ≡ false → RecordsTake ed e v s 0
-  outside h = record { all = λ t. true-not-false (sym t ∙ h); none = λ f. refl; fits = omega arith }
+  outside h = record { all = λ t. true-not-false (sym t ∙ h); none = λ f. refl }
 
   -- what the code has for an event's bytes
   module _ {n : ℕ} (b : n ≡ ed.event_bytes) where
@@ -54,18 +54,16 @@ module _ (ed : Edition) (e v s : ℕ) where
 
       -- of a record's length
       module _ {size : ℕ} (k : size ≡ record_length_of ed v s) where
-        module _ (w : ed.set_bytes ≤ 32) (i : v ≤ 32) (j : s ≤ 16) where
-          pub records-few : e / n * size ≤ record_room_for
-          records-few =
-              let c : e / n < 10001 = (div-lt_iff_lt-mul {k = n} {x = e} {y = 10001} (omega (arith, ed.event_holds))).1 (omega (arith, ed.event_holds)) in
-              let d : size ≤ 177 = omega arith in
-              let q : e / n ≤ 10000 = omega arith in
-              mul-le-mul q d
+        pub records-are : v ≤ 32 → s ≤ 16 → RecordsTake ed e v s (e / n * size)
+        unfolding event_count record_size
+        records-are i j = record {
+          all = λ t p events x y z. rw (x, y, z, k, b) refl;
+          none = λ f. true-not-false (sym (in-room i j) ∙ f);
+        }
 
-          pub records-are : RecordsTake ed e v s (e / n * size)
-          unfolding event_count record_size
-          records-are = record {
-            all = λ t p events x y z. rw (x, y, z, k, b) refl;
-            none = λ f. true-not-false (sym (in-room i j) ∙ f);
-            fits = records-few;
-          }
+        pub records-few : ed.set_bytes ≤ 32 → v ≤ 32 → s ≤ 16 → e / n * size ≤ 1770000
+        records-few w i j =
+            let c : e / n < 10001 = (div-lt_iff_lt-mul {k = n} {x = e} {y = 10001} (omega (arith, ed.event_holds))).1 (omega (arith, ed.event_holds)) in
+            let d : size ≤ 177 = omega arith in
+            let q : e / n ≤ 10000 = omega arith in
+            mul-le-mul q d

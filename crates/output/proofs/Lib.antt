@@ -1,2 +1,1 @@
 mod Fronts
-pub mod TableRoom

@@ -1,13 +1,19 @@
 // What the programs share: how much of a buffer to write, and what is said where that fails.
-pub mod room; // room.rt: how much room the programs have
-
 ghost use Rattle.std.specs.Prelude.{◌≡◌, cond, leb, length};
 ghost use Rattle.io.specs.Counts.{IsPrefixLen};
 ghost use Rattle.edition.specs.Editions.{edition_of};
 ghost use Rattle.output.specs.Written.{RecordsTake};
 
 use edition::Edition;
-use room::EVENTS;
+
+// the programs have room for so many events
+const EVENTS: usize = 10000;
+
+// an event of the first edition, which the programs take, has so many bytes
+const EVENT_BYTES: usize = 3;
+
+// the bytes of so many events: the length of an array is fixed
+pub const EVENT_ROOM: usize = EVENTS * EVENT_BYTES;
 
 // a message of the program where a write failed; whether it did not
 pub fn noticed(program: &[u8], is_written: bool) -> bool

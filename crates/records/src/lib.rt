@@ -127,11 +127,11 @@ fn put_set(d: &mut [u8], i: usize, acting: &[u64; 4], ed: Edition) -> usize
 {
     let mut k = edition::set_words(ed);
     let mut at = i;
-    while 1 < k {
+    while 0 < k {
         k -= 1;
         at = put_word(d, at, acting[k]);
     }
-    put_word(d, at, acting[0])
+    at
 }
 
 // The values, four bytes each, at a place; the next place.

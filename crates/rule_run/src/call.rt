@@ -1,6 +1,6 @@
 // The call "running a schedule by the rules": 1 to 11, 34 and 12, then 20 to 22, then its events.
 ghost use Rattle.std.specs.Prelude.{◌≡◌, List, ℕ, length};
-ghost use Rattle.semantics.specs.Editions.{edition_in};
+ghost use Rattle.semantics.specs.Editions.{edition1};
 ghost use Rattle.edition.specs.Editions.{edition_of};
 ghost use Rattle.semantics.specs.Refusals.{refusal_of};
 ghost use Rattle.semantics.specs.Calls.{judge_run};
@@ -53,9 +53,9 @@ fn lend(
 }
 
 pub fn run(file: &[u8], start: &[u8], events: &[u8], records: &mut [u8]) -> Ran
-    ensures { ran_with result records.new ≡ rule_run_of (edition_in file.now) file.now start.now events.now records.old }
+    ensures { ran_with result records.new ≡ rule_run_of edition1 file.now start.now events.now records.old }
 {
-    let ed = edition::of(file);
+    let ed = Edition::First;
     let ix = schedule_read::call::index(file, ed);
     let first = ix.refusal;
     if first != 0 {
@@ -74,9 +74,9 @@ pub fn run(file: &[u8], start: &[u8], events: &[u8], records: &mut [u8]) -> Ran
 // 1 to 11, 34, 12, 20 to 22 in order, or 0: of a run with so many event bytes and a record buffer of so many bytes
 pub fn check(file: &[u8], start: &[u8], events: usize, room: usize) -> u8
     ensures { (es d : List ℕ) → length es ≡ events → length d ≡ room
-        → result ≡ refusal_of (judge_run (edition_in file.now) (rule_program (edition_in file.now) file.now) start.now es d) }
+        → result ≡ refusal_of (judge_run edition1 (rule_program edition1 file.now) start.now es d) }
 {
-    let ed = edition::of(file);
+    let ed = Edition::First;
     let ix = schedule_read::call::index(file, ed);
     let first = ix.refusal;
     if first != 0 {

@@ -1,14 +1,11 @@
 // What runrules and runtable share: a run of the files that the arguments name.
-pub mod events; // events.rt: the events from their file
-mod faults; // faults.rt: which event faulted
+mod faults;
 
 ghost use Rattle.std.specs.Prelude.{◌≡◌, length};
-ghost use Rattle.output.specs.Written.{record_room_for};
 ghost use Rattle.running.specs.Told.{asked, Chooses, given};
 
 use faults::Fault;
 use initial_start::Start;
-use output::room;
 use records::{Counts, Ran};
 
 // whether two or three files are named, of so many words with the program's own name
@@ -18,11 +15,17 @@ pub fn is_asked(words: usize) -> bool
     (words == 3) | (words == 4)
 }
 
-// for the records of 10,000 events of any edition, whatever the plant
-pub fn record_buffer() -> [u8; room::RECORD_ROOM]
-    ensures { record_room_for ≡ length result }
+pub fn event_buffer() -> [u8; output::EVENT_ROOM]
+    ensures { 30000 ≡ length result }
 {
-    [0; room::RECORD_ROOM]
+    [0; output::EVENT_ROOM]
+}
+
+// for the records of the events; a run whose records are longer is refused with 22
+pub fn record_buffer() -> [u8; 400000]
+    ensures { 400000 ≡ length result }
+{
+    [0; 400000]
 }
 
 // not whole where the third file could not be read

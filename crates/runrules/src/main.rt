@@ -2,6 +2,7 @@
 // Without START the run starts from the initial values and modes of the schedule itself.
 ghost use Rattle.std.specs.Prelude.{◌≡◌, length};
 
+use edition::Edition;
 use initial_start::Start;
 
 // no accepted schedule has more bytes
@@ -17,30 +18,9 @@ fn run(file: &[u8], events: &[u8], start: Start) {
     let mut records = running::record_buffer();
     let r = rule_run::call::run(file, &bytes[..k], events, &mut records);
     let x = schedule_read::call::read(file);
-    let ed = edition::of(file);
-    let n = output::records_length(events.len(), x.variables, x.selectors, ed);
-    let count = running::events::count(events, ed);
+    let n = output::records_length(events.len(), x.variables, x.selectors, Edition::First);
+    let count = events.len() / edition::event_bytes(Edition::First);
     running::tell(b"runrules", r, count, n, &records);
-}
-
-// from the start that is asked for
-fn run_from_start(words: usize, file: &[u8], events: &[u8]) {
-    let initial = initial_start::schedule::start(file);
-    let c = running::start(words, b"runrules", initial);
-    if !c.whole {
-        return;
-    }
-    run(file, events, c.start);
-}
-
-fn run_over_events(words: usize, file: &[u8]) {
-    let mut events = running::events::buffer();
-    let a = running::events::load(b"runrules", &mut events, edition::of(file));
-    if !a.whole {
-        return;
-    }
-    let n = a.length;
-    run_from_start(words, file, &events[..n]);
 }
 
 fn main() {
@@ -54,6 +34,17 @@ fn main() {
     if !a.whole {
         return;
     }
+    let mut events = running::event_buffer();
+    let b = input::load(2, b"runrules", &mut events);
+    if !b.whole {
+        return;
+    }
     let n = a.length;
-    run_over_events(words, &file[..n]);
+    let m = b.length;
+    let initial = initial_start::schedule::start(&file[..n]);
+    let c = running::start(words, b"runrules", initial);
+    if !c.whole {
+        return;
+    }
+    run(&file[..n], &events[..m], c.start);
 }

@@ -1,6 +1,16 @@
 // runtable TABLE EVENTS [START]: the records of a run on standard output, or the refusal as one byte; the counts, and which event faulted, on standard error.
 // Without START the run starts from the initial values and modes of the table itself.
+ghost use Rattle.std.specs.Prelude.{◌≡◌, length};
+
+use edition::Edition;
 use initial_start::Start;
+
+// no accepted table has more bytes
+fn table_buffer() -> [u8; 407570]
+    ensures { 407570 ≡ length result }
+{
+    [0; 407570]
+}
 
 fn run(table: &[u8], events: &[u8], start: Start) {
     let bytes = start.bytes;
@@ -8,30 +18,9 @@ fn run(table: &[u8], events: &[u8], start: Start) {
     let mut records = running::record_buffer();
     let r = table_run::call::run(table, &bytes[..k], events, &mut records);
     let x = table_read::call::read(table);
-    let ed = edition::of(table);
-    let n = output::records_length(events.len(), x.variables, x.selectors, ed);
-    let count = running::events::count(events, ed);
+    let n = output::records_length(events.len(), x.variables, x.selectors, Edition::First);
+    let count = events.len() / edition::event_bytes(Edition::First);
     running::tell(b"runtable", r, count, n, &records);
-}
-
-// from the start that is asked for
-fn run_from_start(words: usize, table: &[u8], events: &[u8]) {
-    let initial = initial_start::table::start(table);
-    let c = running::start(words, b"runtable", initial);
-    if !c.whole {
-        return;
-    }
-    run(table, events, c.start);
-}
-
-fn run_over_events(words: usize, table: &[u8]) {
-    let mut events = running::events::buffer();
-    let a = running::events::load(b"runtable", &mut events, edition::of(table));
-    if !a.whole {
-        return;
-    }
-    let n = a.length;
-    run_from_start(words, table, &events[..n]);
 }
 
 fn main() {
@@ -40,11 +29,22 @@ fn main() {
         io::write_all(2, b"runtable: usage: runtable TABLE EVENTS [START]\n");
         return;
     }
-    let mut table = output::room::table_buffer();
+    let mut table = table_buffer();
     let a = input::load(1, b"runtable", &mut table);
     if !a.whole {
         return;
     }
+    let mut events = running::event_buffer();
+    let b = input::load(2, b"runtable", &mut events);
+    if !b.whole {
+        return;
+    }
     let n = a.length;
-    run_over_events(words, &table[..n]);
+    let m = b.length;
+    let initial = initial_start::table::start(&table[..n]);
+    let c = running::start(words, b"runtable", initial);
+    if !c.whole {
+        return;
+    }
+    run(&table[..n], &events[..m], c.start);
 }

@@ -1,6 +1,6 @@
 // The call "reading a schedule": conditions 1 to 11, 34 and 12, in order.
 ghost use Rattle.std.specs.Prelude.{◌≡◌, List, ℕ, ◌≤◌, length, replicate};
-ghost use Rattle.semantics.specs.Editions.{edition_in};
+ghost use Rattle.semantics.specs.Editions.{edition1};
 ghost use Rattle.semantics.specs.Editions as papers;
 ghost use Rattle.edition.specs.Editions.{edition_of};
 ghost use Rattle.schedules.specs.Calls.{read_schedule};
@@ -196,9 +196,9 @@ pub fn index(file: &[u8], ed: Edition) -> ScheduleIndex
 }
 
 pub fn read(file: &[u8]) -> FileRead
-    ensures { result ≡ numbers (read_schedule (edition_in file.now) file.now) }
+    ensures { result ≡ numbers (read_schedule edition1 file.now) }
 {
-    let x = index(file, edition::of(file));
+    let x = index(file, Edition::First);
     let plant = x.plant;
     let nodes = x.nodes;
     FileRead {

@@ -8,7 +8,16 @@ mod locations; // locations.rt: locations and moves
 mod out; // out.rt: pieces of text
 mod plant; // plant.rt: variables and equations
 
+ghost use Rattle.std.specs.Prelude.{◌≡◌, length};
+
 use edition::Edition;
+
+// no accepted table has more bytes
+fn table_buffer() -> [u8; 407570]
+    ensures { 407570 ≡ length result }
+{
+    [0; 407570]
+}
 
 // the last piece of the output
 fn end() {
@@ -72,18 +81,24 @@ fn refused(n: u8) {
 fn show_accepted(t: &[u8]) {
     let n = refusal(t);
     if n == 0 {
-        show(t, edition::of(t));
+        show(t, Edition::First);
         end();
         return;
     }
     refused(n);
 }
 
+fn is_dot() -> bool {
+    let mut word = [0u8; 4];
+    os::arg(1, &mut word);
+    bytes::four(&word, 0) == 0x646F7400
+}
+
 // no argument, or the word dot
 fn is_usage() -> bool {
     let n = os::arg_count();
     if n == 2 {
-        return input::is_argument(1, b"dot");
+        return is_dot();
     }
     n < 2
 }
@@ -93,7 +108,7 @@ fn main() {
         io::write_all(2, b"showtable: usage: showtable [dot]\n");
         return;
     }
-    let mut table = output::room::table_buffer();
+    let mut table = table_buffer();
     let a = input::standard(b"showtable", &mut table);
     if !a.whole {
         return;

@@ -1,7 +1,7 @@
 // The call "reading a table": conditions 15 to 19, in order.
 ghost use Rattle.std.specs.Prelude.{◌≡◌, length};
 ghost use Rattle.edition.specs.Editions.{edition_of};
-ghost use Rattle.semantics.specs.Editions.{edition_in};
+ghost use Rattle.semantics.specs.Editions.{edition1};
 ghost use Rattle.semantics.specs.Calls.{read_table_of};
 ghost use Rattle.table_read.specs.TableIndex.{table_numbers, no_table_index, table_index, sections_index};
 ghost use Rattle.table_read.specs.Lent.{TablePrograms};
@@ -112,9 +112,9 @@ pub fn index(table: &[u8], ed: Edition) -> TableIndex
 }
 
 pub fn read(table: &[u8]) -> TableRead
-    ensures { result ≡ table_numbers (read_table_of (edition_in table.now) table.now) }
+    ensures { result ≡ table_numbers (read_table_of edition1 table.now) }
 {
-    let x = index(table, edition::of(table));
+    let x = index(table, Edition::First);
     TableRead {
         refusal: x.refusal,
         variables: x.plant.variables,

@@ -1,6 +1,6 @@
 // The call "running a table": 15 to 19, then 20 to 22, then its events.
 ghost use Rattle.std.specs.Prelude.{◌≡◌};
-ghost use Rattle.semantics.specs.Editions.{edition_in};
+ghost use Rattle.semantics.specs.Editions.{edition1};
 ghost use Rattle.edition.specs.Editions.{edition_of};
 ghost use Rattle.semantics.specs.Calls.{table_run_of};
 ghost use Rattle.table_read.specs.TableIndex.{table_index};
@@ -45,9 +45,9 @@ fn lend(
 }
 
 pub fn run(table: &[u8], start: &[u8], events: &[u8], records: &mut [u8]) -> Ran
-    ensures { ran_with result records.new ≡ table_run_of (edition_in table.now) table.now start.now events.now records.old }
+    ensures { ran_with result records.new ≡ table_run_of edition1 table.now start.now events.now records.old }
 {
-    let ed = edition::of(table);
+    let ed = Edition::First;
     let ix = table_read::call::index(table, ed);
     let first = ix.refusal;
     if first != 0 {

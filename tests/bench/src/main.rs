@@ -1,20 +1,16 @@
 //! The product against a plain and a fast implementation.
 //! bench [--rounds N] [--case NAME --who product|plain|fast] | --stack
 //! With --case only the calls of one are made, for a count of instructions; without, all are held to each other and timed.
-mod agreement;
 mod cases;
-mod deepest;
 #[allow(dead_code)]
 #[path = "../../differential/src/drafts.rs"]
 mod drafts;
-mod drawn;
 mod fast;
 #[path = "../../differential/src/forms.rs"]
 mod forms;
 #[allow(dead_code)]
 #[path = "../../differential/src/inputs.rs"]
 mod inputs;
-mod parts;
 #[allow(dead_code)]
 #[path = "../../differential/src/plain.rs"]
 mod plain;
@@ -22,14 +18,12 @@ mod product;
 #[path = "../../differential/src/random.rs"]
 mod random;
 mod stack;
-#[allow(dead_code)]
 #[path = "../../differential/src/tables.rs"]
 mod tables;
 
-use agreement::agree;
 use cases::Runs;
 use fast::{Compiled, Ran};
-use parts::{FIRST, SENIOR};
+use random::Random;
 use std::hint::black_box;
 
 #[derive(Clone, Copy, PartialEq)]
@@ -49,16 +43,14 @@ enum Work {
     Practice { seed: u32, count: u64 },
 }
 
-/// Rooms for any table of edition 1, and of edition 2.
 const ROOM: usize = 400_000;
-const SENIOR_ROOM: usize = 1_700_000;
 
 fn by_table(r: Runs) -> Work {
     let table = plain::whole_table(&r.file).expect("a schedule that compiles");
     Work::Table(table, r)
 }
 
-const NAMES: [&str; 22] = [
+const NAMES: [&str; 16] = [
     "compile-k8",
     "compile-mixed",
     "compile-widest",
@@ -75,20 +67,14 @@ const NAMES: [&str; 22] = [
     "table-batch",
     "table-wide",
     "practice",
-    "compile-senior-mixed",
-    "compile-senior-widest",
-    "refuse-256",
-    "size-senior",
-    "rules-senior",
-    "table-senior",
 ];
 
 fn work(name: &str) -> Work {
     match name {
         "compile-k8" => Work::Compile(cases::ten_resets()),
         "compile-mixed" => Work::Compile(cases::mixed()),
-        "compile-widest" => Work::Compile(cases::widest(FIRST)),
-        "refuse-64" => Work::Compile(cases::too_many(FIRST)),
+        "compile-widest" => Work::Compile(cases::widest()),
+        "refuse-64" => Work::Compile(cases::too_many()),
         "size-k8" => Work::Size(cases::ten_resets()),
         "rules-filling" => Work::Rules(cases::filling()),
         "rules-vessels" => Work::Rules(cases::vessels()),
@@ -101,12 +87,6 @@ fn work(name: &str) -> Work {
         "table-batch" => by_table(cases::batch()),
         "table-wide" => by_table(cases::broad()),
         "practice" => Work::Practice { seed: 1, count: cases::EVENTS as u64 },
-        "compile-senior-mixed" => Work::Compile(cases::senior_mixed()),
-        "compile-senior-widest" => Work::Compile(cases::widest(SENIOR)),
-        "refuse-256" => Work::Compile(cases::too_many(SENIOR)),
-        "size-senior" => Work::Size(cases::senior_mixed()),
-        "rules-senior" => Work::Rules(cases::senior()),
-        "table-senior" => by_table(cases::senior()),
         _ => panic!("no case {name}; there are {NAMES:?}"),
     }
 }
@@ -185,16 +165,104 @@ fn perform(who: Who, w: &Work, out: &mut [u8]) -> [u64; 4] {
 }
 
 fn room(w: &Work) -> usize {
-    let records = |program: &[u8], r: &Runs| {
-        let e = plain::edition_of(program);
-        r.events.len() / e.event_bytes * e.record_bytes(r.start.len())
-    };
     match w {
-        Work::Compile(f) => if plain::edition_of(f) == SENIOR { SENIOR_ROOM } else { ROOM },
+        Work::Compile(_) => ROOM,
         Work::Size(_) => 0,
-        Work::Rules(r) => records(&r.file, r),
-        Work::Table(t, r) => records(t, r),
+        Work::Rules(r) | Work::Table(_, r) => r.events.len() / 3 * (9 + r.start.len()),
         Work::Practice { count, .. } => 3 * *count as usize,
+    }
+}
+
+/// The same from all three, buffers included.
+fn agree(name: &str, w: &Work, room: usize) -> [u64; 4] {
+    let gave: Vec<_> = ALL
+        .iter()
+        .map(|who| {
+            let mut out = vec![0xA5; room];
+            (perform(*who, w, &mut out), out)
+        })
+        .collect();
+    for (i, g) in gave.iter().enumerate() {
+        assert!(g.0 == gave[1].0, "{name}: {:?} by the plain one, {:?} by number {i}", gave[1].0, g.0);
+        assert!(g.1 == gave[1].1, "{name}: the bytes of number {i} differ from the plain one's");
+    }
+    if let (Work::Compile(_), [0, length, comparisons, _]) = (w, gave[1].0) {
+        assert_eq!(comparisons, tables::comparisons(&gave[1].1[..length as usize]), "{name}: the table's bytes tell other comparisons");
+    }
+    gave[1].0
+}
+
+/// The examples with any events, and damaged files and tables.
+fn agree_beside() {
+    for (i, f) in cases::EXAMPLES.iter().enumerate() {
+        for seed in 0..50 {
+            let runs = cases::example(f, 100 * i as u64 + seed, 300);
+            let name = format!("example {i} seed {seed}");
+            let room = 300 * (9 + runs.start.len());
+            let table = plain::whole_table(f).unwrap();
+            agree(&name, &Work::Compile(f.to_vec()), ROOM);
+            agree(&name, &Work::Size(f.to_vec()), 0);
+            agree(&name, &Work::Rules(cases::example(f, 100 * i as u64 + seed, 300)), room);
+            agree(&name, &Work::Table(table.clone(), runs), room);
+            damaged(f, &table, &name, seed);
+        }
+    }
+}
+
+/// A byte changed here and there: the same refusals.
+fn damaged(file: &[u8], table: &[u8], name: &str, seed: u64) {
+    let mut r = Random::new(seed + 7);
+    for _ in 0..40 {
+        let mut f = file.to_vec();
+        let mut t = table.to_vec();
+        for _ in 0..1 + r.below(2) {
+            let (a, b) = (r.below(f.len()), r.below(t.len()));
+            f[a] = f[a].wrapping_add([1, 255, 2, r.below(256) as u8][r.below(4)]);
+            t[b] = t[b].wrapping_add([1, 255, 2, r.below(256) as u8][r.below(4)]);
+        }
+        let runs = || cases::example(file, seed, 20);
+        let room = 20 * (9 + runs().start.len());
+        agree(name, &Work::Compile(f.clone()), 2_000);
+        agree(name, &Work::Size(f.clone()), 0);
+        agree(name, &Work::Rules(Runs { file: f, ..runs() }), room);
+        agree(name, &Work::Table(t, runs()), room);
+    }
+}
+
+/// A start and events for a schedule or a table.
+fn drawn_runs(r: &mut Random, by_table: bool, program: &[u8]) -> Runs {
+    let initial = plain::initial_start(program).unwrap_or_else(|| vec![0; 5]);
+    let start = inputs::start(r, &initial);
+    let events = inputs::events(r, by_table, program, &start);
+    Runs { file: program.to_vec(), start, events }
+}
+
+/// Schedules and tables by the makers of tests/differential, which reach faults on either side in every place, and 34 beside 11 and 12.
+fn agree_drawn() {
+    let mut r = Random::new(5);
+    for i in 0..5_000 {
+        let file = inputs::file(&mut r);
+        let name = format!("drawn schedule {i}");
+        agree(&name, &Work::Compile(file.clone()), 70_000);
+        agree(&name, &Work::Size(file.clone()), 0);
+        let w = Work::Rules(drawn_runs(&mut r, false, &file));
+        agree(&name, &w, room(&w));
+        let table = inputs::table(&mut r, plain::whole_table(&file).ok().as_ref());
+        let runs = drawn_runs(&mut r, true, &table);
+        let w = Work::Table(table, runs);
+        agree(&format!("drawn table {i}"), &w, room(&w));
+    }
+}
+
+/// Practice events: random seeds, and counts and rooms about their limits.
+fn agree_practice() {
+    let mut r = Random::new(3);
+    for count in [0, 1, 2, 300, 9_999, 10_000, 10_001, 1 << 32, (1 << 32) + 1, u64::MAX / 3 + 1, u64::MAX] {
+        for more in [0, 1, 2, 3, 4, 40] {
+            let room = (3 * count.min(10_002) as usize + more).saturating_sub(3);
+            let seed = r.word() as u32;
+            agree(&format!("practice {seed} {count} {room}"), &Work::Practice { seed, count }, room);
+        }
     }
 }
 
@@ -240,9 +308,11 @@ fn timed(w: &Work, rounds: usize) -> [(u64, u64); 3] {
 }
 
 fn all(rounds: usize, only: Option<&str>) {
-    agreement::all();
-    println!("Least times of {rounds} rounds in microseconds, their ratios, those of the middle times, what the call gave.");
-    println!("{:21} {:>10} {:>10} {:>10} {:>8} {:>8}", "case", "product", "plain", "fast", "/ plain", "/ fast");
+    agree_beside();
+    agree_drawn();
+    agree_practice();
+    println!("Least times of {rounds} rounds in microseconds and their ratios, then the ratios of the middle times, then what the call gave.");
+    println!("{:16} {:>10} {:>10} {:>10} {:>8} {:>8}", "case", "product", "plain", "fast", "/ plain", "/ fast");
     for name in NAMES.iter().filter(|n| only.is_none_or(|o| o == **n)) {
         let w = work(name);
         let gave = agree(name, &w, room(&w));
@@ -250,7 +320,7 @@ fn all(rounds: usize, only: Option<&str>) {
         let us = |n: u64| n as f64 / 1000.0;
         let ratio = |x: u64, y: u64| x as f64 / y as f64;
         println!(
-            "{name:21} {:10.1} {:10.1} {:10.1} {:8.3} {:8.2}   {:.3} {:.2}   {gave:?}",
+            "{name:16} {:10.1} {:10.1} {:10.1} {:8.3} {:8.2}   {:.3} {:.2}   {gave:?}",
             us(p.0),
             us(a.0),
             us(b.0),

@@ -1,10 +1,9 @@
 //! What a call of the product takes of its caller's stack: it runs on a painted stack of its own.
-use crate::{cases, deepest};
-use crate::plain::{self, edition_of, Edition, EDITIONS};
-use crate::{by_table, perform, product, room, work, Runs, Who, Work, NAMES};
+use crate::cases;
+use crate::{perform, product, room, work, Runs, Who, Work, NAMES};
 use std::ffi::c_void;
 
-const SIZE: usize = 1 << 22;
+const SIZE: usize = 1 << 20;
 const PAINT: u8 = 0xA5;
 
 #[repr(C, align(16))]
@@ -72,70 +71,42 @@ fn taken(c: Option<Call>, out: &mut [u8]) -> usize {
     SIZE - stack.0.iter().position(|b| *b != PAINT).unwrap_or(SIZE)
 }
 
-/// What is called: the cases, and nests, expressions and plants as large as the edition takes.
-fn works() -> Vec<Work> {
-    let mut works: Vec<Work> = NAMES.iter().map(|n| work(n)).collect();
-    for edition in EDITIONS {
-        let mut files = deepest::nests(edition);
-        files.push(deepest::largest_plant(edition));
-        for file in files {
-            let start = plain::initial_start(&file).expect("a start");
-            let runs = || Runs { file: file.clone(), start: start.clone(), events: deepest::events(edition) };
-            works.push(Work::Compile(file.clone()));
-            works.push(Work::Size(file.clone()));
-            works.push(Work::Table(plain::whole_table(&file).expect("a table"), runs()));
-            works.push(Work::Rules(runs()));
-        }
-        works.push(by_table(cases::no_events(edition)));
-    }
-    works
-}
-
-const KINDS: [&str; 7] = [
-    "compiling",
-    "a run by the rules",
-    "a run of a table",
-    "the size of a schedule",
-    "practice events",
-    "reading a schedule",
-    "reading a table",
-];
-
-/// The call of a case and its kind, and where it runs something the reading of that.
-fn calls(w: &Work) -> Vec<(usize, Call<'_>)> {
-    let make = Call::Make(w);
-    match w {
-        Work::Compile(_) => vec![(0, make)],
-        Work::Rules(r) => vec![(1, make), (5, Call::ReadSchedule(&r.file))],
-        Work::Table(t, _) => vec![(2, make), (6, Call::ReadTable(t))],
-        Work::Size(_) => vec![(3, make)],
-        Work::Practice { .. } => vec![(4, make)],
-    }
-}
-
-fn edition(w: &Work) -> Edition {
-    match w {
-        Work::Compile(bytes) | Work::Size(bytes) | Work::Table(bytes, _) => edition_of(bytes),
-        Work::Rules(r) => edition_of(&r.file),
-        Work::Practice { .. } => EDITIONS[0],
-    }
-}
-
-/// The most that each kind of call takes, by edition.
+/// The most that each kind of call takes: over the cases, nests of 63 of each kind, and expressions of depth 16.
 pub fn measure() {
+    let mut works: Vec<Work> = NAMES.iter().map(|n| work(n)).collect();
+    for file in cases::deep() {
+        let runs = || Runs { file: file.clone(), start: vec![0; 4], events: cases::picks() };
+        works.push(Work::Compile(file.clone()));
+        works.push(Work::Size(file.clone()));
+        works.push(Work::Table(crate::plain::whole_table(&file).expect("a table"), runs()));
+        works.push(Work::Rules(runs()));
+    }
     let own = taken(None, &mut []);
-    let mut most = [[0; 2]; KINDS.len()];
-    for w in &works() {
+    let mut most = [0; 7];
+    for w in &works {
+        let (kind, read) = match w {
+            Work::Compile(_) => (0, None),
+            Work::Rules(r) => (1, Some((5, Call::ReadSchedule(&r.file)))),
+            Work::Table(t, _) => (2, Some((6, Call::ReadTable(t)))),
+            Work::Size(_) => (3, None),
+            Work::Practice { .. } => (4, None),
+        };
         let mut out = vec![0; room(w)];
         assert!(matches!(perform(Who::Product, w, &mut out)[0], 0 | 13), "a case that is refused");
-        let version = edition(w).version as usize;
-        for (kind, c) in calls(w) {
-            let n = &mut most[kind][version - 1];
-            *n = (*n).max(taken(Some(c), &mut out) - own);
+        for (kind, c) in [Some((kind, Call::Make(w))), read].into_iter().flatten() {
+            most[kind] = most[kind].max(taken(Some(c), &mut out) - own);
         }
     }
-    println!("Bytes of stack, in edition 1 and in edition 2; practice events are always of edition 1.");
-    for (name, [first, senior]) in KINDS.iter().zip(most) {
-        println!("{name:23} {first:7} {senior:7}");
+    let names = [
+        "compiling",
+        "a run by the rules",
+        "a run of a table",
+        "the size of a schedule",
+        "practice events",
+        "reading a schedule",
+        "reading a table",
+    ];
+    for (name, n) in names.iter().zip(most) {
+        println!("{name}: {n} bytes of stack");
     }
 }

@@ -1,9 +1,13 @@
 //! Schedules with many PARALLELs, starts for them, and events that are chosen with the run in view.
-use crate::drafts::{self, CONTINUE, Draft, Equation, IF, PARALLEL, RESET, SEQUENCE, STOP, SWITCH, WHILE, Width};
-use crate::forms::{self, constant};
-use crate::plain::{self, Edition};
+use crate::drafts::{self, Draft, Equation};
+use crate::forms;
+use crate::plain;
 use crate::random::Random;
-use crate::trees::is_assignment;
+use crate::trees::{CONTINUE, IF, PARALLEL, STOP, WHILE, is_assignment};
+
+fn constant(z: i32) -> Vec<u8> {
+    [vec![0x01], z.to_be_bytes().to_vec()].concat()
+}
 
 fn small(r: &mut Random) -> Vec<u8> {
     constant(r.below(21) as i32 - 10)
@@ -59,9 +63,9 @@ fn leaf(r: &mut Random, kit: &Kit) -> Vec<u8> {
         0 => vec![STOP],
         1 | 2 if !kit.selectors.is_empty() => {
             let s = r.below(kit.selectors.len());
-            vec![SWITCH, s as u8, r.below(kit.selectors[s]) as u8]
+            vec![8, s as u8, r.below(kit.selectors[s]) as u8]
         }
-        _ => [vec![RESET, r.below(kit.variables) as u8], number(r, kit.variables)].concat(),
+        _ => [vec![6, r.below(kit.variables) as u8], number(r, kit.variables)].concat(),
     }
 }
 
@@ -84,7 +88,7 @@ fn tree(r: &mut Random, n: usize, kit: &Kit, out: &mut Vec<Vec<u8>>) {
     let kind = match r.below(8) {
         0 => WHILE,
         1 if n > 2 => IF,
-        2 => SEQUENCE,
+        2 => 1,
         _ => PARALLEL,
     };
     let parts = match kind {
@@ -102,12 +106,10 @@ fn tree(r: &mut Random, n: usize, kit: &Kit, out: &mut Vec<Vec<u8>>) {
     }
 }
 
-/// Mostly few, now and then up to the edition's limit.
-fn node_count(r: &mut Random, limit: usize) -> usize {
-    match r.below(60) {
-        0 => limit,
-        1 | 2 => 16 + r.below(limit - 16),
-        3..=5 => 16 + r.below(30),
+fn node_count(r: &mut Random) -> usize {
+    match r.below(40) {
+        0 => 64,
+        1..=3 => 16 + r.below(30),
         _ => 3 + r.below(12),
     }
 }
@@ -123,21 +125,21 @@ fn variables(r: &mut Random, n: usize) -> Vec<[i32; 3]> {
     l
 }
 
-fn draft(r: &mut Random, edition: Edition, equations: Vec<Equation>, n: usize, waits: usize) -> Draft {
-    let mut d = Draft::new(edition, variables(r, n), equations, Vec::new());
-    let count = node_count(r, edition.node_limit);
+fn draft(r: &mut Random, equations: Vec<Equation>, n: usize, waits: usize) -> Draft {
+    let mut d = Draft { variables: variables(r, n), equations, nodes: Vec::new(), miscounted: [0; 3] };
+    let count = node_count(r);
     tree(r, count, &Kit { variables: n, selectors: &d.selectors(), waits }, &mut d.nodes);
     d.part_assignments();
     d
 }
 
 /// A schedule whose equations are all of kind 1, most leaves of which assign.
-pub fn without_case(r: &mut Random, edition: Edition) -> Draft {
+pub fn without_case(r: &mut Random) -> Draft {
     let n = 2 + r.below(7);
     let driven: Vec<u8> = (0..n as u8).filter(|_| r.one_in(4)).collect();
     let equations = driven.into_iter().map(|v| Equation::Steady(v, r.below(7) as i32 - 3)).collect();
     let waits = r.of(&[0, 1, 2]);
-    draft(r, edition, equations, n, waits)
+    draft(r, equations, n, waits)
 }
 
 /// A flaw in one node that leaves the tree as it is: 11, 34 or 12.
@@ -155,22 +157,22 @@ fn flaw(r: &mut Random, d: &mut Draft) {
 }
 
 /// About 1,024 locations: 1,023 of ten assignments, and one for each before them.
-fn border(r: &mut Random, edition: Edition) -> Draft {
+fn border(r: &mut Random) -> Draft {
     let (stops, before) = (r.below(4), r.below(4));
-    drafts::wide(r, edition, Width { assignments: 10, stops, before })
+    drafts::wide(r, 10, stops, before)
 }
 
 /// Any schedule: CASEs, many CONTINUEs, no other leaves than CONTINUEs, about 1,024 locations, now and then a flaw.
-pub fn any(r: &mut Random, edition: Edition) -> Draft {
+pub fn any(r: &mut Random) -> Draft {
     let n = 1 + r.below(5);
     let steep = r.one_in(6);
     let equations = drafts::equations(r, n, steep);
     let mut d = match r.below(400) {
-        0 => border(r, edition),
-        1..=80 => drafts::sound_of(r, edition),
-        81..=160 => draft(r, edition, equations, n, 8),
-        161..=280 => draft(r, edition, equations, n, 5),
-        _ => draft(r, edition, equations, n, 2),
+        0 => border(r),
+        1..=80 => drafts::sound(r),
+        81..=160 => draft(r, equations, n, 8),
+        161..=280 => draft(r, equations, n, 5),
+        _ => draft(r, equations, n, 2),
     };
     if r.one_in(25) {
         flaw(r, &mut d);
@@ -195,32 +197,30 @@ pub fn start(r: &mut Random, d: &Draft) -> Vec<u8> {
 }
 
 /// An event for a run of which these nodes act. A STOP would end it, and is seldom picked.
-fn event(r: &mut Random, d: &Draft, acting: &[usize]) -> Vec<u8> {
-    let e = d.edition;
+fn event(r: &mut Random, nodes: &[Vec<u8>], acting: &[usize]) -> [u8; 3] {
     match r.below(24) {
         0..=12 if !acting.is_empty() => {
             let (n, instead) = (r.of(acting), r.of(acting));
-            e.pick(if d.nodes[n][0] == STOP { instead } else { n })
+            [1, if nodes[n][0] == STOP { instead } else { n } as u8, 0]
         }
-        0..=18 => e.tick(),
-        19 | 20 => e.switch(r.below(3) as u8, r.below(3) as u8),
-        21 => e.pick(r.below(e.node_limit + 6)),
-        22 => (0..e.event_bytes).map(|k| r.byte() % if k == 0 { 4 } else { 2 }).collect(),
-        _ => r.bytes(e.event_bytes),
+        0..=18 => [0, 0, 0],
+        19 | 20 => [2, r.below(3) as u8, r.below(3) as u8],
+        21 => [1, r.byte() % 70, 0],
+        22 => [r.byte() % 4, r.byte() % 2, r.byte() % 2],
+        _ => [r.byte(), r.byte(), r.byte()],
     }
 }
 
 /// These events and so many more, few of them after the end of the run.
 pub fn extended(r: &mut Random, d: &Draft, start: &[u8], list: &[u8], more: usize) -> Vec<u8> {
-    let bytes = d.edition.event_bytes;
-    let mut given = list.chunks(bytes);
+    let mut given = list.chunks(3);
     let mut choose = |acting: &[usize]| match given.next() {
-        Some(e) => Some(e.to_vec()),
+        Some(e) => Some([e[0], e[1], e[2]]),
         None if acting.is_empty() && r.one_in(3) => None,
-        None => Some(event(r, d, acting)),
+        None => Some(event(r, &d.nodes, acting)),
     };
-    let rehearsed = plain::rehearse_rules(&d.file(), start, list.len() / bytes + more, &mut choose);
-    rehearsed.unwrap_or_else(|| (0..more).flat_map(|_| event(r, d, &[])).collect())
+    let rehearsed = plain::rehearse_rules(&d.file(), start, list.len() / 3 + more, &mut choose);
+    rehearsed.unwrap_or_else(|| (0..more).flat_map(|_| event(r, &d.nodes, &[])).collect())
 }
 
 /// Events up to a place where two assignments act, and the nodes that act behind the last one.
@@ -231,7 +231,7 @@ pub fn front(r: &mut Random, d: &Draft, start: &[u8]) -> (Vec<u8>, Vec<usize>) {
         last = acting.to_vec();
         let enough = acting.iter().filter(|n| is_assignment(&d.nodes[**n])).count() >= 2;
         made += 1;
-        if made > most || enough && r.one_in(4) { None } else { Some(event(r, d, acting)) }
+        if made > most || enough && r.one_in(4) { None } else { Some(event(r, &d.nodes, acting)) }
     };
     let list = plain::rehearse_rules(&d.file(), start, most + 1, &mut choose).expect("a sound schedule");
     (list, last)

@@ -1,8 +1,8 @@
-//! Holds the product to two statements about branches, on schedules of both editions from a seed:
+//! Holds the product to two statements about branches, on inputs from a seed:
 //! A. picks of two independent acting assignments may change places;
 //! B. children of a PARALLEL may change places, and the runs correspond.
 //! branches [SEED [SECONDS]]
-//! Status 1 at a difference, and where the inputs of the whole run do not reach what they are to reach in each edition.
+//! Status 1 at a difference, and where the inputs of the whole run do not reach what they are to reach.
 mod drawn;
 mod orders;
 mod reordered;
@@ -24,7 +24,6 @@ mod product;
 #[path = "../../differential/src/random.rs"]
 mod random;
 
-use plain::EDITIONS;
 use random::Random;
 use std::time::{Duration, Instant};
 use tally::Tally;
@@ -35,17 +34,16 @@ fn main() {
     let seconds = words.next().map_or(60, |w| w.parse().expect("a number of seconds"));
     let since = Instant::now();
     let mut r = Random::new(seed);
-    let mut tallies = EDITIONS.map(Tally::new);
+    let mut t = Tally::default();
     while since.elapsed() < Duration::from_secs(seconds) {
         let statement = if r.one_in(2) { orders::input } else { reordered::input };
-        let k = r.below(EDITIONS.len());
-        if let Err(d) = statement(&mut r, EDITIONS[k], &mut tallies[k]) {
+        if let Err(d) = statement(&mut r, &mut t) {
             println!("seed {seed}");
             d.print();
             std::process::exit(1);
         }
     }
     println!("seed {seed}, {seconds} s, 0 differences");
-    tallies.iter().for_each(Tally::print);
-    std::process::exit(tallies.iter().any(|t| !t.unreached().is_empty()) as i32);
+    t.print();
+    std::process::exit(!t.unreached().is_empty() as i32);
 }

@@ -1,11 +1,10 @@
 //! A. Two acting assignments, neither's variable in the other's statement, picked in one order and in the other.
-use crate::drafts::{Draft, IF, PARALLEL, REINITIAL, STOP, WHILE};
+use crate::drafts::Draft;
 use crate::drawn;
-use crate::plain::Edition;
 use crate::product::{self, Given};
 use crate::random::Random;
 use crate::tally::{Difference, Tally, ran, rooms};
-use crate::trees::{above, is_assignment, meeting, path};
+use crate::trees::{IF, PARALLEL, STOP, WHILE, above, is_assignment, meeting, path};
 
 /// The variable of an assignment and those of its number.
 fn statement(node: &[u8]) -> Vec<u8> {
@@ -50,21 +49,21 @@ struct Tried {
 }
 
 /// None where no such pair acts.
-fn tried(r: &mut Random, edition: Edition, free: bool) -> Option<Tried> {
-    let draft = drawn::without_case(r, edition);
+fn tried(r: &mut Random, free: bool) -> Option<Tried> {
+    let draft = drawn::without_case(r);
     let start = drawn::start(r, &draft);
     let (front, acting) = drawn::front(r, &draft, &start);
     let pair = pair(r, &draft.nodes, &acting, free)?;
-    let [a, b] = pair.map(|n| edition.pick(n));
+    let picks = pair.map(|n| [1, n as u8, 0]);
     let more = r.below(8);
-    let one = drawn::extended(r, &draft, &start, &[&front[..], &a, &b].concat(), more);
-    let other = [&front[..], &b, &a, &one[front.len() + a.len() + b.len()..]].concat();
-    Some(Tried { draft, start, acting, pair, at: front.len() / edition.event_bytes, events: [one, other] })
+    let one = drawn::extended(r, &draft, &start, &[&front, &picks[0][..], &picks[1]].concat(), more);
+    let other = [&front, &picks[1][..], &picks[0], &one[front.len() + 6..]].concat();
+    Some(Tried { draft, start, acting, pair, at: front.len() / 3, events: [one, other] })
 }
 
 impl Tried {
     fn record<'a>(&self, x: &'a Given, k: usize) -> &'a [u8] {
-        let size = self.draft.edition.record_bytes(self.start.len());
+        let size = 9 + self.start.len();
         &x.buffer[k * size..(k + 1) * size]
     }
 
@@ -78,7 +77,7 @@ impl Tried {
 
     /// Both taken in one order exactly when in the other, and then the same from the second on; the same before in any case.
     fn corresponds(&self, [x, y]: &[Given; 2]) -> bool {
-        let count = self.events[0].len() / self.draft.edition.event_bytes;
+        let count = self.events[0].len() / 3;
         let same = |k: usize| self.record(x, k) == self.record(y, k);
         let taken = self.both_taken(x);
         taken == self.both_taken(y) && (0..self.at).all(same) && (!taken || x.numbers == y.numbers && (self.at + 1..count).all(same))
@@ -108,18 +107,15 @@ impl Tried {
         t.saw("in a WHILE below their PARALLEL", kinds.contains(&WHILE));
         t.saw("in an IF below their PARALLEL", kinds.contains(&IF));
         t.saw("a STOP acts beside", self.acting.iter().any(|n| nodes[*n][0] == STOP));
-        t.saw("a REINITIAL", self.pair.iter().any(|n| nodes[*n][0] == REINITIAL));
+        t.saw("a REINITIAL", self.pair.iter().any(|n| nodes[*n][0] == 7));
         let (first, second) = (self.answer(x, self.at), self.answer(x, self.at + 1));
         t.saw("201 at the second pick", second == 201);
         t.saw("a fault at the first pick", first > 202);
         t.saw("a fault at the second pick", second > 202);
-        let edition = self.draft.edition;
-        let events = self.events[0].chunks(edition.event_bytes).enumerate().skip(self.at + 2);
+        let events = self.events[0].chunks(3).enumerate().skip(self.at + 2);
         let after: Vec<(&[u8], u8)> = events.map(|(k, e)| (e, self.answer(x, k))).collect();
-        t.saw("a tick taken after both", after.contains(&(&edition.tick(), 200)));
+        t.saw("a tick taken after both", after.contains(&(&[0, 0, 0], 200)));
         t.saw("202 after both", after.iter().any(|(_, answer)| *answer == 202));
-        t.saw("a pair in a schedule of as many nodes as can be", nodes.len() == edition.node_limit);
-        t.saw("a pair above 63 in different words of the set", self.pair.iter().all(|n| *n > 63) && self.pair[0] / 64 != self.pair[1] / 64);
     }
 
     /// The file, and its table where it has one.
@@ -140,8 +136,8 @@ impl Tried {
 }
 
 /// A pair that meets: what differs is only counted, and shows that differences are found.
-fn control(r: &mut Random, edition: Edition, t: &mut Tally) {
-    let Some(x) = tried(r, edition, false) else { return };
+fn control(r: &mut Random, t: &mut Tally) {
+    let Some(x) = tried(r, false) else { return };
     t.meeting += 1;
     let mut differed = false;
     for (k, program) in x.programs(r).iter().enumerate() {
@@ -154,12 +150,12 @@ fn control(r: &mut Random, edition: Edition, t: &mut Tally) {
     t.meeting_differed += differed as u64;
 }
 
-pub fn input(r: &mut Random, edition: Edition, t: &mut Tally) -> Result<(), Box<Difference>> {
+pub fn input(r: &mut Random, t: &mut Tally) -> Result<(), Box<Difference>> {
     if r.one_in(4) {
-        control(r, edition, t);
+        control(r, t);
         return Ok(());
     }
-    let Some(x) = tried(r, edition, true) else { return Ok(()) };
+    let Some(x) = tried(r, true) else { return Ok(()) };
     for (k, program) in x.programs(r).iter().enumerate() {
         let given = [0, 1].map(|o: usize| ran(r, k == 1, program, &x.start, &x.events[o]));
         if given.iter().any(|g| g.refusal != 0) {

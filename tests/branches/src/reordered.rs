@@ -1,11 +1,11 @@
 //! B. A schedule and the same with children of PARALLELs in another order: their tables and their runs correspond.
-use crate::drafts::{CONTINUE, Draft, Equation, IF, PARALLEL, STOP, WHILE};
+use crate::drafts::{Draft, Equation};
 use crate::drawn;
-use crate::plain::{self, Edition};
+use crate::plain;
 use crate::product::{self, Given};
 use crate::random::Random;
 use crate::tally::{Difference, Tally, ran, rooms};
-use crate::trees::{self, Reordered, above};
+use crate::trees::{self, CONTINUE, IF, PARALLEL, Reordered, STOP, WHILE, above};
 
 /// A tick whose answer depends on the order in which the CONTINUEs are asked, and what it is in either order.
 struct Exempt {
@@ -26,21 +26,28 @@ struct Compared {
 }
 
 /// A pick of a node that is there becomes one of its new number; any other event stays.
-fn renumbered(edition: Edition, e: &[u8], numbers: &[usize]) -> Vec<u8> {
-    let named = (0..numbers.len()).find(|n| e == edition.pick(*n));
-    named.map_or(e.to_vec(), |n| edition.pick(numbers[n]))
+fn renumbered(e: &[u8], numbers: &[usize]) -> [u8; 3] {
+    match e {
+        [1, n, 0] if (*n as usize) < numbers.len() => [1, numbers[*n as usize] as u8, 0],
+        _ => [e[0], e[1], e[2]],
+    }
+}
+
+fn acting(record: &[u8]) -> Vec<usize> {
+    let set = u64::from_be_bytes(record[1..9].try_into().unwrap());
+    (0..64).filter(|n| set >> n & 1 == 1).collect()
 }
 
 /// The record with each acting node by its new number.
-fn renumbered_record(edition: Edition, record: &[u8], numbers: &[usize]) -> Vec<u8> {
-    let nodes: Vec<usize> = edition.acting(record).into_iter().map(|n| *numbers.get(n).unwrap_or(&n)).collect();
-    [&record[..1], &edition.set(&nodes), &record[edition.record_bytes(0)..]].concat()
+fn renumbered_record(record: &[u8], numbers: &[usize]) -> Vec<u8> {
+    let set = acting(record).into_iter().fold(0u64, |w, n| w | 1 << numbers.get(n).unwrap_or(&n));
+    [&record[..1], &set.to_be_bytes(), &record[9..]].concat()
 }
 
 /// How the plain implementation answers the pick of a CONTINUE that is the whole schedule.
 fn asked(d: &Draft, equations: &[Equation], node: &[u8], state: &[u8]) -> u8 {
-    let alone = Draft::new(d.edition, d.variables.clone(), equations.to_vec(), vec![node.to_vec()]);
-    plain::rule_run(&alone.file(), state, &d.edition.pick(0), usize::MAX).expect("a sound CONTINUE").records[0]
+    let alone = Draft { variables: d.variables.clone(), equations: equations.to_vec(), nodes: vec![node.to_vec()], miscounted: [0; 3] };
+    plain::rule_run(&alone.file(), state, &[1, 0, 0], usize::MAX).expect("a sound CONTINUE").records[0]
 }
 
 /// The switch check of this state stops nowhere: a CONTINUE that is never true is asked (29).
@@ -64,24 +71,22 @@ fn stopped_ticks(d: &Draft, start: &[u8], events: &[u8], numbers: &[usize]) -> O
     let records = plain::rule_run(&d.file(), start, events, usize::MAX).ok()?.records;
     let mut nodes = drawn::first_acting(d, start)?;
     let (mut state, mut alike) = (start, 0);
-    let edition = d.edition;
-    let records = records.chunks(edition.record_bytes(start.len()));
-    for (at, (e, record)) in events.chunks(edition.event_bytes).zip(records).enumerate() {
-        let stops = if e == edition.tick() { stops(d, state, &nodes, numbers) } else { Vec::new() };
+    for (at, (e, record)) in events.chunks(3).zip(records.chunks(9 + start.len())).enumerate() {
+        let stops = if e == [0, 0, 0] { stops(d, state, &nodes, numbers) } else { Vec::new() };
         if stops.iter().any(|x| x.1 != stops[0].1) {
             let first = stops.iter().min().unwrap();
             return Some((alike, Some(Exempt { at, answers: [stops[0].1, first.1] })));
         }
         alike += (stops.len() > 1) as u64;
-        nodes = edition.acting(record);
-        state = &record[edition.record_bytes(0)..];
+        nodes = acting(record);
+        state = &record[9..];
     }
     Some((alike, None))
 }
 
 /// None where chance changes no order.
-fn compared(r: &mut Random, edition: Edition) -> Option<Compared> {
-    let d = drawn::any(r, edition);
+fn compared(r: &mut Random) -> Option<Compared> {
+    let d = drawn::any(r);
     let order = trees::reordered(r, &d.nodes)?;
     let numbers = order.numbers();
     let nodes = order.order.iter().map(|n| d.nodes[*n].clone()).collect();
@@ -89,18 +94,14 @@ fn compared(r: &mut Random, edition: Edition) -> Option<Compared> {
     let start = drawn::start(r, &d);
     let count = 3 + r.below(28);
     let events = drawn::extended(r, &d, &start, &[], count);
-    let others = events.chunks(edition.event_bytes).flat_map(|e| renumbered(edition, e, &numbers)).collect();
+    let others = events.chunks(3).flat_map(|e| renumbered(e, &numbers)).collect();
     let (alike, exempt) = stopped_ticks(&d, &start, &events, &numbers).unwrap_or_default();
     Some(Compared { drafts: [d, other], order, numbers, start, events: [events, others], alike, exempt })
 }
 
 impl Compared {
-    fn edition(&self) -> Edition {
-        self.drafts[0].edition
-    }
-
     fn size(&self) -> usize {
-        self.edition().record_bytes(self.start.len())
+        9 + self.start.len()
     }
 
     /// The records up to an exempt tick; without one also the counts. At the tick each is the first's in its own order.
@@ -109,8 +110,7 @@ impl Compared {
             return x == y;
         }
         let until = self.exempt.as_ref().map_or(x.buffer.len(), |e| e.at * self.size());
-        let records = x.buffer[..until].chunks(self.size());
-        let wanted: Vec<u8> = records.flat_map(|c| renumbered_record(self.edition(), c, &self.numbers)).collect();
+        let wanted: Vec<u8> = x.buffer[..until].chunks(self.size()).flat_map(|c| renumbered_record(c, &self.numbers)).collect();
         wanted == y.buffer[..until]
             && match &self.exempt {
                 Some(e) => [x.buffer[until], y.buffer[until]] == e.answers,
@@ -156,50 +156,34 @@ impl Compared {
 
     fn saw(&self, t: &mut Tally, given: &[Given; 2]) {
         t.schedules += 1;
-        t.events += (self.events[0].len() / self.edition().event_bytes) as u64;
+        t.events += (self.events[0].len() / 3) as u64;
         let [x, y] = given.each_ref().map(|g| &g.buffer[..]);
         if let Some(e) = &self.exempt {
             t.exempt += 1;
             t.exempt_differed += (x[e.at * self.size()] != y[e.at * self.size()]) as u64;
         }
         let nodes = &self.drafts[0].nodes;
+        let acted: Vec<usize> = x.chunks(self.size()).flat_map(acting).collect();
+        for p in &self.order.changed {
+            let inside = p + 1..trees::end(nodes, *p);
+            let (over, acts) = (above(nodes, *p), acted.iter().any(|n| inside.contains(n)));
+            t.saw("acts in a changed PARALLEL in a PARALLEL", acts && over.contains(&PARALLEL));
+            t.saw("acts in a changed PARALLEL in a WHILE", acts && over.contains(&WHILE));
+            t.saw("acts in a changed PARALLEL in an IF", acts && over.contains(&IF));
+            t.saw("a STOP in a changed PARALLEL", acted.iter().any(|n| inside.contains(n) && nodes[*n][0] == STOP));
+        }
         t.saw("a tick that several stop alike", self.alike > 0);
         t.saw("a CASE", !self.drafts[0].selectors().is_empty());
         t.saw("two changed PARALLELs", self.order.changed.len() > 1);
-        t.saw("another order of as many nodes as can be", nodes.len() == self.edition().node_limit);
-        self.saw_acting(t, x);
-        self.saw_answers(t, x);
-    }
-
-    /// Where the nodes that acted stand to the PARALLELs whose order was changed.
-    fn saw_acting(&self, t: &mut Tally, records: &[u8]) {
-        let nodes = &self.drafts[0].nodes;
-        let acted: Vec<usize> = records.chunks(self.size()).flat_map(|c| self.edition().acting(c)).collect();
-        for p in &self.order.changed {
-            let inside = p + 1..trees::end(nodes, *p);
-            let mut acts = acted.iter().filter(|n| inside.contains(n)).peekable();
-            let (over, any) = (above(nodes, *p), acts.peek().is_some());
-            t.saw("acts in a changed PARALLEL in a PARALLEL", any && over.contains(&PARALLEL));
-            t.saw("acts in a changed PARALLEL in a WHILE", any && over.contains(&WHILE));
-            t.saw("acts in a changed PARALLEL in an IF", any && over.contains(&IF));
-            t.saw("acts above 63 in a changed PARALLEL", acts.clone().any(|n| *n > 63));
-            t.saw("a STOP in a changed PARALLEL", acts.any(|n| nodes[*n][0] == STOP));
-        }
-    }
-
-    fn saw_answers(&self, t: &mut Tally, records: &[u8]) {
-        let edition = self.edition();
-        for (e, record) in self.events[0].chunks(edition.event_bytes).zip(records.chunks(self.size())) {
-            let taken = record[0] == 200;
-            t.saw("a tick taken where several act", e == edition.tick() && taken && edition.acting(record).len() > 1);
-            t.saw("a pick of 256 and above", matches!(e, [1, high, _, 0] if *high > 0) && record[0] == 25);
+        for (e, record) in self.events[0].chunks(3).zip(x.chunks(self.size())) {
+            t.saw("a tick taken where several act", e == [0, 0, 0] && record[0] == 200 && acting(record).len() > 1);
             *t.answers.entry(record[0]).or_default() += 1;
         }
     }
 }
 
-pub fn input(r: &mut Random, edition: Edition, t: &mut Tally) -> Result<(), Box<Difference>> {
-    let Some(c) = compared(r, edition) else { return Ok(()) };
+pub fn input(r: &mut Random, t: &mut Tally) -> Result<(), Box<Difference>> {
+    let Some(c) = compared(r) else { return Ok(()) };
     let tables = c.tables(r, t)?;
     let given = [0, 1].map(|o: usize| ran(r, false, &c.drafts[o].file(), &c.start, &c.events[o]));
     if !c.corresponds(&given) {

@@ -1,11 +1,10 @@
 //! What the inputs have reached, what is printed of two calls that should correspond and do not, and the calls with their rooms.
-use crate::plain::{self, EDITIONS, Edition};
 use crate::product::{self, Given};
 use crate::random::Random;
 use std::collections::BTreeMap;
 
 /// What must be reached in pairs of picks (A).
-const OF_PAIRS: [&str; 15] = [
+const OF_PAIRS: [&str; 14] = [
     "in a PARALLEL in a PARALLEL",
     "in a PARALLEL in a WHILE",
     "in a PARALLEL in an IF",
@@ -20,11 +19,10 @@ const OF_PAIRS: [&str; 15] = [
     "202 after both",
     "a pair that meets taken in one order alone",
     "a pair that meets taken in both",
-    "a pair in a schedule of as many nodes as can be",
 ];
 
 /// What must be reached in schedules with another order (B); then their refusals and answers.
-const OF_ORDERS: [&str; 9] = [
+const OF_ORDERS: [&str; 8] = [
     "acts in a changed PARALLEL in a PARALLEL",
     "acts in a changed PARALLEL in a WHILE",
     "acts in a changed PARALLEL in an IF",
@@ -33,19 +31,12 @@ const OF_ORDERS: [&str; 9] = [
     "a tick taken where several act",
     "a CASE",
     "two changed PARALLELs",
-    "another order of as many nodes as can be",
 ];
-
-/// What only edition 2 has of both.
-const OF_THE_SECOND: [&str; 3] =
-    ["a pair above 63 in different words of the set", "acts above 63 in a changed PARALLEL", "a pick of 256 and above"];
 
 const REFUSALS: [u8; 5] = [11, 12, 13, 14, 34];
 
-/// Of the schedules of one edition.
 #[derive(Default)]
 pub struct Tally {
-    version: u8,
     pub both_taken: u64,
     pub not_both_taken: u64,
     pub pairs_by_table: u64,
@@ -62,50 +53,33 @@ pub struct Tally {
     seen: BTreeMap<&'static str, u64>,
 }
 
-fn list(counts: Vec<(String, u64)>) -> String {
-    counts.iter().map(|(name, n)| format!("{n} {name}")).collect::<Vec<_>>().join(", ")
+fn list(counts: impl Iterator<Item = (String, u64)>) -> String {
+    counts.map(|(name, n)| format!("{n} {name}")).collect::<Vec<_>>().join(", ")
 }
 
 impl Tally {
-    pub fn new(edition: Edition) -> Self {
-        Tally { version: edition.version, ..Tally::default() }
-    }
-
     pub fn saw(&mut self, what: &'static str, seen: bool) {
         *self.seen.entry(what).or_default() += seen as u64;
     }
 
-    fn situations(&self, l: &[&'static str]) -> Vec<(String, u64)> {
-        l.iter().map(|s| (s.to_string(), self.seen.get(s).copied().unwrap_or(0))).collect()
-    }
-
-    /// Refusals and answers that are to be reached, and how often they were.
-    fn numbers(&self) -> Vec<(String, u64)> {
+    /// Every situation, refusal and answer that is to be reached, and how often it was.
+    fn reached(&self) -> Vec<(String, u64)> {
+        let situations = OF_PAIRS.iter().chain(&OF_ORDERS).map(|s| (s.to_string(), self.seen.get(s).copied().unwrap_or(0)));
         let refusals = REFUSALS.iter().map(|n| (format!("refused with {n}"), self.refusals.get(n).copied().unwrap_or(0)));
         let answers = (23..=31).chain(200..=204).map(|n| (format!("answered {n}"), self.answers.get(&n).copied().unwrap_or(0)));
-        refusals.chain(answers).collect()
-    }
-
-    /// What is printed anyway.
-    fn counts(&self) -> Vec<(String, u64)> {
         let differed = [("pairs that meet and differ", self.meeting_differed), ("exempt ticks that differ", self.exempt_differed)];
         let taken = [("both picks taken", self.both_taken), ("not both picks taken", self.not_both_taken)];
-        differed.into_iter().chain(taken).map(|(name, n)| (name.to_string(), n)).collect()
-    }
-
-    fn of_the_edition(&self) -> Vec<(String, u64)> {
-        if self.version == EDITIONS[1].version { self.situations(&OF_THE_SECOND) } else { Vec::new() }
+        let counts = differed.into_iter().chain(taken).map(|(name, n)| (name.to_string(), n));
+        situations.chain(refusals).chain(answers).chain(counts).collect()
     }
 
     pub fn unreached(&self) -> Vec<String> {
-        let all = [self.situations(&OF_PAIRS), self.situations(&OF_ORDERS), self.of_the_edition(), self.numbers(), self.counts()].concat();
-        all.into_iter().filter(|x| x.1 == 0).map(|x| x.0).collect()
+        self.reached().into_iter().filter(|x| x.1 == 0).map(|x| x.0).collect()
     }
 
     pub fn print(&self) {
-        println!("edition {}", self.version);
         println!(
-            "  A: {} pairs ({} by the table too), {} both taken, {} not both taken; {} pairs that meet, {} of them differed",
+            "A: {} pairs ({} by the table too), {} both taken, {} not both taken; {} pairs that meet, {} of them differed",
             self.both_taken + self.not_both_taken,
             self.pairs_by_table,
             self.both_taken,
@@ -114,14 +88,13 @@ impl Tally {
             self.meeting_differed
         );
         println!(
-            "  B: {} schedules ({} by the table too), {} events, {} exempt ticks, {} of them answered differently, {} refused schedules",
+            "B: {} schedules ({} by the table too), {} events, {} exempt ticks, {} of them answered differently, {} refused schedules",
             self.schedules, self.schedules_by_table, self.events, self.exempt, self.exempt_differed, self.refused
         );
-        println!("  A reached: {}", list(self.situations(&OF_PAIRS)));
-        println!("  B reached: {}", list([self.situations(&OF_ORDERS), self.numbers()].concat()));
-        if self.version == EDITIONS[1].version {
-            println!("  reached in this edition alone: {}", list(self.of_the_edition()));
-        }
+        let reached = self.reached();
+        let (pairs, others) = reached.split_at(OF_PAIRS.len());
+        println!("  A reached: {}", list(pairs.iter().cloned()));
+        println!("  B reached: {}", list(others[..others.len() - 4].iter().cloned()));
         let unreached = self.unreached();
         println!("  not reached: {}", if unreached.is_empty() { "nothing".to_string() } else { unreached.join(", ") });
     }
@@ -152,15 +125,14 @@ impl Difference {
 
 /// A run of the product, with just the room that it needs.
 pub fn ran(r: &mut Random, by_table: bool, program: &[u8], start: &[u8], events: &[u8]) -> Given {
-    let edition = plain::edition_of(program);
-    let room = events.len() / edition.event_bytes * edition.record_bytes(start.len());
+    let room = events.len() / 3 * (9 + start.len());
     product::run(r, by_table, program, start, events, &vec![0; room])
 }
 
-/// Enough for any table: 1,024 locations of 255 entries, and three sections of 65,535 bytes at most.
-const TABLE_ROOM: usize = 1024 * (1 + 255 * 6) + 3 * 65_535 + 100;
+/// Enough for any table, as the header says.
+const TABLE_ROOM: usize = 400_000;
 
 /// Little room, so that 14 is met and most calls copy little, then enough for any table.
-pub fn rooms(r: &mut Random) -> [usize; 4] {
-    [r.below(600), 6_000, 60_000, TABLE_ROOM]
+pub fn rooms(r: &mut Random) -> [usize; 3] {
+    [r.below(600), 6_000, TABLE_ROOM]
 }

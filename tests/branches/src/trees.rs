@@ -1,15 +1,20 @@
 //! Trees as nodes in preorder: where subtrees end, what stands above a node, and the children of PARALLELs in another order.
-use crate::drafts::{IF, PARALLEL, REINITIAL, RESET, SEQUENCE, WHILE};
 use crate::random::Random;
 
+pub const PARALLEL: u8 = 2;
+pub const WHILE: u8 = 3;
+pub const IF: u8 = 4;
+pub const CONTINUE: u8 = 5;
+pub const STOP: u8 = 9;
+
 pub fn is_assignment(node: &[u8]) -> bool {
-    matches!(node[0], RESET | REINITIAL)
+    matches!(node[0], 6 | 7)
 }
 
 /// Of a node that 9 lets pass; all functions here are for nodes that make one tree.
 fn child_count(node: &[u8]) -> usize {
     match node[0] {
-        SEQUENCE | PARALLEL => node[1] as usize,
+        1 | PARALLEL => node[1] as usize,
         WHILE => 1,
         IF => 2,
         _ => 0,

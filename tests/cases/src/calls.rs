@@ -2,7 +2,7 @@
 use crate::plain::{self, Ran, Refusal};
 
 /// The strings of a case, in their order, and the longest that cases_test takes.
-pub const STRINGS: [(&str, usize); 5] = [("file", 65_600), ("table", 1_700_000), ("start", 200), ("events", 30_100), ("records", 420_000)];
+pub const STRINGS: [(&str, usize); 5] = [("file", 65_600), ("table", 420_000), ("start", 200), ("events", 30_100), ("records", 420_000)];
 pub const FILE: usize = 0;
 pub const TABLE: usize = 1;
 pub const START: usize = 2;

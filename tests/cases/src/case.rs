@@ -1,6 +1,6 @@
 //! A stored case: one call, what it is lent and what it gives; its bytes, its line, and itself in readable form.
-use crate::calls::{CALLS, Call, EVENTS, FILE, Given, Lent, RECORDS, ROOMS, STRINGS, TABLE};
-use crate::plain::{self, Refusal};
+use crate::calls::{CALLS, Call, EVENTS, Given, Lent, RECORDS, ROOMS, STRINGS};
+use crate::plain::Refusal;
 
 pub struct Case {
     pub name: String,
@@ -26,16 +26,6 @@ impl Case {
 
     pub fn call(&self) -> &'static Call {
         &CALLS[self.which]
-    }
-
-    /// The schedule or the table that it reads.
-    pub fn program(&self) -> &[u8] {
-        let string = if self.call().reads.contains(&FILE) { FILE } else { TABLE };
-        &self.lent.strings[string]
-    }
-
-    fn event_bytes(&self) -> usize {
-        plain::edition_of(self.program()).event_bytes
     }
 
     pub fn refusal(&self) -> Refusal {
@@ -113,7 +103,7 @@ impl Case {
 
     /// The records of an accepted run, one by one.
     pub fn records(&self) -> Vec<&[u8]> {
-        let count = self.lent.strings[EVENTS].len() / self.event_bytes();
+        let count = self.lent.strings[EVENTS].len() / 3;
         self.strings()[RECORDS].map_or(Vec::new(), |l| if count == 0 { Vec::new() } else { l.chunks(l.len() / count).collect() })
     }
 
@@ -132,7 +122,7 @@ impl Case {
         let strings = self.strings();
         for s in self.call().reads {
             let bytes = strings[*s].unwrap();
-            let row = if *s == EVENTS { bytes.chunks(self.event_bytes()).map(hex).collect::<Vec<_>>().join(" ") } else { hex(bytes) };
+            let row = if *s == EVENTS { bytes.chunks(3).map(hex).collect::<Vec<_>>().join(" ") } else { hex(bytes) };
             println!("  {} of {} bytes: {row}", STRINGS[*s].0, bytes.len());
         }
         for k in self.call().rooms {

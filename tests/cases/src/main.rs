@@ -26,7 +26,7 @@ use case::Case;
 use std::process::ExitCode;
 use test::Test;
 
-const RANDOM_TESTS: u64 = 400;
+const RANDOM_TESTS: u64 = 300;
 const INPUT: &str = "crates/cases_test/stdin";
 const OUTPUT: &str = "crates/cases_test/stdout";
 

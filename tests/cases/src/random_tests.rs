@@ -31,8 +31,7 @@ fn drawn(r: &mut Random, name: &str, of_table: bool) -> Option<Test> {
     let initial = plain::initial_start(&program).unwrap_or_else(|| vec![0; 5]);
     let start = inputs::start(r, &initial);
     let events = inputs::events(r, of_table, &program, &start);
-    let edition = plain::edition_of(&program);
-    let records = events.len() / edition.event_bytes * edition.record_bytes(initial.len());
+    let records = events.len() / 3 * (9 + initial.len());
     let table = plain::whole_table(&program).map_or(0, |t| t.len());
     if [program.len(), events.len(), records, table].iter().any(|n| *n > SMALL) {
         return None;

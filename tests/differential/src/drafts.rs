@@ -1,33 +1,6 @@
-//! Schedule files in parts: sound ones of both editions, and the same with a flaw.
+//! Schedule files in parts: sound ones, and the same with a flaw that leaves every length right.
 use crate::forms;
-use crate::plain::{EDITIONS, Edition};
 use crate::random::Random;
-
-#[path = "flaws.rs"]
-pub mod flaws;
-
-pub const SEQUENCE: u8 = 1;
-pub const PARALLEL: u8 = 2;
-pub const WHILE: u8 = 3;
-pub const IF: u8 = 4;
-pub const CONTINUE: u8 = 5;
-pub const RESET: u8 = 6;
-pub const REINITIAL: u8 = 7;
-pub const SWITCH: u8 = 8;
-pub const STOP: u8 = 9;
-
-/// The most equations, and the most bytes of a truth or number in a node.
-pub const MOST_EQUATIONS: usize = 16;
-pub const LONGEST_TRUTH: usize = 199;
-pub const LONGEST_NUMBER: usize = 198;
-
-/// What a field of two bytes gains where its high byte alone is wrong.
-pub const HIGH: usize = 0x100;
-
-/// Half of the inputs are of each.
-pub fn edition(r: &mut Random) -> Edition {
-    r.of(&EDITIONS)
-}
 
 #[derive(Clone)]
 pub struct Mode {
@@ -45,22 +18,13 @@ pub enum Equation {
 
 #[derive(Clone)]
 pub struct Draft {
-    pub edition: Edition,
     /// minimum, maximum, initial
     pub variables: Vec<[i32; 3]>,
     pub equations: Vec<Equation>,
     /// kind and payload
     pub nodes: Vec<Vec<u8>>,
     /// added to the three counts as they are written
-    pub miscounted: [isize; 3],
-    /// the node whose length is written with a wrong high byte, in editions that have one
-    pub lengthened: Option<usize>,
-}
-
-/// A file's or a table's version byte and its sections.
-pub struct Sections<const N: usize> {
-    pub version: u8,
-    pub parts: [Vec<u8>; N],
+    pub miscounted: [u8; 3],
 }
 
 impl Equation {
@@ -98,9 +62,9 @@ fn in_section(s: &[u8], out: &mut Vec<u8>) {
 }
 
 /// A whole file of three sections.
-pub fn file_of(sections: &Sections<3>) -> Vec<u8> {
-    let mut f = vec![sections.version, 0, 0];
-    for s in &sections.parts {
+pub fn file_of(sections: &[Vec<u8>; 3]) -> Vec<u8> {
+    let mut f = vec![1, 0, 0];
+    for s in sections {
         in_section(s, &mut f);
     }
     with_length(f)
@@ -115,30 +79,31 @@ pub fn with_length(mut f: Vec<u8>) -> Vec<u8> {
     f
 }
 
-impl Draft {
-    pub fn new(edition: Edition, variables: Vec<[i32; 3]>, equations: Vec<Equation>, nodes: Vec<Vec<u8>>) -> Self {
-        Draft { edition, variables, equations, nodes, miscounted: [0; 3], lengthened: None }
-    }
+/// Of a sound file.
+pub fn node_count(f: &[u8]) -> u8 {
+    let length = |at: usize| f[at] as usize * 256 + f[at + 1] as usize;
+    let equations = 5 + length(3);
+    f[equations + 2 + length(equations) + 2]
+}
 
-    pub fn sections(&self) -> Sections<3> {
-        let [variables, equations, nodes] = self.miscounted;
-        let mut vs = vec![self.variables.len().wrapping_add_signed(variables) as u8];
+impl Draft {
+    pub fn sections(&self) -> [Vec<u8>; 3] {
+        let mut vs = vec![(self.variables.len() as u8).wrapping_add(self.miscounted[0])];
         for v in &self.variables {
             for z in v {
                 vs.extend(z.to_be_bytes());
             }
         }
-        let mut es = vec![self.equations.len().wrapping_add_signed(equations) as u8];
+        let mut es = vec![(self.equations.len() as u8).wrapping_add(self.miscounted[1])];
         for e in &self.equations {
             in_section(&e.bytes(), &mut es);
         }
-        let mut ns = self.edition.field(self.nodes.len().wrapping_add_signed(nodes));
-        for (k, n) in self.nodes.iter().enumerate() {
-            let more = if self.lengthened == Some(k) { HIGH } else { 0 };
-            ns.extend(self.edition.field(n.len() + more));
+        let mut ns = vec![(self.nodes.len() as u8).wrapping_add(self.miscounted[2])];
+        for n in &self.nodes {
+            ns.push(n.len() as u8);
             ns.extend(n);
         }
-        Sections { version: self.edition.version, parts: [vs, es, ns] }
+        [vs, es, ns]
     }
 
     pub fn file(&self) -> Vec<u8> {
@@ -156,13 +121,13 @@ impl Draft {
 
     /// The kind that the rule of 34 gives an assignment to this variable.
     fn kind_for(&self, v: u8) -> u8 {
-        if self.drives(v) { REINITIAL } else { RESET }
+        if self.drives(v) { 7 } else { 6 }
     }
 
     /// Every assignment gets the kind that its variable takes with these equations.
     pub fn part_assignments(&mut self) {
         for k in 0..self.nodes.len() {
-            if let [RESET | REINITIAL, v, ..] = self.nodes[k][..] {
+            if let [6 | 7, v, ..] = self.nodes[k][..] {
                 self.nodes[k][0] = self.kind_for(v);
             }
         }
@@ -224,9 +189,9 @@ fn rate(r: &mut Random, steep: bool) -> i32 {
 /// Each variable stands in at most one equation. Where all rates are steep, several variables leave their ranges at once.
 pub fn equations(r: &mut Random, variables: usize, steep: bool) -> Vec<Equation> {
     let count = match r.below(8) {
-        0 => MOST_EQUATIONS,
+        0 => 16,
         1 => 0,
-        _ if steep => variables.min(MOST_EQUATIONS),
+        _ if steep => variables.min(16),
         _ => r.below(5),
     };
     let mut free: Vec<u8> = (0..variables as u8).collect();
@@ -248,65 +213,59 @@ pub fn equations(r: &mut Random, variables: usize, steep: bool) -> Vec<Equation>
 }
 
 fn assignment(r: &mut Random, kind: u8, v: u8, variables: usize) -> Vec<u8> {
-    [vec![kind, v], forms::number(r, variables, LONGEST_NUMBER)].concat()
-}
-
-/// What a tree is made of.
-struct Kit {
-    variables: usize,
-    selectors: Vec<usize>,
-    /// most leaves are CONTINUEs
-    waits: bool,
+    [vec![kind, v], forms::number(r, variables, 198)].concat()
 }
 
 /// Assignments are RESETs; `part_assignments` makes REINITIALs of those to driven variables.
-fn leaf(r: &mut Random, kit: &Kit) -> Vec<u8> {
-    let kind = if kit.waits && !r.one_in(4) { 0 } else { r.below(if kit.selectors.is_empty() { 8 } else { 10 }) };
+fn leaf(r: &mut Random, variables: usize, selectors: &[usize], waits: bool) -> Vec<u8> {
+    let kind = if waits && !r.one_in(4) { 0 } else { r.below(if selectors.is_empty() { 8 } else { 10 }) };
     match kind {
-        0..=2 => [vec![CONTINUE], forms::waited(r, kit.variables)].concat(),
-        3 => vec![STOP],
+        0..=2 => {
+            let mut p = vec![5];
+            p.extend(forms::waited(r, variables));
+            p
+        }
+        3 => vec![9],
         4..=7 => {
-            let v = r.below(kit.variables) as u8;
-            assignment(r, RESET, v, kit.variables)
+            let v = r.below(variables) as u8;
+            assignment(r, 6, v, variables)
         }
         _ => {
-            let s = r.below(kit.selectors.len());
-            vec![SWITCH, s as u8, r.below(kit.selectors[s]) as u8]
+            let s = r.below(selectors.len());
+            vec![8, s as u8, r.below(selectors[s]) as u8]
         }
     }
-}
-
-/// A node that is no leaf.
-fn inner(r: &mut Random, kind: u8, children: usize, kit: &Kit) -> Vec<u8> {
-    if matches!(kind, SEQUENCE | PARALLEL) {
-        return vec![kind, children as u8];
-    }
-    [vec![kind], forms::truth(r, kit.variables, LONGEST_TRUTH)].concat()
 }
 
 /// A tree of exactly so many nodes, in preorder.
-fn tree(r: &mut Random, n: usize, kit: &Kit, out: &mut Vec<Vec<u8>>) {
+pub fn tree(r: &mut Random, n: usize, variables: usize, selectors: &[usize], waits: bool, out: &mut Vec<Vec<u8>>) {
     if n == 1 {
-        out.push(leaf(r, kit));
+        out.push(leaf(r, variables, selectors, waits));
         return;
     }
     let kind = match r.below(8) {
-        0..=2 => SEQUENCE,
-        3..=5 => PARALLEL,
-        6 if n > 2 => IF,
-        _ => WHILE,
+        0..=2 => 1,
+        3..=5 => 2,
+        6 if n > 2 => 4,
+        _ => 3,
     };
-    let parts = match kind {
-        WHILE => vec![n - 1],
-        IF => {
+    let mut parts = match kind {
+        3 => vec![n - 1],
+        4 => {
             let k = 1 + r.below(n - 2);
             vec![k, n - 1 - k]
         }
         _ => parts_of(r, n - 1),
     };
-    out.push(inner(r, kind, parts.len(), kit));
-    for k in parts {
-        tree(r, k, kit, out);
+    let mut p = vec![kind];
+    if kind <= 2 {
+        p.push(parts.len() as u8);
+    } else {
+        p.extend(forms::truth(r, variables, 199));
+    }
+    out.push(p);
+    for k in parts.drain(..) {
+        tree(r, k, variables, selectors, waits, out);
     }
 }
 
@@ -328,183 +287,66 @@ fn parts_of(r: &mut Random, n: usize) -> Vec<usize> {
     l
 }
 
-/// Nodes of these kinds, each in the one before. An IF has a leaf beside, and now and then others have one.
-struct Nest {
-    kinds: &'static [u8],
-    leaves: bool,
-}
-
-const NESTS: [&[u8]; 7] = [
-    &[SEQUENCE],
-    &[PARALLEL],
-    &[WHILE],
-    &[SEQUENCE, PARALLEL],
-    &[SEQUENCE, PARALLEL, WHILE],
-    &[WHILE, IF],
-    &[SEQUENCE, PARALLEL, WHILE, IF],
-];
-
-/// Of exactly so many nodes.
-fn nest(r: &mut Random, n: usize, how: &Nest, kit: &Kit, out: &mut Vec<Vec<u8>>) {
-    let kind = r.of(how.kinds);
-    let beside = n > 2 && (kind == IF || kind == SEQUENCE && how.leaves && r.one_in(8));
-    if n == 1 || kind == IF && !beside {
-        tree(r, n, kit, out);
-        return;
-    }
-    out.push(inner(r, kind, 1 + beside as usize, kit));
-    let leaf_first = beside && r.one_in(2);
-    if leaf_first {
-        out.push(leaf(r, kit));
-    }
-    nest(r, n - 1 - beside as usize, how, kit, out);
-    if beside && !leaf_first {
-        out.push(leaf(r, kit));
-    }
-}
-
-/// As many nodes as the edition allows, or fewer.
-fn many(r: &mut Random, edition: Edition) -> usize {
-    if r.one_in(2) { edition.node_limit } else { 2 + r.below(edition.node_limit - 1) }
-}
-
-fn nested(r: &mut Random, kit: &Kit, edition: Edition) -> Vec<Vec<u8>> {
-    let how = Nest { kinds: r.of(&NESTS), leaves: r.one_in(4) };
-    let n = many(r, edition);
-    let mut nodes = Vec::new();
-    nest(r, n, &how, kit, &mut nodes);
-    nodes
-}
-
-/// All nodes but the root are its children. Of a PARALLEL all but a few are STOPs, so that there are few locations.
-fn flat(r: &mut Random, kit: &Kit, edition: Edition) -> Vec<Vec<u8>> {
-    let n = many(r, edition);
-    let kind = r.of(&[SEQUENCE, PARALLEL]);
-    let others = r.below(4);
-    let mut nodes = vec![vec![kind, (n - 1) as u8]];
-    for k in 1..n {
-        nodes.push(if kind == SEQUENCE || k <= others { leaf(r, kit) } else { vec![STOP] });
-    }
-    shuffle(r, &mut nodes[1..]);
-    nodes
-}
-
-fn shuffle<T>(r: &mut Random, l: &mut [T]) {
-    for k in (1..l.len()).rev() {
-        l.swap(k, r.below(k + 1));
-    }
-}
-
-/// As many children of one node as can be, all of them assignments that fault nowhere, so that a run gets to the end.
-fn easy(r: &mut Random, edition: Edition) -> Draft {
-    let children = edition.node_limit - 1;
-    let mut nodes = vec![vec![r.of(&[SEQUENCE, PARALLEL]), children as u8]];
-    nodes.extend((0..children).map(|_| [vec![RESET, 0], forms::constant(r.below(3) as i32)].concat()));
-    Draft::new(edition, vec![[0, 2, 1]], Vec::new(), nodes)
-}
-
-/// A PARALLEL of CONTINUEs with these truths.
-fn side_by_side(edition: Edition, variables: Vec<[i32; 3]>, equations: Vec<Equation>, truths: Vec<Vec<u8>>) -> Draft {
-    let mut nodes = vec![vec![PARALLEL, truths.len() as u8]];
-    nodes.extend(truths.into_iter().map(|t| [vec![CONTINUE], t].concat()));
-    Draft::new(edition, variables, equations, nodes)
-}
-
-/// Few CONTINUEs over a plant that is often driven steeply: ticks come at once, and their faults are on both sides.
-fn waiting(r: &mut Random, edition: Edition) -> Draft {
+/// A PARALLEL of CONTINUEs over a plant that is often driven steeply: ticks come at once, and their faults are on both sides.
+fn waiting(r: &mut Random) -> Draft {
     let n = 2 + r.below(4);
     let variables = variables(r, n);
     let steep = r.one_in(2);
     let equations = equations(r, n, steep);
     let faulting = r.one_in(3);
-    let truth = |r: &mut Random| if faulting { forms::faulting_truth(r, n) } else { forms::rare_truth(r, n) };
-    let truths = (0..1 + r.below(5)).map(|_| truth(r)).collect();
-    side_by_side(edition, variables, equations, truths)
-}
-
-/// As many CONTINUEs as can be, none of which is true, or one alone, or any.
-fn all_waiting(r: &mut Random, edition: Edition) -> Draft {
-    let count = edition.node_limit - 1;
-    let mut truths = vec![forms::FALSE.to_vec(); count];
-    let alone = if r.one_in(2) { count - 1 } else { r.below(count) };
-    match r.below(4) {
-        0 => {}
-        1 => truths[alone] = forms::TRUE.to_vec(),
-        2 => truths[alone] = forms::faulting_truth(r, 1),
-        _ => truths.fill_with(|| forms::waited(r, 1)),
+    let count = 1 + r.below(5);
+    let mut nodes = vec![vec![2, count as u8]];
+    for _ in 0..count {
+        let truth = if faulting { forms::faulting_truth(r, n) } else { forms::rare_truth(r, n) };
+        nodes.push([vec![5], truth].concat());
     }
-    let rate = r.below(3) as i32 - 1;
-    side_by_side(edition, vec![[-1000, 1000, 30]], vec![Equation::Steady(0, rate)], truths)
+    Draft { variables, equations, nodes, miscounted: [0; 3] }
 }
 
-/// Mostly few, now and then about the edition's limit.
-fn node_count(r: &mut Random, limit: usize) -> usize {
-    match r.below(60) {
-        0 => r.of(&[limit - 1, limit, limit, limit + 1]),
-        1 | 2 => 20 + r.below(limit - 20),
-        _ => 1 + r.below(12),
-    }
-}
-
-/// Of either edition.
 pub fn sound(r: &mut Random) -> Draft {
-    let e = edition(r);
-    sound_of(r, e)
-}
-
-pub fn sound_of(r: &mut Random, edition: Edition) -> Draft {
-    match r.below(160) {
-        0 | 1 => return easy(r, edition),
-        2 => return all_waiting(r, edition),
-        3..=22 => return waiting(r, edition),
-        _ => {}
+    if r.one_in(8) {
+        return waiting(r);
     }
     let n = if r.one_in(10) { 32 } else { 1 + r.below(4) };
     let variables = variables(r, n);
-    let mut d = Draft::new(edition, variables, equations(r, n, false), Vec::new());
-    let kit = Kit { variables: n, selectors: d.selectors(), waits: r.one_in(3) };
-    match r.below(60) {
-        0..=2 => d.nodes = nested(r, &kit, edition),
-        3 => d.nodes = flat(r, &kit, edition),
-        _ => {
-            let count = node_count(r, edition.node_limit);
-            tree(r, count, &kit, &mut d.nodes);
-        }
-    }
+    let equations = equations(r, n, false);
+    let mut d = Draft { variables, equations, nodes: Vec::new(), miscounted: [0; 3] };
+    let most = match r.below(40) {
+        0 => r.of(&[63, 64, 64, 65]),
+        1 | 2 => 20 + r.below(44),
+        _ => 1 + r.below(12),
+    };
+    let waits = r.one_in(3);
+    let selectors = d.selectors();
+    tree(r, most, n, &selectors, waits, &mut d.nodes);
     d.part_assignments();
     d
 }
 
-/// The children of a PARALLEL, and the assignments that stand before it in a SEQUENCE.
-#[derive(Clone, Copy)]
-pub struct Width {
-    pub assignments: usize,
-    pub stops: usize,
-    pub before: usize,
-}
-
 /// A PARALLEL of assignments and STOPs, now and then behind others in a SEQUENCE: the largest tables, and 13.
-pub fn wide(r: &mut Random, edition: Edition, width: Width) -> Draft {
-    let Width { assignments, stops, before } = width;
+pub fn wide(r: &mut Random, assignments: usize, stops: usize, before: usize) -> Draft {
     let n = if r.one_in(2) { 1 } else { 1 + r.below(32) };
     let assign_first = |r: &mut Random| {
-        let number = if r.one_in(3) { forms::number(r, n, LONGEST_NUMBER) } else { forms::constant(1) };
-        [vec![RESET, 0], number].concat()
+        let mut p = vec![6, 0];
+        p.extend(if r.one_in(3) { forms::number(r, n, 198) } else { vec![0x01, 0, 0, 0, 1] });
+        p
     };
     let mut nodes = Vec::new();
     if before > 0 {
-        nodes.push(vec![SEQUENCE, 1 + before as u8]);
-        nodes.extend((0..before).map(|_| assign_first(r)));
+        nodes.push(vec![1, 1 + before as u8]);
+        for _ in 0..before {
+            nodes.push(assign_first(r));
+        }
     }
-    nodes.push(vec![PARALLEL, (assignments + stops) as u8]);
-    let first = nodes.len();
-    nodes.extend((0..assignments).map(|_| assign_first(r)));
-    nodes.extend(vec![vec![STOP]; stops]);
-    if r.one_in(2) {
-        shuffle(r, &mut nodes[first..]);
+    nodes.push(vec![2, (assignments + stops) as u8]);
+    for _ in 0..assignments {
+        nodes.push(assign_first(r));
+    }
+    for _ in 0..stops {
+        nodes.push(vec![9]);
     }
     let equations = if r.one_in(2) { Vec::new() } else { equations(r, n, false) };
-    let mut d = Draft::new(edition, vec![[i32::MIN, i32::MAX, 0]; n], equations, nodes);
+    let mut d = Draft { variables: vec![[i32::MIN, i32::MAX, 0]; n], equations, nodes, miscounted: [0; 3] };
     d.part_assignments();
     d
 }
@@ -533,4 +375,245 @@ pub fn padding(bytes: usize) -> Equation {
         at += 1;
     }
     Equation::Case(0, modes)
+}
+
+/// A test, a wait or an assignment with its variable.
+fn holds_form(node: &[u8]) -> bool {
+    match node.first() {
+        Some(3..=5) => true,
+        Some(6 | 7) => node.len() >= 2,
+        _ => false,
+    }
+}
+
+/// The truth of a switch; false where there is none.
+fn break_switch(r: &mut Random, d: &mut Draft) -> bool {
+    let n = d.variables.len();
+    let mut switches: Vec<&mut (u8, Vec<u8>)> = d
+        .equations
+        .iter_mut()
+        .filter_map(|e| if let Equation::Case(_, ms) = e { Some(ms) } else { None })
+        .flatten()
+        .flat_map(|m| &mut m.switches)
+        .collect();
+    if switches.is_empty() {
+        return false;
+    }
+    let k = r.below(switches.len());
+    forms::broken(r, &mut switches[k].1, true, n);
+    true
+}
+
+/// The form of this node, which holds one.
+fn break_node(r: &mut Random, d: &mut Draft, k: usize) {
+    let n = d.variables.len();
+    let front = if d.nodes[k][0] >= 6 { 2 } else { 1 };
+    let mut l = d.nodes[k].split_off(front);
+    forms::broken(r, &mut l, front == 1, n);
+    d.nodes[k].extend(l);
+}
+
+/// The form of a node or of a switch.
+fn break_form(r: &mut Random, d: &mut Draft) {
+    if r.one_in(3) && break_switch(r, d) {
+        return;
+    }
+    let holders: Vec<usize> = (0..d.nodes.len()).filter(|k| holds_form(&d.nodes[*k])).collect();
+    if !holders.is_empty() {
+        let k = r.of(&holders);
+        break_node(r, d, k);
+    }
+}
+
+/// An equation that drives v: of kind 1, in the initial mode of a CASE, in its other mode, or in both.
+fn driver(r: &mut Random, v: u8) -> Equation {
+    let z = rate(r, false);
+    let [with, without] = [vec![(v, z)], Vec::new()].map(|rates| Mode { rates, switches: Vec::new() });
+    match r.below(4) {
+        0 => Equation::Steady(v, z),
+        1 => Equation::Case(0, vec![with, without]),
+        2 => Equation::Case(0, vec![without, with]),
+        _ => Equation::Case(1, vec![with.clone(), with]),
+    }
+}
+
+/// A RESET of a driven variable, or a REINITIAL of another (34).
+fn unfit_assignment(r: &mut Random, d: &mut Draft) -> Vec<u8> {
+    let n = d.variables.len();
+    let v = r.below(n) as u8;
+    if !d.drives(v) && d.equations.len() < 16 && r.one_in(3) {
+        let e = driver(r, v);
+        d.equations.push(e);
+    }
+    assignment(r, 13 - d.kind_for(v), v, n)
+}
+
+/// A node that names what is missing (11).
+fn unnamed(r: &mut Random, d: &Draft) -> Vec<u8> {
+    let n = d.variables.len();
+    match r.below(3) {
+        0 => vec![8, d.selectors().len() as u8, 0],
+        k => assignment(r, 5 + k as u8, n as u8, n),
+    }
+}
+
+/// 34, and often another with it: 12 of the same node or of a switch, or 11, 12 or 34 of a node before or behind it.
+fn flaw_assignment(r: &mut Random, d: &mut Draft) {
+    let leaves: Vec<usize> = (0..d.nodes.len()).filter(|k| matches!(d.nodes[*k].first(), Some(5..=9))).collect();
+    if leaves.is_empty() {
+        return;
+    }
+    let (k, other) = (r.of(&leaves), r.of(&leaves));
+    d.nodes[k] = unfit_assignment(r, d);
+    match r.below(8) {
+        0 | 1 if other != k => d.nodes[other] = unnamed(r, d),
+        2 => break_node(r, d, k),
+        3 if holds_form(&d.nodes[other]) => break_node(r, d, other),
+        4 | 5 => {
+            break_switch(r, d);
+        }
+        6 if other != k => d.nodes[other] = unfit_assignment(r, d),
+        _ => {}
+    }
+}
+
+fn flaw_equation(r: &mut Random, d: &mut Draft) {
+    if d.equations.is_empty() {
+        let b = r.byte();
+        d.equations.push(Equation::Bytes(vec![b % 4, 0, 0, 0, 0, 0]));
+        return;
+    }
+    // 16 is the most
+    if r.one_in(12) {
+        let more = Equation::Case(0, vec![Mode { rates: Vec::new(), switches: Vec::new() }]);
+        d.equations.resize(r.of(&[16, 17, 18]).max(d.equations.len()), more);
+        return;
+    }
+    let n = d.variables.len() as u8;
+    let k = r.below(d.equations.len());
+    let which = r.below(8);
+    let room = d.equations.len() < 16;
+    let twin = d.equations[k].clone();
+    if twin.bytes().is_empty() || matches!(&twin, Equation::Case(_, modes) if modes.is_empty()) {
+        return;
+    }
+    match (&mut d.equations[k], which) {
+        (_, 0) => {
+            let mut b = twin.bytes();
+            let at = r.below(b.len());
+            b[at] = r.byte();
+            d.equations[k] = Equation::Bytes(b);
+        }
+        (_, 1) => {
+            let mut b = twin.bytes();
+            if r.one_in(2) { b.push(0) } else { b.truncate(b.len() - 1) }
+            d.equations[k] = Equation::Bytes(b);
+        }
+        // 8: an equation twice
+        (_, 2 | 3) if room => d.equations.push(twin),
+        (Equation::Steady(v, _), _) => *v = r.of(&[n, n, 255]),
+        (Equation::Case(initial, modes), 4) => *initial = modes.len() as u8,
+        (Equation::Case(_, modes), 5) => {
+            let count = modes.len() as u8;
+            let m = r.below(modes.len());
+            if let Some(w) = modes[m].switches.first_mut() {
+                w.0 = count;
+            } else {
+                modes[m].rates.push((n, 0));
+            }
+        }
+        (Equation::Case(_, modes), 6) => {
+            let m = r.below(modes.len());
+            if let Some(x) = modes[m].rates.first().copied() {
+                modes[m].rates.push(x);
+            } else {
+                modes[m].rates.extend([(0, 1), (0, 2)]);
+            }
+        }
+        (Equation::Case(_, modes), _) => {
+            if r.one_in(2) {
+                modes.clear();
+            } else {
+                modes.resize(9, Mode { rates: Vec::new(), switches: Vec::new() });
+            }
+        }
+        (Equation::Bytes(_), _) => {}
+    }
+}
+
+fn flaw_node(r: &mut Random, d: &mut Draft) {
+    let (n, selectors) = (d.variables.len(), d.selectors());
+    let k = r.below(d.nodes.len());
+    let node = &mut d.nodes[k];
+    if node.len() < 2 {
+        node.extend([9, 0]);
+    }
+    match r.below(10) {
+        0 => node[0] = r.of(&[0, 10, 255]),
+        1 => node.push(0),
+        2 => node.clear(),
+        3 => node.truncate(1),
+        // lengths 200 and 201
+        4 => {
+            let most = r.of(&[199, 200]);
+            *node = vec![5];
+            node.extend(forms::truth_of_length(r, most, n));
+        }
+        5 if node[0] <= 2 => node[1] = node[1].wrapping_add(r.of(&[1, 255])),
+        6 if node[0] <= 2 => node[1] = 0,
+        7 | 8 if node[0] == 6 || node[0] == 7 => node[1] = r.of(&[n as u8, n as u8, 255]),
+        7..=9 if node[0] == 8 => {
+            let s = r.below(selectors.len() + 1);
+            *node = vec![8, s as u8, selectors.get(s).copied().unwrap_or(0) as u8];
+        }
+        _ => node[0] = 1 + r.below(9) as u8,
+    }
+}
+
+fn flaw_tree(r: &mut Random, d: &mut Draft) {
+    let k = r.below(d.nodes.len());
+    let inner: Vec<usize> = (0..d.nodes.len()).filter(|k| d.nodes[*k].len() == 2 && d.nodes[*k][0] <= 2).collect();
+    match r.below(3) {
+        0 if !inner.is_empty() => {
+            let k = r.of(&inner);
+            d.nodes[k][1] = d.nodes[k][1].wrapping_add(r.of(&[1, 255])).max(1);
+        }
+        1 if d.nodes.len() > 1 => {
+            d.nodes.remove(k);
+        }
+        _ => {
+            let twin = d.nodes[k].clone();
+            d.nodes.insert(k, twin);
+        }
+    }
+}
+
+fn flaw_variable(r: &mut Random, d: &mut Draft) {
+    let k = r.below(d.variables.len());
+    let [low, high, initial] = &mut d.variables[k];
+    match r.below(4) {
+        0 => *initial = low.wrapping_sub(1),
+        1 => *initial = high.wrapping_add(1),
+        2 => std::mem::swap(low, high),
+        _ => d.variables.resize(r.of(&[33, 33, 34]), [0, 1, 0]),
+    }
+}
+
+/// One flaw, after which the lengths are still right.
+pub fn flaw(r: &mut Random, d: &mut Draft) {
+    if d.nodes.is_empty() {
+        return;
+    }
+    match r.below(15) {
+        0 | 1 => flaw_variable(r, d),
+        2..=4 => flaw_equation(r, d),
+        5 | 6 => flaw_node(r, d),
+        7 => flaw_tree(r, d),
+        8..=10 => break_form(r, d),
+        11..=13 => flaw_assignment(r, d),
+        _ => {
+            let k = r.below(3);
+            d.miscounted[k] = r.of(&[1, 255, 2, 254, 64]);
+        }
+    }
 }

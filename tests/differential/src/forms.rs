@@ -1,11 +1,7 @@
 //! Numbers and truths: of many shapes, of an exact length or depth, and broken ones.
 use crate::random::Random;
 
-/// A truth that holds always, and one that never does.
-pub const TRUE: [u8; 1] = [0x2F];
-pub const FALSE: [u8; 2] = [0x2A, 0x2F];
-
-pub fn constant(z: i32) -> Vec<u8> {
+fn constant(z: i32) -> Vec<u8> {
     let mut l = vec![0x01];
     l.extend(z.to_be_bytes());
     l
@@ -203,7 +199,7 @@ pub fn truth(r: &mut Random, variables: usize, most: usize) -> Vec<u8> {
 /// A truth that holds at few values: a variable equals a small number, or never.
 pub fn rare_truth(r: &mut Random, variables: usize) -> Vec<u8> {
     if r.one_in(4) {
-        return FALSE.to_vec();
+        return vec![0x2A, 0x2F];
     }
     let mut l = vec![0x22, 0x02, r.below(variables) as u8];
     l.extend(constant(r.below(41) as i32 - 20));

@@ -1,6 +1,6 @@
 //! What the calls are lent: schedule files and tables, starts, events, seeds and counts, rooms, and the old contents of buffers.
-use crate::drafts::{self, Draft, HIGH, MOST_EQUATIONS, Width, flaws};
-use crate::plain::{self, EDITIONS, Edition};
+use crate::drafts::{self, Draft};
+use crate::plain;
 use crate::random::Random;
 use crate::tables;
 
@@ -41,43 +41,19 @@ pub fn damaged(r: &mut Random, mut f: Vec<u8>) -> Vec<u8> {
 }
 
 fn senseless(r: &mut Random) -> Vec<u8> {
-    let n = match r.below(40) {
-        0 => r.below(70_000),
-        1..=8 => r.below(6),
-        _ => r.below(80),
-    };
+    let n = if r.one_in(40) { r.below(70_000) } else { r.below(80) };
     let mut f: Vec<u8> = (0..n).map(|_| if r.one_in(3) { r.below(4) as u8 } else { r.byte() }).collect();
     if n > 0 && !r.one_in(3) {
-        f[0] = drafts::edition(r).version;
+        f[0] = 1;
     }
     f
 }
-
-/// Bytes that are no version: beside the two that are, those of the clock dialect, and others.
-pub const NO_VERSIONS: [u8; 6] = [0, 3, 0x81, 0x82, 0x80, 0xFF];
-
-/// Now and then the other edition's version, or none.
-fn versioned(r: &mut Random, mut f: Vec<u8>) -> Vec<u8> {
-    if !f.is_empty() && r.one_in(40) {
-        f[0] = if r.one_in(2) { other(plain::edition_of(&f)).version } else { r.of(&NO_VERSIONS) };
-    }
-    f
-}
-
-pub fn other(edition: Edition) -> Edition {
-    if edition == EDITIONS[0] { EDITIONS[1] } else { EDITIONS[0] }
-}
-
-/// PARALLELs of so many assignments and STOPs whose tables lack a few thousand bytes to 65,536, in each edition.
-const NEAR_65536: [[(usize, usize); 5]; 2] =
-    [[(9, 18), (9, 20), (8, 42), (8, 45), (7, 55)], [(9, 14), (8, 34), (7, 76), (6, 155), (5, 245)]];
 
 /// A schedule whose table has about 65,536 bytes: exactly that many, or up to six more or fewer.
 fn near_65536(r: &mut Random) -> Draft {
-    let which = r.below(EDITIONS.len());
-    let (assignments, stops) = r.of(&NEAR_65536[which]);
-    let mut d = drafts::wide(r, EDITIONS[which], Width { assignments, stops, before: 0 });
-    d.equations.truncate(MOST_EQUATIONS - 1);
+    let (assignments, stops) = r.of(&[(9, 18), (9, 20), (8, 42), (8, 45), (7, 55)]);
+    let mut d = drafts::wide(r, assignments, stops, 0);
+    d.equations.truncate(15);
     d.part_assignments();
     let wanted = 65_530 + r.below(13);
     if let Ok(t) = plain::whole_table(&d.file()) {
@@ -88,40 +64,25 @@ fn near_65536(r: &mut Random) -> Draft {
     d
 }
 
-/// So many assignments side by side have 1,023 locations, and beside a STOP one more.
-const MOST_BRANCHES: usize = 10;
-
-/// Many locations: 1,023, 1,024, and more, with few nodes or with as many as can be.
+/// Many locations: 1,023, 1,024, and more, with few nodes or with 64.
 fn many_locations(r: &mut Random) -> Draft {
-    let edition = drafts::edition(r);
-    let assignments = r.of(&[6, 9, MOST_BRANCHES, MOST_BRANCHES, MOST_BRANCHES, MOST_BRANCHES + 1]);
+    let assignments = r.of(&[6, 9, 10, 10, 10, 11]);
     let before = r.below(3);
-    let others = 1 + assignments + if before > 0 { 1 + before } else { 0 };
-    let most = edition.node_limit - others;
+    let most = 64 - 2 - before - assignments;
     let stops = match r.below(4) {
         0 => most,
         1 => r.below(most + 1),
         _ => 0,
     };
-    drafts::wide(r, edition, Width { assignments, stops, before })
+    drafts::wide(r, assignments, stops, before)
 }
-
-/// The longest tables: 1,024 locations, up to 255 entries in each.
-fn longest_table(r: &mut Random) -> Draft {
-    let edition = EDITIONS[1];
-    let stops = edition.node_limit - 1 - MOST_BRANCHES;
-    drafts::wide(r, edition, Width { assignments: MOST_BRANCHES, stops, before: 0 })
-}
-
-const LONGEST_FILE: usize = 65_535;
 
 /// A file of up to 65,535 bytes, or of a few more.
 fn long(r: &mut Random) -> Draft {
     let mut d = drafts::sound(r);
-    d.equations.truncate(MOST_EQUATIONS - 3);
+    d.equations.truncate(13);
     d.part_assignments();
-    let length = if r.one_in(2) { LONGEST_FILE } else { r.of(&[20_000, 60_000, LONGEST_FILE - 1, LONGEST_FILE + 1, LONGEST_FILE + 5]) };
-    let mut left = length.saturating_sub(d.file().len());
+    let mut left = r.of(&[20_000usize, 60_000, 65_534, 65_535, 65_535, 65_536, 65_540]).saturating_sub(d.file().len());
     // one padding holds at most 8 times 255 switches
     while left >= 60 {
         let part = if left > 30_000 { 25_000 } else { left };
@@ -132,17 +93,15 @@ fn long(r: &mut Random) -> Draft {
 }
 
 fn draft(r: &mut Random) -> Draft {
-    match r.below(1000) {
-        0..=2 => near_65536(r),
-        3..=6 => many_locations(r),
-        7..=11 => long(r),
-        12 => longest_table(r),
+    match r.below(500) {
+        0 => near_65536(r),
+        1 | 2 => many_locations(r),
+        3 | 4 => long(r),
         _ => drafts::sound(r),
     }
 }
 
-/// A schedule file: sound; flawed in one part or several; with bytes of a section or of the whole changed; or senseless. Byte 0 is now and
-/// then another.
+/// A schedule file: sound; flawed in one part or several; with bytes of a section or of the whole changed; or senseless.
 pub fn file(r: &mut Random) -> Vec<u8> {
     if r.one_in(40) {
         let f = senseless(r);
@@ -150,23 +109,30 @@ pub fn file(r: &mut Random) -> Vec<u8> {
     }
     let mut d = draft(r);
     if r.one_in(2) {
-        return versioned(r, d.file());
+        return d.file();
     }
     let mut sections = d.sections();
     match r.below(8) {
         0..=3 => {
             for _ in 0..r.of(&[1, 1, 1, 2, 3]) {
-                flaws::flaw(r, &mut d);
+                drafts::flaw(r, &mut d);
             }
             sections = d.sections();
         }
         4 | 5 => {
             let k = r.below(3);
-            let s = std::mem::take(&mut sections.parts[k]);
-            sections.parts[k] = damaged(r, s);
+            let s = std::mem::take(&mut sections[k]);
+            sections[k] = damaged(r, s);
         }
-        6 => return damaged(r, d.file()),
-        _ => return drafts::with_length(damaged(r, d.file())),
+        6 => {
+            let f = drafts::file_of(&sections);
+            return damaged(r, f);
+        }
+        _ => {
+            let f = drafts::file_of(&sections);
+            let f = damaged(r, f);
+            return drafts::with_length(f);
+        }
     }
     drafts::file_of(&sections)
 }
@@ -186,10 +152,10 @@ pub fn table(r: &mut Random, compiled: Option<&Vec<u8>>) -> Vec<u8> {
         }
         _ => tables::made_up(r),
     };
-    let mut sections = d.sections();
     if r.one_in(3) {
-        return versioned(r, tables::table_of(&sections));
+        return tables::table_of(&d.sections());
     }
+    let mut sections = d.sections();
     match r.below(8) {
         0..=3 => {
             for _ in 0..r.of(&[1, 1, 1, 2]) {
@@ -199,11 +165,18 @@ pub fn table(r: &mut Random, compiled: Option<&Vec<u8>>) -> Vec<u8> {
         }
         4 | 5 => {
             let k = r.below(4);
-            let s = std::mem::take(&mut sections.parts[k]);
-            sections.parts[k] = damaged(r, s);
+            let s = std::mem::take(&mut sections[k]);
+            sections[k] = damaged(r, s);
         }
-        6 => return damaged(r, tables::table_of(&sections)),
-        _ => return tables::with_length(damaged(r, tables::table_of(&sections))),
+        6 => {
+            let t = tables::table_of(&sections);
+            return damaged(r, t);
+        }
+        _ => {
+            let t = tables::table_of(&sections);
+            let t = damaged(r, t);
+            return tables::with_length(t);
+        }
     }
     tables::table_of(&sections)
 }
@@ -223,29 +196,16 @@ pub fn start(r: &mut Random, initial: &[u8]) -> Vec<u8> {
 }
 
 /// An event for a run of which these nodes act.
-fn sensible(r: &mut Random, edition: Edition, acting: &[usize]) -> Vec<u8> {
+fn event(r: &mut Random, acting: &[usize]) -> [u8; 3] {
     match r.below(40) {
-        0..=18 if !acting.is_empty() => edition.pick(r.of(acting)),
-        // a high byte alone is wrong, where there is one
-        19 if !acting.is_empty() => edition.pick(r.of(acting) + HIGH),
-        0..=30 => edition.tick(),
-        31..=35 => edition.switch(r.below(3) as u8, r.below(3) as u8),
-        36 => edition.switch(r.below(17) as u8, r.byte() >> r.below(8)),
-        37 => edition.pick(r.word() as usize),
-        _ => edition.pick(r.below(edition.node_limit + 2)),
+        0..=18 if !acting.is_empty() => [1, r.of(acting) as u8, 0],
+        0..=29 => [0, 0, 0],
+        30..=34 => [2, r.below(3) as u8, r.below(3) as u8],
+        35 => [2, r.below(17) as u8, r.byte() >> r.below(8)],
+        36 | 37 => [1, r.byte() % 66, 0],
+        38 => [r.byte() % 4, r.byte() % 2, r.byte() % 2],
+        _ => [r.byte(), r.byte(), r.byte()],
     }
-}
-
-/// One in ten is no such event: its last byte is another, or all its bytes are.
-fn event(r: &mut Random, edition: Edition, acting: &[usize]) -> Vec<u8> {
-    let mut e = sensible(r, edition, acting);
-    match r.below(40) {
-        0 | 1 => *e.last_mut().unwrap() = r.of(&[1, 2, 128, 255]),
-        2 => e = (0..edition.event_bytes).map(|k| r.byte() % if k == 0 { 4 } else { 2 }).collect(),
-        3 => e = r.bytes(edition.event_bytes),
-        _ => {}
-    }
-    e
 }
 
 /// How many events a list has.
@@ -259,45 +219,25 @@ fn count(r: &mut Random) -> usize {
     }
 }
 
-/// Events for a run that is in view: mixed ones, or, so that it gets to its end, almost none but picks of acting nodes. The end of a
-/// schedule of as many nodes as can be is seldom reached without.
-fn rehearsed(r: &mut Random, rehearse: Rehearse, program: &[u8], start: &[u8]) -> Option<Vec<u8>> {
-    let edition = plain::edition_of(program);
-    let large = plain::read_schedule(program).is_ok_and(|[_, _, nodes]| nodes as usize == edition.node_limit);
-    let eager = r.one_in(if large { 2 } else { 12 });
-    let n = if eager { edition.node_limit + 50 } else { count(r) };
+/// Events, chosen with the run of this schedule or table in view where there is one; now and then a byte or two too many.
+pub fn events(r: &mut Random, by_table: bool, program: &[u8], start: &[u8]) -> Vec<u8> {
+    let n = count(r);
     // a switch that faults ends the run at the first check, so that its own event must come before
     let mut before_any_check = r.one_in(6);
     let mut choose = |acting: &[usize]| {
         if std::mem::take(&mut before_any_check) {
-            return Some(edition.switch(r.below(2) as u8, r.below(2) as u8));
+            return Some([2, r.below(2) as u8, r.below(2) as u8]);
         }
         // few events after the end of a run
-        match acting {
-            [] if r.one_in(3) => None,
-            [_, ..] if eager && !r.one_in(50) => Some(edition.pick(r.of(acting))),
-            _ => Some(event(r, edition, acting)),
-        }
+        if acting.is_empty() && r.one_in(3) { None } else { Some(event(r, acting)) }
     };
-    rehearse(program, start, n, &mut choose)
-}
-
-type Rehearse = fn(&[u8], &[u8], usize, &mut plain::Choice) -> Option<Vec<u8>>;
-
-/// Events, chosen with the run of this schedule or table in view where there is one; now and then a few bytes too many, or events of the
-/// other edition.
-pub fn events(r: &mut Random, by_table: bool, program: &[u8], start: &[u8]) -> Vec<u8> {
-    let edition = plain::edition_of(program);
-    if r.one_in(50) {
-        return (0..count(r)).flat_map(|_| event(r, other(edition), &[])).collect();
-    }
-    let rehearse = if by_table { plain::rehearse_table as Rehearse } else { plain::rehearse_rules };
-    let mut l = match rehearsed(r, rehearse, program, start) {
+    let rehearse = if by_table { plain::rehearse_table } else { plain::rehearse_rules };
+    let mut l = match rehearse(program, start, n, &mut choose) {
         Some(l) => l,
-        None => (0..count(r)).flat_map(|_| event(r, edition, &[])).collect(),
+        None => (0..n).flat_map(|_| event(r, &[])).collect(),
     };
     if r.one_in(25) {
-        let more = 1 + r.below(edition.event_bytes - 1);
+        let more = 1 + r.below(2);
         l.extend(r.bytes(more));
     }
     l

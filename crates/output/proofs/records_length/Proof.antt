@@ -42,8 +42,7 @@ returns-4 : tie.Need-returns-4
 returns-4 c =
     let b = c.before.before.before.before in
     let a = b.before.args in
-    let are = records-are (edition_of a.ed) a.events a.variables a.selectors b.event_bytes.ensures (omega arith) c.record_length.ensures in
-    are (few-set-bytes a.ed) (omega arith) (omega arith)
+    records-are (edition_of a.ed) a.events a.variables a.selectors b.event_bytes.ensures (omega arith) c.record_length.ensures (omega arith) (omega arith)
 
 pub records-length-spec : {M : Type 1} → statement M
 records-length-spec = tie.close (tie.spec (λ c. search rules) mul-if1 returns returns-2 returns-3 div-result (λ c κs. search rules) mul-result returns-4)

@@ -1,22 +1,18 @@
-//! A schedule file: 1 to 11 and 34, its nodes and its tree.
+//! A schedule file: 1 to 11 and 34, its nodes and its tree. Sets of nodes are words.
 use super::code;
-use super::edition::{ByNode, Edition};
 use super::plant::{nat2, Plant};
 
-/// The most bytes of a node, its kind included.
-pub const LONGEST: usize = 200;
-
-pub struct Schedule<'a, const W: usize> {
+pub struct Schedule<'a> {
     pub sections: [&'a [u8]; 3],
     pub plant: Plant,
     pub count: usize,
-    pub kinds: ByNode<u8, W>,
+    pub kinds: [u8; 64],
     /// the payload of each node in the schedule section
-    pub from: ByNode<u16, W>,
-    pub to: ByNode<u16, W>,
-    pub parent: ByNode<u8, W>,
+    pub from: [u16; 64],
+    pub to: [u16; 64],
+    pub parent: [u8; 64],
     /// the number after the last node of each subtree
-    pub ends: ByNode<u16, W>,
+    pub ends: [u8; 64],
     /// no node names a missing variable, selector or mode
     named: bool,
     /// the variables of the RESETs, and those of the REINITIALs
@@ -40,21 +36,21 @@ fn sections(f: &[u8]) -> Option<[&[u8]; 3]> {
     (p == f.len()).then_some([vs, es, ns])
 }
 
-impl<'a, const W: usize> Schedule<'a, W> {
-    /// Whether the node whose l bytes stand at p has the layout of its kind. What 11 and 34 are judged by is noted.
+impl<'a> Schedule<'a> {
+    /// Whether the node whose l bytes stand behind p has the layout of its kind. What 11 and 34 are judged by is noted.
     #[inline(always)]
     fn fits(&mut self, s: &[u8], p: usize, l: usize) -> bool {
-        match s[p] {
-            1 | 2 => l == 2 && s[p + 1] >= 1,
+        match s[p + 1] {
+            1 | 2 => l == 2 && s[p + 2] >= 1,
             3..=5 => true,
             k @ (6 | 7) if l >= 2 => {
-                let v = s[p + 1];
+                let v = s[p + 2];
                 self.named &= (v as usize) < self.plant.variables;
                 self.assigned[k as usize - 6] |= 1u32.wrapping_shl(v as u32);
                 true
             }
             8 if l == 3 => {
-                self.named &= self.plant.mode_exists(s[p + 1], s[p + 2]);
+                self.named &= self.plant.mode_exists(s[p + 2], s[p + 3]);
                 true
             }
             9 => l == 1,
@@ -64,58 +60,53 @@ impl<'a, const W: usize> Schedule<'a, W> {
 
     fn nodes(&mut self) -> Option<()> {
         let s = self.sections[2];
-        let n = Edition::<W>::field(s, 0)?;
-        if !(1..=Edition::<W>::NODES).contains(&n) {
+        let n = *s.first()? as usize;
+        if !(1..=64).contains(&n) {
             return None;
         }
-        let mut p = Edition::<W>::WIDTH;
+        let mut p = 1;
         for i in 0..n {
-            let l = Edition::<W>::field(s, p)?;
-            p += Edition::<W>::WIDTH;
-            if !(1..=LONGEST).contains(&l) || s.len() - p < l || !self.fits(s, p, l) {
+            let l = *s.get(p)? as usize;
+            if !(1..=200).contains(&l) || s.len() - p - 1 < l {
                 return None;
             }
-            self.kinds[i] = s[p];
-            self.from[i] = p as u16 + 1;
-            self.to[i] = (p + l) as u16;
-            p += l;
+            if !self.fits(s, p, l) {
+                return None;
+            }
+            self.kinds[i] = s[p + 1];
+            self.from[i] = p as u16 + 2;
+            self.to[i] = (p + 1 + l) as u16;
+            p += 1 + l;
         }
         self.count = n;
         (p == s.len()).then_some(())
     }
 
-    fn children(&self, n: usize) -> u8 {
-        match self.kinds[n] {
-            1 | 2 => self.sections[2][self.from[n] as usize],
-            3 => 1,
-            4 => 2,
-            _ => 0,
-        }
-    }
-
     /// 10: parents and ends, by one walk up the numbers.
     fn tree(&mut self) -> Option<()> {
-        // the nodes whose children are not all read, and how many of these are still to come
-        let mut open = ByNode::<u8, W>::new(0);
-        let mut left = ByNode::<u8, W>::new(0);
+        let mut open = [0u8; 64];
+        let mut left = [0u8; 64];
         let mut depth = 0;
         for i in 0..self.count {
-            if depth > 0 {
-                self.parent[i] = open[depth - 1];
-                left[depth - 1] -= 1;
-            } else if i > 0 {
-                return None;
+            if i > 0 {
+                if depth == 0 {
+                    return None;
+                }
+                let top = open[depth - 1] as usize;
+                self.parent[i] = top as u8;
+                left[top] -= 1;
             }
-            let children = self.children(i);
-            if children > 0 {
-                (open[depth], left[depth]) = (i as u8, children);
-                depth += 1;
-                continue;
-            }
-            self.ends[i] = i as u16 + 1;
-            while depth > 0 && left[depth - 1] == 0 {
+            left[i] = match self.kinds[i] {
+                1 | 2 => self.sections[2][self.from[i] as usize],
+                3 => 1,
+                4 => 2,
+                _ => 0,
+            };
+            open[depth] = i as u8;
+            depth += 1;
+            while depth > 0 && left[open[depth - 1] as usize] == 0 {
                 depth -= 1;
-                self.ends[open[depth] as usize] = i as u16 + 1;
+                self.ends[open[depth] as usize] = i as u8 + 1;
             }
         }
         (depth == 0).then_some(())
@@ -142,7 +133,7 @@ impl<'a, const W: usize> Schedule<'a, W> {
 
     /// 1 to 11, 34
     pub fn read(f: &'a [u8]) -> Result<Self, u8> {
-        if f.len() < 3 || f[0] != Edition::<W>::VERSION {
+        if f.len() < 3 || f[0] != 1 {
             return Err(1);
         }
         if nat2(f, 1) != f.len() {
@@ -154,11 +145,11 @@ impl<'a, const W: usize> Schedule<'a, W> {
             sections,
             plant,
             count: 0,
-            kinds: ByNode::new(0),
-            from: ByNode::new(0),
-            to: ByNode::new(0),
-            parent: ByNode::new(0),
-            ends: ByNode::new(0),
+            kinds: [0; 64],
+            from: [0; 64],
+            to: [0; 64],
+            parent: [255; 64],
+            ends: [0; 64],
             named: true,
             assigned: [0; 2],
         };

@@ -1,7 +1,6 @@
 //! Events judged over decoded actions and switches. A truth is kept until a variable that it reads changes, and the
 //! record is kept as bytes of which an event writes only what it changed.
 use super::code::{falls_below, number_of, truth_of, Code, Instruction, Program};
-use super::edition::{ByNode, Edition, Set, BITS};
 use super::moves::{Moves, Next};
 use super::plant::{int4, Plant, Switches};
 
@@ -44,13 +43,13 @@ pub fn action(kind: u8, operand: &[u8], plant: &Plant, program: &mut Program) ->
 }
 
 /// What moves lead to: residuals or locations.
-pub trait Control<const W: usize> {
-    fn go(&mut self, acting: Set<W>, n: usize, truth: bool) -> Next<W>;
+pub trait Control {
+    fn go(&mut self, acting: u64, n: usize, truth: bool) -> Next;
 }
 
-impl<const W: usize> Control<W> for &Moves<W> {
+impl Control for &Moves {
     #[inline(always)]
-    fn go(&mut self, acting: Set<W>, n: usize, truth: bool) -> Next<W> {
+    fn go(&mut self, acting: u64, n: usize, truth: bool) -> Next {
         self.advance(acting, n, truth)
     }
 }
@@ -63,29 +62,26 @@ pub struct Ran {
 }
 
 /// A plant with its decoded parts.
-pub struct Machine<'a, const W: usize> {
+pub struct Machine<'a> {
     pub plant: Plant,
     pub equations: &'a [u8],
     pub switches: Switches,
-    pub actions: ByNode<Action, W>,
+    pub actions: [Action; 64],
     pub instructions: Vec<Instruction>,
 }
 
-/// Room for the longest record, and bytes behind it: 33 before the values, 32 values, 16 modes.
-const RECORD: usize = 192;
-
 #[derive(Clone)]
-pub struct Runner<'a, C, const W: usize> {
-    machine: &'a Machine<'a, W>,
+pub struct Runner<'a, C> {
+    machine: &'a Machine<'a>,
     control: C,
     slots: Vec<i32>,
-    acting: Set<W>,
-    waits: Set<W>,
+    acting: u64,
+    waits: u64,
     /// nodes whose truth is known, and which of these are true
-    known: Set<W>,
-    truths: Set<W>,
+    known: u64,
+    truths: u64,
     /// by variable, the nodes whose truths read it
-    readers: [Set<W>; 32],
+    readers: [u64; 32],
     /// selectors whose current switches are all known to be false
     quiet: u16,
     all: u16,
@@ -97,9 +93,9 @@ pub struct Runner<'a, C, const W: usize> {
     /// the variables that a tick changes, their rates, and what these variables' readers are
     driven: u32,
     rates: [i32; 32],
-    tick_readers: Set<W>,
+    tick_readers: u64,
     tick_switches: u16,
-    record: [u8; RECORD],
+    record: [u8; 160],
     size: usize,
 }
 
@@ -107,12 +103,12 @@ pub struct Runner<'a, C, const W: usize> {
 const FAULT: u8 = 203;
 const BELOW: u8 = 204;
 
-/// Copies a record of at least 13 bytes in blocks, the last of which may lie over the one before.
+/// Copies a record of 13 to 153 bytes in blocks, the last of which may lie over the one before.
 ///
 /// # Safety
 /// Both places have `size` bytes.
 #[inline(always)]
-unsafe fn put(from: &[u8; RECORD], to: *mut u8, size: usize) {
+unsafe fn put(from: &[u8; 160], to: *mut u8, size: usize) {
     let p = from.as_ptr();
     if size < 16 {
         to.cast::<[u8; 8]>().write(p.cast::<[u8; 8]>().read());
@@ -127,53 +123,51 @@ unsafe fn put(from: &[u8; RECORD], to: *mut u8, size: usize) {
     to.add(size - 16).cast::<[u8; 16]>().write(p.add(size - 16).cast::<[u8; 16]>().read());
 }
 
-impl<'a, C: Control<W>, const W: usize> Runner<'a, C, W> {
-    /// A run of the plant before its start is known.
-    fn blank(machine: &'a Machine<'a, W>, slots: Vec<i32>, control: C, acting: Set<W>) -> Self {
+impl<'a, C: Control> Runner<'a, C> {
+    /// 20 to 22, then a run that stands at its start.
+    pub fn new(
+        machine: &'a Machine<'a>,
+        slots: Vec<i32>,
+        control: C,
+        acting: u64,
+        start: &[u8],
+        events: usize,
+        room: usize,
+    ) -> Result<Self, u8> {
         let p = &machine.plant;
-        Runner {
+        let (variables, selectors) = (p.variables, p.selectors);
+        if start.len() != 4 * variables + selectors {
+            return Err(20);
+        }
+        let mut x = Runner {
             machine,
             control,
             slots,
             acting,
-            waits: Set::EMPTY,
-            known: Set::EMPTY,
-            truths: Set::EMPTY,
-            readers: [Set::EMPTY; 32],
+            waits: 0,
+            known: 0,
+            truths: 0,
+            readers: [0; 32],
             quiet: 0,
-            all: ((1u32 << p.selectors) - 1) as u16,
+            all: ((1u32 << selectors) - 1) as u16,
             blocked: false,
             switch_readers: [0; 32],
             modes: [0; 16],
             driven: 0,
             rates: p.steady,
-            tick_readers: Set::EMPTY,
+            tick_readers: 0,
             tick_switches: 0,
-            record: [0; RECORD],
-            size: Edition::<W>::HEAD + 4 * p.variables + p.selectors,
-        }
-    }
-
-    /// 20 to 22, then a run that stands at its start.
-    pub fn new(
-        machine: &'a Machine<'a, W>,
-        slots: Vec<i32>,
-        control: C,
-        acting: Set<W>,
-        start: &[u8],
-        events: usize,
-        room: usize,
-    ) -> Result<Self, u8> {
-        let mut x = Runner::blank(machine, slots, control, acting);
+            record: [0; 160],
+            size: 9 + 4 * variables + selectors,
+        };
         x.begin(start)?;
-        if events % Edition::<W>::EVENT != 0 {
+        if events % 3 != 0 {
             return Err(21);
         }
-        if room / x.size < events / Edition::<W>::EVENT {
+        if room / x.size < events / 3 {
             return Err(22);
         }
-        x.record[Edition::<W>::HEAD..][..start.len()].copy_from_slice(start);
-        x.write_set(acting);
+        x.record[9..9 + start.len()].copy_from_slice(start);
         x.note();
         Ok(x)
     }
@@ -181,9 +175,6 @@ impl<'a, C: Control<W>, const W: usize> Runner<'a, C, W> {
     /// The starting values and modes, or 20.
     fn begin(&mut self, start: &[u8]) -> Result<(), u8> {
         let p = &self.machine.plant;
-        if start.len() != 4 * p.variables + p.selectors {
-            return Err(20);
-        }
         for v in 0..p.variables {
             let z = int4(start, 4 * v);
             if z < p.lows[v] || p.highs[v] < z {
@@ -205,12 +196,12 @@ impl<'a, C: Control<W>, const W: usize> Runner<'a, C, W> {
     fn note(&mut self) {
         for (n, a) in self.machine.actions.iter().enumerate() {
             if a.kind == WAIT {
-                self.waits.insert(n);
+                self.waits |= 1 << n;
             }
             if a.kind == TEST || a.kind == WAIT {
                 let mut r = a.code.reads;
                 while r != 0 {
-                    self.readers[r.trailing_zeros() as usize].insert(n);
+                    self.readers[r.trailing_zeros() as usize] |= 1 << n;
                     r &= r - 1;
                 }
             }
@@ -225,12 +216,12 @@ impl<'a, C: Control<W>, const W: usize> Runner<'a, C, W> {
     }
 
     fn note_tick(&mut self) {
-        (self.tick_readers, self.tick_switches) = (Set::EMPTY, 0);
+        (self.tick_readers, self.tick_switches) = (0, 0);
         let mut d = self.driven;
         while d != 0 {
             let v = d.trailing_zeros() as usize;
             d &= d - 1;
-            self.tick_readers = self.tick_readers.or(self.readers[v]);
+            self.tick_readers |= self.readers[v];
             self.tick_switches |= self.switch_readers[v];
         }
     }
@@ -276,7 +267,7 @@ impl<'a, C: Control<W>, const W: usize> Runner<'a, C, W> {
         self.note_tick();
         self.quiet &= !(1 << s);
         self.blocked = false;
-        self.record[Edition::<W>::HEAD + 4 * self.machine.plant.variables + s] = m;
+        self.record[9 + 4 * self.machine.plant.variables + s] = m;
     }
 
     #[inline(always)]
@@ -284,7 +275,7 @@ impl<'a, C: Control<W>, const W: usize> Runner<'a, C, W> {
         // SAFETY: v is a declared variable.
         unsafe {
             *self.slots.get_unchecked_mut(v) = z;
-            self.record.as_mut_ptr().add(Edition::<W>::HEAD + 4 * v).cast::<u32>().write_unaligned((z as u32).to_be());
+            self.record.as_mut_ptr().add(9 + 4 * v).cast::<u32>().write_unaligned((z as u32).to_be());
         }
     }
 
@@ -320,35 +311,32 @@ impl<'a, C: Control<W>, const W: usize> Runner<'a, C, W> {
     /// The truth of node n.
     #[inline(always)]
     fn truth(&mut self, n: usize) -> Option<bool> {
-        if self.known.has(n) {
-            return Some(self.truths.has(n));
+        if self.known >> n & 1 == 1 {
+            return Some(self.truths >> n & 1 == 1);
         }
-        let t = truth_of(&self.machine.instructions, &mut self.slots, self.machine.actions[n].code)?;
-        self.known.insert(n);
-        self.truths.put(n, t);
+        let t = truth_of(&self.machine.instructions, &mut self.slots, self.machine.actions[n & 63].code)?;
+        self.known |= 1 << n;
+        self.truths = self.truths & !(1 << n) | (t as u64) << n;
         Some(t)
     }
 
     #[inline(always)]
     fn tick(&mut self) -> u8 {
-        if !self.acting.minus(self.waits).is_empty() {
+        if self.acting & !self.waits != 0 {
             return 27;
         }
         let c = self.switch_check();
         if c != 0 {
             return c;
         }
-        let unsure = self.acting.minus(self.known.minus(self.truths));
-        for i in 0..W {
-            let mut left = unsure.0[i];
-            while left != 0 {
-                let n = BITS * i + left.trailing_zeros() as usize;
-                left &= left - 1;
-                match self.truth(n) {
-                    None => return FAULT,
-                    Some(true) => return 31,
-                    Some(false) => {}
-                }
+        let mut left = self.acting & (!self.known | self.truths);
+        while left != 0 {
+            let n = left.trailing_zeros() as usize;
+            left &= left - 1;
+            match self.truth(n) {
+                None => return FAULT,
+                Some(true) => return 31,
+                Some(false) => {}
             }
         }
         self.add_rates()
@@ -374,19 +362,19 @@ impl<'a, C: Control<W>, const W: usize> Runner<'a, C, W> {
             d &= d - 1;
             self.store(v, sums[v]);
         }
-        self.known = self.known.minus(self.tick_readers);
+        self.known &= !self.tick_readers;
         self.quiet &= !self.tick_switches;
         200
     }
 
     #[inline(always)]
-    fn assign(&mut self, a: &Action) -> u8 {
+    fn assign(&mut self, a: Action) -> u8 {
         let v = a.what as usize & 31;
         let p = &self.machine.plant;
         match number_of(&self.machine.instructions, &mut self.slots, a.code) {
             Some(z) if p.lows[v] <= z && z <= p.highs[v] => {
                 self.store(v, z);
-                self.known = self.known.minus(self.readers[v]);
+                self.known &= !self.readers[v];
                 self.quiet &= !self.switch_readers[v];
                 0
             }
@@ -396,16 +384,14 @@ impl<'a, C: Control<W>, const W: usize> Runner<'a, C, W> {
 
     #[inline(always)]
     fn pick(&mut self, n: usize) -> u8 {
-        if n >= Edition::<W>::NODES || !self.acting.has(n) {
+        if n >= 64 || self.acting >> n & 1 == 0 {
             return 25;
         }
         let c = self.switch_check();
         if c != 0 {
             return c;
         }
-        let machine = self.machine;
-        // SAFETY: an acting node is one.
-        let a = unsafe { machine.actions.at(n) };
+        let a = self.machine.actions[n];
         let mut truth = true;
         match a.kind {
             TEST => match self.truth(n) {
@@ -425,16 +411,9 @@ impl<'a, C: Control<W>, const W: usize> Runner<'a, C, W> {
             SWITCH => self.set_mode(a.what as usize, a.mode),
             _ => {}
         }
-        self.go(n, truth)
-    }
-
-    /// The move of node n, which is taken.
-    #[inline(always)]
-    fn go(&mut self, n: usize, truth: bool) -> u8 {
         match self.control.go(self.acting, n, truth) {
             Next::To(w) => {
                 self.acting = w;
-                self.write_set(w);
                 200
             }
             Next::Finished => 201,
@@ -462,32 +441,22 @@ impl<'a, C: Control<W>, const W: usize> Runner<'a, C, W> {
         }
     }
 
-    /// Of an event of EVENT bytes.
     #[inline(always)]
-    pub fn event(&mut self, e: &[u8]) -> u8 {
-        let (b, c) = (e[1] as usize, e[2] as usize);
-        if W == 1 {
-            return match e[0] {
-                0 if b | c == 0 => self.tick(),
-                1 if c == 0 => self.pick(b),
-                2 => self.take_switch(b, c),
-                _ => 24,
-            };
-        }
-        match (e[0], e[3]) {
-            (0, 0) if b | c == 0 => self.tick(),
-            (1, 0) => self.pick(256 * b + c),
-            (2, 0) => self.take_switch(b, c),
+    pub fn event(&mut self, a: u8, b: u8, c: u8) -> u8 {
+        match a {
+            0 if b | c == 0 => self.tick(),
+            1 if c == 0 => self.pick(b as usize),
+            2 => self.take_switch(b as usize, c as usize),
             _ => 24,
         }
     }
 
     /// What a pick or a tick of these nodes evaluates, in its order: the switch check, then the nodes.
-    fn walked(&self, nodes: Set<W>) -> Vec<Code> {
+    fn walked(&self, nodes: u64) -> Vec<Code> {
         let m = self.machine;
         let rows = (0..m.plant.selectors).map(|s| 8 * s + self.modes[s] as usize);
         let switches = rows.flat_map(|row| &m.switches.all[m.switches.first[row] as usize..][..m.switches.count[row] as usize]);
-        let actions = m.actions.iter().enumerate().filter(|(n, _)| nodes.has(*n));
+        let actions = m.actions.iter().enumerate().filter(|(n, _)| nodes >> n & 1 == 1);
         switches.map(|w| w.code).chain(actions.map(|(_, a)| a.code)).collect()
     }
 
@@ -495,16 +464,14 @@ impl<'a, C: Control<W>, const W: usize> Runner<'a, C, W> {
     /// a run, so that no other event pays for the side.
     #[cold]
     #[inline(never)]
-    fn falls_below(&mut self, e: &[u8]) -> bool {
+    fn falls_below(&mut self, e: [u8; 3]) -> bool {
         let m = self.machine;
-        let node = Edition::<W>::field(e, 1).unwrap_or(0);
-        let codes = match e[0] {
-            0 => self.walked(self.acting),
-            1 => self.walked(Set::of(node)),
-            _ => {
-                let (s, k) = (e[1] as usize, e[2] as usize);
-                let row = 8 * s + self.modes[s] as usize;
-                vec![m.switches.all[m.switches.first[row] as usize + k].code]
+        let codes = match e {
+            [0, ..] => self.walked(self.acting),
+            [1, n, _] => self.walked(1 << n),
+            [_, s, k] => {
+                let row = 8 * s as usize + self.modes[s as usize] as usize;
+                vec![m.switches.all[m.switches.first[row] as usize + k as usize].code]
             }
         };
         if let Some(below) = codes.into_iter().find_map(|c| falls_below(&m.instructions, &mut self.slots, c)) {
@@ -513,7 +480,7 @@ impl<'a, C: Control<W>, const W: usize> Runner<'a, C, W> {
         // no expression faults: a value is outside its declared range
         let p = &m.plant;
         if e[0] == 1 {
-            let a = m.actions[node];
+            let a = m.actions[e[1] as usize];
             let z = number_of(&m.instructions, &mut self.slots, a.code);
             return z.is_some_and(|z| z < p.lows[a.what as usize]);
         }
@@ -522,34 +489,25 @@ impl<'a, C: Control<W>, const W: usize> Runner<'a, C, W> {
         first.is_some_and(|(v, z)| z < p.lows[v] as i64)
     }
 
-    /// The set of the record: one big-endian number.
-    #[inline(always)]
-    fn write_set(&mut self, set: Set<W>) {
-        for i in 0..W {
-            let at = 1 + 8 * (W - 1 - i);
-            self.record[at..at + 8].copy_from_slice(&set.0[i].to_be_bytes());
-        }
-    }
-
     /// All events; their records go to the front of the buffer.
     pub fn run(&mut self, events: &[u8], records: &mut [u8]) -> Ran {
-        let width = Edition::<W>::EVENT;
-        let n = events.len() / width;
+        let n = events.len() / 3;
         let size = self.size;
         let mut out = records.as_mut_ptr();
-        let (mut taken, mut faulted) = (0, 0);
+        let mut taken = 0;
+        let mut faulted = 0;
         let mut i = 0;
         while i < n {
             // SAFETY: there are n events, and 22 has seen to the room for n records.
             unsafe {
-                let answer = self.event(std::slice::from_raw_parts(events.as_ptr().add(width * i), width));
+                let e = events.as_ptr().add(3 * i);
+                let answer = self.event(*e, *e.add(1), *e.add(2));
                 let over = answer > 200;
+                let set = if over { 0 } else { self.acting };
                 taken += (answer.wrapping_sub(200) < 3) as u64;
                 faulted += (answer == FAULT) as u64;
                 self.record[0] = answer;
-                if over {
-                    self.write_set(Set::EMPTY);
-                }
+                self.record.as_mut_ptr().add(1).cast::<u64>().write_unaligned(set.to_be());
                 put(&self.record, out, size);
                 out = out.add(size);
                 i += 1;
@@ -558,25 +516,19 @@ impl<'a, C: Control<W>, const W: usize> Runner<'a, C, W> {
                 }
             }
         }
-        // SAFETY: the last record written is that of event i - 1; the rest of the n are still to write.
-        unsafe {
-            if faulted != 0 && self.falls_below(&events[width * (i - 1)..width * i]) {
-                *out.sub(size) = BELOW;
+        if faulted != 0 && self.falls_below([events[3 * i - 3], events[3 * i - 2], events[3 * i - 1]]) {
+            // SAFETY: the last record written is that of event i - 1.
+            unsafe { *out.sub(size) = BELOW };
+        }
+        self.record[0] = 23;
+        while i < n {
+            // SAFETY: as above
+            unsafe {
+                put(&self.record, out, size);
+                out = out.add(size);
             }
-            self.after_the_end(out, n - i);
+            i += 1;
         }
         Ran { taken, turned_away: n as u64 - taken - faulted, faulted }
-    }
-
-    /// The records of so many events after the end of the run.
-    ///
-    /// # Safety
-    /// There is room for them.
-    unsafe fn after_the_end(&mut self, mut out: *mut u8, count: usize) {
-        self.record[0] = 23;
-        for _ in 0..count {
-            put(&self.record, out, self.size);
-            out = out.add(self.size);
-        }
     }
 }

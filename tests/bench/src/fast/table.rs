@@ -1,23 +1,22 @@
 //! A table: 15 to 19, its actions decoded, its locations by number.
 use super::code::Program;
-use super::edition::{ByNode, Edition, Set};
-use super::file::{section, LONGEST};
+use super::file::section;
 use super::moves::Next;
 use super::plant::{nat2, Plant};
 use super::run::{action, Action, Control, Machine, TEST};
 
 /// A location: its acting nodes, and where its row stands.
 #[derive(Clone, Copy)]
-pub struct Location<const W: usize> {
-    pub acting: Set<W>,
+pub struct Location {
+    pub acting: u64,
     place: u32,
 }
 
-pub struct Table<'a, const W: usize> {
-    pub machine: Machine<'a, W>,
+pub struct Table<'a> {
+    pub machine: Machine<'a>,
     pub slots: Vec<i32>,
     pub rows: &'a [u8],
-    pub locations: Vec<Location<W>>,
+    pub locations: Vec<Location>,
 }
 
 fn sections(t: &[u8]) -> Option<[&[u8]; 4]> {
@@ -28,58 +27,31 @@ fn sections(t: &[u8]) -> Option<[&[u8]; 4]> {
     (p == t.len()).then_some([vs, es, acts, locs])
 }
 
-fn actions<const W: usize>(s: &[u8], plant: &Plant, program: &mut Program) -> Option<ByNode<Action, W>> {
-    let mut actions = ByNode::new(Action::default());
-    let width = Edition::<W>::WIDTH;
-    let n = Edition::<W>::field(s, 0)?;
-    if !(1..=Edition::<W>::NODES).contains(&n) {
+fn actions(s: &[u8], plant: &Plant, program: &mut Program) -> Option<[Action; 64]> {
+    let mut actions = [Action::default(); 64];
+    let n = *s.first()?;
+    if !(1..=64).contains(&n) {
         return None;
     }
-    let (mut p, mut low) = (width, 0);
+    let (mut p, mut low) = (1, 0);
     for _ in 0..n {
-        let l = Edition::<W>::field(s, p)?;
-        p += width;
-        if !(width + 1..=width + LONGEST).contains(&l) || s.len() - p < l {
+        let l = *s.get(p)? as usize;
+        if !(2..=201).contains(&l) || s.len() - p - 1 < l {
             return None;
         }
-        let node = Edition::<W>::field(s, p)?;
-        if node < low || node >= Edition::<W>::NODES {
+        let node = s[p + 1] as usize;
+        if node < low || node > 63 {
             return None;
         }
-        actions[node] = action(s[p + width], &s[p + width + 1..p + l], plant, program)?;
+        let e = p + 1 + l;
+        actions[node] = action(s[p + 2], &s[p + 3..e], plant, program)?;
         low = node + 1;
-        p += l;
+        p = e;
     }
     (p == s.len()).then_some(actions)
 }
 
-/// The acting nodes of a row of n locations; none where 19 refuses it.
-#[inline(always)]
-fn row<const W: usize>(entries: &[u8], n: usize, actions: &ByNode<Action, W>) -> Option<Set<W>> {
-    let (mut acting, mut low) = (Set::EMPTY, 0);
-    for e in entries.chunks_exact(Edition::<W>::ENTRY) {
-        let node = Edition::<W>::field(e, 0)?;
-        let (t, u) = (nat2(e, Edition::<W>::WIDTH), nat2(e, Edition::<W>::WIDTH + 2));
-        if node < low || node >= Edition::<W>::NODES {
-            return None;
-        }
-        low = node + 1;
-        let on = |t: usize| t < n || t == 0xFFFE;
-        let fits = match actions[node].kind {
-            TEST => on(t) && on(u),
-            2..=4 => on(t) && u == 0xFFFF,
-            5 => t == 0xFFFD && u == 0xFFFF,
-            _ => false,
-        };
-        if !fits {
-            return None;
-        }
-        acting.insert(node);
-    }
-    Some(acting)
-}
-
-fn locations<const W: usize>(s: &[u8], actions: &ByNode<Action, W>) -> Option<Vec<Location<W>>> {
+fn locations(s: &[u8], actions: &[Action; 64]) -> Option<Vec<Location>> {
     if s.len() < 2 {
         return None;
     }
@@ -91,21 +63,39 @@ fn locations<const W: usize>(s: &[u8], actions: &ByNode<Action, W>) -> Option<Ve
     let mut p = 2;
     for _ in 0..n {
         let place = p as u32;
-        let length = Edition::<W>::ENTRY * *s.get(p)? as usize;
+        let count = *s.get(p)? as usize;
         p += 1;
-        if length == 0 || s.len() - p < length {
+        if count == 0 || s.len() - p < 5 * count {
             return None;
         }
-        let acting = row(&s[p..p + length], n, actions)?;
-        p += length;
+        let (mut acting, mut low) = (0, 0);
+        for e in s[p..p + 5 * count].chunks_exact(5) {
+            let (node, t, u) = (e[0], nat2(e, 1), nat2(e, 3));
+            if node < low || node > 63 {
+                return None;
+            }
+            low = node + 1;
+            let on = |t: usize| t < n || t == 0xFFFE;
+            let fits = match actions[node as usize].kind {
+                TEST => on(t) && on(u),
+                2..=4 => on(t) && u == 0xFFFF,
+                5 => t == 0xFFFD && u == 0xFFFF,
+                _ => false,
+            };
+            if !fits {
+                return None;
+            }
+            acting |= 1 << node;
+        }
+        p += 5 * count;
         all.push(Location { acting, place });
     }
     (p == s.len()).then_some(all)
 }
 
-impl<'a, const W: usize> Table<'a, W> {
+impl<'a> Table<'a> {
     pub fn read(t: &'a [u8]) -> Result<Self, u8> {
-        if t.len() < 5 || t[0] != Edition::<W>::VERSION || nat2(t, 1) * 65536 + nat2(t, 3) != t.len() {
+        if t.len() < 5 || t[0] != 1 || nat2(t, 1) * 65536 + nat2(t, 3) != t.len() {
             return Err(15);
         }
         let [vs, es, acts, rows] = sections(t).ok_or(16)?;
@@ -120,23 +110,24 @@ impl<'a, const W: usize> Table<'a, W> {
 }
 
 #[derive(Clone)]
-pub struct ByTable<'a, const W: usize> {
+pub struct ByTable<'a> {
     rows: &'a [u8],
-    locations: &'a [Location<W>],
+    locations: &'a [Location],
     place: usize,
 }
 
-impl<'a, const W: usize> ByTable<'a, W> {
-    pub fn new(rows: &'a [u8], locations: &'a [Location<W>]) -> Self {
+impl<'a> ByTable<'a> {
+    pub fn new(rows: &'a [u8], locations: &'a [Location]) -> Self {
         ByTable { rows, locations, place: locations[0].place as usize }
     }
 }
 
-impl<const W: usize> Control<W> for ByTable<'_, W> {
+impl Control for ByTable<'_> {
     /// Entries rise by node, so the entry's number is the count of acting nodes below it.
     #[inline(always)]
-    fn go(&mut self, acting: Set<W>, n: usize, truth: bool) -> Next<W> {
-        let p = self.place + 1 + Edition::<W>::ENTRY * acting.rank(n) + Edition::<W>::WIDTH + if truth { 0 } else { 2 };
+    fn go(&mut self, acting: u64, n: usize, truth: bool) -> Next {
+        let k = (acting & !(u64::MAX << n)).count_ones() as usize;
+        let p = self.place + 1 + 5 * k + if truth { 1 } else { 3 };
         // SAFETY: node n acts, so its entry is there; targets were judged.
         unsafe {
             let t = u16::from_be(self.rows.as_ptr().add(p).cast::<u16>().read_unaligned());

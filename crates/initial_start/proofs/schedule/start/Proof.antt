@@ -1,19 +1,19 @@
 use mathlib.Core.Path.{ap, ◌∙◌}
 use borrow.Author.Rules.{rules}
+use Rattle.semantics.specs.Editions.{edition1}
 use Rattle.initial_start.specs.Held.{held}
-use Rattle.initial_start.specs.Initial.{schedule_start}
 use Rattle.initial_start.proofs.StartGiven.{schedule-gives}
 use Rattle.initial_start.proofs.schedule.start.Statement.{statement}
 use Rattle.initial_start.proofs.schedule.start.Tie as tie
 
+index-requires : tie.Need-index-requires
+index-requires c κs = search rules
+
 between-requires : tie.Need-between-requires
-between-requires c κs = (schedule-gives _ _ c.before.index.ensures).stand
+between-requires c κs = (schedule-gives edition1 _ c.before.index.ensures).stand
 
 returns : tie.Need-returns
-returns c =
-    let i = c.before.before in
-    let f = i.before.before.before.args.file.now in
-    c.between.ensures _ ∙ ap held (schedule-gives _ f i.index.ensures).is ∙ ap (λ e. held (schedule_start e f)) i.before.of.ensures
+returns c = c.between.ensures edition1 ∙ ap held (schedule-gives edition1 _ c.before.before.index.ensures).is
 
 pub start_spec : {M : Type 1} → statement M
-start_spec = tie.close (tie.spec (λ c κs. search rules) (λ c κs. search rules) between-requires returns)
+start_spec = tie.close (tie.spec index-requires between-requires returns)
