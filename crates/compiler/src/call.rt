@@ -21,7 +21,7 @@ use sizes::Measured;
 use table_write::{actions, table};
 
 // 0, the length of the table and the comparisons of numbering; or the first number that applies, and 0
-#[derive(Drop)]
+#[derive(Clone, Copy)]
 pub struct Compiled {
     pub refusal: u8,
     pub length: usize,
@@ -29,7 +29,7 @@ pub struct Compiled {
 }
 
 // 0 and the length of the table; or the first number that applies, and 0
-#[derive(Drop)]
+#[derive(Clone, Copy)]
 pub struct TableLength {
     pub refusal: u8,
     pub length: usize,
@@ -37,7 +37,7 @@ pub struct TableLength {
 
 // What is known of a table before it is written: 1 to 11, 34, 12, 13 and its length; where the file's sections and nodes stand, the kinds of the nodes' actions,
 // how many actions and locations there are and the bytes of their rows.
-#[derive(Drop)]
+#[derive(Clone, Copy)]
 struct Plan {
     refusal: u8,
     length: usize,

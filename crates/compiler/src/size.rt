@@ -8,7 +8,7 @@ use edition::Edition;
 use sizes::OVER;
 
 // refused as a file is read, both numbers 0 then; or the exact numbers; or 1,025 and 0 where there are over 1,024 locations
-#[derive(Drop)]
+#[derive(Clone, Copy)]
 pub struct TableSize {
     pub refusal: u8,
     pub locations: usize,

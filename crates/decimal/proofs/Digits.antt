@@ -10,7 +10,7 @@ use borrow.Author.Tests.{le-leb, lt-leb, lt-ltb}
 use lib.Dec.{ltb}
 use lib.ListN.{length, get_or, drop}
 use lib.Seq.{drop-cons, drop-nil}
-use Rattle.semantics.specs.Bytes.{every, within, is_some, All, all_cons}
+use Rattle.semantics.specs.Bytes.{every, within, is_some, All, all_nil, all_cons}
 use Rattle.semantics.proofs.Facts.{true-not-false, by_cases, every-all, within_low, within_both}
 use Rattle.decimal.specs.Decimal.{is_digit, value_from, decimal_in}
 
@@ -55,6 +55,8 @@ module _ (s : List ℕ) (i : ℕ) (h : i < length s) where
   value-next n = rw (add-one, drop-cons s i 0 h) refl
 
 all-at : {P : ℕ → Type 0} {l : List ℕ} (i : ℕ) → All P l → i < length l → P (get_or l i 0)
+all-at zero all_nil h = elim h [ ]
+all-at (suc i) all_nil h = elim h [ ]
 all-at zero (all_cons p a) h = p
 all-at (suc i) (all_cons p a) h = all-at i a (omega arith)
 

@@ -1,4 +1,6 @@
 // Decimal numbers in the arguments of a program.
+#![tactic(auto)]
+
 ghost use Rattle.std.specs.Prelude.{◌≡◌, true};
 ghost use Rattle.std.proofs.Math.Option.{some};
 ghost use Rattle.semantics.specs.Bytes.{every, is_some};
@@ -12,7 +14,7 @@ const NINE: u8 = b'9';
 const BASE: u64 = 10;
 
 // The bytes of an argument as a decimal number: the number, none, or one above the largest that is asked for.
-#[derive(Drop)]
+#[derive(Clone, Copy)]
 pub enum Parsed {
     Number(u64),
     NotDecimal,

@@ -15,7 +15,7 @@ const FIRST_VERSION: u8 = 1;
 const SECOND_VERSION: u8 = 2;
 
 // An enum and no struct of numbers: every value of it is an edition.
-#[derive(Drop)]
+#[derive(Clone, Copy)]
 pub enum Edition {
     First,
     Second,

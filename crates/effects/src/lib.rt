@@ -14,7 +14,7 @@ use expression::{Number, Truth};
 
 // How an event is answered: turned away with a number, a fault on a side of its range, or taken, with nobody's move or with
 // the move of a node, on done or true, or on false.
-#[derive(Drop)]
+#[derive(Clone, Copy)]
 pub enum Verdict {
     Away(u8),
     Above,

@@ -6,7 +6,7 @@ ghost use Rattle.event.specs.Decoded.{where_zero, all_zero, Decodes};
 use edition::Edition;
 
 // A tick; the pick of a node; switch k of selector s's current mode; none of these.
-#[derive(Drop)]
+#[derive(Clone, Copy)]
 pub enum Event {
     Tick,
     Pick(usize),

@@ -13,7 +13,7 @@ use edition::Edition;
 use records::{Counts, Ran};
 
 // 0, or the first number that applies; the other numbers are 0 then
-#[derive(Drop)]
+#[derive(Clone, Copy)]
 pub struct Examined {
     pub refusal: u8,
     // of the table

@@ -1,8 +1,10 @@
 // Numbers and truths: judged from their bytes (condition 12) and evaluated.
+#![tactic(auto)]
+
 ghost use Rattle.std.specs.Prelude.{◌≡◌, List, ◌+◌, ◌-◌, ◌≤◌, length, drop, ℤ, neg_ℤ};
 ghost use Rattle.semantics.specs.Bytes.{be4, signed as signed_of, is_some, read, nat4};
 ghost use Rattle.semantics.specs.Editions.{Edition};
-ghost use Rattle.semantics.specs.Expressions.{ok, fault, applied, compared, connected, result};
+ghost use Rattle.semantics.specs.Expressions.{ok, fault, applied, compared, connected, result as in_range};
 ghost use Rattle.semantics.specs.Expressions.{a_constant, a_variable, depth_limit, read_expression, number_in, truth_in};
 ghost use Rattle.semantics.specs.Sections.{variable_limit};
 ghost use Rattle.expression.specs.Answers.{number_of, truth_of, truth_answer, NumberSays, TruthSays};
@@ -14,7 +16,7 @@ ghost use Rattle.expression.specs.Forms.{operation_is, comparison_is, connective
 const TWO_LEAVES: usize = 5;
 
 // A number's value, or the side on which a result lies outside its range; malformed where condition 12 turns the bytes away.
-#[derive(Drop)]
+#[derive(Clone, Copy)]
 pub enum Number {
     Is(i32),
     Above,
@@ -22,7 +24,7 @@ pub enum Number {
     Malformed,
 }
 
-#[derive(Drop)]
+#[derive(Clone, Copy)]
 pub enum Truth {
     Yes,
     No,
@@ -32,7 +34,7 @@ pub enum Truth {
 }
 
 // What stands at a position, and the position after it. A fault says whether the result lies above its range.
-#[derive(Drop)]
+#[derive(Clone, Copy)]
 enum Found {
     ANumber(i32, usize),
     NumberFault(bool, usize),
@@ -42,14 +44,14 @@ enum Found {
 }
 
 // The forms of two operands.
-#[derive(Drop)]
+#[derive(Clone, Copy)]
 enum Operation {
     Sum,
     Difference,
     Product,
 }
 
-#[derive(Drop)]
+#[derive(Clone, Copy)]
 enum Comparison {
     AtMost,
     Less,
@@ -57,14 +59,14 @@ enum Comparison {
     Unequal,
 }
 
-#[derive(Drop)]
+#[derive(Clone, Copy)]
 enum Connective {
     Both,
     Either,
 }
 
 // What a first byte says: everything that follows it goes by this.
-#[derive(Drop)]
+#[derive(Clone, Copy)]
 enum Form {
     Constant,
     Variable,
@@ -80,7 +82,7 @@ enum Form {
 // The one match over the codes: ranges for number forms, truth forms and the bytes that are no code. The two functions below tell the forms
 // of a range apart, and no other function of this crate looks at a code. The leaves stand alone, so that LLVM makes a jump of them.
 fn form_of(code: u8) -> Form
-    ensures* { λ r. ⌜ FormSays code r ⌝ }
+    ensures { FormSays code result }
 {
     match code {
         // numbers
@@ -97,7 +99,7 @@ fn form_of(code: u8) -> Form
 // Among the numbers with operands.
 fn number_form(code: u8) -> Form
     requires { (0x10 ≤ code) × (code ≤ 0x14) }
-    ensures* { λ r. ⌜ FormSays code r ⌝ }
+    ensures { FormSays code result }
 {
     match code {
         0x10 => Form::Operation(Operation::Sum),
@@ -111,7 +113,7 @@ fn number_form(code: u8) -> Form
 // Among the truths.
 fn truth_form(code: u8) -> Form
     requires { (0x20 ≤ code) × (code ≤ 0x2f) }
-    ensures* { λ r. ⌜ FormSays code r ⌝ }
+    ensures { FormSays code result }
 {
     match code {
         0x20 => Form::Comparison(Comparison::AtMost),
@@ -128,7 +130,7 @@ fn truth_form(code: u8) -> Form
 
 // The value of the bytes, which are one whole number.
 pub fn number_value(s: &[u8], vars: &[i32]) -> Number
-    ensures* { λ r. ⌜ ((ed : Edition) → NumberSays vars.now (number_in ed (length vars.now) s.now) r) ⌝ }
+    ensures { (ed : Edition) → NumberSays vars.now (number_in ed (length vars.now) s.now) result }
 {
     match whole(s, vars) {
         Found::ANumber(z, n) => {
@@ -151,7 +153,7 @@ pub fn number_value(s: &[u8], vars: &[i32]) -> Number
 
 // The value of the bytes, which are one whole truth. Most are a comparison of two leaves, or two of them joined: these take no recursion.
 pub fn truth_value(s: &[u8], vars: &[i32]) -> Truth
-    ensures* { λ r. ⌜ ((ed : Edition) → TruthSays vars.now (truth_in ed (length vars.now) s.now) r) ⌝ }
+    ensures { (ed : Edition) → TruthSays vars.now (truth_in ed (length vars.now) s.now) result }
 {
     match comparing(s, vars) {
         Truth::Yes => Truth::Yes,
@@ -163,7 +165,7 @@ pub fn truth_value(s: &[u8], vars: &[i32]) -> Truth
 // Condition 12 of a number, where so many variables are declared.
 pub fn number_reads(s: &[u8], variables: usize) -> bool
     requires { variables ≤ variable_limit }
-    ensures* { λ r. ⌜ ((ed : Edition) → r ≡ is_some (number_in ed variables s.now)) ⌝ }
+    ensures { (ed : Edition) → result ≡ is_some (number_in ed variables s.now) }
 {
     let zeros = [0i32; paper::VARIABLES];
     match number_value(s, &zeros[..variables]) {
@@ -175,7 +177,7 @@ pub fn number_reads(s: &[u8], variables: usize) -> bool
 // Condition 12 of a truth.
 pub fn truth_reads(s: &[u8], variables: usize) -> bool
     requires { variables ≤ variable_limit }
-    ensures* { λ r. ⌜ ((ed : Edition) → r ≡ is_some (truth_in ed variables s.now)) ⌝ }
+    ensures { (ed : Edition) → result ≡ is_some (truth_in ed variables s.now) }
 {
     let zeros = [0i32; paper::VARIABLES];
     match truth_value(s, &zeros[..variables]) {
@@ -187,7 +189,7 @@ pub fn truth_reads(s: &[u8], variables: usize) -> bool
 // A comparison of two leaves; malformed for any other bytes. It does not go through `compared_at`, so that LLVM inlines it. Its length is
 // tested at once, which spares a test at the first leaf.
 fn comparing(s: &[u8], vars: &[i32]) -> Truth
-    ensures* { λ r. ⌜ ((ed : Edition) → (r ≡ Truth.Malformed → ⊥) → r ≡ truth_answer vars.now (truth_in ed (length vars.now) s.now)) ⌝ }
+    ensures { (ed : Edition) → (result ≡ Truth.Malformed → ⊥) → result ≡ truth_answer vars.now (truth_in ed (length vars.now) s.now) }
 {
     if s.len() < TWO_LEAVES {
         return Truth::Malformed;
@@ -209,7 +211,7 @@ fn comparing(s: &[u8], vars: &[i32]) -> Truth
 
 // Two comparisons of leaves, joined; malformed for any other bytes.
 fn joining(s: &[u8], vars: &[i32]) -> Truth
-    ensures* { λ r. ⌜ ((ed : Edition) → (r ≡ Truth.Malformed → ⊥) → r ≡ truth_answer vars.now (truth_in ed (length vars.now) s.now)) ⌝ }
+    ensures { (ed : Edition) → (result ≡ Truth.Malformed → ⊥) → result ≡ truth_answer vars.now (truth_in ed (length vars.now) s.now) }
 {
     if s.len() == 0 {
         return Truth::Malformed;
@@ -231,7 +233,7 @@ fn joining(s: &[u8], vars: &[i32]) -> Truth
 
 // A comparison of two leaves at a position; broken for any other bytes.
 fn compared_at(s: &[u8], vars: &[i32], at: usize) -> Found
-    ensures* { λ r. ⌜ ((ed : Edition) → (r ≡ Found.Broken → ⊥) → r ≡ found ed vars.now s.now at (depth_limit - 1)) ⌝ }
+    ensures { (ed : Edition) → (result ≡ Found.Broken → ⊥) → result ≡ found ed vars.now s.now at (depth_limit - 1) }
 {
     if s.len() <= at {
         return Found::Broken;
@@ -245,7 +247,7 @@ fn compared_at(s: &[u8], vars: &[i32], at: usize) -> Found
 
 // A truth of any form: where it is no comparison of two leaves, `truth_value` asks here.
 fn no_comparison(s: &[u8], vars: &[i32]) -> Truth
-    ensures* { λ r. ⌜ ((ed : Edition) → TruthSays vars.now (truth_in ed (length vars.now) s.now) r) ⌝ }
+    ensures { (ed : Edition) → TruthSays vars.now (truth_in ed (length vars.now) s.now) result }
 {
     match joining(s, vars) {
         Truth::Yes => {
@@ -277,7 +279,7 @@ fn no_comparison(s: &[u8], vars: &[i32]) -> Truth
 
 // What stands at the front of the bytes. A leaf and an operation on two leaves take no recursion.
 fn whole(s: &[u8], vars: &[i32]) -> Found
-    ensures* { λ r. ⌜ ((ed : Edition) → FoundSays vars.now (length s.now) (read_expression ed (length vars.now) depth_limit s.now) r) ⌝ }
+    ensures { (ed : Edition) → FoundSays vars.now (length s.now) (read_expression ed (length vars.now) depth_limit s.now) result }
 {
     if s.len() == 0 {
         return Found::Broken;
@@ -300,7 +302,7 @@ fn whole(s: &[u8], vars: &[i32]) -> Found
 
 // A constant or a variable at a position; broken where there is none.
 fn leaf(s: &[u8], vars: &[i32], at: usize) -> Found
-    ensures* { λ r. ⌜ LeafSays vars.now s.now at r ⌝ }
+    ensures { LeafSays vars.now s.now at result }
 {
     if s.len() <= at {
         return Found::Broken;
@@ -314,7 +316,7 @@ fn leaf(s: &[u8], vars: &[i32], at: usize) -> Found
 
 // What stands at a position, of at most this depth. Both operands are evaluated, whatever the first one gives.
 fn eval(s: &[u8], vars: &[i32], at: usize, depth: usize) -> Found
-    ensures* { λ r. ⌜ ((ed : Edition) → FoundSays vars.now (length s.now) (read_expression ed (length vars.now) depth (drop at s.now)) r) ⌝ }
+    ensures { (ed : Edition) → FoundSays vars.now (length s.now) (read_expression ed (length vars.now) depth (drop at s.now)) result }
 {
     if depth == 0 {
         return Found::Broken;
@@ -351,7 +353,7 @@ fn eval(s: &[u8], vars: &[i32], at: usize, depth: usize) -> Found
 
 // Where the bytes after the expression begin.
 fn next_of(f: Found) -> usize
-    ensures* { λ r. ⌜ r ≡ next_of f ⌝ }
+    ensures { result ≡ next_of f }
 {
     match f {
         Found::ANumber(_, n) => n,
@@ -364,7 +366,7 @@ fn next_of(f: Found) -> usize
 
 // The forms, from what their operands gave.
 fn operate(o: Operation, l: Found, r: Found) -> Found
-    ensures* { λ x. ⌜ x ≡ operated (operation_is o) l r ⌝ }
+    ensures { result ≡ operated (operation_is o) l r }
 {
     match l {
         Found::ANumber(a, _) => match r {
@@ -382,7 +384,7 @@ fn operate(o: Operation, l: Found, r: Found) -> Found
 }
 
 fn relate(o: Comparison, l: Found, r: Found) -> Found
-    ensures* { λ x. ⌜ x ≡ related (comparison_is o) l r ⌝ }
+    ensures { result ≡ related (comparison_is o) l r }
 {
     match l {
         Found::ANumber(a, _) => match r {
@@ -400,7 +402,7 @@ fn relate(o: Comparison, l: Found, r: Found) -> Found
 }
 
 fn join(o: Connective, l: Found, r: Found) -> Found
-    ensures* { λ x. ⌜ x ≡ joined (connective_is o) l r ⌝ }
+    ensures { result ≡ joined (connective_is o) l r }
 {
     match l {
         Found::ATruth(a, _) => match r {
@@ -418,7 +420,7 @@ fn join(o: Connective, l: Found, r: Found) -> Found
 }
 
 fn negate(f: Found) -> Found
-    ensures* { λ x. ⌜ x ≡ negated f ⌝ }
+    ensures { result ≡ negated f }
 {
     match f {
         Found::ANumber(a, n) => negative(a, n),
@@ -428,7 +430,7 @@ fn negate(f: Found) -> Found
 }
 
 fn oppose(f: Found) -> Found
-    ensures* { λ x. ⌜ x ≡ opposed f ⌝ }
+    ensures { result ≡ opposed f }
 {
     match f {
         Found::ATruth(b, n) => Found::ATruth(!b, n),
@@ -439,7 +441,7 @@ fn oppose(f: Found) -> Found
 
 // The operations on values. A result is worked out in 64 bits and must lie in 32.
 fn arithmetic(o: Operation, a: i32, b: i32, next: usize) -> Found
-    ensures* { λ r. ⌜ r ≡ number_at next (result (applied (operation_is o) a b)) ⌝ }
+    ensures { result ≡ number_at next (in_range (applied (operation_is o) a b)) }
 {
     let x = a as i64;
     let y = b as i64;
@@ -451,13 +453,13 @@ fn arithmetic(o: Operation, a: i32, b: i32, next: usize) -> Found
 }
 
 fn negative(a: i32, next: usize) -> Found
-    ensures* { λ r. ⌜ r ≡ number_at next (result (neg_ℤ a)) ⌝ }
+    ensures { result ≡ number_at next (in_range (neg_ℤ a)) }
 {
     ranged(-(a as i64), next)
 }
 
 fn ranged(x: i64, next: usize) -> Found
-    ensures* { λ r. ⌜ r ≡ number_at next (result x) ⌝ }
+    ensures { result ≡ number_at next (in_range x) }
 {
     if x < -2147483648 {
         return Found::NumberFault(false, next);
@@ -469,7 +471,7 @@ fn ranged(x: i64, next: usize) -> Found
 }
 
 fn compare(o: Comparison, a: i32, b: i32) -> bool
-    ensures* { λ r. ⌜ r ≡ compared (comparison_is o) a b ⌝ }
+    ensures { result ≡ compared (comparison_is o) a b }
 {
     match o {
         Comparison::AtMost => a <= b,
@@ -480,7 +482,7 @@ fn compare(o: Comparison, a: i32, b: i32) -> bool
 }
 
 fn connect(o: Connective, a: bool, b: bool) -> bool
-    ensures* { λ r. ⌜ r ≡ connected (connective_is o) a b ⌝ }
+    ensures { result ≡ connected (connective_is o) a b }
 {
     match o {
         Connective::Both => a & b,
@@ -490,7 +492,7 @@ fn connect(o: Connective, a: bool, b: bool) -> bool
 
 // The forms without operands.
 fn constant(s: &[u8], at: usize) -> Found
-    ensures* { λ r. ⌜ ((ed : Edition) (vs : List ℤ) → r ≡ form_found_at ed vs s.now a_constant at) ⌝ }
+    ensures { (ed : Edition) (vs : List ℤ) → result ≡ form_found_at ed vs s.now a_constant at }
 {
     if s.len() < at {
         return Found::Broken;
@@ -502,7 +504,7 @@ fn constant(s: &[u8], at: usize) -> Found
 }
 
 fn variable(s: &[u8], vars: &[i32], at: usize) -> Found
-    ensures* { λ r. ⌜ ((ed : Edition) → r ≡ form_found_at ed vars.now s.now a_variable at) ⌝ }
+    ensures { (ed : Edition) → result ≡ form_found_at ed vars.now s.now a_variable at }
 {
     if s.len() <= at {
         return Found::Broken;
@@ -517,20 +519,20 @@ fn variable(s: &[u8], vars: &[i32], at: usize) -> Found
 // Four bytes, most significant first.
 fn word_at(s: &[u8], at: usize) -> u32
     requires { at + 4 ≤ length s.now }
-    ensures* { λ r. ⌜ nat4 (drop at s.now) ≡ read r (drop (at + 4) s.now) ⌝ }
+    ensures { nat4 (drop at s.now) ≡ read result (drop (at + 4) s.now) }
 {
     word(s[at], s[at + 1], s[at + 2], s[at + 3])
 }
 
 fn word(a: u8, b: u8, c: u8, d: u8) -> u32
-    ensures* { λ r. ⌜ r ≡ be4 a b c d ⌝ }
+    ensures { result ≡ be4 a b c d }
 {
     (((a as u32) * 256 + (b as u32)) * 256 + (c as u32)) * 256 + (d as u32)
 }
 
 // 32-bit two's complement.
 fn signed(u: u32) -> i32
-    ensures* { λ r. ⌜ r ≡ signed_of u ⌝ }
+    ensures { result ≡ signed_of u }
 {
     if u < 2147483648 {
         u as i32
@@ -541,19 +543,19 @@ fn signed(u: u32) -> i32
 
 // The answers to a caller.
 fn plain_truth(b: bool) -> Truth
-    ensures* { λ r. ⌜ r ≡ truth_of (ok b) ⌝ }
+    ensures { result ≡ truth_of (ok b) }
 {
     if b { Truth::Yes } else { Truth::No }
 }
 
 fn number_side(above: bool) -> Number
-    ensures* { λ r. ⌜ r ≡ number_of (fault (side_of above)) ⌝ }
+    ensures { result ≡ number_of (fault (side_of above)) }
 {
     if above { Number::Above } else { Number::Below }
 }
 
 fn truth_side(above: bool) -> Truth
-    ensures* { λ r. ⌜ r ≡ truth_of (fault (side_of above)) ⌝ }
+    ensures { result ≡ truth_of (fault (side_of above)) }
 {
     if above { Truth::Above } else { Truth::Below }
 }

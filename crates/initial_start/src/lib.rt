@@ -30,7 +30,7 @@ fn put_modes(d: &mut [u8], i: usize, es: &[u8]) -> usize
 }
 
 // a start's bytes at the front, and how many they are
-#[derive(Drop)]
+#[derive(Clone, Copy)]
 pub struct Start {
     pub length: usize,
     pub bytes: [u8; paper::START_BYTES],

@@ -13,7 +13,7 @@ use table_read::call::TableIndex;
 use table_step::{entries, steps};
 
 // 0, or the first number that applies; all answers are 0 then
-#[derive(Drop)]
+#[derive(Clone, Copy)]
 pub struct Answers {
     pub refusal: u8,
     pub first: u8,

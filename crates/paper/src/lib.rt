@@ -1,4 +1,6 @@
 // The limits that document 01 prints and all editions share, in its words, and what follows from them.
+#![tactic(auto)]
+
 pub mod actions; // actions.rt: the kinds of a table's actions
 pub mod answers; // answers.rt: how an event is answered
 pub mod nodes; // nodes.rt: the kinds of a schedule's nodes

@@ -10,7 +10,7 @@ ghost use Rattle.plant.specs.Driven.{Named, Held, Few, Marks, rates_once, modes_
 use crate::places::past;
 
 // whether 8 lets the section pass, and which variables some equation drives; none is marked where 8 applies
-#[derive(Drop)]
+#[derive(Clone, Copy)]
 pub struct Driven {
     pub once: bool,
     pub marks: [bool; paper::VARIABLES],

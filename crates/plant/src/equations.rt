@@ -15,7 +15,7 @@ const MODES: u8 = paper::MODES as u8;
 const EQUATIONS: u8 = paper::EQUATIONS as u8;
 
 // refusal 6, 7 or 0; of selector j its modes, and at entry 8 * j + m where mode m of it stands; of each variable its rate of kind 1
-#[derive(Drop)]
+#[derive(Clone, Copy)]
 pub struct Equations {
     pub refusal: u8,
     pub selectors: usize,
@@ -25,7 +25,7 @@ pub struct Equations {
 }
 
 // the selectors: how many, of each its modes, and where these stand
-#[derive(Drop)]
+#[derive(Clone, Copy)]
 struct Cases {
     count: usize,
     modes: [usize; paper::EQUATIONS],
@@ -33,14 +33,14 @@ struct Cases {
 }
 
 // the place after what was read, and whether its names are there
-#[derive(Drop)]
+#[derive(Clone, Copy)]
 enum Step {
     At(usize, bool),
     Broken,
 }
 
 // the same of a whole slice
-#[derive(Drop)]
+#[derive(Clone, Copy)]
 enum Seen {
     Kept(bool),
     Lost,

@@ -5,7 +5,7 @@ ghost use Rattle.plant.specs.PlantRead.{refused_plant, plant_of};
 
 use crate::{driven, equations, variables};
 
-#[derive(Drop)]
+#[derive(Clone, Copy)]
 pub struct PlantRead {
     pub refusal: u8,
     pub variables: usize,

@@ -4,7 +4,7 @@ ghost use Rattle.semantics.specs.Editions.{Edition};
 ghost use Rattle.semantics.specs.Sections.{variable_limit};
 ghost use Rattle.plant.specs.Variables.{refused_by, variables_of, VariablesStand, Counted};
 
-#[derive(Drop)]
+#[derive(Clone, Copy)]
 pub struct Variables {
     pub refusal: u8,
     pub count: usize,

@@ -13,7 +13,7 @@ pub const MOST_EVENTS: u64 = 10000;
 const EVENT_BYTES: usize = 3;
 
 // What the call returns: 0 and the list's length in bytes; or the first number that applies, and length 0.
-#[derive(Drop)]
+#[derive(Clone, Copy)]
 pub struct Practised {
     pub refusal: u8,
     pub length: usize,

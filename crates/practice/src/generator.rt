@@ -16,7 +16,7 @@ fn wrapping_mul_u32(a: u32, b: u32) -> u32
     (product % MODULUS) as u32
 }
 
-#[derive(Drop)]
+#[derive(Clone, Copy)]
 pub struct Generator {
     pub seed: u32,
 }

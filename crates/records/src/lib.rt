@@ -15,7 +15,7 @@ ghost use Rattle.records.specs.Reported.{told, ran_with};
 use edition::Edition;
 
 // Of the answers of a run: taken 200..202, turned away 23..31, faulted 203 and 204.
-#[derive(Drop)]
+#[derive(Clone, Copy)]
 pub struct Counts {
     pub taken: usize,
     pub turned_away: usize,
@@ -23,7 +23,7 @@ pub struct Counts {
 }
 
 // What a run gives: 0, or the first number that applies; all counts are 0 then.
-#[derive(Drop)]
+#[derive(Clone, Copy)]
 pub struct Ran {
     pub refusal: u8,
     pub counts: Counts,

@@ -21,7 +21,7 @@ use tree_read::tree::Subtrees;
 use tree_read::{nodes, tree};
 
 // 0, or the first number that applies; all counts are 0 then
-#[derive(Drop)]
+#[derive(Clone, Copy)]
 pub struct FileRead {
     pub refusal: u8,
     pub variables: usize,
@@ -31,7 +31,7 @@ pub struct FileRead {
 
 // a schedule file as what runs or compiles it looks things up: where its sections stand, the plant, the nodes, the subtrees;
 // refused as above, and all else empty then
-#[derive(Drop)]
+#[derive(Clone, Copy)]
 pub struct ScheduleIndex {
     pub refusal: u8,
     pub parts: Parts,
@@ -97,7 +97,7 @@ fn checked(
 }
 
 // 4 to 11, 34 and 12, or 0; how many nodes there are
-#[derive(Drop)]
+#[derive(Clone, Copy)]
 struct Held {
     refusal: u8,
     count: usize,

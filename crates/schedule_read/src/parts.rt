@@ -8,7 +8,7 @@ use super::reader;
 use edition::Edition;
 
 // 0, or the first number that applies; each section from its start to its end
-#[derive(Drop)]
+#[derive(Clone, Copy)]
 pub struct Parts {
     pub refusal: u8,
     pub variables_from: usize,

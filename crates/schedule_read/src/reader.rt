@@ -3,14 +3,14 @@ ghost use Rattle.std.specs.Prelude.{◌≡◌};
 ghost use Rattle.schedule_read.specs.Sections.{section_end, section_ends};
 
 // the file, and where the next section starts; 0 once a section was missing
-#[derive(Drop)]
+#[derive(Clone, Copy)]
 pub struct Reader<'a> {
     file: &'a [u8],
     at: usize,
 }
 
 // where each of the three sections ends; 0 from the first on that is missing
-#[derive(Drop)]
+#[derive(Clone, Copy)]
 pub struct SectionEnds {
     pub variables: usize,
     pub equations: usize,

@@ -10,7 +10,7 @@ use edition::Edition;
 use plant::sections::PlantRead;
 
 // 0, or the first number that applies; all values and modes are 0 then
-#[derive(Drop)]
+#[derive(Clone, Copy)]
 pub struct Admitted {
     pub refusal: u8,
     pub values: [i32; paper::VARIABLES],

@@ -12,13 +12,13 @@ ghost use Rattle.start_read.specs.Admission.{admitted};
 use admission::Admitted;
 use plant::sections::PlantRead;
 
-#[derive(Drop)]
+#[derive(Clone, Copy)]
 struct Values {
     ok: bool,
     values: [i32; paper::VARIABLES],
 }
 
-#[derive(Drop)]
+#[derive(Clone, Copy)]
 struct Modes {
     ok: bool,
     modes: [u8; paper::EQUATIONS],

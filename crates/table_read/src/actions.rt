@@ -10,7 +10,7 @@ ghost use Rattle.table_read.specs.ActionIndex.{node_of, actions_of, no_actions};
 use edition::{Edition, NODES};
 
 // 0, or the number that applies; how many actions there are; by node, the kind of its action and where the operand starts and ends, or 0, 0 and 0
-#[derive(Drop)]
+#[derive(Clone, Copy)]
 pub struct Actions {
     pub refusal: u8,
     pub count: usize,

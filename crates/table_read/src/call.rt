@@ -15,7 +15,7 @@ use plant::sections::PlantRead;
 use program::{ENTRIES, RANGES, fill};
 
 // 0, or the first number that applies; where the sections stand, and what a run looks up in them
-#[derive(Drop)]
+#[derive(Clone, Copy)]
 pub struct TableIndex {
     pub refusal: u8,
     pub parts: Parts,
@@ -25,7 +25,7 @@ pub struct TableIndex {
 }
 
 // 0, or the first number that applies; all counts are 0 then
-#[derive(Drop)]
+#[derive(Clone, Copy)]
 pub struct TableRead {
     pub refusal: u8,
     pub variables: usize,

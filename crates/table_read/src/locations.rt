@@ -10,7 +10,7 @@ ghost use Rattle.table_read.specs.LocationIndex.{entry_node, FitsKind, no_locati
 use edition::Edition;
 
 // 0, or the number that applies; how many locations there are; the place of each, and then 0
-#[derive(Drop)]
+#[derive(Clone, Copy)]
 pub struct Locations {
     pub refusal: u8,
     pub count: usize,

@@ -7,7 +7,7 @@ ghost use Rattle.table_read.specs.TableParts.{parts_of, no_parts, parts_at, Apar
 use edition::Edition;
 
 // 0, or the first number that applies; each section from its start to its end
-#[derive(Drop)]
+#[derive(Clone, Copy)]
 pub struct Parts {
     pub refusal: u8,
     pub variables: usize,

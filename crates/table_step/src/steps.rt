@@ -12,7 +12,7 @@ use effects::Verdict;
 use event::Event;
 
 // The answer to an event, and the location at which the run then stands: FFFF once it is over.
-#[derive(Drop)]
+#[derive(Clone, Copy)]
 pub struct Stepped {
     pub answer: u8,
     pub place: usize,

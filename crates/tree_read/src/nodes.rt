@@ -8,7 +8,7 @@ ghost use Rattle.tree_read.specs.Index.{was_read, not_nodes, nodes_as, NodesLaid
 
 use edition::Edition;
 
-#[derive(Drop)]
+#[derive(Clone, Copy)]
 pub struct Nodes {
     pub refusal: u8,
     pub count: usize,

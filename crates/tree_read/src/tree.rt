@@ -9,13 +9,13 @@ ghost use Rattle.tree_read.specs.Index.{IndexOf};
 ghost use Rattle.tree_read.specs.Ends.{no_subtrees, TreeIn, tree_told};
 ghost use Rattle.tree_read.specs.Walks.{Makes, NodeWalked, NodesWalked};
 
-#[derive(Drop)]
+#[derive(Clone, Copy)]
 pub struct Subtrees {
     pub ends: [usize; edition::NODES],
     pub ok: bool,
 }
 
-#[derive(Drop)]
+#[derive(Clone, Copy)]
 enum Walk {
     // read, and the number of the next node
     Next(usize),

@@ -15,7 +15,7 @@ loop-j-preserved c = let l = c.loop-j in
     let h : l.j < length c.args.s.now = omega arith in (
       omega arith,
       omega (arith, p.ensures.0),
-      p.auto.0 ∙ l.invariant.2,
+      p.auto.d ∙ l.invariant.2,
       wrote_as (take_more c.args.s.now l.j h) (put-more l.invariant.3 p.ensures.1 (omega arith) (omega (arith, length-take-le l.j c.args.s.now l.invariant.0))),
     )
 
