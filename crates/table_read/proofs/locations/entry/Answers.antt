@@ -19,8 +19,8 @@ returns-then-node-kinds c = λ l k. entry-outside _ _ k _ _ _ (omega arith)
 
 pub returns-then-fits : goal.returns-then-fits
 returns-then-fits c = λ l k.
-    entry-ok _ _ k _ _ _ c.width-w.ensures c.number-node.ensures c.fits2.ensures c.nat2-t.ensures c.nat2-u.ensures c.if-fits.true (omega arith) (omega arith)
+    entry-ok _ _ k _ _ _ c.width-w.ensures c.number-node.ensures c.fits.ensures c.nat2-t.ensures c.nat2-u.ensures c.if-fits.true (omega arith) (omega arith)
 
 pub returns-else-fits : goal.returns-else-fits
 returns-else-fits c = λ l k.
-    entry-bad _ _ k _ _ _ c.width-w.ensures c.number-node.ensures c.fits2.ensures c.nat2-t.ensures c.nat2-u.ensures c.if-fits.false
+    entry-bad _ _ k _ _ _ c.width-w.ensures c.number-node.ensures c.fits.ensures c.nat2-t.ensures c.nat2-u.ensures c.if-fits.false

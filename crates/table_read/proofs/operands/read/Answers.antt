@@ -36,10 +36,10 @@ slice_bounds-fits-end c = let k = few-nodes (edition_of c.args.ed) c.node_limit-
 
 pub returns-then-not-fits : goal.returns-then-not-fits
 returns-then-not-fits c = let k = few-nodes (edition_of c.args.ed) c.node_limit-nodes.ensures c.loop-i-test.true in
-    fit_stop _ c.args.s.now c.requires.0 c.requires.1 _ _ _ k c.fits2.ensures c.if-not-fits.true
+    fit_stop _ c.args.s.now c.requires.0 c.requires.1 _ _ _ k c.fits.ensures c.if-not-fits.true
 
 pub loop-i-preserved : goal.loop-i-preserved
-loop-i-preserved c = (omega arith, fit_next _ _ _ _ _ _ _ c.fits2.ensures c.if-not-fits.false c.loop-i.invariant.1)
+loop-i-preserved c = (omega arith, fit_next _ _ _ _ _ _ _ c.fits.ensures c.if-not-fits.false c.loop-i.invariant.1)
 
 pub returns : goal.returns
 returns c = fit-end _ c.args.s.now c.requires.0 c.requires.1 _ _ _ (omega (arith, c.node_limit-nodes.ensures)) c.loop-i.invariant.1
