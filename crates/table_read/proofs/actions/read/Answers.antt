@@ -1,5 +1,4 @@
 use mathlib.Core.Path.{◌∙◌}
-use Prim.Native.Nat.{◌-◌}
 use native.Mathlib.Omega.{arith}
 use Rattle.table_read.proofs.Ended.{found, not_found}
 use Rattle.table_read.proofs.ActionLoop.{refuse-count, count_of, node-inside, node-small, index-start, index-next, index-stop, index-over, index-end}

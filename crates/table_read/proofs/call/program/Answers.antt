@@ -19,4 +19,4 @@ returns c = λ ed f t e small j.
     rw c.put_locations.ensures (table-lent ed f small e j
     (filled-still _ x.locations.places x.parts.locations i (omega (arith, modes)) (omega (arith, kinds)) (omega (arith, starts)) (omega (arith, ends)))
     (location-in _ x.locations.places x.parts.locations i.long (omega (arith, places)))
-    c.ranges.ensures)
+    c.ranges-2.ensures)

@@ -1,5 +1,4 @@
 use mathlib.Core.Path.{◌∙◌}
-use Prim.Native.Nat.{◌-◌}
 use native.Mathlib.Omega.{arith}
 use Rattle.table_read.proofs.Ended.{found, not_found}
 use Rattle.table_read.proofs.LocationLoop.{count_of, refuse-count, located-start, located-next, located-stop, located-over, located_end}

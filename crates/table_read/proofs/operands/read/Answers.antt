@@ -1,4 +1,3 @@
-use Prim.Native.Nat.{◌-◌}
 use native.Mathlib.Omega.{arith}
 use Rattle.edition.specs.Editions.{edition_of}
 use Rattle.table_read.proofs.OperandTurns.{few-nodes, operand-inside, fit-start, fit_next, fit_stop, fit-end}
