@@ -7,7 +7,8 @@ use Prim.Native.Nat.{ℕ}
 use lib.IntN.{ℤ}
 use lib.ListN.{length}
 use lib.Signed.{lt_z}
-use types.Run.{OneOf, miss}
+use types.Run.{miss}
+use borrow.Enum.Refused.{Among, opened}
 use denote.Enum.Declared.{tag_of}
 use Rattle.semantics.specs.Editions.{Edition}
 use Rattle.semantics.specs.Expressions as Forms
@@ -24,12 +25,12 @@ use Rattle.effects.specs.declared.Verdict.TheVariants.{Away, Above, Below, Stay,
 use Rattle.effects.specs.contracts.Verdict.{the_type}
 
 -- ---- whether the event goes on
-pub not-stay : (v : Verdict) → OneOf (0 ∷ 1 ∷ 2 ∷ 4 ∷ []) (tag_of the_type v) → false ≡ is_going_on v
+pub not-stay : (v : Verdict) → Among (0 ∷ 1 ∷ 2 ∷ 4 ∷ []) (tag_of the_type v) → false ≡ is_going_on v
 unfolding is_going_on
 not-stay (Away n) h = refl
 not-stay Above h = refl
 not-stay Below h = refl
-not-stay Stay h = absurd (miss (0 ∷ 1 ∷ 2 ∷ 4 ∷ []) 3 tt h)
+not-stay Stay h = absurd (miss (0 ∷ 1 ∷ 2 ∷ 4 ∷ []) 3 tt (opened h))
 not-stay (Move n b) h = refl
 
 -- ---- a truth that is asked

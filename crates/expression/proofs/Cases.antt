@@ -4,7 +4,8 @@ use mathlib.Core.Bool.{Bool, true, false}
 use mathlib.Core.List.{[], ◌∷◌}
 use Prim.Native.Nat.{ℕ}
 use lib.IntN.{ℤ}
-use types.Run.{OneOf, miss}
+use types.Run.{miss}
+use borrow.Enum.Refused.{Among, opened}
 use denote.Enum.Declared.{tag_of}
 use Rattle.semantics.specs.Expressions.{Value, fault}
 use Rattle.expression.specs.Evaluation.{side_of, number_at, truth_at, of_number, of_truth}
@@ -13,10 +14,10 @@ use Rattle.expression.specs.declared.Found.TheVariants.{ANumber, NumberFault, AT
 use Rattle.expression.specs.contracts.Found.{the_type}
 
 abbrev pub NoNumber : Found → Type 0
-NoNumber f = OneOf (2 ∷ 3 ∷ 4 ∷ []) (tag_of the_type f)
+NoNumber f = Among (2 ∷ 3 ∷ 4 ∷ []) (tag_of the_type f)
 
 abbrev pub NoTruth : Found → Type 0
-NoTruth f = OneOf (0 ∷ 1 ∷ 4 ∷ []) (tag_of the_type f)
+NoTruth f = Among (0 ∷ 1 ∷ 4 ∷ []) (tag_of the_type f)
 
 -- what is no number is a truth or nothing
 pub data NotNumber : Found → Type 0 where
@@ -25,8 +26,8 @@ pub data NotNumber : Found → Type 0 where
   no_number : NotNumber Broken
 
 pub not-number : (f : Found) → NoNumber f → NotNumber f
-not-number (ANumber z n) h = absurd (miss (2 ∷ 3 ∷ 4 ∷ []) 0 tt h)
-not-number (NumberFault u n) h = absurd (miss (2 ∷ 3 ∷ 4 ∷ []) 1 tt h)
+not-number (ANumber z n) h = absurd (miss (2 ∷ 3 ∷ 4 ∷ []) 0 tt (opened h))
+not-number (NumberFault u n) h = absurd (miss (2 ∷ 3 ∷ 4 ∷ []) 1 tt (opened h))
 not-number (ATruth b n) h = truth_found
 not-number (TruthFault u n) h = truth_fault
 not-number Broken h = no_number
@@ -39,8 +40,8 @@ pub data NotTruth : Found → Type 0 where
 pub not-truth : (f : Found) → NoTruth f → NotTruth f
 not-truth (ANumber z n) h = number_found
 not-truth (NumberFault u n) h = number_fault
-not-truth (ATruth b n) h = absurd (miss (0 ∷ 1 ∷ 4 ∷ []) 2 tt h)
-not-truth (TruthFault u n) h = absurd (miss (0 ∷ 1 ∷ 4 ∷ []) 3 tt h)
+not-truth (ATruth b n) h = absurd (miss (0 ∷ 1 ∷ 4 ∷ []) 2 tt (opened h))
+not-truth (TruthFault u n) h = absurd (miss (0 ∷ 1 ∷ 4 ∷ []) 3 tt (opened h))
 not-truth Broken h = no_truth
 
 pub off-number : (k : Value ℤ → ℕ → Found) (f : Found) → NotNumber f → Broken ≡ of_number f k

@@ -11,7 +11,7 @@ use Rattle.semantics.specs.Expressions as Forms
 use Rattle.semantics.specs.Expressions.{Value, ok, fault, above, below, value_of, holds, Expression, a_number, a_truth}
 use Rattle.semantics.specs.Run.{fault_answer}
 use Rattle.expression.specs.Answers.{number_of, truth_of, number_answer, truth_answer, NumberSays, TruthSays}
-use Rattle.expression.specs.Evaluation.{side_of, number_at, truth_at, found_in, FoundSays}
+use Rattle.expression.specs.Evaluation.{number_at, truth_at, found_in, FoundSays}
 use Rattle.expression.specs.PaperNumbers.{value_number, evaluation_number, value_given, evaluation_value, expression_number, paper_number, paper_value, paper_truth_number, paper_truth, paper_fault, paper_found}
 use Rattle.expression.specs.declared.Number.{Number}
 use Rattle.expression.specs.declared.Truth.{Truth}

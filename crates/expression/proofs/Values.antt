@@ -6,11 +6,11 @@ use mathlib.Core.Option.{Option, none, some}
 use Prim.Native.Nat.{ℕ}
 use lib.IntN.{ℤ}
 use lib.ListN.{length}
-use types.Run.{OneOf, miss}
+use types.Run.{miss}
+use borrow.Enum.Refused.{Among, opened}
 use denote.Enum.Declared.{tag_of}
 use Rattle.semantics.specs.Bytes.{is_some}
 use Rattle.semantics.specs.Editions.{Edition}
-use Rattle.semantics.specs.Expressions as Forms
 use Rattle.semantics.specs.Expressions.{Value, ok, fault, above, below, value_of, holds, number_in, truth_in, value_of_number}
 use Rattle.semantics.proofs.Facts.{true-not-false, none-not-some, some_is}
 use Rattle.expression.specs.Answers.{number_of, truth_of, number_answer, truth_answer}
@@ -99,17 +99,17 @@ module _ (ed : Edition) (vs : List ℤ) (s : List ℕ) where
     truth-decides e h = sym h ∙ truth-judged ∙ ap (λ n. is_some (truth_in ed n s)) e
 
 -- ---- the arm of every answer but malformed
-pub number-tells : (r : Number) → OneOf (0 ∷ 1 ∷ 2 ∷ []) (tag_of number.the_type r) → is_some (number_told r) ≡ true
+pub number-tells : (r : Number) → Among (0 ∷ 1 ∷ 2 ∷ []) (tag_of number.the_type r) → is_some (number_told r) ≡ true
 unfolding is_some
 number-tells (Numbers.Is z) h = refl
 number-tells Numbers.Above h = refl
 number-tells Numbers.Below h = refl
-number-tells Numbers.Malformed h = absurd (miss (0 ∷ 1 ∷ 2 ∷ []) 3 tt h)
+number-tells Numbers.Malformed h = absurd (miss (0 ∷ 1 ∷ 2 ∷ []) 3 tt (opened h))
 
-pub truth-tells : (r : Truth) → OneOf (0 ∷ 1 ∷ 2 ∷ 3 ∷ []) (tag_of truth.the_type r) → is_some (truth_told r) ≡ true
+pub truth-tells : (r : Truth) → Among (0 ∷ 1 ∷ 2 ∷ 3 ∷ []) (tag_of truth.the_type r) → is_some (truth_told r) ≡ true
 unfolding is_some
 truth-tells Truths.Yes h = refl
 truth-tells Truths.No h = refl
 truth-tells Truths.Above h = refl
 truth-tells Truths.Below h = refl
-truth-tells Truths.Malformed h = absurd (miss (0 ∷ 1 ∷ 2 ∷ 3 ∷ []) 4 tt h)
+truth-tells Truths.Malformed h = absurd (miss (0 ∷ 1 ∷ 2 ∷ 3 ∷ []) 4 tt (opened h))

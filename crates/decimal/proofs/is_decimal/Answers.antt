@@ -1,5 +1,4 @@
 use mathlib.Core.Path.{refl, ◌∙◌}
-use Prim.Native.Nat.{◌-◌}
 use native.Mathlib.Omega.{arith}
 use lib.ListN.{get_or}
 use Rattle.decimal.proofs.Digits.{digit, below-digits, above-digits, digits-next, digits-not, digits-end, no_digit, all_digits}

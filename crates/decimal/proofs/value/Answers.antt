@@ -1,6 +1,5 @@
 use mathlib.Core.Path.{refl, sym, ap, ◌∙◌}
 use mathlib.Core.Option.{some}
-use Prim.Native.Nat.{◌-◌}
 use native.Mathlib.Omega.{arith}
 use Rattle.decimal.specs.Parsing.{parsed_of}
 use Rattle.decimal.proofs.Digits.{digit_low, value-next, value-over, value-end}

@@ -7,7 +7,6 @@ use Rattle.expression.proofs.compared_at.Goals as goal
 
 pub returns : goal.returns
 returns c ed = let s = c.args in
-    let O = c.o-1.given in
     let l = c.leaf-l in
     let n = c.next_of in
     let r = c.leaf in

@@ -14,9 +14,6 @@ use Rattle.expression.proofs.comparing.Goals as goal
 
 pub returns : goal.returns
 returns c ed h = let s = c.args in
-    let O = c.o-1.given in
-    let A = c.a-1.given in
-    let D = c.b-1.given in
     let x = to_z-of_z w32 c.in-ANumber.a (record { sfits = c.in-ANumber.known_told-in-ANumber-1-own.given.0.1 }) in
     let y = to_z-of_z w32 c.in-ANumber-leaf.b (record { sfits = c.in-ANumber-leaf.known_told-in-ANumber-leaf-2-1-own.given.0.1 }) in
     let t = c.compare.ensures ∙ ap₂ (compared (comparison_is c.in-Comparison.o)) x y in

@@ -7,15 +7,13 @@ use Rattle.expression.proofs.Forms.{form-says, no-form}
 use Rattle.expression.proofs.form_of.Goals as goal
 
 pub returns-in-0-2 : goal.returns-in-0-2
-returns-in-0-2 c = let r = c.in_default-1.rest in form-says (sym (no-form r.0.0.1 r.0.1 (λ h k. omega (arith, c.in-0.if-code-lt16-own.true)) (λ h k. omega (arith, c.in-0.if-code-lt16-own.true))))
+returns-in-0-2 c = form-says (sym (no-form (λ e. omega arith) (λ e. omega arith) (λ h k. omega arith) (λ h k. omega arith)))
 
 pub returns-in-0-3 : goal.returns-in-0-3
-returns-in-0-3 c = let r = c.in_default-1.rest in
-    form-says (sym (no-form r.0.0.1 r.0.1 (λ h k. omega (arith, c.if-code-lt21.false)) (λ h k. omega (arith, c.in-0.if-code-lt32-own.true))))
+returns-in-0-3 c = form-says (sym (no-form (λ e. omega arith) (λ e. omega arith) (λ h k. omega arith) (λ h k. omega arith)))
 
 pub returns-in-0-4 : goal.returns-in-0-4
-returns-in-0-4 c = let r = c.in_default-1.rest in
-    form-says (sym (no-form r.0.0.1 r.0.1 (λ h k. omega (arith, c.if-code-lt21.false)) (λ h k. omega (arith, c.in-0.if-code-lt48-own.false))))
+returns-in-0-4 c = form-says (sym (no-form (λ e. omega arith) (λ e. omega arith) (λ h k. omega arith) (λ h k. omega arith)))
 
 pub returns-in-1 : goal.returns-in-1
 unfolding form_of

@@ -12,9 +12,6 @@ use Rattle.expression.proofs.joining.Goals as goal
 
 pub returns : goal.returns
 returns c ed h = let s = c.args in
-    let O = c.o-1.given in
-    let A = c.a-1.given in
-    let D = c.b-1.given in
     let l = sym c.in-ATruth.is ∙ c.compared_at.ensures ed (no-truth-broken c.in-ATruth.is) in
     let r = sym c.in-ATruth-compared_at.is ∙ c.compared_at-2.ensures ed (no-truth-broken c.in-ATruth-compared_at.is) in
     let f = form-told c.form_of.ensures c.in-Connective.is in

@@ -10,8 +10,7 @@ use Rattle.expression.proofs.negate.Goals as goal
 
 pub returns-in-ANumber : goal.returns-in-ANumber
 unfolding then_value
-returns-in-ANumber c = let F = c.f-1.given in
-    c.negative.ensures
+returns-in-ANumber c = c.negative.ensures
     ∙ ap (λ (x : ℤ). number_at c.in-ANumber.n (result (neg_ℤ x))) (to_z-of_z w32 c.in-ANumber.a (record { sfits = c.in-ANumber.known_told-1-own.given.0.1 }))
     ∙ sym (ap negated c.in-ANumber.is)
 

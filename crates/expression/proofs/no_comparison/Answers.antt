@@ -18,28 +18,24 @@ returns-in-No c ed = truth-says (sym c.in-No.is ∙ c.joining.ensures ed (no-sai
 pub returns-then-n-s : goal.returns-then-n-s
 returns-then-n-s c ed = let e = c.eval in
     let n = length c.args.s.now in
-    let F = c.b-1.given in
     let k : c.plain_truth.result ≡ truth_said n (ATruth c.in-ATruth.b c.in-ATruth.n) = rw (eq-eqb c.in-ATruth.n n c.if-n-s.true) c.plain_truth.ensures in
     truth-says (k ∙ sym (ap (truth_said n) c.in-ATruth.is) ∙ truth-said ed c.args.vars.now c.args.s.now e.result (e.ensures ed).is)
 
 pub returns-else-n-s : goal.returns-else-n-s
 returns-else-n-s c ed = let e = c.eval in
     let n = length c.args.s.now in
-    let F = c.b-1.given in
     let k : Malformed ≡ truth_said n (ATruth c.in-ATruth.b c.in-ATruth.n) = rw (ne_eqb c.in-ATruth.n n c.if-n-s.false) refl in
     truth-says (k ∙ sym (ap (truth_said n) c.in-ATruth.is) ∙ truth-said ed c.args.vars.now c.args.s.now e.result (e.ensures ed).is)
 
 pub returns-then-n-s-2 : goal.returns-then-n-s-2
 returns-then-n-s-2 c ed = let e = c.eval in
     let n = length c.args.s.now in
-    let F = c.above-1.given in
     let k : c.truth_side.result ≡ truth_said n (TruthFault c.in-TruthFault.above c.in-TruthFault.n) = rw (eq-eqb c.in-TruthFault.n n c.if-n-s-2.true) c.truth_side.ensures in
     truth-says (k ∙ sym (ap (truth_said n) c.in-TruthFault.is) ∙ truth-said ed c.args.vars.now c.args.s.now e.result (e.ensures ed).is)
 
 pub returns-else-n-s-2 : goal.returns-else-n-s-2
 returns-else-n-s-2 c ed = let e = c.eval in
     let n = length c.args.s.now in
-    let F = c.above-1.given in
     let k : Malformed ≡ truth_said n (TruthFault c.in-TruthFault.above c.in-TruthFault.n) = rw (ne_eqb c.in-TruthFault.n n c.if-n-s-2.false) refl in
     truth-says (k ∙ sym (ap (truth_said n) c.in-TruthFault.is) ∙ truth-said ed c.args.vars.now c.args.s.now e.result (e.ensures ed).is)
 

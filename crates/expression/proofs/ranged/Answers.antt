@@ -1,32 +1,24 @@
 -- Three cases: `result_low`, `result-high`, and `result-in`, where the number fits 32 bits.
-use mathlib.Core.Path.{◌≡◌, sym, ap, ◌∙◌, subst}
+use mathlib.Core.Path.{sym, ap, ◌∙◌, subst}
 use mathlib.Core.Bool.{true, false}
 use lib.IntN.{ℤ, pos, negsuc}
-use lib.Signed.{lt_z}
 use mir.Syntax.{w32, w64}
 use mir.Val.{SFits}
 use mir.ValLaws.{to_z-of_z}
 use Rattle.expression.specs.Evaluation.{number_at}
 use Rattle.expression.specs.declared.Found.TheVariants.{ANumber}
 use Rattle.expression.proofs.Widths.{left-plain, right-plain, between-fits, result_low, result-high, result-in}
-use Rattle.expression.proofs.ranged.Tie as tie
 use Rattle.expression.proofs.ranged.Goals as goal
-
-not_low : (c : tie.Else-x-ltminus2147483648) → lt_z c.before.args.x (negsuc 2147483647) ≡ false
-not_low c = left-plain c.args.x (negsuc 2147483647) false c.ranges.x c.if-x-ltminus2147483648.false
-
-not-high : (c : tie.Else-x-gt2147483647) → lt_z (pos 2147483647) c.before.before.args.x ≡ false
-not-high c = right-plain c.args.x (pos 2147483647) false c.ranges.x c.if-x-gt2147483647.false
 
 pub returns-then-x-ltminus2147483648 : goal.returns-then-x-ltminus2147483648
 returns-then-x-ltminus2147483648 c = sym (ap (number_at c.args.next) (result_low c.args.x (left-plain c.args.x (negsuc 2147483647) true c.ranges.x c.if-x-ltminus2147483648.true)))
 
 pub returns-then-x-gt2147483647 : goal.returns-then-x-gt2147483647
-returns-then-x-gt2147483647 c = sym (ap (number_at c.args.next) (result-high c.args.x (not_low c.before) (right-plain c.args.x (pos 2147483647) true c.ranges.x c.if-x-gt2147483647.true)))
+returns-then-x-gt2147483647 c = sym (ap (number_at c.args.next) (result-high c.args.x (left-plain c.args.x (negsuc 2147483647) false c.ranges.x c.if-x-ltminus2147483648.false) (right-plain c.args.x (pos 2147483647) true c.ranges.x c.if-x-gt2147483647.true)))
 
 pub overflow_cast-result : goal.overflow_cast-result
-overflow_cast-result c = subst (SFits w32) (sym (to_z-of_z w64 c.args.x c.ranges.x)) (between-fits c.args.x (not_low c.before) (not-high c))
+overflow_cast-result c = subst (SFits w32) (sym (to_z-of_z w64 c.args.x c.ranges.x)) (between-fits c.args.x (left-plain c.args.x (negsuc 2147483647) false c.ranges.x c.if-x-ltminus2147483648.false) (right-plain c.args.x (pos 2147483647) false c.ranges.x c.if-x-gt2147483647.false))
 
 pub returns : goal.returns
-returns c = ap (λ (z : ℤ). ANumber z c.args.next) (to_z-of_z w32 _ (overflow_cast-result c) ∙ to_z-of_z w64 c.args.x c.ranges.x)
-    ∙ sym (ap (number_at c.args.next) (result-in c.args.x (not_low c.before) (not-high c)))
+returns c = ap (λ (z : ℤ). ANumber z c.args.next) (to_z-of_z w32 _ (subst (SFits w32) (sym (to_z-of_z w64 c.args.x c.ranges.x)) (between-fits c.args.x (left-plain c.args.x (negsuc 2147483647) false c.ranges.x c.if-x-ltminus2147483648.false) (right-plain c.args.x (pos 2147483647) false c.ranges.x c.if-x-gt2147483647.false))) ∙ to_z-of_z w64 c.args.x c.ranges.x)
+    ∙ sym (ap (number_at c.args.next) (result-in c.args.x (left-plain c.args.x (negsuc 2147483647) false c.ranges.x c.if-x-ltminus2147483648.false) (right-plain c.args.x (pos 2147483647) false c.ranges.x c.if-x-gt2147483647.false)))

@@ -1,5 +1,5 @@
 -- Whether the bytes are a truth does not depend on the values: they are evaluated on zeros.
-use mathlib.Core.Path.{sym, ap}
+use mathlib.Core.Path.{ap}
 use mathlib.Core.List.{List}
 use lib.IntN.{ℤ, pos}
 use lib.ListN.{take, replicate}
@@ -10,9 +10,6 @@ use Rattle.expression.proofs.truth_reads.Goals as goal
 
 abbrev zeros : List ℤ
 zeros = replicate 32 (pos 0)
-
-pub slice_bounds-truth_value-end : goal.slice_bounds-truth_value-end
-slice_bounds-truth_value-end c = sym (length-take-le _ _ (array-share-prefix-zeros c.before))
 
 pub returns-in-Malformed : goal.returns-in-Malformed
 unfolding is_some

@@ -29,9 +29,6 @@ returns-in-Variable c ed = let s = c.args in
 
 pub returns-in-ANumber-leaf : goal.returns-in-ANumber-leaf
 returns-in-ANumber-leaf c ed = let s = c.args in
-    let O = c.o-1.given in
-    let A = c.a-1.given in
-    let D = c.b-1.given in
     let x = to_z-of_z w32 c.in-ANumber.a (record { sfits = c.in-ANumber.known_told-in-ANumber-1-own.given.0.1 }) in
     let y = to_z-of_z w32 c.in-ANumber-leaf.b (record { sfits = c.in-ANumber-leaf.known_told-in-ANumber-leaf-2-1-own.given.0.1 }) in
     let f = form-told c.form_of.ensures c.in-Operation.is in
