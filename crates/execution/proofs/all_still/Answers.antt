@@ -1,5 +1,4 @@
 use mathlib.Core.Path.{sym, ap, ◌∙◌}
-use Prim.Native.Nat.{◌-◌}
 use native.Mathlib.Omega.{arith}
 use Rattle.effects.specs.Verdicts.{step_verdict}
 use Rattle.codec.specs.Parts.{part_at}
