@@ -1,5 +1,7 @@
 // The seven calls for C, each under its plain name: include/zimtleiter.h declares them.
 // A lent slice is a pointer and a length there, a `&mut u64` a pointer. No call asks anything of its bytes.
+#![tactic(auto)]
+
 ghost use Rattle.std.specs.Prelude.{◌≡◌};
 ghost use Rattle.semantics.specs.Editions.{edition1};
 ghost use Rattle.semantics.specs.Calls.{read_table_of, table_run_of};

@@ -25,7 +25,6 @@ use Rattle.schedules.proofs.Agreement.{Taken, compile-taken}
 use Rattle.schedules.specs.Exam as Exam
 use Rattle.schedules.specs.Exam.{judge_exam, agreed, reported, refused_exam, exam_table, examined, exam_of}
 use Rattle.exam.specs.Examining.{examined_with, Room}
-use Rattle.exam.specs.declared.Examined.{Examined}
 use Rattle.records.specs.Reported.{ran_with}
 use Rattle.records.specs.declared.Ran as R
 use Rattle.compiler.specs.Answers.{Told, returned}

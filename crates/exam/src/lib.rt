@@ -1,4 +1,6 @@
 // The call "examining": a schedule compiled, run by the rules and run by its table, and the two runs compared.
+#![tactic(auto)]
+
 ghost use Rattle.std.specs.Prelude.{◌≡◌, List, ℕ, ◌≤◌, length};
 ghost use Rattle.semantics.specs.Editions.{edition1};
 ghost use Rattle.semantics.specs.Refusals.{refusal_of, accepted};
