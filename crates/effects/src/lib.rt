@@ -1,4 +1,6 @@
 // What a step of an event makes of values and modes: truths that are asked, ranges, sums, a picked node's action.
+#![tactic(auto)]
+
 ghost use Rattle.std.specs.Prelude.{◌≡◌, true, ◌*◌, ◌≤◌, ◌<◌, length, get_or, ◌+ℤ◌};
 ghost use Rattle.semantics.specs.Editions.{Edition};
 ghost use Rattle.semantics.specs.Expressions.{ranged as ranged_of, value_of_truth};

@@ -1,4 +1,6 @@
 // An event, decoded once from its bytes.
+#![tactic(auto)]
+
 ghost use Rattle.std.specs.Prelude.{◌≡◌, ◌+◌, ◌≤◌, length, take, drop};
 ghost use Rattle.edition.specs.Editions.{edition_of};
 ghost use Rattle.event.specs.Decoded.{where_zero, all_zero, Decodes};

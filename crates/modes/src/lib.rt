@@ -1,4 +1,6 @@
 // The current modes of a plant: their switches and their rates.
+#![tactic(auto)]
+
 ghost use Rattle.std.specs.Prelude.{◌≡◌, true, ◌+◌, ◌*◌, ◌<◌, length, get_or};
 ghost use mathlib.Core.List.{[], ◌∷◌, flat_map};
 ghost use Rattle.std.proofs.Math.Option.{some};

@@ -1,5 +1,7 @@
 // A program as a run looks things up in it: one index, an array of named rows with places in the file, and one array of ranges and rates.
 // A reader fills both; a run lends them as thin references and reads them through the functions below.
+#![tactic(auto)]
+
 pub mod kinds; // kinds.rt: the kinds of actions in it
 pub mod fill; // fill.rt: how a reader fills them
 

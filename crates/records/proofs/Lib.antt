@@ -1,4 +1,3 @@
-mod LentCounts
 pub mod Books
 pub mod Records
 pub mod SetBytes

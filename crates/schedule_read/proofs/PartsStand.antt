@@ -1,11 +1,11 @@
 -- The three sections of a schedule file, and where they stand.
 use mathlib.Core.Path.{◌≡◌, refl, sym, ap, subst, ◌∙◌}
-use mathlib.Core.Bool.{Bool, true, false, not}
+use mathlib.Core.Bool.{Bool, true, false}
 use mathlib.Core.List.{List}
 use mathlib.Core.Option.{Option, none, some}
 use Prim.Native.Nat.{ℕ, ◌+◌, ◌-◌, ◌≤◌, ◌<◌}
 use native.Mathlib.Omega.{arith}
-use borrow.Author.Tests.{leb-true, le-leb, lt-leb, not-false}
+use borrow.Author.Tests.{leb-true, le-leb, lt-leb}
 use lib.Dec.{leb, eqb}
 use lib.ListN.{length, get_or, take, drop}
 use Rattle.semantics.specs.Bytes.{broken, read, and_then, ◌>>=◌, give, section2, just, whole}
@@ -46,8 +46,8 @@ module _ (ed : Edition) (f : List ℕ) where
   unfolding file_header
   header-room e = leb-true 3 (length f) (and_left (leb 3 (length f)) _ e)
 
-  pub opened : {h l : Bool} → h ≡ file_header ed f → not h ≡ false → l ≡ file_length f → not l ≡ false → Opened ed f
-  opened e i k j = record { header = sym e ∙ not-false _ i; length_field = sym k ∙ not-false _ j }
+  pub opened : {h l : Bool} → h ≡ file_header ed f → h ≡ true → l ≡ file_length f → l ≡ true → Opened ed f
+  opened e i k j = record { header = sym e ∙ i; length_field = sym k ∙ j }
 
   pub room : Opened ed f → 3 ≤ length f
   room o = header-room o.header

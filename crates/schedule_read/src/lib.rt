@@ -1,4 +1,6 @@
 // Reading a schedule file.
+#![tactic(auto)]
+
 pub mod actions;
 pub mod assignments;
 pub mod call;

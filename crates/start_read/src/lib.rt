@@ -1,4 +1,6 @@
 // The values and modes that a run starts from: 20.
+#![tactic(auto)]
+
 pub mod admission; // admission.rt: 20 to 22 in order
 
 ghost use Rattle.std.specs.Prelude.{◌≡◌};

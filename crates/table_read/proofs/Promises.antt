@@ -46,6 +46,7 @@ use Rattle.table_read.proofs.OperandTurns.{operand_of}
 
 -- ---- accepted or refused
 first_some : {n : ℕ} {l : List Condition} → All (λ (c : Condition). 1 ≤ c.refusal) l → First n l → 1 ≤ n
+first_some all_nil f = elim f [ ]
 first_some (all_cons h p) (here e i) = omega arith
 first_some (all_cons h p) (further e f) = first_some p f
 

@@ -1,4 +1,6 @@
 // Reading a table.
+#![tactic(auto)]
+
 pub mod actions;
 pub mod call;
 pub mod locations;

@@ -1,0 +1,26 @@
+-- By the number of equations: none is `steady-none`; else the rates of those after the first, then the first (`steady-more`).
+-- what is asked of the calls, and learnt
+use native.Mathlib.Omega.{arith}
+use Rattle.plant.proofs.EquationIndex.{equation-fits, next_fits, equation-kind, equations-left, steady-none, steady-more}
+use Rattle.plant.proofs.equations.+steady_rates.Goals as goal
+
+pub returns-then-n-eq0 : goal.returns-then-n-eq0
+returns-then-n-eq0 t c = λ u. steady-none _ c.if-n-eq0.true u
+
+pub overflow_add-k : goal.overflow_add-k
+overflow_add-k t c = omega (arith, equation-fits c.args.s.now c.args.at c.args.n c.requires (omega arith))
+
+pub nat2-requires : goal.nat2-requires
+nat2-requires t c = omega (arith, equation-fits c.args.s.now c.args.at c.args.n c.requires (omega arith))
+
+pub overflow_add-k-2 : goal.overflow_add-k-2
+overflow_add-k-2 t c = omega (arith, next_fits c.args.s.now c.args.at c.args.n c.requires (omega arith) c.nat2.result c.nat2.ensures)
+
+pub steady_rates-rates-requires : goal.steady_rates-rates-requires
+steady_rates-rates-requires t c = (omega (arith, c.decreases), equations-left c.args.s.now c.args.at c.args.n c.requires (omega arith) c.nat2.result c.nat2.ensures)
+
+pub with_steady-requires : goal.with_steady-requires
+with_steady-requires t c = equation-kind c.args.s.now c.args.at c.args.n c.requires (omega arith)
+
+pub returns : goal.returns
+returns t c = λ u. steady-more c.args.s.now c.args.at c.args.n (omega arith) c.nat2.result c.nat2.ensures c.steady_rates-rates.ensures c.with_steady.ensures u

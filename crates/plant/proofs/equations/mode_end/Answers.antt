@@ -1,0 +1,31 @@
+-- A mode that stands has its switches after its rates (`switches-stand`), and ends where they end (`mode-ends`).
+use native.Mathlib.Omega.{arith}
+use Rattle.plant.proofs.EquationIndex.{switches-stand, mode-ends, mode-fits}
+use Rattle.plant.proofs.equations.mode_end.Goals as goal
+
+pub overflow_add-k : goal.overflow_add-k
+overflow_add-k c = omega (arith, mode-fits c.args.s.now c.args.at c.requires)
+
+pub bounds-s-at : goal.bounds-s-at
+bounds-s-at c = omega (arith, mode-fits c.args.s.now c.args.at c.requires)
+
+pub overflow_cast-k : goal.overflow_cast-k
+overflow_cast-k c = omega (arith, c.type_inv.s c.args.at)
+
+pub overflow_mul-k : goal.overflow_mul-k
+overflow_mul-k c = omega (arith, mode-fits c.args.s.now c.args.at c.requires)
+
+pub overflow_add-k-2 : goal.overflow_add-k-2
+overflow_add-k-2 c = omega (arith, mode-fits c.args.s.now c.args.at c.requires)
+
+pub overflow_add-k-3 : goal.overflow_add-k-3
+overflow_add-k-3 c = omega (arith, mode-fits c.args.s.now c.args.at c.requires)
+
+pub bounds-s-k : goal.bounds-s-k
+bounds-s-k c = omega (arith, mode-fits c.args.s.now c.args.at c.requires)
+
+pub switches_end-requires : goal.switches_end-requires
+switches_end-requires c = switches-stand c.args.s.now c.args.at c.requires
+
+pub returns : goal.returns
+returns c = mode-ends c.args.s.now c.args.at c.switches_end.ensures

@@ -1,0 +1,12 @@
+-- The first i locations were read up to p and fit, and their places are noted (`Located`).
+use Prim.Native.Nat.{◌-◌, ◌≤◌}
+use Rattle.edition.specs.Editions.{edition_of}
+use Rattle.table_read.proofs.LocationLoop.{Located}
+use Rattle.table_read.proofs.LikeKinds.{actions_like}
+use Rattle.table_read.proofs.locations.read.Given as goal
+
+abbrev pub invariant-loop-i : goal.invariant-loop-i
+invariant-loop-i l = (l.i ≤ l.n) × Located (edition_of l.ed) (actions_like l.kinds) l.n l.s l.i l.p l.places
+
+abbrev pub decreases-loop-i : goal.decreases-loop-i
+decreases-loop-i l = l.n - l.i
