@@ -11,7 +11,7 @@ use lib.ListN.{length, get_or, get_elem?, take}
 use lib.Seq.{take_all, length-take-le}
 use Rattle.semantics.specs.Bytes.{from_no_bytes, from_two_bytes, byte_and_rest}
 use Rattle.semantics.specs.Editions.{Edition}
-use Rattle.semantics.specs.Run.{Action, stop, is_test, test}
+use Rattle.semantics.specs.Run.{Action, stop, is_test}
 use Rattle.semantics.specs.TableFile.{NodeAction, TEST, action_bytes, kind_number, operand_bytes, action_kind, action_of_kind}
 use Rattle.semantics.specs.Tables.{action_at, action_or_stop}
 use Rattle.semantics.proofs.Facts.{none-not-some, some_is, at-exists, at_mem, all-mem}

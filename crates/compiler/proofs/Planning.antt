@@ -19,7 +19,6 @@ use Rattle.edition.proofs.Widths.{width-high}
 use Rattle.semantics.proofs.Judging.{go-then, go-ensure}
 use Rattle.schedules.specs.Trees.{tree_of}
 use Rattle.schedules.specs.Nodes.{actions_of}
-use Rattle.schedules.specs.Numbering.{locations}
 use Rattle.schedules.specs.Files.{Schedule, file_length}
 use Rattle.schedules.specs.Compiling.{tests_of, schedule_locations, table_of, judge_table_of}
 use Rattle.schedules.specs.Calls.{compiled_into}

@@ -1,4 +1,6 @@
 // The start that a file itself gives: the initial value of each variable, then the initial mode of each CASE.
+#![tactic(auto)]
+
 pub mod schedule; // schedule.rt: of a schedule file
 pub mod table; // table.rt: of a table
 

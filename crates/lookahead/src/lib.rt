@@ -1,4 +1,6 @@
 // What a run of a table would answer to three events, with no record written.
+#![tactic(auto)]
+
 ghost use Rattle.std.specs.Prelude.{◌≡◌};
 ghost use Rattle.semantics.specs.Editions.{edition1};
 ghost use Rattle.edition.specs.Editions.{edition_of};

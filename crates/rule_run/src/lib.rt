@@ -1,3 +1,5 @@
 // Running a schedule by the rules.
+#![tactic(auto)]
+
 pub mod call;
 mod runs;

@@ -11,7 +11,7 @@ use Rattle.semantics.specs.Plant.{among}
 use Rattle.semantics.specs.Run.{arrive}
 use Rattle.semantics.proofs.Facts.{mem-among}
 use Rattle.semantics.proofs.Verdicts.{judged-possible}
-use Rattle.schedules.specs.Residuals.{Residual, acting}
+use Rattle.schedules.specs.Residuals.{Residual}
 use Rattle.schedules.specs.Files.{Schedule, rule_control}
 use Rattle.schedules.specs.Calls.{program_of}
 use Rattle.schedules.proofs.ActingDetermines.{NonEmpty, non_empty, some-acts}

@@ -1,3 +1,5 @@
 // Running a table.
+#![tactic(auto)]
+
 pub mod call;
 mod runs;

@@ -1,0 +1,4 @@
+use Rattle.initial_start.proofs.between.Goals as goal
+
+pub returns : goal.returns
+returns c = c.of.ensures
