@@ -17,14 +17,14 @@ fn up_to_four(refusal: u8, count: usize, a: usize, b: usize, c: usize, d: usize)
     }
 }
 
-fn read(file: &[u8]) -> Answer {
-    line::text(b"read");
+fn read(out: &impl Print, file: &[u8]) -> Answer {
+    line::text(out, b"read");
     let r = schedule_read::call::read(file);
     up_to_four(r.refusal, 3, r.variables, r.selectors, r.nodes, 0)
 }
 
-fn read_table(table: &[u8]) -> Answer {
-    line::text(b"read table");
+fn read_table(out: &impl Print, table: &[u8]) -> Answer {
+    line::text(out, b"read table");
     let r = table_read::call::read(table);
     up_to_four(
         r.refusal,
@@ -36,14 +36,14 @@ fn read_table(table: &[u8]) -> Answer {
     )
 }
 
-fn size(file: &[u8]) -> Answer {
-    line::text(b"size");
+fn size(out: &impl Print, file: &[u8]) -> Answer {
+    line::text(out, b"size");
     let r = compiler::size::of(file);
     up_to_four(r.refusal, 2, r.locations, r.entries, 0, 0)
 }
 
-fn compile(file: &[u8], table: &mut [u8]) -> Answer {
-    line::text(b"compile");
+fn compile(out: &impl Print, file: &[u8], table: &mut [u8]) -> Answer {
+    line::text(out, b"compile");
     let r = compiler::call::compile(file, table);
     up_to_four(r.refusal, 2, r.length, r.comparisons as usize, 0, 0)
 }
@@ -53,19 +53,26 @@ fn ran(r: records::Ran) -> Answer {
     up_to_four(r.refusal, 3, c.taken, c.turned_away, c.faulted, 0)
 }
 
-fn rules(file: &[u8], start: &[u8], events: &[u8], records: &mut [u8]) -> Answer {
-    line::text(b"rules");
+fn rules(out: &impl Print, file: &[u8], start: &[u8], events: &[u8], records: &mut [u8]) -> Answer {
+    line::text(out, b"rules");
     let r = rule_run::call::run(file, start, events, records);
     ran(r)
 }
 
-fn by_table(table: &[u8], start: &[u8], events: &[u8], records: &mut [u8]) -> Answer {
-    line::text(b"by table");
+fn by_table(
+    out: &impl Print,
+    table: &[u8],
+    start: &[u8],
+    events: &[u8],
+    records: &mut [u8],
+) -> Answer {
+    line::text(out, b"by table");
     let r = table_run::call::run(table, start, events, records);
     ran(r)
 }
 
 fn examine(
+    out: &impl Print,
     file: &[u8],
     start: &[u8],
     events: &[u8],
@@ -73,7 +80,7 @@ fn examine(
     records: &mut [u8],
     others: &mut [u8],
 ) -> Answer {
-    line::text(b"examine");
+    line::text(out, b"examine");
     let r = exam::examine(file, start, events, table, records, others);
     let a = r.counts;
     let b = r.table_counts;
@@ -94,6 +101,7 @@ fn examine(
 }
 
 pub fn made(
+    out: &impl Print,
     call: usize,
     file: &[u8],
     table: &[u8],
@@ -104,12 +112,20 @@ pub fn made(
     lent_others: &mut [u8],
 ) -> Answer {
     match call {
-        stored::READ => read(file),
-        stored::READ_TABLE => read_table(table),
-        stored::SIZE => size(file),
-        stored::COMPILE => compile(file, lent_table),
-        stored::RULES => rules(file, start, events, lent_records),
-        stored::BY_TABLE => by_table(table, start, events, lent_records),
-        _ => examine(file, start, events, lent_table, lent_records, lent_others),
+        stored::READ => read(out, file),
+        stored::READ_TABLE => read_table(out, table),
+        stored::SIZE => size(out, file),
+        stored::COMPILE => compile(out, file, lent_table),
+        stored::RULES => rules(out, file, start, events, lent_records),
+        stored::BY_TABLE => by_table(out, table, start, events, lent_records),
+        _ => examine(
+            out,
+            file,
+            start,
+            events,
+            lent_table,
+            lent_records,
+            lent_others,
+        ),
     }
 }

@@ -8,12 +8,10 @@ use super::{calls, line, stored};
 const UNTOUCHED: u8 = 0xAA;
 
 fn untouched(s: &[u8]) -> bool {
-    let mut i = 0;
-    while i < s.len() {
-        if s[i] != UNTOUCHED {
+    for b in s {
+        if *b != UNTOUCHED {
             return false;
         }
-        i += 1;
     }
     true
 }
@@ -24,7 +22,7 @@ fn left(lent: &[u8], stored: &[u8], is_written: bool) -> bool {
         return untouched(lent);
     }
     let n = output::front(stored.len(), lent);
-    check::same(&lent[..n], stored) & untouched(&lent[n..])
+    (&lent[..n] == stored) & untouched(&lent[n..])
 }
 
 // whether the lent buffers are left as the case says; a refused call writes nothing
@@ -46,6 +44,7 @@ fn written(
 
 // the call with these buffers lent; whether all is as stored
 fn made(
+    out: &impl Print,
     c: Case,
     file: &[u8],
     table: &[u8],
@@ -57,6 +56,7 @@ fn made(
     lent_others: &mut [u8],
 ) -> bool {
     let a = calls::made(
+        out,
         c.call,
         file,
         table,
@@ -66,11 +66,11 @@ fn made(
         lent_records,
         lent_others,
     );
-    line::refusal(a.refusal);
+    line::refusal(out, a.refusal);
     let got = a.numbers;
     let numbers = c.numbers;
     (a.refusal == c.refusal)
-        & line::numbers(got, numbers, a.count)
+        & line::numbers(out, got, numbers, a.count)
         & written(c, table, records, lent_table, lent_records, lent_others)
 }
 
@@ -82,7 +82,15 @@ fn lent() -> [u8; 420000]
 }
 
 // the call with as many bytes lent as the case says
-fn call(c: Case, file: &[u8], table: &[u8], start: &[u8], events: &[u8], records: &[u8]) -> bool {
+fn call(
+    out: &impl Print,
+    c: Case,
+    file: &[u8],
+    table: &[u8],
+    start: &[u8],
+    events: &[u8],
+    records: &[u8],
+) -> bool {
     let mut lent_table = lent();
     let mut lent_records = lent();
     let mut lent_others = lent();
@@ -90,6 +98,7 @@ fn call(c: Case, file: &[u8], table: &[u8], start: &[u8], events: &[u8], records
     let b = output::front(c.record_room, &lent_records);
     let d = output::front(c.other_room, &lent_others);
     made(
+        out,
         c,
         file,
         table,
@@ -104,6 +113,7 @@ fn call(c: Case, file: &[u8], table: &[u8], start: &[u8], events: &[u8], records
 
 // the call on the case's strings, which are the fronts of these buffers
 pub fn strings(
+    out: &impl Print,
     c: Case,
     file: &[u8],
     table: &[u8],
@@ -117,6 +127,7 @@ pub fn strings(
     let e = output::front(c.events, events);
     let r = output::front(c.records, records);
     call(
+        out,
         c,
         &file[..f],
         &table[..t],

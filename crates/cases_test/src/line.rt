@@ -1,42 +1,41 @@
 // Words and numbers of a line.
 use super::stored;
 
-pub fn text(s: &[u8]) {
-    io::write_all(1, s);
+pub fn text(out: &impl Print, s: &[u8]) {
+    let _ = out.write_all(s);
 }
 
 // the first n bytes and a colon
-pub fn name(n: usize, s: &[u8]) {
+pub fn name(out: &impl Print, n: usize, s: &[u8]) {
     let k = output::front(n, s);
-    text(&s[..k]);
-    text(b": ");
+    text(out, &s[..k]);
+    text(out, b": ");
 }
 
-fn number(n: usize) {
-    text(b" ");
-    io::print_decimal(1, n as u64);
+fn number(out: &impl Print, n: usize) {
+    text(out, b" ");
+    let _ = out.print(n);
 }
 
 // the refusal and a comma
-pub fn refusal(n: usize) {
-    number(n);
-    text(b",");
+pub fn refusal(out: &impl Print, n: usize) {
+    number(out, n);
+    text(out, b",");
 }
 
 // shows the first `count` of eight numbers; whether all eight are the stored ones
 pub fn numbers(
+    out: &impl Print,
     got: [usize; stored::NUMBERS],
     stored: [usize; stored::NUMBERS],
     count: usize,
 ) -> bool {
     let mut same = true;
-    let mut i = 0;
-    while i < stored::NUMBERS {
+    for i in 0..stored::NUMBERS {
         if i < count {
-            number(got[i]);
+            number(out, got[i]);
         }
         same = same & (got[i] == stored[i]);
-        i += 1;
     }
     same
 }

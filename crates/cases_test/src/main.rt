@@ -1,10 +1,13 @@
 // The product's seven calls on the stored cases of standard input: a line for each case, which ends in whether every number and every lent byte is the stored one.
 // Its functions promise nothing but to end and to be safe.
+#![tactic(auto)]
+
 mod calls;
 mod compared;
 mod line;
 mod stored;
 
+use std::io::Read;
 use stored::Case;
 
 // more than any input has
@@ -12,6 +15,7 @@ const MOST: u64 = 18446744073709551615;
 
 // the case's line; 1 where the case is different
 fn shown(
+    out: &impl Print,
     c: Case,
     name: &[u8; stored::NAME],
     file: &[u8; stored::FILE],
@@ -20,29 +24,31 @@ fn shown(
     events: &[u8; stored::EVENTS],
     records: &[u8; stored::RECORDS],
 ) -> u64 {
-    line::name(c.name, name);
-    if compared::strings(c, file, table, start, events, records) {
-        line::text(b"; as stored\n");
+    line::name(out, c.name, name);
+    if compared::strings(out, c, file, table, start, events, records) {
+        line::text(out, b"; as stored\n");
         return 0;
     }
-    line::text(b"; DIFFERENT\n");
+    line::text(out, b"; DIFFERENT\n");
     1
 }
 
 // the last line: the counts, where the input ends behind a case
-fn last(call: usize, cases: u64, different: u64) {
+fn last(out: &impl Print, call: usize, cases: u64, different: u64) {
     if call != stored::CUT {
-        line::text(b"no list of cases\n");
+        line::text(out, b"no list of cases\n");
         return;
     }
-    io::print_decimal(1, cases);
-    line::text(b" cases, ");
-    io::print_decimal(1, different);
-    line::text(b" different\n");
+    let _ = out.print(cases);
+    line::text(out, b" cases, ");
+    let _ = out.print(different);
+    line::text(out, b" different\n");
 }
 
 // the cases one after the other; the buffers keep the strings for the next
 fn all(
+    from: &mut impl Read,
+    out: &impl Print,
     name: &mut [u8; stored::NAME],
     file: &mut [u8; stored::FILE],
     table: &mut [u8; stored::TABLE],
@@ -51,21 +57,19 @@ fn all(
     records: &mut [u8; stored::RECORDS],
 ) {
     let mut c = stored::none();
-    let mut cases = 0;
     let mut different = 0;
-    while cases < MOST {
-        c = stored::read(c, name, file, table, start, events, records);
+    for cases in 0..MOST {
+        c = stored::read(from, c, name, file, table, start, events, records);
         if !stored::whole(c) {
-            last(c.call, cases, different);
+            last(out, c.call, cases, different);
             return;
         }
-        let d = shown(c, name, file, table, start, events, records);
-        different = std::num::wrapping_add_u64(different, d);
-        cases += 1;
+        let d = shown(out, c, name, file, table, start, events, records);
+        different = different.wrapping_add(d);
     }
 }
 
-fn main() {
+fn main(rt: HostRuntime) {
     let mut name = [0u8; stored::NAME];
     let mut file = [0u8; stored::FILE];
     let mut table = [0u8; stored::TABLE];
@@ -73,6 +77,8 @@ fn main() {
     let mut events = [0u8; stored::EVENTS];
     let mut records = [0u8; stored::RECORDS];
     all(
+        &mut rt.stdin(),
+        &rt,
         &mut name,
         &mut file,
         &mut table,

@@ -1,5 +1,7 @@
 // A case as it is stored: the call, a name, five strings, what is lent, what the call returns.
 
+use std::io::Read;
+
 // in place of a byte or a number that the input does not have, and of the length of a string that is cut or too long
 pub const CUT: usize = 4294967296;
 // the length that stands for the string of the case before
@@ -35,7 +37,7 @@ pub const BY_TABLE: usize = 6;
 
 pub const EXAMINE: usize = 7;
 
-#[derive(Drop)]
+#[derive(Clone, Copy)]
 pub struct Case {
     pub call: usize,
     // the lengths of the name and the five strings
@@ -72,55 +74,62 @@ pub fn none() -> Case {
     }
 }
 
-fn byte() -> usize {
+fn byte(from: &mut impl Read) -> usize {
     let mut b = [0u8; 1];
-    if io::read_full(0, &mut b) < 1 {
+    if input::fill(from, &mut b) < 1 {
         return CUT;
     }
     codec::wide(b[0])
 }
 
-fn number() -> usize {
+fn number(from: &mut impl Read) -> usize {
     let mut b = [0u8; 4];
-    if io::read_full(0, &mut b) < 4 {
+    if input::fill(from, &mut b) < 4 {
         return CUT;
     }
     codec::nat4(&b, 0)
 }
 
 // the next n bytes, to the front of the buffer; their length
-fn taken(n: usize, buf: &mut [u8]) -> usize {
+fn taken(from: &mut impl Read, n: usize, buf: &mut [u8]) -> usize {
     let k = output::front(n, buf);
-    if io::read_full(0, &mut buf[..k]) < n {
+    if input::fill(from, &mut buf[..k]) < n {
         return CUT;
     }
     n
 }
 
+// a name, its length in one byte first
+fn short(from: &mut impl Read, buf: &mut [u8]) -> usize {
+    let n = byte(from);
+    taken(from, n, buf)
+}
+
 // a string, its length first
-fn string(before: usize, buf: &mut [u8]) -> usize {
-    let n = number();
+fn string(from: &mut impl Read, before: usize, buf: &mut [u8]) -> usize {
+    let n = number(from);
     if n == AS_BEFORE {
         return before;
     }
-    taken(n, buf)
+    taken(from, n, buf)
 }
 
-fn numbers() -> [usize; NUMBERS] {
+fn numbers(from: &mut impl Read) -> [usize; NUMBERS] {
     [
-        number(),
-        number(),
-        number(),
-        number(),
-        number(),
-        number(),
-        number(),
-        number(),
+        number(from),
+        number(from),
+        number(from),
+        number(from),
+        number(from),
+        number(from),
+        number(from),
+        number(from),
     ]
 }
 
 // the next case; its call is CUT where there is none
 pub fn read(
+    from: &mut impl Read,
     before: Case,
     name: &mut [u8; NAME],
     file: &mut [u8; FILE],
@@ -130,18 +139,18 @@ pub fn read(
     records: &mut [u8; RECORDS],
 ) -> Case {
     Case {
-        call: byte(),
-        name: taken(byte(), name),
-        file: string(before.file, file),
-        table: string(before.table, table),
-        start: string(before.start, start),
-        events: string(before.events, events),
-        records: string(before.records, records),
-        table_room: number(),
-        record_room: number(),
-        other_room: number(),
-        refusal: byte(),
-        numbers: numbers(),
+        call: byte(from),
+        name: short(from, name),
+        file: string(from, before.file, file),
+        table: string(from, before.table, table),
+        start: string(from, before.start, start),
+        events: string(from, before.events, events),
+        records: string(from, before.records, records),
+        table_room: number(from),
+        record_room: number(from),
+        other_room: number(from),
+        refusal: byte(from),
+        numbers: numbers(from),
     }
 }
 

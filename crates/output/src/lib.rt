@@ -1,6 +1,7 @@
 // What the programs share: how much of a buffer to write, and what is said where that fails.
-ghost use Rattle.std.specs.Prelude.{◌≡◌, cond, leb, length};
-ghost use Rattle.io.specs.Counts.{IsPrefixLen};
+#![tactic(auto)]
+
+ghost use Rattle.std.specs.Prelude.{◌≡◌, ◌≤◌, cond, leb, length, take};
 ghost use Rattle.edition.specs.Editions.{edition_of};
 ghost use Rattle.output.specs.Written.{RecordsTake};
 
@@ -16,19 +17,19 @@ const EVENT_BYTES: usize = 3;
 pub const EVENT_ROOM: usize = EVENTS * EVENT_BYTES;
 
 // a message of the program where a write failed; whether it did not
-pub fn noticed(program: &[u8], is_written: bool) -> bool
+pub fn noticed(err: &impl Print, program: &[u8], is_written: bool) -> bool
     ensures { result ≡ is_written }
 {
     if !is_written {
-        io::write_all(2, program);
-        io::write_all(2, b": the output could not be written\n");
+        let _ = err.write_all(program);
+        let _ = err.write_all(b": the output could not be written\n");
     }
     is_written
 }
 
 // n, or 0 where there are fewer bytes
 pub fn front(n: usize, bytes: &[u8]) -> usize
-    ensures prefix_len { IsPrefixLen result bytes.now }
+    ensures prefix_len { (result ≤ length bytes.now) × (result ≡ length (take result bytes.now)) }
     ensures value { result ≡ cond (leb n (length bytes.now)) n 0 }
 {
     if n <= bytes.len() {

@@ -7,13 +7,13 @@ pub const MOST_BYTES: usize = 30100;
 // two digits for each, and the line's end
 const TEXT_BYTES: usize = 2 * MOST_BYTES + 1;
 
-pub fn text(s: &[u8]) {
-    io::write_all(1, s);
+pub fn text(out: &impl Print, s: &[u8]) {
+    let _ = out.write_all(s);
 }
 
-pub fn number(before: &[u8], n: u64) {
-    text(before);
-    io::print_decimal(1, n);
+pub fn number(out: &impl Print, before: &[u8], n: u64) {
+    text(out, before);
+    let _ = out.print(n);
 }
 
 fn digit(n: u8) -> u8 {
@@ -41,12 +41,12 @@ fn text_buffer() -> [u8; TEXT_BYTES]
 }
 
 // the bytes in hexadecimal digits, and the line's end; nothing where there are too many
-pub fn bytes(s: &[u8]) {
+pub fn bytes(out: &impl Print, s: &[u8]) {
     if s.len() > MOST_BYTES {
         return;
     }
     let mut t = text_buffer();
     spell(s, &mut t);
     let n = output::front(2 * s.len() + 1, &t);
-    text(&t[..n]);
+    text(out, &t[..n]);
 }

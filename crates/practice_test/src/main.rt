@@ -1,6 +1,8 @@
 // The call "practice events" on the stored cases of standard input: for each a line with what it was given and what it returned,
 // and the lent buffer afterwards in hexadecimal digits on a line of its own.
 // Its functions promise nothing but to end and to be safe.
+#![tactic(auto)]
+
 mod line; // line.rt: words, numbers and bytes of a line
 
 ghost use Rattle.std.specs.Prelude.{◌≡◌, ◌+◌, ◌≤◌, length};
@@ -42,21 +44,21 @@ fn written(seed: u32, count: u64, room: usize, events: &mut [u8]) -> Practised {
 }
 
 // the two lines of a case
-fn shown(seed: u32, count: u64, room: usize) {
+fn shown(out: &impl Print, seed: u32, count: u64, room: usize) {
     let mut events = lent();
     let r = written(seed, count, room, &mut events);
-    line::number(b"seed ", seed as u64);
-    line::number(b", count ", count);
-    line::number(b", room ", room as u64);
-    line::number(b": ", r.refusal as u64);
-    line::number(b", ", r.length as u64);
-    line::text(b"\n");
+    line::number(out, b"seed ", seed as u64);
+    line::number(out, b", count ", count);
+    line::number(out, b", room ", room as u64);
+    line::number(out, b": ", r.refusal as u64);
+    line::number(out, b", ", r.length as u64);
+    line::text(out, b"\n");
     let n = output::front(room, &events);
-    line::bytes(&events[..n]);
+    line::bytes(out, &events[..n]);
 }
 
 // the case at a place; whether its room is one that can be lent
-fn case(cases: &[u8], at: usize) -> bool
+fn case(out: &impl Print, cases: &[u8], at: usize) -> bool
     requires { at + 16 ≤ length cases.now }
 {
     let room = codec::nat4(cases, at + ROOM_AT);
@@ -64,30 +66,36 @@ fn case(cases: &[u8], at: usize) -> bool
         return false;
     }
     let seed = (codec::nat4(cases, at) % SEEDS) as u32;
-    shown(seed, count(cases, at), room);
+    shown(out, seed, count(cases, at), room);
     true
 }
 
 // the cases one after the other
-fn all(cases: &[u8]) {
+fn all(out: &impl Print, cases: &[u8]) {
     let mut at = 0;
     while at < cases.len() {
         if cases.len() - at < CASE_BYTES {
-            line::text(b"no list of cases\n");
+            line::text(out, b"no list of cases\n");
             return;
         }
-        if !case(cases, at) {
-            line::text(b"no list of cases\n");
+        if !case(out, cases, at) {
+            line::text(out, b"no list of cases\n");
             return;
         }
         at += CASE_BYTES;
     }
-    line::number(b"", (cases.len() / CASE_BYTES) as u64);
-    line::text(b" cases\n");
+    line::number(out, b"", (cases.len() / CASE_BYTES) as u64);
+    line::text(out, b" cases\n");
 }
 
-fn main() {
-    let mut cases = io::large_buffer();
-    let n = io::read_full(0, &mut cases);
-    all(&cases[..n]);
+fn buffer() -> [u8; 65536]
+    ensures { 65536 ≡ length result }
+{
+    [0; 65536]
+}
+
+fn main(rt: HostRuntime) {
+    let mut cases = buffer();
+    let n = input::fill(&mut rt.stdin(), &mut cases);
+    all(&rt, &cases[..n]);
 }

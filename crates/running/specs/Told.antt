@@ -1,6 +1,6 @@
 -- What the programs that run take from their arguments and give out.
 use Rattle.std.specs.Prelude.{◌≡◌, Bool, true, ◌||◌, cond, List, ℕ, ◌≤◌, ◌<◌, leb, eqb, length}
-use Rattle.io.specs.Counts.{IsPrefixLen}
+use Rattle.input.specs.Fronts.{IsPrefixLen}
 use Rattle.records.specs.declared.Ran.{Ran}
 use Rattle.initial_start.specs.declared.Start.{Start}
 use Rattle.running.specs.declared.Chosen.{Chosen}

@@ -1,4 +1,6 @@
 // What runrules and runtable share: a run of the files that the arguments name.
+#![tactic(auto)]
+
 mod faults;
 
 ghost use Rattle.std.specs.Prelude.{◌≡◌, length};
@@ -7,8 +9,11 @@ ghost use Rattle.running.specs.Told.{asked, Chooses, given};
 use faults::Fault;
 use initial_start::Start;
 use records::{Counts, Ran};
+use std::env::Env;
+use std::fs::Files;
 
 // whether two or three files are named, of so many words with the program's own name
+#[tactic(auto, unfolding(crate::specs::Told::asked))]
 pub fn is_asked(words: usize) -> bool
     ensures { result ≡ asked words }
 {
@@ -36,7 +41,13 @@ pub struct Chosen {
 }
 
 // the start in the third file, or where none is named the initial one
-pub fn start(words: usize, program: &[u8], initial: Start) -> Chosen
+pub fn start(
+    rt: &(impl Env + Files),
+    err: &impl Print,
+    words: usize,
+    program: &[u8],
+    initial: Start,
+) -> Chosen
     ensures { Chooses words initial result }
 {
     if words < 4 {
@@ -46,7 +57,7 @@ pub fn start(words: usize, program: &[u8], initial: Start) -> Chosen
         };
     }
     let mut bytes = [0u8; paper::START_BYTES];
-    let a = input::load(3, program, &mut bytes);
+    let a = input::load(rt, err, 3, program, &mut bytes);
     let start = Start {
         length: a.length,
         bytes,
@@ -58,43 +69,52 @@ pub fn start(words: usize, program: &[u8], initial: Start) -> Chosen
 }
 
 // Which event faulted, if one did, of so many, and on which side of its range the result fell.
-fn report_fault(f: Fault, count: usize) {
+fn report_fault(err: &impl Print, f: Fault, count: usize) {
     if f.number == 0 {
         return;
     }
-    io::write_all(2, b"event ");
-    io::print_decimal(2, f.number as u64);
-    io::write_all(2, b" of ");
-    io::print_decimal(2, count as u64);
+    let _ = err.write_all(b"event ");
+    let _ = err.print(f.number);
+    let _ = err.write_all(b" of ");
+    let _ = err.print(count);
     if f.above {
-        io::write_all(2, b" faulted: too high (203)\n");
+        let _ = err.write_all(b" faulted: too high (203)\n");
     } else {
-        io::write_all(2, b" faulted: too low (204)\n");
+        let _ = err.write_all(b" faulted: too low (204)\n");
     }
 }
 
-fn report(counts: Counts) {
-    io::write_all(2, b"taken ");
-    io::print_decimal(2, counts.taken as u64);
-    io::write_all(2, b", turned away ");
-    io::print_decimal(2, counts.turned_away as u64);
-    io::write_all(2, b", faulted ");
-    io::print_decimal(2, counts.faulted as u64);
-    io::write_all(2, b"\n");
+fn report(err: &impl Print, counts: Counts) {
+    let _ = err.write_all(b"taken ");
+    let _ = err.print(counts.taken);
+    let _ = err.write_all(b", turned away ");
+    let _ = err.print(counts.turned_away);
+    let _ = err.write_all(b", faulted ");
+    let _ = err.print(counts.faulted);
+    let _ = err.write_all(b"\n");
 }
 
 // the refusal as one byte; or the records of so many events, so many bytes, and the counts. How many bytes were given to standard output
-pub fn tell(program: &[u8], r: Ran, count: usize, length: usize, records: &[u8]) -> usize
+#[tactic(auto, unfolding(crate::specs::Told::given))]
+pub fn tell(
+    out: &impl Print,
+    err: &impl Print,
+    program: &[u8],
+    r: Ran,
+    count: usize,
+    length: usize,
+    records: &[u8],
+) -> usize
     ensures { result ≡ given r length records.now }
 {
     if r.refusal != 0 {
         let refusal = [r.refusal];
-        output::noticed(program, io::write_all(1, &refusal));
+        output::noticed(err, program, out.write_all(&refusal).is_ok());
         return 1;
     }
     let k = output::front(length, records);
-    output::noticed(program, io::write_all(1, &records[..k]));
-    report(r.counts);
-    report_fault(faults::of(&records[..k], count), count);
+    output::noticed(err, program, out.write_all(&records[..k]).is_ok());
+    report(err, r.counts);
+    report_fault(err, faults::of(&records[..k], count), count);
     k
 }

@@ -1,4 +1,5 @@
 // The actions of a table: what each node does. An action is its length, node, kind and operand.
+use super::out::Out;
 use super::{bytes, line};
 use edition::Edition;
 
@@ -9,8 +10,9 @@ pub fn kind(t: &[u8], p: usize, ed: Edition) -> usize {
 }
 
 // the section at p
-pub fn show(t: &[u8], p: usize, ed: Edition) {
+pub fn show<P: Print>(out: &mut Out<'_, P>, t: &[u8], p: usize, ed: Edition) {
     line::each(
+        out,
         t,
         bytes::after_number(p, ed),
         bytes::number(t, p, ed),
@@ -22,14 +24,12 @@ pub fn show(t: &[u8], p: usize, ed: Edition) {
 // where the action of a node stands in the section at p, or 0
 pub fn of_node(t: &[u8], p: usize, node: usize, ed: Edition) -> usize {
     let mut q = bytes::after_number(p, ed);
-    let mut left = bytes::number(t, p, ed);
-    while left > 0 {
+    for _ in 0..bytes::number(t, p, ed) {
         let k = bytes::after_number(q, ed);
         if bytes::number(t, k, ed) == node {
             return q;
         }
         q = bytes::on(k, bytes::number(t, q, ed));
-        left -= 1;
     }
     0
 }

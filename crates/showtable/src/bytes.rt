@@ -10,7 +10,7 @@ pub fn at(t: &[u8], p: usize) -> usize {
 
 // k places on
 pub fn on(p: usize, k: usize) -> usize {
-    std::num::wrapping_add_usize(p, k)
+    p.wrapping_add(k)
 }
 
 // the two bytes at a place

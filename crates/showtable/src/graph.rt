@@ -1,33 +1,38 @@
 // A table as a graph: a circle for each location, an arrow for each target. The arrow has its node and kind, true or false of a test, and below them
 // what the action does.
-use super::{actions, bytes, line, out};
+use super::out::Out;
+use super::{actions, bytes, line};
 use edition::Edition;
 
-// the argument dot asks for the graph
-pub fn is_asked() -> bool {
-    os::arg_count() > 1
-}
-
 // one arrow from location n to the target at p, by the action at a; its kind, or 6 of a test that is false
-fn arrow(t: &[u8], a: usize, kind: usize, p: usize, n: usize, ed: Edition) {
-    line::show(t, p, n, b"\n    ! -> ^ [label=\"", ed);
+fn arrow<P: Print>(
+    out: &mut Out<'_, P>,
+    t: &[u8],
+    a: usize,
+    kind: usize,
+    p: usize,
+    n: usize,
+    ed: Edition,
+) {
+    line::show(out, t, p, n, b"\n    ! -> ^ [label=\"", ed);
     line::show(
+        out,
         t,
         a,
         kind,
         b"&@ ~|test true\\n$|wait\\n$|assign\\nv# := $|switch\\nselector # to mode #|stop|test false\\n$",
         ed,
     );
-    out::text(0, b"\"];");
+    out.text(0, b"\"];");
 }
 
 // the entry at p of location n, by the action at a
-pub fn arrows(t: &[u8], a: usize, p: usize, n: usize, ed: Edition) {
+pub fn arrows<P: Print>(out: &mut Out<'_, P>, t: &[u8], a: usize, p: usize, n: usize, ed: Edition) {
     let k = actions::kind(t, a, ed);
     let target = bytes::after_number(p, ed);
-    arrow(t, a, k, target, n, ed);
+    arrow(out, t, a, k, target, n, ed);
     if k == 1 {
-        arrow(t, a, 6, bytes::on(target, 2), n, ed);
+        arrow(out, t, a, 6, bytes::on(target, 2), n, ed);
     }
 }
 
@@ -44,9 +49,7 @@ fn is_to(t: &[u8], p: usize, to: usize, ed: Edition) -> bool {
 fn leads(t: &[u8], p: usize, to: usize, ed: Edition) -> usize {
     let mut q = bytes::on(p, 2);
     let mut left = 0;
-    let mut steps = t.len();
-    while steps > 0 {
-        steps -= 1;
+    for _ in 0..t.len() {
         if left == 0 {
             left = bytes::at(t, q);
             q = bytes::on(q, 1);
@@ -62,14 +65,14 @@ fn leads(t: &[u8], p: usize, to: usize, ed: Edition) -> usize {
 }
 
 // what stands before the arrows of the section at p; an end of the run is drawn where it is reached
-pub fn start(t: &[u8], p: usize, ed: Edition) {
-    out::text(
+pub fn start<P: Print>(out: &mut Out<'_, P>, t: &[u8], p: usize, ed: Edition) {
+    out.text(
         leads(t, p, paper::targets::FINISHED, ed),
         b"digraph table {\n    rankdir=LR;\n    node [shape=circle];\n    start [shape=point];|\n    finished [shape=doublecircle];",
     );
-    out::text(
+    out.text(
         leads(t, p, paper::targets::HALTED, ed),
         b"|\n    halted [shape=octagon];",
     );
-    out::text(0, b"\n    start -> 0;");
+    out.text(0, b"\n    start -> 0;");
 }

@@ -1,4 +1,6 @@
 // showtable [dot]: a table on standard input as text on standard output, or with the argument dot as a graph for Graphviz.
+#![tactic(auto)]
+
 mod actions; // actions.rt: what each node does
 mod bytes; // bytes.rt: the table's bytes by place
 mod formula; // formula.rt: numbers and truths
@@ -11,6 +13,8 @@ mod plant; // plant.rt: variables and equations
 ghost use Rattle.std.specs.Prelude.{◌≡◌, length};
 
 use edition::Edition;
+use out::Out;
+use std::env::Env;
 
 // no accepted table has more bytes
 fn table_buffer() -> [u8; 407570]
@@ -19,52 +23,44 @@ fn table_buffer() -> [u8; 407570]
     [0; 407570]
 }
 
-// the last piece of the output
-fn end() {
-    output::noticed(b"showtable", io::write_all(1, b"\n"));
+fn heading<P: Print>(out: &mut Out<'_, P>, number: usize) {
+    out.text(number, b"|variables|\nequations|\nactions|\nlocations");
 }
 
-fn heading(number: usize) {
-    out::text(number, b"|variables|\nequations|\nactions|\nlocations");
+fn as_text<P: Print>(out: &mut Out<'_, P>, t: &[u8], equations: usize, acts: usize, ed: Edition) {
+    heading(out, 1);
+    plant::variables(out, t, 7, ed);
+    heading(out, 2);
+    plant::equations(out, t, equations, ed);
+    heading(out, 3);
+    actions::show(out, t, acts, ed);
+    heading(out, 4);
 }
 
-fn as_text(t: &[u8], equations: usize, acts: usize, ed: Edition) {
-    heading(1);
-    plant::variables(t, 7, ed);
-    heading(2);
-    plant::equations(t, equations, ed);
-    heading(3);
-    actions::show(t, acts, ed);
-    heading(4);
-}
-
-fn as_graph(t: &[u8], acts: usize, locs: usize, ed: Edition) {
-    graph::start(t, locs, ed);
-    locations::show(t, acts, locs, ed);
-    out::byte(b'\n');
-    out::byte(b'}');
+fn as_graph<P: Print>(out: &mut Out<'_, P>, t: &[u8], acts: usize, locs: usize, ed: Edition) {
+    graph::start(out, t, locs, ed);
+    locations::show(out, true, t, acts, locs, ed);
+    out.byte(b'\n');
+    out.byte(b'}');
 }
 
 // where the section after the one at p begins; a length of two bytes stands before it
 fn past(t: &[u8], p: usize) -> usize {
-    bytes::on(
-        p,
-        bytes::on(bytes::two(t, std::num::wrapping_sub_usize(p, 2)), 2),
-    )
+    bytes::on(p, bytes::on(bytes::two(t, p.wrapping_sub(2)), 2))
 }
 
 // an accepted table
-fn show(t: &[u8], ed: Edition) {
+fn show<P: Print>(out: &mut Out<'_, P>, is_graph: bool, t: &[u8], ed: Edition) {
     let e = past(t, 7);
     let a = past(t, e);
     // the length of the locations has four bytes
     let l = bytes::on(past(t, a), 2);
-    if graph::is_asked() {
-        as_graph(t, a, l, ed);
+    if is_graph {
+        as_graph(out, t, a, l, ed);
         return;
     }
-    as_text(t, e, a, ed);
-    locations::show(t, a, l, ed);
+    as_text(out, t, e, a, ed);
+    locations::show(out, false, t, a, l, ed);
 }
 
 fn refusal(t: &[u8]) -> u8 {
@@ -72,47 +68,52 @@ fn refusal(t: &[u8]) -> u8 {
     r.refusal
 }
 
-fn refused(n: u8) {
-    io::write_all(2, b"showtable: the table is refused with ");
-    io::print_decimal(2, n as u64);
-    io::write_all(2, b"\n");
+fn refused(err: &impl Print, n: u8) {
+    let _ = err.write_all(b"showtable: the table is refused with ");
+    let _ = err.print(n);
+    let _ = err.write_all(b"\n");
 }
 
-fn show_accepted(t: &[u8]) {
+fn show_accepted<P: Print>(rt: &P, err: &impl Print, is_graph: bool, t: &[u8]) {
     let n = refusal(t);
     if n == 0 {
-        show(t, Edition::First);
-        end();
+        let mut out = Out::new(rt);
+        show(&mut out, is_graph, t, Edition::First);
+        out.byte(b'\n');
+        output::noticed(err, b"showtable", out.is_whole());
         return;
     }
-    refused(n);
+    refused(err, n);
 }
 
-fn is_dot() -> bool {
+fn is_dot(rt: &impl Env) -> bool {
     let mut word = [0u8; 4];
-    os::arg(1, &mut word);
-    bytes::four(&word, 0) == 0x646F7400
+    match rt.arg(1, &mut word) {
+        Ok(n) => &word[..n] == b"dot".as_slice(),
+        Err(_) => false,
+    }
 }
 
 // no argument, or the word dot
-fn is_usage() -> bool {
-    let n = os::arg_count();
-    if n == 2 {
-        return is_dot();
+fn is_usage(rt: &impl Env, words: usize) -> bool {
+    if words == 2 {
+        return is_dot(rt);
     }
-    n < 2
+    words < 2
 }
 
-fn main() {
-    if !is_usage() {
-        io::write_all(2, b"showtable: usage: showtable [dot]\n");
+fn main(rt: HostRuntime) {
+    let err = rt.stderr();
+    let words = input::words(&rt);
+    if !is_usage(&rt, words) {
+        let _ = err.write_all(b"showtable: usage: showtable [dot]\n");
         return;
     }
     let mut table = table_buffer();
-    let a = input::standard(b"showtable", &mut table);
+    let a = input::standard(&rt, &err, b"showtable", &mut table);
     if !a.whole {
         return;
     }
     let n = a.length;
-    show_accepted(&table[..n]);
+    show_accepted(&rt, &err, words == 2, &table[..n]);
 }

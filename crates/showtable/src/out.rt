@@ -1,37 +1,14 @@
-// Pieces of text on standard output. A piece that cannot be written closes it: then all later pieces fail too, and only the last one is looked at (main.rt, end).
+// Pieces of text on standard output. Behind a piece that cannot be written nothing more is written.
 use super::bytes;
 
-fn after(is_written: bool) {
-    if !is_written {
-        libc::close(1);
-    }
+#[derive(Drop)]
+pub struct Out<'a, P> {
+    to: &'a P,
+    is_whole: bool,
 }
 
-pub fn byte(b: u8) {
-    let s = [b];
-    after(io::write_all(1, &s));
-}
-
-// the bytes before the first bar, and those after the bar of this number
-pub fn text(number: usize, s: &[u8]) {
-    let mut bars = 0;
-    let mut i = 0;
-    while i < s.len() {
-        bars = letter(number, bars, s[i]);
-        i += 1;
-    }
-}
-
-// the bars that were met
-fn letter(number: usize, bars: usize, b: u8) -> usize {
-    if b == b'|' {
-        return bytes::on(bars, 1);
-    }
-    if is_shown(number, bars) {
-        byte(b);
-    }
-    bars
-}
+// the number before the codes of targets that are no locations
+const BEFORE_CODES: usize = paper::targets::HALTED - 1;
 
 pub fn is_shown(number: usize, bars: usize) -> bool {
     if bars == 0 {
@@ -40,28 +17,64 @@ pub fn is_shown(number: usize, bars: usize) -> bool {
     bars == number
 }
 
-pub fn decimal(n: usize) {
-    after(io::print_decimal(1, n as u64));
-}
-
-// the signed number that 32 bits stand for
-pub fn signed(u: usize) {
-    if u < 2147483648 {
-        decimal(u);
-        return;
+impl<'a, P: Print> Out<'a, P> {
+    pub fn new(to: &'a P) -> Out<'a, P> {
+        Out { to, is_whole: true }
     }
-    byte(b'-');
-    decimal(std::num::wrapping_sub_usize(4294967296, u));
-}
 
-// the number before the codes of targets that are no locations
-const BEFORE_CODES: usize = paper::targets::HALTED - 1;
-
-// a location, or how the run ends
-pub fn target(n: usize) {
-    if n < paper::targets::HALTED {
-        decimal(n);
-        return;
+    // whether all pieces were written
+    pub fn is_whole(&self) -> bool {
+        self.is_whole
     }
-    text(n - BEFORE_CODES, b"|halted|finished|none");
+
+    pub fn byte(&mut self, b: u8) {
+        if self.is_whole {
+            let s = [b];
+            self.is_whole = self.to.write_all(&s).is_ok();
+        }
+    }
+
+    // the bytes before the first bar, and those after the bar of this number
+    pub fn text(&mut self, number: usize, s: &[u8]) {
+        let mut bars = 0;
+        for b in s {
+            bars = self.letter(number, bars, *b);
+        }
+    }
+
+    // the bars that were met
+    fn letter(&mut self, number: usize, bars: usize, b: u8) -> usize {
+        if b == b'|' {
+            return bytes::on(bars, 1);
+        }
+        if is_shown(number, bars) {
+            self.byte(b);
+        }
+        bars
+    }
+
+    pub fn decimal(&mut self, n: usize) {
+        if self.is_whole {
+            self.is_whole = self.to.print(n).is_ok();
+        }
+    }
+
+    // the signed number that 32 bits stand for
+    pub fn signed(&mut self, u: usize) {
+        if u < 2147483648 {
+            self.decimal(u);
+            return;
+        }
+        self.byte(b'-');
+        self.decimal(4294967296usize.wrapping_sub(u));
+    }
+
+    // a location, or how the run ends
+    pub fn target(&mut self, n: usize) {
+        if n < paper::targets::HALTED {
+            self.decimal(n);
+            return;
+        }
+        self.text(n - BEFORE_CODES, b"|halted|finished|none");
+    }
 }
