@@ -1,7 +1,7 @@
 /*
  * Zimtleiter: batch schedules compiled to state tables, and run by the rules
  * or by the table; practice events for such runs. The library is
- * target/staticlib/libcapi.a, which `rt staticlib capi` writes, for x86-64
+ * crates/capi/out/libcapi.a, which `tools/build capi` writes, for x86-64
  * Linux. Of the C library it calls only memcpy and memset. It takes no memory
  * but the stack and keeps nothing between calls, so calls may run at the same
  * time in several threads.
