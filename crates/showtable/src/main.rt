@@ -8,7 +8,7 @@ mod graph; // graph.rt: moves for Graphviz
 mod line; // line.rt: a line by its pattern
 mod locations; // locations.rt: locations and moves
 mod out; // out.rt: pieces of text
-mod plant_section; // plant_section.rt: variables and equations
+mod sections; // sections.rt: variables and equations
 
 ghost use Rattle.std.specs.Prelude.{◌≡◌, length};
 
@@ -35,9 +35,9 @@ fn heading<P: Print>(out: &mut Out<'_, P>, number: usize) {
 
 fn as_text<P: Print>(out: &mut Out<'_, P>, t: &[u8], equations: usize, acts: usize, ed: Edition) {
     heading(out, 1);
-    plant_section::variables(out, t, 7, ed);
+    sections::variables(out, t, 7, ed);
     heading(out, 2);
-    plant_section::equations(out, t, equations, ed);
+    sections::equations(out, t, equations, ed);
     heading(out, 3);
     actions::show(out, t, acts, ed);
     heading(out, 4);
