@@ -14,7 +14,7 @@ use Rattle.semantics.specs.Bytes.{be2, be4, signed, Width, one_byte, two_bytes, 
 use Rattle.semantics.proofs.Readers.{broken-not-read, read-rest, split, given-rest, guarded, from_some}
 use Rattle.codec.specs.Reading.{Took}
 use Rattle.codec.specs.Places.{places_from}
-use Rattle.codec.proofs.Known.{Cons, cons, Nth, nth}
+use Rattle.codec.proofs.Known.{Cons, cons, Nth}
 
 -- ---- readers that take bytes from the front and leave the others
 pub record Tail (m l : List ℕ) : Type 0 where

@@ -149,9 +149,7 @@ fn load_named(
     ensures { IsPrefixLen result.length buf.new }
 {
     match fs::open(files, name) {
-        Ok(mut file) => {
-            read(&mut file, err, program, name.as_bytes(), buf)
-        }
+        Ok(mut file) => { read(&mut file, err, program, name.as_bytes(), buf) }
         Err(e) => {
             failed(err, program, name.as_bytes(), &e);
             nothing(buf)

@@ -13,7 +13,6 @@ use Rattle.semantics.proofs.Judging.{accepted-is}
 use Rattle.schedules.specs.Nodes.{sequence, reset, continue_until}
 use Rattle.schedules.specs.Trees.{leaf, seq, cons, nil}
 use Rattle.schedules.specs.Preorder.{forest_length, a_sequence, a_reset, a_continue, no-tree, one_tree}
-use Rattle.schedules.specs.Numbering.{locations}
 use Rattle.schedules.specs.Files.{Schedule, judge_file}
 use Rattle.schedules.specs.Calls.{compile}
 use Rattle.schedules.specs.Sizes.{size_of}

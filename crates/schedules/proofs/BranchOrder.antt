@@ -18,7 +18,6 @@ use Rattle.semantics.proofs.Judging as Judging
 use Rattle.semantics.proofs.WrittenTables.{out-length}
 use Rattle.schedules.specs.Nodes.{Node, node_named, node_parted, node_reads, action_of, listed, actions_from, actions_of}
 use Rattle.schedules.specs.Trees.{Tree, tree_of}
-use Rattle.schedules.specs.Numbering.{locations}
 use Rattle.schedules.specs.Files.{Schedule, judge_file_sections, judge_file, file_header, file_length}
 use Rattle.schedules.specs.Compiling.{schedule_locations, table_of, judge_compile}
 use Rattle.schedules.specs.Calls.{schedule_counts, read_schedule, size_told, size_counts, size, compile, compiled_into, file_comparisons}

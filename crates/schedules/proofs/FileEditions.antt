@@ -1,6 +1,6 @@
 -- The edition of a schedule file in the calls: 1 where it has none, an accepted file has one, and its table has the same.
 use mathlib.Core.Path.{◌≡◌, refl, sym, ap, ◌∙◌}
-use mathlib.Core.Bool.{Bool, false, not, ◌&&◌}
+use mathlib.Core.Bool.{false, not}
 use mathlib.Core.List.{List, [], ◌∷◌}
 use mathlib.Core.Logic.{◌↔◌, ◌⊎◌, inl, inr}
 use Prim.Native.Nat.{ℕ, ◌<◌}
@@ -9,11 +9,10 @@ use borrow.Author.Tests.{leb-false, lt-leb, ne_eqb, not-true}
 use lib.Dec.{leb, eqb, lit<}
 use lib.ListN.{length, get_or, take}
 use Rattle.semantics.specs.Bytes.{every}
-use Rattle.semantics.specs.Editions.{Edition, edition_in, OfEdition, NoEdition}
+use Rattle.semantics.specs.Editions.{edition_in, OfEdition, NoEdition}
 use Rattle.semantics.specs.Refusals.{accepted}
 use Rattle.semantics.specs.TableFile.{table_bytes}
 use Rattle.semantics.specs.Calls.{table_run_of}
-use Rattle.semantics.specs.Conditions.{plant_conditions}
 use Rattle.semantics.proofs.Facts.{and_right}
 use Rattle.semantics.proofs.FirstNumber.{lacks}
 use Rattle.semantics.proofs.EditionBytes.{of-edition, version-right, version-wrong, no-version, same-edition, edition-told}

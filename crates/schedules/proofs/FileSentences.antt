@@ -11,7 +11,7 @@ use lib.Dec.{leb, eqb}
 use lib.ListN.{length, drop, get_or}
 use Rattle.semantics.specs.Bytes.{every, be2}
 use Rattle.semantics.specs.Editions.{Edition}
-use Rattle.semantics.specs.Refusals.{Judged, accepted, ◌>>=◌, ◌>>◌}
+use Rattle.semantics.specs.Refusals.{Judged, accepted}
 use Rattle.semantics.specs.Sections.{variables_in, equations_in}
 use Rattle.semantics.specs.Plant.{Plant, selectors, switches_read}
 use Rattle.semantics.specs.TableFile.{location_limit}

@@ -8,7 +8,7 @@ use Rattle.semantics.specs.Editions.{edition2, edition_in}
 use Rattle.semantics.specs.K1.{start_with}
 use Rattle.semantics.specs.SeniorK1.{senior_file, senior_table, senior_events, senior_records}
 use Rattle.schedules.specs.Nodes.{stop_all, nodes_in}
-use Rattle.schedules.specs.Calls.{read_schedule, rule_run_of, compile}
+use Rattle.schedules.specs.Calls.{rule_run_of, compile}
 use Rattle.schedules.proofs.Computes.{schedules}
 
 -- K1: the table's 82 bytes, and the bytes of the buffer after them as they were

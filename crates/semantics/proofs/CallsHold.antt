@@ -16,12 +16,12 @@ use Rattle.semantics.specs.Events.{events_in}
 use Rattle.semantics.specs.Refusals.{Judged, refused, accepted, refusal_of}
 use Rattle.semantics.specs.Plant.{Plant, selectors}
 use Rattle.semantics.specs.Starts.{Start, start_in, read_start}
-use Rattle.semantics.specs.Run.{Action, test, wait, assign, switch, stop, possible, is_test, to, halted, Control, at, answers, record_of, counts_from, no_counts}
+use Rattle.semantics.specs.Run.{Action, test, wait, assign, switch, stop, possible, is_test, halted, Control, at, answers, record_of, counts_from, no_counts}
 use Rattle.semantics.specs.Rules.{at_start, stands_at, Sound}
 use Rattle.semantics.specs.TableFile.{NodeAction, Entry, FINISHED, HALTED, NONE, location_limit, read_location, locations_in}
 use Rattle.semantics.specs.Tables.{Table, judge_table, operand_fits, operands_fit, actions_numbered, actions_fit, action_at, action_or_stop, is_going_on, targets_fit, entry_fits, entry_nodes, location_fits, locations_fit_in, rising_from, going_to, entry_target, next_of_entry, entries_at, table_control}
 use Rattle.semantics.specs.Calls.{Program, Outcome, outcome_of, run_from, judge_admission, judge_run, report, event_count, record_size, room_for_records, table_program, table_run_of, table_counts_of, read_table_of}
-use Rattle.semantics.specs.Conditions.{Condition, here, Firsts, refuses, accepts, table_conditions, run_conditions, table_run_conditions}
+use Rattle.semantics.specs.Conditions.{Condition, Firsts, refuses, accepts, table_conditions, run_conditions, table_run_conditions}
 use Rattle.semantics.specs.Statements.{RunHolds}
 use Rattle.semantics.proofs.Facts.{true-not-false, and_left, and_right, within-high, All, all_nil, all_cons, all-mem, every-all}
 use Rattle.semantics.proofs.Judging as Judging

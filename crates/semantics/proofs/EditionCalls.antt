@@ -9,14 +9,14 @@ use borrow.Author.Tests.{leb-false, lt-leb, eqb-true, eqb-false, ne_eqb, not-tru
 use lib.Dec.{leb, eqb, lit<}
 use lib.ListN.{length, get_or}
 use Rattle.semantics.specs.Bytes.{All, be4, every}
-use Rattle.semantics.specs.Editions.{Edition, edition_in, OfEdition, NoEdition}
+use Rattle.semantics.specs.Editions.{edition_in, OfEdition, NoEdition}
 use Rattle.semantics.specs.Refusals.{Judged, refusal_of}
 use Rattle.semantics.specs.Tables.{Table, table_header, judge_table}
 use Rattle.semantics.specs.Calls.{read_table_of}
-use Rattle.semantics.specs.Conditions.{Condition, ◌if◌, First, here, further, Clear, one_clear, Firsts, refuses, accepts, is15, is16, is17, is18, is19, table_conditions}
+use Rattle.semantics.specs.Conditions.{Condition, ◌if◌, here, further, one_clear, Firsts, refuses, accepts, is15, table_conditions}
 use Rattle.semantics.specs.Refusals.{accepted}
-use Rattle.semantics.specs.Sentences.{TableHead, HeadOfTable, five_bytes, ProperHead, Sentence15}
-use Rattle.semantics.proofs.Facts.{true-not-false, by_cases, and_left, and_right}
+use Rattle.semantics.specs.Sentences.{TableHead, HeadOfTable, five_bytes, Sentence15}
+use Rattle.semantics.proofs.Facts.{true-not-false, and_left, and_right}
 use Rattle.semantics.proofs.FirstNumber.{lacks, first-not, table-first, table-refusal}
 use Rattle.semantics.proofs.TablePassed.{table-passed}
 use Rattle.semantics.proofs.EditionBytes.{of-edition, version-right, version-wrong, no-version}

@@ -12,7 +12,7 @@ use lib.Dec.{leb, eqb}
 use lib.ListN.{length, drop, get_or}
 use Rattle.semantics.specs.Bytes.{every, be4}
 use Rattle.semantics.specs.Editions.{Edition}
-use Rattle.semantics.specs.Refusals.{Judged, accepted, ◌>>=◌, ◌>>◌}
+use Rattle.semantics.specs.Refusals.{Judged, accepted}
 use Rattle.semantics.specs.Sections.{Variable, Equation, variables_in, equations_in}
 use Rattle.semantics.specs.Plant.{Plant, judge_variables, judge_equations, judge_plant, switches_read, ordered, equation_named, driven_once}
 use Rattle.semantics.specs.TableFile.{NodeAction, Entry, TableSections, table_sections_in, actions_in, locations_in, write_table_sections}

@@ -14,7 +14,6 @@ use lib.ListN.{length, drop}
 use lib.IntN.{pos, negsuc}
 use Rattle.semantics.specs.Bytes.{overwrite, be2, be4, signed, Width, one_byte, two_bytes, read, Reader, ◌>>=◌, give, fail, guard, from, byte, nat2, nat4, int4, number, bytes, times, section2, section4, whole, within, from_no_bytes, from_two_bytes, byte_and_rest, width_of}
 use Rattle.semantics.specs.Editions.{Edition, capacity}
-use Rattle.semantics.specs.Refusals as Refusals
 use Rattle.semantics.specs.Refusals.{Judged, refused, accepted}
 use Rattle.semantics.specs.Sections.{Rate, Selector, Equation, steady, choice, read_variable, read_variables, variables_in, read_rate, read_switch, read_mode, read_steady, read_choice, read_equation_body, equation_in_bytes, read_equation, read_equations, equations_in}
 use Rattle.semantics.specs.Plant.{Plant, judge_plant, selectors, selectors_of}

@@ -4,6 +4,11 @@ use super::out::Out;
 use super::{actions, bytes, line};
 use edition::Edition;
 
+// the argument dot asks for the graph: the program was started with so many words
+pub fn is_asked(words: usize) -> bool {
+    words > 1
+}
+
 // one arrow from location n to the target at p, by the action at a; its kind, or 6 of a test that is false
 fn arrow<P: Print>(
     out: &mut Out<'_, P>,

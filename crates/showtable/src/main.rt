@@ -8,7 +8,7 @@ mod graph; // graph.rt: moves for Graphviz
 mod line; // line.rt: a line by its pattern
 mod locations; // locations.rt: locations and moves
 mod out; // out.rt: pieces of text
-mod plant; // plant.rt: variables and equations
+mod sections; // sections.rt: variables and equations
 
 ghost use Rattle.std.specs.Prelude.{◌≡◌, length};
 
@@ -23,15 +23,21 @@ fn table_buffer() -> [u8; 407570]
     [0; 407570]
 }
 
+// the last piece of the output
+fn end<P: Print>(out: &mut Out<'_, P>, err: &impl Print) {
+    out.byte(b'\n');
+    output::noticed(err, b"showtable", out.is_whole());
+}
+
 fn heading<P: Print>(out: &mut Out<'_, P>, number: usize) {
     out.text(number, b"|variables|\nequations|\nactions|\nlocations");
 }
 
 fn as_text<P: Print>(out: &mut Out<'_, P>, t: &[u8], equations: usize, acts: usize, ed: Edition) {
     heading(out, 1);
-    plant::variables(out, t, 7, ed);
+    sections::variables(out, t, 7, ed);
     heading(out, 2);
-    plant::equations(out, t, equations, ed);
+    sections::equations(out, t, equations, ed);
     heading(out, 3);
     actions::show(out, t, acts, ed);
     heading(out, 4);
@@ -79,8 +85,7 @@ fn show_accepted<P: Print>(rt: &P, err: &impl Print, is_graph: bool, t: &[u8]) {
     if n == 0 {
         let mut out = Out::new(rt);
         show(&mut out, is_graph, t, Edition::First);
-        out.byte(b'\n');
-        output::noticed(err, b"showtable", out.is_whole());
+        end(&mut out, err);
         return;
     }
     refused(err, n);
@@ -115,5 +120,5 @@ fn main(rt: HostRuntime) {
         return;
     }
     let n = a.length;
-    show_accepted(&rt, &err, words == 2, &table[..n]);
+    show_accepted(&rt, &err, graph::is_asked(words), &table[..n]);
 }

@@ -27,10 +27,14 @@ impl<'a, P: Print> Out<'a, P> {
         self.is_whole
     }
 
+    fn after(&mut self, is_written: bool) {
+        self.is_whole = is_written;
+    }
+
     pub fn byte(&mut self, b: u8) {
         if self.is_whole {
             let s = [b];
-            self.is_whole = self.to.write_all(&s).is_ok();
+            self.after(self.to.write_all(&s).is_ok());
         }
     }
 
@@ -55,7 +59,7 @@ impl<'a, P: Print> Out<'a, P> {
 
     pub fn decimal(&mut self, n: usize) {
         if self.is_whole {
-            self.is_whole = self.to.print(n).is_ok();
+            self.after(self.to.print(n).is_ok());
         }
     }
 
