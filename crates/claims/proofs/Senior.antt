@@ -1,6 +1,6 @@
 -- Document 02, item 6, as theorems about the definitions: files and tables of both editions, told by their byte 0.
 -- "Moves and numbering are shown once over the node limit, and both editions cite that.": the statements of Claims, Sides, Assignments, Comparisons and Branches are over any edition.
--- A call that is lent a file or table goes by `edition_in` of its bytes: of it they hold with that edition for `ed`. Here stands what is beside that.
+-- Of bytes that tell their edition they hold with `edition_in` of them for `ed`. Here stands what is beside that. The calls in code take edition 1.
 -- What a statement, or a group of them, rules out is named by two wrong products that it does not let by.
 use mathlib.Core.Path.{◌≡◌, sym, ◌∙◌}
 use mathlib.Core.Bool.{true, false}
@@ -34,7 +34,7 @@ use Rattle.schedules.proofs.FileEditions as FileEditions
 use Rattle.schedules.proofs.SeniorPapers as Schedules
 
 -- ---- "Edition 2 files and tables have version byte 2": the edition that bytes are judged by is the one that byte 0 tells, and no bytes are of both.
--- Ruled out: a reader that takes a file of over 64 nodes for edition 2; with the contracts, a call that is told the edition beside the file.
+-- Ruled out: a reader that takes a file of over 64 nodes for edition 2; a reader that is told the edition beside the file.
 pub edition-told : (bytes : List ℕ) (ed : Edition) → OfEdition bytes ed → edition_in bytes ≡ ed
 edition-told bytes ed = EditionBytes.edition-told
 
@@ -59,7 +59,7 @@ pub refused-15 : (table : List ℕ) → ((read_table_of (edition_in table) table
     ↔ ((length table < 5) ⊎ (NoEdition table ⊎ (be4 (get_or table 1 0) (get_or table 2 0) (get_or table 3 0) (get_or table 4 0) ≡ length table → ⊥)))
 refused-15 = EditionCalls.refused-15
 
--- so of every call: the sentence that is its first one (`first-number-*`) says just that of the bytes that it is lent.
+-- so of each call by the edition that byte 0 tells: the sentence that is its first one (`first-number-*`) says just that of the bytes.
 -- Ruled out: compiling that gives 1 where reading does not; a table run that takes a table of version 3.
 pub sentence-1 : (file : List ℕ) → Sentence1 (edition_in file) file ↔ ((length file < 3) ⊎ NoEdition file)
 sentence-1 = FileEditions.sentence-1

@@ -4,7 +4,7 @@ ghost use Rattle.std.specs.Prelude.{◌≤◌};
 use std::fmt::Write;
 use std::{fmt, io};
 
-// a buffer for the text of an error
+// a buffer for the text of an error: what does not fit is left out
 #[derive(Drop)]
 struct Text {
     bytes: [u8; 256],
@@ -16,11 +16,10 @@ impl fmt::Write for Text {
     fn write_str(&mut self, s: &str) -> fmt::Result {
         for b in s.as_bytes() {
             let at = self.length;
-            if at >= 256 {
-                return Err(fmt::Error);
+            if at < 256 {
+                self.bytes[at] = *b;
+                self.length = at + 1;
             }
-            self.bytes[at] = *b;
-            self.length = at + 1;
         }
         Ok(())
     }

@@ -1,4 +1,4 @@
--- The edition of a schedule file in the calls: 1 where it has none, an accepted file has one, and its table has the same.
+-- The edition that a schedule file's byte 0 tells, in the definitions of the calls: 1 where it has none, an accepted file has one, and its table has the same.
 use mathlib.Core.Path.{◌≡◌, refl, sym, ap, ◌∙◌}
 use mathlib.Core.Bool.{false, not}
 use mathlib.Core.List.{List, [], ◌∷◌}

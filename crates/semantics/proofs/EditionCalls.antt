@@ -1,4 +1,4 @@
--- The edition of a table in the calls: 15 where it has none, and an accepted table has one.
+-- The edition that a table's byte 0 tells, in the definitions of the calls: 15 where it has none, and an accepted table has one.
 use mathlib.Core.Path.{◌≡◌, refl, sym, ap, ◌∙◌}
 use mathlib.Core.Bool.{Bool, true, false, not, ◌&&◌}
 use mathlib.Core.List.{List, [], ◌∷◌}

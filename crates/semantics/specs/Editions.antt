@@ -21,8 +21,8 @@ pub record Edition : Type 0 where
   -- of a record's set of acting nodes
   pub set_bytes : ℕ
   pub event_bytes : ℕ
-  -- what every edition keeps: its numbers fit their bytes; a location's entries are counted in one byte, since 256 nodes
-  -- that act together would need a 257th, a PARALLEL; an event has room for a kind and a selector with its switch
+  -- what every edition keeps: its numbers fit their bytes; a location's entries are counted in one byte, since of 256 nodes
+  -- that act together one more, a PARALLEL, would not act; an event has room for a kind and a selector with its switch
   pub version_fits : version < 256
   pub nodes_fit : nodes < capacity width
   pub entries_fit : nodes ≤ 256
