@@ -1,0 +1,2 @@
+-- The numbers of the printed list, and what a call answers beside what is judged.
+pub mod Refusals
