@@ -1,138 +1,81 @@
 // A case's call with what is lent to it; what it returns and leaves is compared with what is stored.
-ghost use Rattle.std.specs.Prelude.{◌≡◌, length};
-
-use super::stored::Case;
-use super::{calls, line, stored};
+use super::calls;
+use super::stored::{Call, Case, NUMBERS, ROOM, Strings};
 
 // what every lent byte is before a call
 const UNTOUCHED: u8 = 0xAA;
 
-fn untouched(s: &[u8]) -> bool {
-    for b in s {
-        if *b != UNTOUCHED {
-            return false;
-        }
+// whether a lent buffer has the string that the call writes at its front, if it writes one, and is untouched behind
+fn left(lent: &[u8], written: Option<&[u8]>) -> bool {
+    let written = written.unwrap_or(&[]);
+    match lent.split_at_checked(written.len()) {
+        Some((front, rest)) => front == written && rest.iter().all(|b| *b == UNTOUCHED),
+        None => false,
     }
-    true
 }
 
-// whether a lent buffer has the stored string at its front, where the call writes it, and is untouched behind
-fn left(lent: &[u8], stored: &[u8], is_written: bool) -> bool {
-    if !is_written {
-        return untouched(lent);
-    }
-    let n = output::front(stored.len(), lent);
-    (&lent[..n] == stored) & untouched(&lent[n..])
+// the string, where the call writes it
+fn written(is_written: bool, string: &[u8]) -> Option<&[u8]> {
+    if is_written { Some(string) } else { None }
 }
 
-// whether the lent buffers are left as the case says; a refused call writes nothing
-fn written(
-    c: Case,
-    table: &[u8],
-    records: &[u8],
-    lent_table: &[u8],
-    lent_records: &[u8],
-    lent_others: &[u8],
-) -> bool {
+// The call with as many bytes lent as the case says, and its line; whether all is as stored. A refused call writes nothing.
+pub fn is_same(out: &impl Print, c: Case, s: &Strings) -> bool {
+    let mut table = [UNTOUCHED; ROOM];
+    let mut records = [UNTOUCHED; ROOM];
+    let mut others = [UNTOUCHED; ROOM];
+    let (refusal, numbers) = match lent(c, s, &mut table, &mut records, &mut others) {
+        Ok(numbers) => (0, numbers),
+        Err(number) => (number, [0; NUMBERS]),
+    };
+    shown(out, c.call, refusal, &numbers);
     let accepts = c.refusal == 0;
-    let examines = c.call == stored::EXAMINE;
-    let compiles = examines | (c.call == stored::COMPILE);
-    left(lent_table, table, accepts & compiles)
-        & left(lent_records, records, accepts & (c.call >= stored::RULES))
-        & left(lent_others, records, accepts & examines)
+    let examines = accepts && c.call == Call::Examine;
+    let compiles = examines || accepts && c.call == Call::Compile;
+    let runs = examines || accepts && (c.call == Call::Rules || c.call == Call::ByTable);
+    refusal == c.refusal
+        && numbers == c.numbers
+        && left(
+            output::front(c.table_room, &table),
+            written(compiles, s.table.bytes()),
+        )
+        && left(
+            output::front(c.record_room, &records),
+            written(runs, s.records.bytes()),
+        )
+        && left(
+            output::front(c.other_room, &others),
+            written(examines, s.records.bytes()),
+        )
 }
 
-// the call with these buffers lent; whether all is as stored
-fn made(
-    out: &impl Print,
+// the call with the fronts of these buffers lent; the number of a refusal
+fn lent(
     c: Case,
-    file: &[u8],
-    table: &[u8],
-    start: &[u8],
-    events: &[u8],
-    records: &[u8],
-    lent_table: &mut [u8],
-    lent_records: &mut [u8],
-    lent_others: &mut [u8],
-) -> bool {
-    let a = calls::made(
-        out,
+    s: &Strings,
+    table: &mut [u8; ROOM],
+    records: &mut [u8; ROOM],
+    others: &mut [u8; ROOM],
+) -> Result<[usize; NUMBERS], u8> {
+    let a = c.table_room.min(ROOM);
+    let b = c.record_room.min(ROOM);
+    let d = c.other_room.min(ROOM);
+    match calls::made(
         c.call,
-        file,
-        table,
-        start,
-        events,
-        lent_table,
-        lent_records,
-        lent_others,
-    );
-    line::refusal(out, a.refusal);
-    let got = a.numbers;
-    let numbers = c.numbers;
-    (a.refusal == c.refusal)
-        & line::numbers(out, got, numbers, a.count)
-        & written(c, table, records, lent_table, lent_records, lent_others)
+        s,
+        &mut table[..a],
+        &mut records[..b],
+        &mut others[..d],
+    ) {
+        Ok(numbers) => Ok(numbers),
+        Err(why) => Err(u8::from(why)),
+    }
 }
 
-// as long as the longest table and the longest records
-fn lent() -> [u8; 420000]
-    ensures { 420000 ≡ length result }
-{
-    [UNTOUCHED; 420000]
-}
-
-// the call with as many bytes lent as the case says
-fn call(
-    out: &impl Print,
-    c: Case,
-    file: &[u8],
-    table: &[u8],
-    start: &[u8],
-    events: &[u8],
-    records: &[u8],
-) -> bool {
-    let mut lent_table = lent();
-    let mut lent_records = lent();
-    let mut lent_others = lent();
-    let a = output::front(c.table_room, &lent_table);
-    let b = output::front(c.record_room, &lent_records);
-    let d = output::front(c.other_room, &lent_others);
-    made(
-        out,
-        c,
-        file,
-        table,
-        start,
-        events,
-        records,
-        &mut lent_table[..a],
-        &mut lent_records[..b],
-        &mut lent_others[..d],
-    )
-}
-
-// the call on the case's strings, which are the fronts of these buffers
-pub fn strings(
-    out: &impl Print,
-    c: Case,
-    file: &[u8],
-    table: &[u8],
-    start: &[u8],
-    events: &[u8],
-    records: &[u8],
-) -> bool {
-    let f = output::front(c.file, file);
-    let t = output::front(c.table, table);
-    let s = output::front(c.start, start);
-    let e = output::front(c.events, events);
-    let r = output::front(c.records, records);
-    call(
-        out,
-        c,
-        &file[..f],
-        &table[..t],
-        &start[..s],
-        &events[..e],
-        &records[..r],
-    )
+// the call, its refusal and its numbers
+fn shown(out: &impl Print, call: Call, refusal: u8, numbers: &[usize; NUMBERS]) {
+    let _ = print!(out; "{call} {refusal},");
+    for n in numbers.iter().take(call.count()) {
+        let _ = print!(out; " {n}");
+    }
 }

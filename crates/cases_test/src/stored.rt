@@ -1,172 +1,205 @@
 // A case as it is stored: the call, a name, five strings, what is lent, what the call returns.
-
+use std::fmt;
 use std::io::Read;
-
-// in place of a byte or a number that the input does not have, and of the length of a string that is cut or too long
-pub const CUT: usize = 4294967296;
-// the length that stands for the string of the case before
-const AS_BEFORE: usize = 4294967295;
 
 // as many numbers as a call returns at most
 pub const NUMBERS: usize = 8;
 
-// how long a name and each string may be
-pub const NAME: usize = 255;
+// no table and no records are longer
+pub const ROOM: usize = 420000;
 
-pub const FILE: usize = 65600;
+// the length that stands for the string of the case before
+const AS_BEFORE: u32 = 4294967295;
 
-pub const TABLE: usize = 420000;
+#[derive(Clone, Copy, PartialEq, Eq)]
+pub enum Call {
+    Read,
+    ReadTable,
+    Size,
+    Compile,
+    Rules,
+    ByTable,
+    Examine,
+}
 
-pub const START: usize = 200;
+impl Call {
+    fn of(number: u8) -> Option<Call> {
+        match number {
+            1 => Some(Call::Read),
+            2 => Some(Call::ReadTable),
+            3 => Some(Call::Size),
+            4 => Some(Call::Compile),
+            5 => Some(Call::Rules),
+            6 => Some(Call::ByTable),
+            7 => Some(Call::Examine),
+            _ => None,
+        }
+    }
 
-pub const EVENTS: usize = 30100;
+    // how many numbers it returns
+    pub fn count(self) -> usize {
+        match self {
+            Call::Size | Call::Compile => 2,
+            Call::Read | Call::Rules | Call::ByTable => 3,
+            Call::ReadTable => 4,
+            Call::Examine => NUMBERS,
+        }
+    }
+}
 
-pub const RECORDS: usize = 420000;
+impl fmt::Display for Call {
+    fn fmt<W: fmt::Write>(&self, f: &mut fmt::Formatter<W>) -> fmt::Result {
+        match self {
+            Call::Read => f.write_str("read"),
+            Call::ReadTable => f.write_str("read table"),
+            Call::Size => f.write_str("size"),
+            Call::Compile => f.write_str("compile"),
+            Call::Rules => f.write_str("rules"),
+            Call::ByTable => f.write_str("by table"),
+            Call::Examine => f.write_str("examine"),
+        }
+    }
+}
 
-pub const READ: usize = 1;
+// A string at the front of a buffer, which keeps it for the next case. Nothing is allocated here, so that the length stands beside the bytes.
+#[derive(Drop)]
+pub struct Kept<const N: usize> {
+    bytes: [u8; N],
+    length: usize,
+}
 
-pub const READ_TABLE: usize = 2;
+impl<const N: usize> Kept<N> {
+    fn new() -> Kept<N> {
+        Kept {
+            bytes: [0; N],
+            length: 0,
+        }
+    }
 
-pub const SIZE: usize = 3;
+    pub fn bytes(&self) -> &[u8] {
+        output::front(self.length, &self.bytes)
+    }
 
-pub const COMPILE: usize = 4;
+    // the next n bytes, if there are so many and they have room
+    fn fill(&mut self, from: &mut impl Read, n: usize) -> Option<()> {
+        if n > N {
+            return None;
+        }
+        from.read_exact(&mut self.bytes[..n]).ok()?;
+        self.length = n;
+        Some(())
+    }
 
-pub const RULES: usize = 5;
+    // a string, its length first
+    fn read(&mut self, from: &mut impl Read) -> Option<()> {
+        let n = number(from)?;
+        if n == AS_BEFORE {
+            return Some(());
+        }
+        self.fill(from, n as usize)
+    }
+}
 
-pub const BY_TABLE: usize = 6;
+#[derive(Drop)]
+pub struct Strings {
+    pub name: Kept<255>,
+    pub file: Kept<65600>,
+    pub table: Kept<ROOM>,
+    pub start: Kept<200>,
+    pub events: Kept<30100>,
+    pub records: Kept<ROOM>,
+}
 
-pub const EXAMINE: usize = 7;
+impl Strings {
+    // before the first case: every string is empty
+    pub fn new() -> Strings {
+        Strings {
+            name: Kept::new(),
+            file: Kept::new(),
+            table: Kept::new(),
+            start: Kept::new(),
+            events: Kept::new(),
+            records: Kept::new(),
+        }
+    }
 
+    fn read(&mut self, from: &mut impl Read) -> Option<()> {
+        let n = byte(from)?;
+        self.name.fill(from, usize::from(n))?;
+        self.file.read(from)?;
+        self.table.read(from)?;
+        self.start.read(from)?;
+        self.events.read(from)?;
+        self.records.read(from)
+    }
+}
+
+// a case but for its strings
 #[derive(Clone, Copy)]
 pub struct Case {
-    pub call: usize,
-    // the lengths of the name and the five strings
-    pub name: usize,
-    pub file: usize,
-    pub table: usize,
-    pub start: usize,
-    pub events: usize,
-    pub records: usize,
+    pub call: Call,
     // how many bytes are lent
     pub table_room: usize,
     pub record_room: usize,
     pub other_room: usize,
     // what the call returns
-    pub refusal: usize,
+    pub refusal: u8,
     pub numbers: [usize; NUMBERS],
 }
 
-// before the first case: every string is empty
-pub fn none() -> Case {
-    Case {
-        call: 0,
-        name: 0,
-        file: 0,
-        table: 0,
-        start: 0,
-        events: 0,
-        records: 0,
-        table_room: 0,
-        record_room: 0,
-        other_room: 0,
-        refusal: 0,
-        numbers: [0; NUMBERS],
-    }
-}
-
-fn byte(from: &mut impl Read) -> usize {
+fn byte(from: &mut impl Read) -> Option<u8> {
     let mut b = [0u8; 1];
-    if input::fill(from, &mut b) < 1 {
-        return CUT;
-    }
-    codec::wide(b[0])
+    from.read_exact(&mut b).ok()?;
+    Some(b[0])
 }
 
-fn number(from: &mut impl Read) -> usize {
+fn number(from: &mut impl Read) -> Option<u32> {
     let mut b = [0u8; 4];
-    if input::fill(from, &mut b) < 4 {
-        return CUT;
+    from.read_exact(&mut b).ok()?;
+    Some(u32::from_be_bytes(b))
+}
+
+fn numbers(from: &mut impl Read) -> Option<[usize; NUMBERS]> {
+    let mut all = [0; NUMBERS];
+    for n in &mut all {
+        *n = number(from)? as usize;
     }
-    codec::nat4(&b, 0)
+    Some(all)
 }
 
-// the next n bytes, to the front of the buffer; their length
-fn taken(from: &mut impl Read, n: usize, buf: &mut [u8]) -> usize {
-    let k = output::front(n, buf);
-    if input::fill(from, &mut buf[..k]) < n {
-        return CUT;
-    }
-    n
+// how many bytes are lent, no more than there is room for
+fn room(from: &mut impl Read) -> Option<usize> {
+    let n = number(from)? as usize;
+    if n <= ROOM { Some(n) } else { None }
 }
 
-// a name, its length in one byte first
-fn short(from: &mut impl Read, buf: &mut [u8]) -> usize {
-    let n = byte(from);
-    taken(from, n, buf)
-}
-
-// a string, its length first
-fn string(from: &mut impl Read, before: usize, buf: &mut [u8]) -> usize {
-    let n = number(from);
-    if n == AS_BEFORE {
-        return before;
-    }
-    taken(from, n, buf)
-}
-
-fn numbers(from: &mut impl Read) -> [usize; NUMBERS] {
-    [
-        number(from),
-        number(from),
-        number(from),
-        number(from),
-        number(from),
-        number(from),
-        number(from),
-        number(from),
-    ]
-}
-
-// the next case; its call is CUT where there is none
-pub fn read(
-    from: &mut impl Read,
-    before: Case,
-    name: &mut [u8; NAME],
-    file: &mut [u8; FILE],
-    table: &mut [u8; TABLE],
-    start: &mut [u8; START],
-    events: &mut [u8; EVENTS],
-    records: &mut [u8; RECORDS],
-) -> Case {
-    Case {
-        call: byte(from),
-        name: short(from, name),
-        file: string(from, before.file, file),
-        table: string(from, before.table, table),
-        start: string(from, before.start, start),
-        events: string(from, before.events, events),
-        records: string(from, before.records, records),
-        table_room: number(from),
-        record_room: number(from),
-        other_room: number(from),
-        refusal: byte(from),
-        numbers: numbers(from),
+impl Case {
+    // what follows the number of its call; none where it is not there to its last number, or something in it is too long
+    fn read(number: u8, from: &mut impl Read, strings: &mut Strings) -> Option<Case> {
+        let call = Call::of(number)?;
+        strings.read(from)?;
+        Some(Case {
+            call,
+            table_room: room(from)?,
+            record_room: room(from)?,
+            other_room: room(from)?,
+            refusal: byte(from)?,
+            numbers: numbers(from)?,
+        })
     }
 }
 
-// whether the case is there to its last number, its call is one of the seven, and no string and no lent buffer is longer than the program's
-pub fn whole(c: Case) -> bool {
-    let numbers = c.numbers;
-    (c.call >= READ)
-        & (c.call <= EXAMINE)
-        & (c.name < CUT)
-        & (c.file < CUT)
-        & (c.table < CUT)
-        & (c.start < CUT)
-        & (c.events < CUT)
-        & (c.records < CUT)
-        & (c.table_room <= TABLE)
-        & (c.record_room <= RECORDS)
-        & (c.other_room <= RECORDS)
-        & (numbers[7] < CUT)
+// where the list is no list of cases
+#[derive(Clone, Copy)]
+pub struct Malformed;
+
+// the next case, or none at the end of the list
+pub fn next(from: &mut impl Read, strings: &mut Strings) -> Result<Option<Case>, Malformed> {
+    match byte(from) {
+        Some(number) => match Case::read(number, from, strings) {
+            Some(case) => Ok(Some(case)),
+            None => Err(Malformed),
+        },
+        None => Ok(None),
+    }
 }

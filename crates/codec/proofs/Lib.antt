@@ -5,6 +5,6 @@ pub mod Places
 pub mod Writing
 pub mod Strides
 pub mod Widths
-pub mod Whole
+pub mod Words
 pub mod Sections
 pub mod Padding

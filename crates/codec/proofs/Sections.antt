@@ -3,41 +3,62 @@ use mathlib.Core.Path.{◌≡◌, refl, sym, ap, ◌∙◌}
 use mathlib.Core.List.{List}
 use Prim.Native.Nat.{ℕ, ◌+◌, ◌-◌, ◌≤◌, ◌<◌}
 use native.Mathlib.Omega.{arith}
+use borrow.Author.Tests.{le-leb, lt-leb}
+use Rattle.std.specs.Prelude.{Some, None}
 use lib.ListN.{length, take, drop, length-drop, length-append}
 use lib.Seq.{take-append_seam, drop-append_seam, drop-drop}
 use Rattle.semantics.specs.Bytes.{Read, broken, read, Reader, nat2, nat4, bytes, section2, section4}
 use Rattle.semantics.proofs.Readers.{broken-not-read, read-rest, Split, split, bytes_read}
-use Rattle.codec.specs.Ends.{end_in, end_of}
+use Rattle.codec.specs.Ends.{end_in, end_of, behind}
 use Rattle.codec.proofs.Reading.{either, nat2-some, nat2-none, nat4-some, nat4-none, nat2_at, nat4_at, section2-short, section2-cut, section2-at, section4-short, section4-cut, section4-at}
+
+-- ---- an answer is one of two
+none-not-some : {A C : Type 0} {a : A} → None ≡ Some a → C
+none-not-some e = absurd (cc)
+
+some-is : {A : Type 0} {a b : A} → Some a ≡ Some b → a ≡ b
+some-is e = cc
 
 -- ---- the end of what a reader reads
 module _ {A : Type 0} (r : Reader A) (t : List ℕ) (p : ℕ) where
-  no_end : r (drop p t) ≡ broken → 0 ≡ end_of r t p
+  no_end : r (drop p t) ≡ broken → None ≡ end_of r t p
   unfolding end_of end_in
   no_end e = rw e refl
 
-  end-at : (q : ℕ) {x : A} → r (drop p t) ≡ read x (drop q t) → q ≤ length t → q ≡ end_of r t p
+  end-at : (q : ℕ) {x : A} → r (drop p t) ≡ read x (drop q t) → q ≤ length t → Some q ≡ end_of r t p
   unfolding end_of end_in
-  end-at q e h = rw e (omega (arith, length-drop q t))
+  end-at q e h = rw e (ap Some (omega (arith, length-drop q t)))
+
+module _ (t : List ℕ) (p n : ℕ) where
+  pub reached-no : length t < p + n → behind t p n ≡ None
+  reached-no h = rw (lt-leb (p + n) (length t) h) refl
+
+  pub reached-yes : p + n ≤ length t → behind t p n ≡ Some (p + n)
+  reached-yes h = rw (le-leb (p + n) (length t) h) refl
+
+  -- what an answer says
+  pub not-reached : behind t p n ≡ None → length t < p + n
+  not-reached e = either (length t) (p + n) (λ h. h) (λ h. none-not-some (sym e ∙ reached-yes h))
+
+  pub reached : {q : ℕ} → behind t p n ≡ Some q → (p + n ≤ length t) × (q ≡ p + n)
+  reached {q} e = either (length t) (p + n) (λ h. none-not-some (sym (reached-no h) ∙ e)) (λ h. (h, some-is (sym e ∙ reached-yes h)))
 
 module _ (t : List ℕ) (p : ℕ) where
-  pub short2 : length t < p + 2 → p ≤ length t → 0 ≡ end_of section2 t p
-  short2 h i = no_end section2 t p (section2-short t p h i)
+  pub short2 : behind t p 2 ≡ None → p ≤ length t → None ≡ end_of section2 t p
+  short2 e i = no_end section2 t p (section2-short t p (not-reached t p 2 e) i)
 
-  pub past2 : {n : ℕ} → n ≡ nat2_at t p → p + 2 ≤ length t → length t < p + 2 + n → 0 ≡ end_of section2 t p
-  past2 {n} e h i = no_end section2 t p (section2-cut t p n e h i)
+  pub at2 : {q n : ℕ} → behind t p 2 ≡ Some q → n ≡ nat2_at t p → behind t q n ≡ end_of section2 t p
+  at2 {q} {n} e k = let r = reached t p 2 e in rw r.1 (either (length t) (p + 2 + n)
+      (λ h. reached-no t (p + 2) n h ∙ no_end section2 t p (section2-cut t p n k r.0 h))
+      (λ h. reached-yes t (p + 2) n h ∙ end-at section2 t p (p + 2 + n) (section2-at t p n k h) h))
 
-  pub at2 : {n : ℕ} → n ≡ nat2_at t p → p + 2 + n ≤ length t → p + 2 + n ≡ end_of section2 t p
-  at2 {n} e h = end-at section2 t p (p + 2 + n) (section2-at t p n e h) h
+  pub short4 : behind t p 4 ≡ None → p ≤ length t → None ≡ end_of section4 t p
+  short4 e i = no_end section4 t p (section4-short t p (not-reached t p 4 e) i)
 
-  pub short4 : length t < p + 4 → p ≤ length t → 0 ≡ end_of section4 t p
-  short4 h i = no_end section4 t p (section4-short t p h i)
-
-  pub past4 : {n : ℕ} → n ≡ nat4_at t p → p + 4 ≤ length t → length t < p + 4 + n → 0 ≡ end_of section4 t p
-  past4 {n} e h i = no_end section4 t p (section4-cut t p n e h i)
-
-  pub at4 : {n : ℕ} → n ≡ nat4_at t p → p + 4 + n ≤ length t → p + 4 + n ≡ end_of section4 t p
-  at4 {n} e h = end-at section4 t p (p + 4 + n) (section4-at t p n e h) h
+  pub at4 : {q n : ℕ} → behind t p 4 ≡ Some q → n ≡ nat4_at t p → behind t q n ≡ end_of section4 t p
+  at4 {q} {n} e k = let r = reached t p 4 e in rw r.1 (either (length t) (p + 4 + n)
+      (λ h. reached-no t (p + 4) n h ∙ no_end section4 t p (section4-cut t p n k r.0 h))
+      (λ h. reached-yes t (p + 4) n h ∙ end-at section4 t p (p + 4 + n) (section4-at t p n k h) h))
 
 -- ---- a section that was read from l: x, and then m
 pub record Cut (w : ℕ) (l x m : List ℕ) : Type 0 where
@@ -114,18 +135,18 @@ module _ {w : ℕ} {r : Reader (List ℕ)} (k : Cuts w r) (t : List ℕ) (p : �
       omega (arith, length-drop p t)
 
   -- what code's answer says
-  pub ended : {q : ℕ} → q ≡ end_of r t p → (q ≡ 0 → ⊥) → Section w r t p q
+  pub ended : {q : ℕ} → Some q ≡ end_of r t p → Section w r t p q
   unfolding end_of end_in
-  ended {q} e n = go (r (drop p t)) refl e
+  ended {q} e = go (r (drop p t)) refl e
     where
-      go : (o : Read (List ℕ)) → r (drop p t) ≡ o → q ≡ end_in (length t) o → Section w r t p q
-      go broken i j = absurd (n j)
-      go (read x m) i j = section-at (j ∙ left i) i
+      go : (o : Read (List ℕ)) → r (drop p t) ≡ o → Some q ≡ end_in (length t) o → Section w r t p q
+      go broken i j = none-not-some (sym j)
+      go (read x m) i j = section-at (some-is j ∙ left i) i
 
-  pub not-ended : {q : ℕ} → q ≡ end_of r t p → q ≡ 0 → r (drop p t) ≡ broken
+  pub not-ended : None ≡ end_of r t p → r (drop p t) ≡ broken
   unfolding end_of end_in
-  not-ended {q} e n = go (r (drop p t)) refl e
+  not-ended e = go (r (drop p t)) refl e
     where
-      go : (o : Read (List ℕ)) → r (drop p t) ≡ o → q ≡ end_in (length t) o → r (drop p t) ≡ broken
+      go : (o : Read (List ℕ)) → r (drop p t) ≡ o → None ≡ end_in (length t) o → r (drop p t) ≡ broken
       go broken i j = i
-      go (read x m) i j = let l = left i in let s = k.some_bytes in absurd (omega arith)
+      go (read x m) i j = none-not-some j

@@ -1,7 +1,7 @@
 -- A number of a width that is known: for the arms of a match on the edition.
-use mathlib.Core.Path.{◌≡◌, sym, ap, ◌∙◌, subst}
+use mathlib.Core.Path.{◌≡◌, sym, ap, subst}
 use mathlib.Core.List.{List, [], ◌∷◌}
-use Prim.Native.Nat.{ℕ, ◌+◌, ◌%◌, ◌<◌}
+use Prim.Native.Nat.{ℕ, ◌+◌, ◌<◌}
 use native.Mathlib.Omega.{arith}
 use lib.ListN.{get_or}
 use Rattle.semantics.specs.Bytes.{be2, Width, one_byte, two_bytes, out, out2}
@@ -13,12 +13,12 @@ module _ {w : Width} (q : w ≡ one_byte) where
   unfolding number_at
   number-one s p = sym (ap (λ z. number_at z s p) q)
 
-  pub out_one : (n : ℕ) → n < capacity w → n % 256 ∷ [] ≡ out w n
+  pub fits-one : (n : ℕ) → n < capacity w → n < 256
+  fits-one n h = subst (λ z. n < capacity z) q h
+
+  pub out-one : (n : ℕ) → n ∷ [] ≡ out w n
   unfolding out
-  out_one n h =
-      let l : n < 256 = subst (λ z. n < capacity z) q h in
-      let e : n % 256 ≡ n = omega arith in
-      ap (λ z. z ∷ []) e ∙ sym (ap (λ z. out z n) q)
+  out-one n = sym (ap (λ z. out z n) q)
 
 -- of bytes
 pub number_small : (w : Width) (s : List ℕ) (p : ℕ) → ((i : ℕ) → get_or s i 0 < 256) → number_at w s p < 65536

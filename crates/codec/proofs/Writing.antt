@@ -1,13 +1,14 @@
 -- Pieces written one after the other are one piece, and at the front it overwrites the buffer.
-use mathlib.Core.Path.{◌≡◌, refl, sym, ap, ap₂, ◌∙◌}
+use mathlib.Core.Path.{◌≡◌, sym, ap, ap₂, ◌∙◌}
 use mathlib.Core.List.{List, [], ◌∷◌, ◌++◌, append_assoc}
-use Prim.Native.Nat.{ℕ, ◌+◌, ◌/◌, ◌%◌, ◌≤◌, ◌<◌}
+use Prim.Native.Nat.{ℕ, ◌+◌, ◌-◌, ◌≤◌, ◌<◌}
 use native.Mathlib.Nat.{add_assoc, add-zero, zero-add}
 use native.Mathlib.Numerals.{add-one}
 use native.Mathlib.Omega.{arith}
-use lib.ListN.{length, get_or, take, drop, set, length-append, length-drop, take-append-drop}
-use lib.Seq.{length-take-le, take_at, drop-append-add, drop-drop, set_split, take-suc}
-use Rattle.semantics.specs.Bytes.{out2, out4, overwrite}
+use lib.ListN.{length, take, drop, set, length-append, length-drop, take-append-drop}
+use borrow.Rule.Slice.PartMut.{put_mid}
+use lib.Seq.{length-take-le, take_at, drop-append-add, drop-drop, set_split}
+use Rattle.semantics.specs.Bytes.{overwrite}
 use Rattle.codec.specs.Writing.{put, Wrote}
 
 -- ---- one write
@@ -61,15 +62,9 @@ wrote-length {d} {e} {i} {bs} w h = ap length w.is ∙ length-put d i bs h
 pub wrote-front : {d e bs : List ℕ} → Wrote d 0 bs e → e ≡ overwrite bs d
 wrote-front {d} {e} {bs} w = w.is ∙ put_front d bs
 
--- the first j of s, and one more
-pub take_more : (s : List ℕ) (j : ℕ) → j < length s → take j s ++ (get_or s j 0 ∷ []) ≡ take (j + 1) s
-take_more s j h = sym (ap (λ (n : ℕ). take n s) (add-one j) ∙ take-suc s j 0 h)
-
--- ---- the bytes of a number that fits them
-pub two-bytes-of : (n : ℕ) → n < 65536 → n / 256 % 256 ∷ n % 256 ∷ [] ≡ out2 n
-unfolding out2
-two-bytes-of n h = let e : n / 256 % 256 ≡ n / 256 = omega arith in rw e refl
-
-pub four-bytes-of : (n : ℕ) → n < 4294967296 → n / 16777216 % 256 ∷ n / 65536 % 256 ∷ n / 256 % 256 ∷ n % 256 ∷ [] ≡ out4 n
-unfolding out4
-four-bytes-of n h = let e : n / 16777216 % 256 ≡ n / 16777216 = omega arith in rw e refl
+-- what stands in the place of a part of the buffer
+pub put-part : (d : List ℕ) (i k : ℕ) (xs ys : List ℕ) → ys ≡ xs → k ≡ i + length xs → Wrote d i xs (put_mid i (k - i) d ys)
+unfolding put
+put-part d i k xs ys e f =
+    let n : k - i ≡ length xs = omega arith in
+    record { is = rw (e, n) (ap (λ (r : List ℕ). take i d ++ (xs ++ r)) (drop-drop (length xs) i d)) }

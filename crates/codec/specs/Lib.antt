@@ -6,4 +6,5 @@ pub mod Writing
 pub mod Strides
 pub mod Ends
 pub mod Parts
+pub mod Part
 pub mod Padding

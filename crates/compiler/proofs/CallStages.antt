@@ -1,10 +1,11 @@
 -- Compiling, a law for each return.
-use mathlib.Core.Path.{◌≡◌, refl, sym, ap, ◌∙◌}
+use mathlib.Core.Path.{◌≡◌, refl, ◌∙◌}
 use mathlib.Core.List.{List}
 use Prim.Native.Nat.{ℕ, ◌≤◌, ◌<◌}
 use native.Mathlib.Nat.{zero-add}
 use lib.ListN.{length}
 use borrow.Author.Tests.{le-leb, lt-leb}
+use Rattle.std.proofs.Common.{Ok, Err}
 use Rattle.semantics.specs.Editions.{Edition}
 use Rattle.semantics.specs.Refusals.{refused, accepted, ◌>>=◌, ◌>>◌, ensure}
 use Rattle.semantics.proofs.Judging.{go-then, go-ensure}
@@ -13,7 +14,9 @@ use Rattle.schedules.specs.Compiling.{judge_table_of, judge_compile}
 use Rattle.schedules.specs.Calls.{compiled_into, file_comparisons, compile}
 use Rattle.codec.proofs.Writing.{wrote-front}
 use Rattle.table_write.specs.Pieces.{Put}
-use Rattle.compiler.specs.Answers.{returned}
+use Rattle.paper.specs.Refusals.{number_of}
+use Rattle.paper.specs.declared.refusals.Refusal.{Refusal}
+use Rattle.compiler.specs.Answers.{told}
 
 module _ (ed : Edition) (f room : List ℕ) where
   -- 1 to 13
@@ -30,12 +33,11 @@ module _ (ed : Edition) (f room : List ℕ) where
   unfolding judge_compile
   long-enough {t} e l = go-then _ e ∙ go-ensure 14 _ (le-leb (length t) (length room) l)
 
-pub compile-refused : (ed : Edition) (f room : List ℕ) {n m l k : ℕ} → judge_compile ed f room ≡ refused n → ((j : ℕ) (d : List ℕ) → returned m l k d ≡ compiled_into j d (refused n)) →
-    returned m l k room ≡ compile ed f room
-unfolding compile
-compile-refused ed f room e p = p (file_comparisons (judge_file ed f)) room ∙ ap (compiled_into (file_comparisons (judge_file ed f)) room) (sym e)
+pub compile-refused : (ed : Edition) (f room : List ℕ) (why : Refusal) → judge_compile ed f room ≡ refused (number_of why) → told (Err why) room ≡ compile ed f room
+unfolding compile compiled_into
+compile-refused ed f room why e = rw e refl
 
 pub compile-done : (ed : Edition) (f room : List ℕ) {t e : List ℕ} {r k : ℕ} → judge_compile ed f room ≡ accepted t → Put room 0 t e r → k ≡ file_comparisons (judge_file ed f) →
-    returned 0 r k e ≡ compile ed f room
+    told (Ok (record { length = r; comparisons = k })) e ≡ compile ed f room
 unfolding compile compiled_into
 compile-done ed f room {t} h w c = rw (h, c, w.ends ∙ zero-add (length t), wrote-front w.writes) refl

@@ -1,7 +1,7 @@
 -- What is planned before a table is written, a law for each return.
 use mathlib.Core.Path.{◌≡◌, refl, sym, ap, ◌∙◌}
-use mathlib.Core.Bool.{true, false}
-use mathlib.Core.List.{List, []}
+use mathlib.Core.Bool.{true}
+use mathlib.Core.List.{List}
 use mathlib.Core.Option.{some}
 use Prim.Native.Nat.{ℕ, ◌+◌, ◌-◌, ◌*◌, ◌≤◌, ◌<◌}
 use native.Mathlib.Nat.{mul-le-mul}
@@ -9,10 +9,14 @@ use native.Mathlib.Omega.{arith}
 use lib.Dec.{leb}
 use lib.ListN.{length, get_or, drop, length-append, length-drop}
 use lib.Seq.{length-take-le}
-use borrow.Author.Tests.{le-leb, lt-leb, leb-true, ltb-true, ltb-false, eqb-true}
+use borrow.Author.Tests.{le-leb, lt-leb, leb-true, eqb-true}
 use Rattle.semantics.specs.Bytes.{be2, out, width_of}
+use Rattle.std.proofs.Common.{Ok, Err}
 use Rattle.semantics.specs.Editions.{Edition}
-use Rattle.semantics.specs.Refusals.{Judged, refused, accepted, ◌>>=◌, ◌>>◌, ensure, refusal_of}
+use Rattle.paper.specs.Refusals.{number_of}
+use Rattle.paper.specs.declared.refusals.Refusal.{Refusal}
+use Rattle.codec.specs.declared.part.Part.{Part}
+use Rattle.semantics.specs.Refusals.{refused, ◌>>=◌, ◌>>◌, ensure}
 use Rattle.semantics.specs.TableFile.{NodeAction, location_limit, write_actions, write_action_rows}
 use Rattle.semantics.proofs.WrittenTables.{out-length}
 use Rattle.edition.proofs.Widths.{width-high}
@@ -21,8 +25,7 @@ use Rattle.schedules.specs.Trees.{tree_of}
 use Rattle.schedules.specs.Nodes.{actions_of}
 use Rattle.schedules.specs.Files.{Schedule, file_length}
 use Rattle.schedules.specs.Compiling.{tests_of, schedule_locations, table_of, judge_table_of}
-use Rattle.schedules.specs.Calls.{compiled_into}
-use Rattle.schedules.specs.Sizes.{size_of}
+use Rattle.schedules.specs.Sizes.{Size, size_of}
 use Rattle.schedules.specs.TableSizes.{rows_length, length_of_parts, table_length_of}
 use Rattle.schedules.proofs.Counting.{total}
 use Rattle.schedules.proofs.FirstNumber.{passed}
@@ -37,90 +40,64 @@ use Rattle.schedule_read.proofs.Promises.{index-refused}
 use Rattle.moves.proofs.Preorder.{laid-ends}
 use Rattle.numbering.specs.Meeting.{tests_in}
 use Rattle.sizes.specs.Rows.{Measures}
-use Rattle.sizes.specs.declared.Measured.{Measured as Sizes}
-use Rattle.sizes.proofs.Nodes.{laid-weighed, Exact, measured-exact}
+use Rattle.sizes.specs.declared.Over.{Over}
+use Rattle.sizes.specs.declared.Size.{Size as Held}
+use Rattle.sizes.proofs.Nodes.{laid-weighed}
 use Rattle.table_write.specs.ActionTable.{actions_to, Operands, Listed, Measured}
 use Rattle.table_write.specs.LocationTable.{Counts}
-use Rattle.compiler.specs.Answers.{Told}
 use Rattle.compiler.specs.Plans.{Found, Planned}
 use Rattle.compiler.specs.declared.call.Plan.{Plan}
 use Rattle.compiler.proofs.ActionForms.{actions-listed, operands, tests-are}
 use Rattle.compiler.proofs.Indexes.{Indexed}
 
--- ---- what is told
-pub told-refused : {j : Judged (List ℕ)} {n a b : ℕ} → (n ≡ 0 → ⊥) → j ≡ refused n → (a ≡ n) × (b ≡ 0) → Told j a b
-unfolding compiled_into refusal_of
-told-refused z e p = rw e (record { number = p.0; length = p.1; numbered = λ y. z (ap refusal_of y) })
-
-pub told-planned : (ed : Edition) {f : List ℕ} {p : Plan} → p.refusal ≡ 0 → Planned ed f p → Told (judge_table_of ed f) p.refusal p.length
-unfolding compiled_into
-told-planned ed z g = rw g.judged (record { number = z; length = g.whole; numbered = λ y. let z : ◌≡◌ {A = ℕ} 0 1 = cc in omega arith })
-
-module _ {j : Judged (List ℕ)} {a b : ℕ} (t : Told j a b) where
-  pub told-refuses : (a ≡ 0 → ⊥) → j ≡ refused a
-  unfolding compiled_into
-  told-refuses h = go j t.number
-    where
-      go : (k : Judged (List ℕ)) → a ≡ (compiled_into 0 [] k).refusal → k ≡ refused a
-      go (refused n) e = ap refused (sym e)
-      go (accepted l) e = absurd (h e)
-
-  pub told-accepts : a ≡ 0 → (l : List ℕ) × (j ≡ accepted l) × (b ≡ length l)
-  unfolding compiled_into
-  told-accepts h = go j refl
-    where
-      go : (k : Judged (List ℕ)) → j ≡ k → (l : List ℕ) × (j ≡ accepted l) × (b ≡ length l)
-      go (refused n) e = absurd (t.numbered (e ∙ ap refused (ap (λ k. (compiled_into 0 [] k).refusal) (sym e) ∙ sym t.number ∙ h)))
-      go (accepted l) e = (l, e, t.length ∙ ap (λ k. (compiled_into 0 [] k).written) e)
-
 -- 1 to 11, 34 and 12
-pub measure-refused : (ed : Edition) (f : List ℕ) {ix : ScheduleIndex} → ScheduleIndexed ed f ix → (ix.refusal ≡ 0 → ⊥) → judge_table_of ed f ≡ refused ix.refusal
+pub measure-refused : (ed : Edition) (f : List ℕ) {why : Refusal} → ScheduleIndexed ed f (Err why) → judge_table_of ed f ≡ refused (number_of why)
 unfolding judge_table_of ◌>>=◌
-measure-refused ed f h z = rw (index-refused ed f h z) refl
+measure-refused ed f h = rw (index-refused ed f h) refl
 
 -- the file is as long as its length field can say
 file-short : (f : List ℕ) → file_length f ≡ true → get_or f 1 0 < 256 → get_or f 2 0 < 256 → length f < 65536
 unfolding file_length be2
 file-short f e a b = let z = eqb-true (get_or f 1 0 * 256 + get_or f 2 0) (length f) e in omega arith
 
-pub slice-length : {f x : List ℕ} {i j : ℕ} → Slice f i j x → length x ≡ j - i
-slice-length {f} {x} {i} {j} g = sym (ap length g.is) ∙ length-take-le (j - i) (drop i f) (omega (arith, length-drop i f, g.inside.ordered, g.inside.inside))
+pub slice-length : {f x : List ℕ} {p : Part} → Slice f p x → length x ≡ p.end - p.start
+slice-length {f} {x} {p} g = sym (ap length g.is) ∙ length-take-le (p.end - p.start) (drop p.start f) (omega (arith, length-drop p.start f, g.inside.ordered, g.inside.ends))
 
 -- ---- a schedule that was read, with its size
-module _ {ed : Edition} {f : List ℕ} {ix : ScheduleIndex} (g : Indexed ed f ix) {m : Sizes} (x : Measures ix.nodes.kinds ix.subtrees.ends m) where
+module _ {ed : Edition} {f : List ℕ} {ix : ScheduleIndex} (g : Indexed ed f ix) where
   abbrev s : Schedule
   s = g.schedule
 
   abbrev size : ℕ
   size = (size_of s.root).locations
 
-  exact : Exact s.root m
-  exact = measured-exact x g.promise.tree
-
   limit : leb (length (schedule_locations s)) location_limit ≡ leb size location_limit
   unfolding schedule_locations
   limit = few-locations s.nodes (passed ed f s g.promise.judged).tree
 
   -- 13
-  pub measure-over : m.over ≡ true → judge_table_of ed f ≡ refused 13
+  pub measure-over : {o : Over} → Measures ix.nodes.kinds ix.subtrees (Err o) → judge_table_of ed f ≡ refused 13
   unfolding judge_table_of ◌>>◌ ensure
-  measure-over o = go-then _ g.promise.judged ∙ rw (limit ∙ lt-leb size location_limit (ltb-true 1024 size (sym exact.over ∙ o))) refl
+  measure-over x = go-then _ g.promise.judged ∙ rw (limit ∙ lt-leb size location_limit (x.told s.root g.promise.tree).0) refl
 
   -- at most as many nodes act in a location as there are
-  pub found : m.over ≡ false → get_or f 1 0 < 256 → get_or f 2 0 < 256 → Found ed f ix m
+  pub found : {m : Held} → Measures ix.nodes.kinds ix.subtrees (Ok m) → get_or f 1 0 < 256 → get_or f 2 0 < 256 → Found ed f ix m
   unfolding judge_table_of
-  found o a b =
-      let l = ltb-false 1024 size (sym exact.over ∙ o) in
+  found {m} x a b =
+      let e = x.told s.root g.promise.tree in
+      let locations : m.locations ≡ size = ap (λ (z : Size). z.locations) e.0 in
+      let entries : m.entries ≡ (size_of s.root).entries = ap (λ (z : Size). z.entries) e.0 in
+      let l : size ≤ location_limit = omega (arith, e.1, locations) in
       let n : ix.nodes.count - 0 ≤ 256 = omega (arith, g.promise.nodes.few, ed.entries_fit) in
       record {
         schedule = s;
         promise = g.promise;
         judged = go-then _ g.promise.judged ∙ go-ensure 13 _ (limit ∙ le-leb size location_limit l);
         short = file-short f (passed ed f s g.promise.judged).own_length a b;
-        locations = exact.locations o;
-        entries = exact.entries o;
-        few = omega (arith, l, exact.locations o);
-        light = omega (arith, mul-le-mul n l, (laid-weighed g.promise.tree_laid).light, exact.entries o);
+        locations = locations;
+        entries = entries;
+        few = e.1;
+        light = omega (arith, mul-le-mul n l, (laid-weighed g.promise.tree_laid).light, entries);
       }
 
 -- ---- its plan
@@ -130,9 +107,9 @@ entries-short ed n h = let w : width_of ed.width + 4 ≤ 6 = omega (arith, width
 
 -- the length of a table with these copied sections, so many bytes of actions after their count, and so many of rows
 abbrev length_in : Edition → Parts → ℕ → ℕ → ℕ
-length_in ed q list rows = length_of_parts (q.variables_to - q.variables_from) (q.equations_to - q.equations_from) (width_of ed.width + list) rows
+length_in ed q list rows = length_of_parts (q.variables.end - q.variables.start) (q.equations.end - q.equations.start) (width_of ed.width + list) rows
 
-module _ {ed : Edition} {f : List ℕ} {ix : ScheduleIndex} {m : Sizes} (g : Found ed f ix m) {acts : List ℕ} (e : ActionKinds ix.nodes.kinds ix.nodes.count acts) where
+module _ {ed : Edition} {f : List ℕ} {ix : ScheduleIndex} {m : Held} (g : Found ed f ix m) {acts : List ℕ} (e : ActionKinds ix.nodes.kinds ix.nodes.count acts) where
   abbrev t : Schedule
   t = g.schedule
 
@@ -159,7 +136,7 @@ module _ {ed : Edition} {f : List ℕ} {ix : ScheduleIndex} {m : Sizes} (g : Fou
   unfolding schedule_locations
   counted = let c = locations-counted t.nodes tree-read few in (c.0 ∙ sym g.locations, c.1 ∙ sym g.entries)
 
-  plan-rows : {n bytes : ℕ} → n ≡ m.locations → bytes ≡ rows_length ed m.locations m.entries → Counts ed ix.nodes.kinds ix.subtrees.ends acts n bytes t.root
+  plan-rows : {n bytes : ℕ} → n ≡ m.locations → bytes ≡ rows_length ed m.locations m.entries → Counts ed ix.nodes.kinds ix.subtrees acts n bytes t.root
   unfolding schedule_locations
   plan-rows h k = record {
     lies = g.promise.tree;
@@ -182,7 +159,7 @@ module _ {ed : Edition} {f : List ℕ} {ix : ScheduleIndex} {m : Sizes} (g : Fou
       let e = ap (λ (k : ℕ). k * (width_of ed.width + 4)) g.entries in
       omega (arith, table-of-length ed t tree-read few, slice-length g.promise.variables, slice-length g.promise.equations, b, w, a, out-length ed.width (length l), g.locations, e)
 
-pub plan-made : {ed : Edition} {f : List ℕ} {m : Sizes} (p : Plan) (g : Found ed f p.index m) → ActionKinds p.index.nodes.kinds p.index.nodes.count p.acts →
+pub plan-made : {ed : Edition} {f : List ℕ} {m : Held} (p : Plan) (g : Found ed f p.index m) → ActionKinds p.index.nodes.kinds p.index.nodes.count p.acts →
     Measured ed p.acts p.index.nodes.starts p.index.nodes.ends p.index.nodes.count p.list.count p.list.at →
     p.rows.count ≡ m.locations → p.rows.at ≡ rows_length ed m.locations m.entries →
     (p.length ≡ length_in ed p.index.parts p.list.at p.rows.at) × (p.length < 4294967296) → Planned ed f p

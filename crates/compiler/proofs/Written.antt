@@ -4,7 +4,7 @@ use mathlib.Core.Bool.{Bool}
 use mathlib.Core.List.{List, [], ◌++◌, append_assoc}
 use Prim.Native.Nat.{ℕ, ◌+◌, ◌-◌, ◌≤◌, ◌<◌}
 use native.Mathlib.Omega.{arith}
-use lib.ListN.{length, take, drop, length-append}
+use lib.ListN.{length, length-append}
 use Rattle.semantics.specs.Bytes.{width_of}
 use Rattle.semantics.specs.Editions.{Edition}
 use Rattle.semantics.specs.Refusals.{accepted}
@@ -16,6 +16,8 @@ use Rattle.schedules.specs.Comparisons.{comparisons}
 use Rattle.schedules.specs.Compiling.{schedule_locations, schedule_comparisons, table_of, judge_table_of}
 use Rattle.schedules.specs.Calls.{file_comparisons}
 use Rattle.numbering.specs.Located.{ComparisonsAre}
+use Rattle.codec.specs.Part.{part_of}
+use Rattle.codec.specs.declared.part.Part.{Part}
 use Rattle.schedule_read.specs.Promised.{Slice}
 use Rattle.table_write.specs.ActionTable.{actions_to, Operands}
 use Rattle.table_write.specs.LocationTable.{section_of, Counted, LocationsPut}
@@ -25,25 +27,21 @@ use Rattle.compiler.specs.Plans.{Planned}
 use Rattle.compiler.specs.declared.call.Plan.{Plan}
 use Rattle.compiler.proofs.Planning.{slice-length}
 
--- what stands between two places of the file
-abbrev between : List ℕ → ℕ → ℕ → List ℕ
-between f i j = take (j - i) (drop i f)
-
-between-length : {f x : List ℕ} {i j : ℕ} → Slice f i j x → length (between f i j) ≡ j - i
-between-length g = ap length g.is ∙ slice-length g
+part-length : {f x : List ℕ} {p : Part} → Slice f p x → length (part_of p f) ≡ p.end - p.start
+part-length g = ap length g.is ∙ slice-length g
 
 regroup : (h a b c d : List ℕ) → ((h ++ (a ++ (b ++ []))) ++ c) ++ d ≡ h ++ (a ++ (b ++ (c ++ d)))
 regroup h a b c d = simp append_assoc
 
 module _ {ed : Edition} {f : List ℕ} {p : Plan} (g : Planned ed f p) where
   abbrev vs : List ℕ
-  vs = between f p.index.parts.variables_from p.index.parts.variables_to
+  vs = part_of p.index.parts.variables f
 
   abbrev es : List ℕ
-  es = between f p.index.parts.equations_from p.index.parts.equations_to
+  es = part_of p.index.parts.equations f
 
   abbrev sch : List ℕ
-  sch = between f p.index.parts.schedule_from p.index.parts.schedule_to
+  sch = part_of p.index.parts.schedule f
 
   abbrev front : List ℕ
   front = table_head ed p.length ++ copied_then vs es []
@@ -56,7 +54,7 @@ module _ {ed : Edition} {f : List ℕ} {p : Plan} (g : Planned ed f p) where
   front_fits =
       let v = g.promise.variables in
       let e = g.promise.equations in
-      (omega (arith, between-length v, v.inside.inside, g.short), omega (arith, between-length e, e.inside.inside, g.short), g.fits)
+      (omega (arith, part-length v, v.inside.ends, g.short), omega (arith, part-length e, e.inside.ends, g.short), g.fits)
 
   pub operands : Operands ed sch p.acts p.index.nodes.starts p.index.nodes.ends p.index.nodes.count
   operands = rw g.promise.schedule.is g.operands
@@ -98,15 +96,15 @@ module _ {ed : Edition} {f : List ℕ} {p : Plan} (g : Planned ed f p) where
       )
 
   -- where the locations stand
-  pub counted : {d : List ℕ} {i : ℕ} → i + (p.rows.at + 6) ≤ length d → Counted ed p.index.nodes.kinds p.index.subtrees.ends p.acts p.rows.count p.rows.at d i
+  pub counted : {d : List ℕ} {i : ℕ} → i + (p.rows.at + 6) ≤ length d → Counted ed p.index.nodes.kinds p.index.subtrees p.acts p.rows.count p.rows.at d i
   counted h = record { tree = g.schedule.root; has = g.rows; room = omega (arith, rows_long) }
 
   pub table-written : {d d₁ d₂ d' : List ℕ} {i j r : ℕ} → Put d 0 front d₁ i →
       Put d₁ i (action_section (write_actions ed acts)) d₂ j →
-      LocationsPut ed p.index.nodes.kinds p.index.subtrees.ends p.acts p.rows.count p.rows.at d₂ j d' r →
+      LocationsPut ed p.index.nodes.kinds p.index.subtrees p.acts p.rows.count p.rows.at d₂ j d' r →
       (t : List ℕ) → judge_table_of ed f ≡ accepted t → Put d 0 t d' r
   table-written a b x t h = put_as (table_is ∙ accepted-is (sym g.judged ∙ h)) (put_then (put_then a b (omega arith)) (x.of g.schedule.root g.rows) (omega arith))
 
-  pub comparisons-made : {n : ℕ} → ComparisonsAre p.index.nodes.kinds p.index.subtrees.ends p.acts n → n ≡ file_comparisons (judge_file ed f)
+  pub comparisons-made : {n : ℕ} → ComparisonsAre p.index.nodes.kinds p.index.subtrees p.acts n → n ≡ file_comparisons (judge_file ed f)
   unfolding file_comparisons schedule_comparisons
   comparisons-made x = x.is g.schedule.root g.rows.lies ∙ ap (λ (tests : ℕ → Bool). comparisons tests g.schedule.root) g.tests ∙ sym (ap file_comparisons g.promise.judged)

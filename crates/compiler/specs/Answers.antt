@@ -1,17 +1,23 @@
 -- What the calls return in code, as the definitions have it.
-use Rattle.std.specs.Prelude.{◌≡◌, List, [], ℕ}
-use Rattle.semantics.specs.Refusals.{Judged, refused}
-use Rattle.schedules.specs.Calls.{Compiled, Sized, compiled_into}
+use Rattle.std.specs.Prelude.{List, ℕ, Result, Ok, Err}
+use Rattle.schedules.specs.Calls as calls
+use Rattle.paper.specs.Refusals.{number_of}
+use Rattle.paper.specs.declared.refusals.Refusal.{Refusal}
+use Rattle.compiler.specs.declared.call.Compiled.{Compiled}
+use Rattle.compiler.specs.declared.size.TableSize.{TableSize}
 
--- all that compiling returns and leaves
-abbrev pub returned : ℕ → ℕ → ℕ → List ℕ → Compiled
+-- all that compiling returns and leaves, by its numbers
+abbrev pub returned : ℕ → ℕ → ℕ → List ℕ → calls.Compiled
 returned refusal written comparisons table = record { refusal = refusal; written = written; comparisons = comparisons; table = table }
 
-abbrev pub sized : ℕ → ℕ → ℕ → Sized
+abbrev pub sized : ℕ → ℕ → ℕ → calls.Sized
 sized refusal locations entries = record { refusal = refusal; locations = locations; entries = entries }
 
--- what compiling tells of a judged table, 14 left aside: refusal and length are the same for any buffer and any comparisons. No refusal has the number 0
-pub record Told (j : Judged (List ℕ)) (refusal written : ℕ) : Type 0 where
-  pub number : refusal ≡ (compiled_into 0 [] j).refusal
-  pub length : written ≡ (compiled_into 0 [] j).written
-  pub numbered : j ≡ refused 0 → ⊥
+-- the same of what the code answers; of a refusal all other numbers are 0
+abbrev pub told : Result Compiled Refusal → List ℕ → calls.Compiled
+told (Ok c) table = returned 0 c.length c.comparisons table
+told (Err why) table = returned (number_of why) 0 0 table
+
+abbrev pub told_size : Result TableSize Refusal → calls.Sized
+told_size (Ok s) = sized 0 s.locations s.entries
+told_size (Err why) = sized (number_of why) 0 0

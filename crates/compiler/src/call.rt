@@ -2,7 +2,7 @@
 ghost use Rattle.std.specs.Prelude.{◌≡◌, List, ℕ, ◌+◌, ◌-◌, ◌≤◌, ◌<◌, length};
 ghost use Rattle.semantics.specs.Editions.{edition1};
 ghost use Rattle.semantics.specs.Bytes.{width_of};
-ghost use Rattle.semantics.specs.Refusals.{refused, accepted};
+ghost use Rattle.semantics.specs.Refusals.{accepted};
 ghost use Rattle.semantics.specs.TableFile.{location_limit};
 ghost use Rattle.edition.specs.Editions.{edition_of};
 ghost use Rattle.schedules.specs.Files.{judge_file};
@@ -10,65 +10,35 @@ ghost use Rattle.schedules.specs.Compiling.{judge_table_of};
 ghost use Rattle.schedules.specs.Calls as calls;
 ghost use Rattle.schedules.specs.TableSizes.{rows_length, length_of_parts};
 ghost use Rattle.table_write.specs.Pieces.{Put};
-ghost use Rattle.compiler.specs.Answers.{Told, returned};
-ghost use Rattle.compiler.specs.Plans.{Found, Ready, Planned};
+ghost use Rattle.compiler.specs.Answers.{told};
+ghost use Rattle.paper.specs.Refusals.{judged_of, answered};
+ghost use Rattle.compiler.specs.Plans.{Found, Ready, Planned, PlanOf};
 
 use edition::{Edition, NODES};
 use numbering::spot::Spot;
+use paper::refusals::Refusal;
 use schedule_read::call::ScheduleIndex;
 use schedule_read::parts::Parts;
-use sizes::Measured;
-use table_write::{actions, table};
+use sizes::Size;
+use table_write::actions::Actions;
+use table_write::table;
 
-// 0, the length of the table and the comparisons of numbering; or the first number that applies, and 0
+// the length of the table and the comparisons of numbering
 #[derive(Clone, Copy)]
 pub struct Compiled {
-    pub refusal: u8,
     pub length: usize,
     pub comparisons: u64,
 }
 
-// 0 and the length of the table; or the first number that applies, and 0
-#[derive(Clone, Copy)]
-pub struct TableLength {
-    pub refusal: u8,
-    pub length: usize,
-}
-
-// What is known of a table before it is written: 1 to 11, 34, 12, 13 and its length; where the file's sections and nodes stand, the kinds of the nodes' actions,
+// What is known of a table before it is written: its length; where the file's sections and nodes stand, the kinds of the nodes' actions,
 // how many actions and locations there are and the bytes of their rows.
 #[derive(Clone, Copy)]
 struct Plan {
-    refusal: u8,
     length: usize,
     index: ScheduleIndex,
     acts: [u8; NODES],
     list: Spot,
     rows: Spot,
-}
-
-fn refused(n: u8) -> Compiled
-    ensures { (k : ℕ) (d : List ℕ) → returned result.refusal result.length result.comparisons d ≡ calls.compiled_into k d (refused n) }
-{
-    Compiled {
-        refusal: n,
-        length: 0,
-        comparisons: 0,
-    }
-}
-
-// no table
-fn no_plan(n: u8, x: ScheduleIndex) -> Plan
-    ensures { (result.refusal ≡ n) × (result.length ≡ 0) }
-{
-    Plan {
-        refusal: n,
-        length: 0,
-        index: x,
-        acts: [0; NODES],
-        list: Spot { count: 0, at: 0 },
-        rows: Spot { count: 0, at: 0 },
-    }
 }
 
 // the bytes of the locations' rows
@@ -81,13 +51,13 @@ fn row_bytes(locations: usize, entries: usize, ed: Edition) -> usize
 
 // the bytes of the table: the sections that are copied, the rows of the actions (list, without their count), the rows of the locations, and what stands around them
 fn table_length(q: Parts, list: usize, rows: usize, ed: Edition) -> usize
-    requires ordered { (q.variables_from ≤ q.variables_to) × (q.equations_from ≤ q.equations_to) }
-    requires short { (q.variables_to < 65536) × (q.equations_to < 65536) × (list ≤ 52224) × (rows ≤ 1573888) }
-    ensures is { result ≡ length_of_parts (q.variables_to - q.variables_from) (q.equations_to - q.equations_from) (width_of (edition_of ed).width + list) rows }
+    requires ordered { (q.variables.start ≤ q.variables.end) × (q.equations.start ≤ q.equations.end) }
+    requires short { (q.variables.end < 65536) × (q.equations.end < 65536) × (list ≤ 52224) × (rows ≤ 1573888) }
+    ensures is { result ≡ length_of_parts (q.variables.end - q.variables.start) (q.equations.end - q.equations.start) (width_of (edition_of ed).width + list) rows }
     ensures fits { result < 4294967296 }
 {
-    q.variables_to - q.variables_from
-        + (q.equations_to - q.equations_from)
+    q.variables.end - q.variables.start
+        + (q.equations.end - q.equations.start)
         + list
         + rows
         + 17
@@ -95,20 +65,24 @@ fn table_length(q: Parts, list: usize, rows: usize, ed: Edition) -> usize
 }
 
 // what the table is made of
-fn made(x: ScheduleIndex, m: Measured, ed: Edition) -> Plan
+fn made(x: ScheduleIndex, m: Size, ed: Edition) -> Plan
     requires { Ready (edition_of ed) x m }
-    ensures { (result.refusal ≡ 0) × (((f : List ℕ) → Found (edition_of ed) f x m → Planned (edition_of ed) f result)) }
+    ensures { (f : List ℕ) → Found (edition_of ed) f x m → Planned (edition_of ed) f result }
 {
-    let count = x.nodes.count;
-    let acts = schedule_read::actions::kinds(&x.nodes.kinds, count);
-    let list = actions::measured(&acts, &x.nodes.starts, &x.nodes.ends, count, ed);
+    let acts = schedule_read::actions::kinds(&x.nodes.kinds, x.nodes.count);
+    let actions = Actions {
+        count: x.nodes.count,
+        kinds: &acts,
+        starts: &x.nodes.starts,
+        ends: &x.nodes.ends,
+    };
+    let list = actions.measured(ed);
     let size = row_bytes(m.locations, m.entries, ed);
     Plan {
-        refusal: 0,
         length: table_length(x.parts, list.at, size, ed),
         index: x,
-        acts: acts,
-        list: list,
+        acts,
+        list,
         rows: Spot {
             count: m.locations,
             at: size,
@@ -116,92 +90,68 @@ fn made(x: ScheduleIndex, m: Measured, ed: Edition) -> Plan
     }
 }
 
-// 1 to 11, 34, 12 and 13, and what the table is made of
-fn planned(file: &[u8], ed: Edition) -> Plan
-    ensures told { Told (judge_table_of (edition_of ed) file.now) result.refusal result.length }
-    ensures planned { result.refusal ≡ 0 → Planned (edition_of ed) file.now result }
+// 1 to 11, 34, 12 and 13, or what the table is made of
+fn planned(file: &[u8], ed: Edition) -> Result<Plan, Refusal>
+    ensures { PlanOf (edition_of ed) file.now result }
 {
-    let x = schedule_read::call::index(file, ed);
-    let refusal = x.refusal;
-    if refusal != 0 {
-        return no_plan(refusal, x);
-    }
-    let nodes = x.nodes;
-    let subtrees = x.subtrees;
-    let kinds = nodes.kinds;
-    let subs = subtrees.ends;
-    let m = sizes::of(&kinds, &subs);
-    if m.over {
-        return no_plan(13, x);
-    }
-    made(x, m, ed)
+    let x = schedule_read::call::index(file, ed)?;
+    let Ok(m) = sizes::of(&x.nodes.kinds, &x.subtrees) else {
+        return Err(Refusal::Locations);
+    };
+    Ok(made(x, m, ed))
 }
 
 // The table that was planned, at the front of a buffer that has room for it; its length, and the comparisons of numbering.
-fn write(file: &[u8], table: &mut [u8], p: Plan, comparisons: &mut u64, ed: Edition) -> usize
-    requires { Planned (edition_of ed) file.now p × (p.length ≤ length table.old) }
+fn write(file: &[u8], table: &mut [u8], p: &Plan, comparisons: &mut u64, ed: Edition) -> usize
+    requires { Planned (edition_of ed) file.now p.now × (p.now.length ≤ length table.old) }
     ensures written { (t : List ℕ) → judge_table_of (edition_of ed) file.now ≡ accepted t → Put table.old 0 t table.new result }
     ensures comparisons { comparisons.new ≡ calls.file_comparisons (judge_file (edition_of ed) file.now) }
 {
-    let x = p.index;
-    let parts = x.parts;
-    let a = parts.variables_from;
-    let b = parts.variables_to;
-    let c = parts.equations_from;
-    let d = parts.equations_to;
-    let e = parts.schedule_from;
-    let f = parts.schedule_to;
-    let nodes = x.nodes;
-    let kinds = nodes.kinds;
-    let starts = nodes.starts;
-    let ends = nodes.ends;
-    let subtrees = x.subtrees;
-    let subs = subtrees.ends;
-    let acts = p.acts;
-    let list = p.list;
-    let rows = p.rows;
-    let i = table::put_front(&file[a..b], &file[c..d], table, p.length, ed);
-    let j = table::put_actions(
-        &file[e..f],
-        &acts,
-        &starts,
-        &ends,
-        nodes.count,
-        list,
+    let x = &p.index;
+    let actions = Actions {
+        count: x.nodes.count,
+        kinds: &p.acts,
+        starts: &x.nodes.starts,
+        ends: &x.nodes.ends,
+    };
+    let i = table::put_front(
+        x.parts.variables.of(file),
+        x.parts.equations.of(file),
         table,
-        i,
+        p.length,
         ed,
     );
-    table::put_locations(&kinds, &subs, &acts, rows, table, j, comparisons, ed)
+    let j = table::put_actions(x.parts.schedule.of(file), actions, p.list, table, i, ed);
+    table::put_locations(
+        &x.nodes.kinds,
+        &x.subtrees,
+        &p.acts,
+        p.rows,
+        table,
+        j,
+        comparisons,
+        ed,
+    )
 }
 
-pub fn compile(file: &[u8], table: &mut [u8]) -> Compiled
-    ensures { returned result.refusal result.length result.comparisons table.new ≡ calls.compile edition1 file.now table.old }
+pub fn compile(file: &[u8], table: &mut [u8]) -> Result<Compiled, Refusal>
+    ensures { told result table.new ≡ calls.compile edition1 file.now table.old }
 {
-    let p = planned(file, Edition::First);
-    let refusal = p.refusal;
-    if refusal != 0 {
-        return refused(refusal);
-    }
+    let p = planned(file, Edition::First)?;
     if table.len() < p.length {
-        return refused(14);
+        return Err(Refusal::TableRoom);
     }
-    let mut made = 0;
-    let end = write(file, table, p, &mut made, Edition::First);
-    Compiled {
-        refusal: 0,
-        length: end,
-        comparisons: made,
-    }
+    let mut comparisons = 0;
+    let length = write(file, table, &p, &mut comparisons, Edition::First);
+    Ok(Compiled {
+        length,
+        comparisons,
+    })
 }
 
-// 1 to 11, 34, 12 and 13, and the length of the table that compiling would write
-pub fn measure(file: &[u8]) -> TableLength
-    ensures { Told (judge_table_of edition1 file.now) result.refusal result.length }
+// 1 to 11, 34, 12 and 13, or the length of the table that compiling would write
+pub fn measure(file: &[u8]) -> Result<usize, Refusal>
+    ensures { judged_of result ≡ answered length (judge_table_of edition1 file.now) }
 {
-    let p = planned(file, Edition::First);
-    TableLength {
-        refusal: p.refusal,
-        length: p.length,
-    }
+    Ok(planned(file, Edition::First)?.length)
 }

@@ -1,70 +1,56 @@
 // Decimal numbers in the arguments of a program.
 #![tactic(auto)]
 
-ghost use Rattle.std.specs.Prelude.{◌≡◌, true};
+ghost use Rattle.std.specs.Prelude.{◌≡◌, true, cond, leb, ◌+◌, ◌*◌, Some, None};
+ghost use Rattle.std.specs.List.{list_all};
+ghost use Rattle.std.specs.Char.{is_ascii_digit};
 ghost use Rattle.std.proofs.Math.Option.{some};
-ghost use Rattle.semantics.specs.Bytes.{every, is_some};
+ghost use Rattle.semantics.specs.Bytes.{every};
 ghost use Rattle.decimal.specs.Decimal.{is_digit, value_from, decimal_in};
 ghost use Rattle.decimal.specs.Parsing.{parsed_of};
 
-const ZERO: u8 = b'0';
-
-const NINE: u8 = b'9';
-
 const BASE: u64 = 10;
 
-// The bytes of an argument as a decimal number: the number, none, or one above the largest that is asked for.
-#[derive(Clone, Copy)]
-pub enum Parsed {
-    Number(u64),
+// Why an argument is not read: it is no decimal number, or one above the largest that is asked for.
+#[derive(Clone, Copy, PartialEq, Eq)]
+pub enum Misread {
     NotDecimal,
     TooLarge,
 }
 
-fn is_decimal(s: &[u8]) -> bool
-    ensures { result ≡ is_some (decimal_in s.now) }
+fn all_digits(s: &[u8]) -> bool
+    ensures { result ≡ list_all is_ascii_digit s.now }
 {
-    let mut i = 0;
-    while i < s.len() {
-        let b = s[i];
-        if b < ZERO {
-            return false;
-        }
-        if NINE < b {
-            return false;
-        }
-        i += 1;
-    }
-    0 < s.len()
+    s.iter().all(|b| b.is_ascii_digit())
 }
 
-// The number that the digits stand for. It stays within `most` from digit to digit, so that nothing wraps.
-fn value(s: &[u8], most: u64) -> Parsed
+// A number and one digit behind it, up to `most`.
+fn appended(n: u64, digit: u64, most: u64) -> Option<u64>
+    ensures { result ≡ cond (leb (n * 10 + digit) most) (Some (n * 10 + digit)) None }
+{
+    let next = n.checked_mul(BASE)?.checked_add(digit)?;
+    if next <= most { Some(next) } else { None }
+}
+
+// The number that the digits stand for.
+fn value(s: &[u8], most: u64) -> Result<u64, Misread>
     requires { every is_digit s.now ≡ true }
     ensures { result ≡ parsed_of most (some (value_from 0 s.now)) }
 {
-    let mut n: u64 = 0;
-    let mut at = 0;
-    while at < s.len() {
-        let digit = (s[at] - ZERO) as u64;
-        if most < digit {
-            return Parsed::TooLarge;
-        }
-        if (most - digit) / BASE < n {
-            return Parsed::TooLarge;
-        }
-        n = n * BASE + digit;
-        at += 1;
+    let mut n = 0;
+    for b in s {
+        let digit = u64::from(*b - b'0');
+        n = appended(n, digit, most).ok_or(Misread::TooLarge)?;
     }
-    Parsed::Number(n)
+    Ok(n)
 }
 
 // The bytes as a number up to `most`.
-pub fn read(s: &[u8], most: u64) -> Parsed
+pub fn read(s: &[u8], most: u64) -> Result<u64, Misread>
     ensures { result ≡ parsed_of most (decimal_in s.now) }
 {
-    if is_decimal(s) {
-        return value(s, most);
+    if s.is_empty() || !all_digits(s) {
+        return Err(Misread::NotDecimal);
     }
-    Parsed::NotDecimal
+    value(s, most)
 }

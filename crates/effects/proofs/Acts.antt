@@ -19,15 +19,20 @@ use Rattle.semantics.specs.Run.{Action, test, wait, assign, switch, stop, ◌>>=
 use Rattle.semantics.specs.TableFile.{action_kind, action_of_kind, an_assignment, a_stop, no_kind}
 use Rattle.semantics.proofs.Facts.{true-not-false, none-not-some, some_is}
 use Rattle.expression.specs.Answers.{number_answer}
-use Rattle.expression.specs.declared.Number.{Number}
-use Rattle.expression.specs.declared.Number.TheVariants as Numbers
-use Rattle.expression.proofs.Values.{number_told, number-valued, number-malformed}
+use Rattle.std.specs.Prelude as answers
+use Rattle.expression.specs.declared.Side as Code
+use Rattle.expression.specs.declared.Side.TheVariants as Sides
+use Rattle.expression.proofs.Values.{all_told, number-valued, number-malformed}
 use Rattle.effects.specs.Verdicts.{done_verdict, step_verdict, is_going_on, truth_verdict, Left, or_else, Gives}
 use Rattle.effects.proofs.PaperNumbers.{left-away, left-above, left_below, left-move}
 use Rattle.effects.specs.ActionForms.{Performs, Assigns, Does}
-use Rattle.effects.specs.declared.Verdict.{Verdict}
-use Rattle.effects.specs.declared.Verdict.TheVariants.{Away, Above, Below, Move}
+use Rattle.effects.specs.PaperNumbers.{Verdict, Away, Above, Below, Move}
+use Rattle.effects.specs.Told.{untaken, value_taken}
+use Rattle.effects.specs.declared.Untaken.{Untaken}
 use Rattle.effects.proofs.Adds.{inside}
+
+err-is : {A : Type 0} {u w : Untaken} → ◌≡◌ {A = answers.Result A Untaken} (answers.Err u) (answers.Err w) → u ≡ w
+err-is e = cc
 
 -- ---- a variable that is set
 gives-ok : {A : Type 0} (d : Verdict) (a : A) {v : Value A} {b : A} → v ≡ ok b → Gives d a v d b
@@ -52,33 +57,41 @@ module _ (xs : List Variable) (vs : List ℤ) (v : ℕ) (d : Verdict) where
     stored-out f = gives-fault d vs (declared_at xs v z) _ r (e ∙ ap (λ x. step_verdict (valued x)) (sym is)) f
 
   -- ---- a number that is assigned
-  module _ (ed : Edition) (e : List ℕ) (n : Number) (told : n ≡ number_answer vs (number_in ed (length vs) e)) where
-    number_is : (w : Value ℤ) → number_told n ≡ some w → value_of_number ed vs e ≡ w
+  module _ (ed : Edition) (e : List ℕ) (n : answers.Option (answers.Result ℤ Code.Side)) (told : n ≡ number_answer vs (number_in ed (length vs) e)) where
+    number_is : (w : Value ℤ) → all_told n ≡ some w → value_of_number ed vs e ≡ w
     number_is w h = (number-valued ed vs e told h).value
 
-    malformed-is : n ≡ Numbers.Malformed → value_of_number ed vs e ≡ fault above
+    malformed-is : n ≡ answers.None → value_of_number ed vs e ≡ fault above
     unfolding value_of_number
     malformed-is h = rw (number-malformed ed vs e told h, value_of_number) refl
 
-    pub assigned-number : (z : ℤ) (r : Verdict) (ys : List ℤ) → n ≡ Numbers.Is z → Gives d vs (stored xs vs v z) r ys → Gives d vs (assigned ed xs vs v e) r ys
+    pub assigned-number : (z : ℤ) (r : Verdict) (ys : List ℤ) → n ≡ answers.Some (answers.Ok z) → Gives d vs (stored xs vs v z) r ys → Gives d vs (assigned ed xs vs v e) r ys
     unfolding assigned then_value
-    assigned-number z r ys h g = rw (number_is (ok z) (ap number_told h)) g
+    assigned-number z r ys h g = rw (number_is (ok z) (ap all_told h)) g
 
     faults : (s : Side) (r : Verdict) → value_of_number ed vs e ≡ fault s → r ≡ step_verdict (valued {A = ℤ} (fault s)) → is_going_on r ≡ false → Gives d vs (assigned ed xs vs v e) r vs
     unfolding assigned
     faults s r h k f = gives-fault d vs (value_of_number ed vs e) _ r (k ∙ sym (ap (λ x. step_verdict (valued x)) h)) f
 
-    pub assigned-above : n ≡ Numbers.Above → Gives d vs (assigned ed xs vs v e) Above vs
+    -- whatever the fault, and where condition 12 turns the number away
+    pub assigned-fault : (why : Untaken) → value_taken n ≡ answers.Err why → Gives d vs (assigned ed xs vs v e) (untaken why) vs
     unfolding done_verdict valued is_going_on
-    assigned-above h = faults above Above (number_is (fault above) (ap number_told h)) refl refl
+    assigned-fault why h = go n refl h
+      where
+        go : (r : answers.Option (answers.Result ℤ Code.Side)) → n ≡ r → value_taken r ≡ answers.Err why → Gives d vs (assigned ed xs vs v e) (untaken why) vs
+        go (answers.Some (answers.Ok z)) k h = absurd (cc)
+        go (answers.Some (answers.Err Sides.Above)) k h = rw (sym (err-is h)) (faults above Above (number_is (fault above) (ap all_told k)) refl refl)
+        go (answers.Some (answers.Err Sides.Below)) k h = rw (sym (err-is h)) (faults below Below (number_is (fault below) (ap all_told k)) refl refl)
+        go answers.None k h = rw (sym (err-is h)) (faults above Above (malformed-is k) refl refl)
 
-    pub assigned-below : n ≡ Numbers.Below → Gives d vs (assigned ed xs vs v e) Below vs
-    unfolding done_verdict valued is_going_on
-    assigned-below h = faults below Below (number_is (fault below) (ap number_told h)) refl refl
-
-    pub assigned-malformed : n ≡ Numbers.Malformed → Gives d vs (assigned ed xs vs v e) Above vs
-    unfolding done_verdict valued is_going_on
-    assigned-malformed h = faults above Above (malformed-is h) refl refl
+    pub number-taken : {z : ℤ} → value_taken n ≡ answers.Ok z → n ≡ answers.Some (answers.Ok z)
+    number-taken {z} h = go n h
+      where
+        go : (r : answers.Option (answers.Result ℤ Code.Side)) → value_taken r ≡ answers.Ok z → r ≡ answers.Some (answers.Ok z)
+        go (answers.Some (answers.Ok y)) h = cc
+        go (answers.Some (answers.Err Sides.Above)) h = absurd (cc)
+        go (answers.Some (answers.Err Sides.Below)) h = absurd (cc)
+        go answers.None h = absurd (cc)
 
 -- the same variable and number, said in another way
 pub stored-as : (xs : List Variable) (vs : List ℤ) (d : Verdict) {v w : ℕ} {z y : ℤ} {r : Verdict} {ys : List ℤ} → v ≡ w → z ≡ y → Gives d vs (stored xs vs v z) r ys → Gives d vs (stored xs vs w y) r ys

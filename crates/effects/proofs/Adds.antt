@@ -11,7 +11,7 @@ use lib.IntN.{ℤ, pos, negsuc, ◌+ℤ◌}
 use lib.Signed.{lt_z}
 use lib.ListN.{length, get_or, set, take, drop, length-drop, drop_of_length-le}
 use lib.Seq.{drop-cons, take-suc, length-take-le, get_or_at, get_or-take, set_at, take-length}
-use mir.Syntax.{w32}
+use mir.Syntax.{w32, w64}
 use mir.Val.{SFits, to_z, of_z}
 use mir.ValLaws.{to_z-of_z}
 use Rattle.semantics.specs.Expressions.{Value, ok, fault, above, below, ranged, then_value}
@@ -19,11 +19,11 @@ use Rattle.semantics.specs.Sections.{Variable, variable_limit}
 use Rattle.semantics.specs.Plant.{declared, declared_at, all_declared, added, advance}
 use Rattle.semantics.specs.Run.{valued}
 use Rattle.semantics.proofs.Facts.{true-not-false}
+use Rattle.expression.proofs.Widths.{widened}
 use Rattle.program.specs.Rows.{high_row}
 use Rattle.effects.specs.Verdicts.{done_verdict, step_verdict, is_going_on, or_else, Gives}
-use Rattle.effects.specs.Ranges.{ranges_of, variables_in, rate_in, first_sums, told_sum, stays_in, FirstStay, Until}
-use Rattle.effects.specs.declared.Verdict.{Verdict}
-use Rattle.effects.specs.declared.Verdict.TheVariants.{Stay}
+use Rattle.effects.specs.Ranges.{ranges_of, variables_in, rate_in, first_sums, told_sum, stays_in, FirstStay}
+use Rattle.effects.specs.PaperNumbers.{Verdict, Stay}
 
 -- ---- a list that is filled from the front with another
 module _ {A : Type 0} (t v : List A) (i : ℕ) (d : A) (e : length t ≡ length v) (h : i < length v) where
@@ -210,6 +210,10 @@ module _ (xs : List Variable) (rs vs : List ℤ) where
       go v p (yes q) = f.each v q
       go v p (no q) = let same : v ≡ k = omega arith in ap (stays_in xs rs vs) same ∙ e
 
+-- the first k are all
+pub first-all : {xs : List Variable} {rs vs : List ℤ} {k : ℕ} → length vs ≤ k → FirstStay xs rs vs k → FirstStay xs rs vs (length vs)
+first-all {k = k} h f = let c = f.count in record { count = omega arith; each = λ v i. f.each v (omega arith) }
+
 module _ (xs : List Variable) (rs vs : List ℤ) (z : length xs ≡ length vs) where
   abbrev ticked : Value (List ℤ)
   ticked = advance xs (rate_in rs) vs
@@ -222,18 +226,23 @@ module _ (xs : List Variable) (rs vs : List ℤ) (z : length xs ≡ length vs) w
       let e : k + 1 ≡ suc k = add-one k in
       told-from k (fewer xs rs vs k f) ∙ on xs rs vs k z (omega arith) _ refl (f.each k (omega arith)) ∙ ap (λ (n : ℕ). step_verdict (valued (from xs rs vs n))) e
 
-  -- variable k leaves its range: its side is the answer, and nothing is added
-  pub one-leaves : (k : ℕ) → Until xs rs vs k → k < length vs → {r : Verdict} → r ≡ told_sum xs rs vs k → Gives Stay vs ticked r vs
-  one-leaves k u h {r} e =
-      let told : r ≡ step_verdict (valued ticked) = out xs rs vs k z h r e (ap is_going_on e ∙ u.leaves h) ∙ sym (told-from k u.first) in
-      record { answer = told; left = advanced-out vs ticked (sym (ap is_going_on told) ∙ ap is_going_on e ∙ u.leaves h) }
+  -- variable k leaves its range: its side is told of all
+  pub one-leaves : (k : ℕ) → FirstStay xs rs vs k → k < length vs → {r : Verdict} → r ≡ told_sum xs rs vs k → is_going_on r ≡ false → r ≡ step_verdict (valued ticked)
+  one-leaves k f h {r} e g = out xs rs vs k z h r e g ∙ sym (told-from k f)
+
+  pub none-leaves : (k : ℕ) → FirstStay xs rs vs k → length vs ≤ k → Stay ≡ step_verdict (valued ticked)
+  none-leaves k f h = end xs rs vs k z h ∙ sym (told-from k f)
+
+  -- nothing is added then
+  pub none-added : {r : Verdict} → r ≡ step_verdict (valued ticked) → is_going_on r ≡ false → Gives Stay vs ticked r vs
+  none-added e g = record { answer = e; left = advanced-out vs ticked (sym (ap is_going_on e) ∙ g) }
 
   -- all stay in their ranges: all add
   pub all_stay : (k : ℕ) → FirstStay xs rs vs k → length vs ≤ k → {ys : List ℤ} → ys ≡ first_sums rs vs k → Gives Stay vs ticked Stay ys
   unfolding is_going_on advance or_else
   all_stay k f h e =
       let c = f.count in
-      let told : Stay ≡ step_verdict (valued ticked) = end xs rs vs k z h ∙ sym (told-from k f) in
+      let told = none-leaves k f h in
       let same = all_same xs (added (rate_in rs) 0 vs) (sym (ap is_going_on told)) in
       record { answer = told; left = e ∙ fill-all (added (rate_in rs) 0 vs) vs k (length-sums rs vs) (omega arith) ∙ sym (ap (or_else vs) same) }
 
@@ -246,6 +255,10 @@ held z h = to_z-of_z w32 z (record { sfits = h })
 
 pub held-sum : (v r : ℤ) → lib.Signed.mag v < 2147483648 → lib.Signed.mag r < 2147483648 → Held v +ℤ Held r ≡ v +ℤ r
 held-sum v r c d = ap₂ (λ (x y : ℤ). x +ℤ y) (held v c) (held r d)
+
+-- a number of 32 bits, made one of 64
+pub wide : {y z : ℤ} → SFits w32 z → y ≡ Held z → to_z w64 (of_z w64 y) ≡ z
+wide {z = z} f e = ap (λ (y : ℤ). to_z w64 (of_z w64 y)) e ∙ widened z f
 
 -- by numbers that are known to be others
 pub held-bounds : {a b : ℤ} (l h z : ℤ) → a ≡ l → b ≡ h → SFits w32 a → SFits w32 b → ranged (Held a) (Held b) z ≡ ranged l h z

@@ -1,3 +1,4 @@
+pub mod Told
 pub mod Steps
 mod Adds
 pub mod Acts

@@ -10,9 +10,7 @@ use Rattle.semantics.specs.Run as Run
 use Rattle.semantics.specs.Run.{away, faulty, pass, Next, to, finished, halted, idle, nobody, mover, Done, Control, Situation, at, fault_answer, turned_away_by, arrive, follow, settle}
 use Rattle.semantics.proofs.Facts.{none-not-some, some_is}
 use Rattle.effects.specs.Verdicts.{judged_as, Left}
-use Rattle.effects.specs.PaperNumbers.{paper_answer}
-use Rattle.effects.specs.declared.Verdict.{Verdict}
-use Rattle.effects.specs.declared.Verdict.TheVariants.{Away, Above, Below, Stay, Move}
+use Rattle.effects.specs.PaperNumbers.{Verdict, Away, Above, Below, Stay, Move, paper_answer}
 
 -- an answer that has a number tells of an event that is answered by it
 pub answer-is : {S : Type 0} (c : Control S) (x : S) (s : Situation S) (r : Verdict) (vs : List ℤ) (ms : List ℕ) (n : ℕ) → paper_answer r ≡ some n → (settle c x s (judged_as r vs ms)).answer ≡ n

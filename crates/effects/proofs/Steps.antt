@@ -7,53 +7,34 @@ use Prim.Native.Nat.{ℕ}
 use lib.IntN.{ℤ}
 use lib.ListN.{length}
 use lib.Signed.{lt_z}
-use types.Run.{miss}
-use borrow.Enum.Refused.{Among, opened}
-use denote.Enum.Declared.{tag_of}
 use Rattle.semantics.specs.Editions.{Edition}
 use Rattle.semantics.specs.Expressions as Forms
 use Rattle.semantics.specs.Expressions.{Value, ok, fault, above, below, ranged, holds, truth_in, value_of_truth}
 use Rattle.semantics.specs.Run as Run
 use Rattle.semantics.specs.Run.{away, faulty, pass, ◌>>=◌, ◌>>◌, allow, valued, walk}
 use Rattle.semantics.proofs.Facts.{true-not-false}
-use Rattle.expression.specs.Answers.{truth_of, truth_answer}
-use Rattle.expression.specs.declared.Truth.{Truth}
-use Rattle.expression.specs.declared.Truth.TheVariants as Truths
+use Rattle.std.specs.Prelude as answers
+use Rattle.expression.specs.Answers.{answer, truth_answer}
+use Rattle.expression.specs.Evaluation.{said}
+use Rattle.expression.specs.declared.Side.{Side}
+use Rattle.effects.specs.Told.{told_truth, value_taken}
 use Rattle.effects.specs.Verdicts.{done_verdict, step_verdict, is_going_on, truth_verdict}
-use Rattle.effects.specs.declared.Verdict.{Verdict}
-use Rattle.effects.specs.declared.Verdict.TheVariants.{Away, Above, Below, Stay, Move}
-use Rattle.effects.specs.contracts.Verdict.{the_type}
-
--- ---- whether the event goes on
-pub not-stay : (v : Verdict) → Among (0 ∷ 1 ∷ 2 ∷ 4 ∷ []) (tag_of the_type v) → false ≡ is_going_on v
-unfolding is_going_on
-not-stay (Away n) h = refl
-not-stay Above h = refl
-not-stay Below h = refl
-not-stay Stay h = absurd (miss (0 ∷ 1 ∷ 2 ∷ 4 ∷ []) 3 tt (opened h))
-not-stay (Move n b) h = refl
+use Rattle.effects.specs.PaperNumbers.{Verdict, Away, Above, Below, Stay}
 
 -- ---- a truth that is asked
-abbrev pub by_truth : Verdict → Verdict → Truth → Verdict
-by_truth y n Truths.Yes = y
-by_truth y n Truths.No = n
-by_truth y n Truths.Above = Above
-by_truth y n Truths.Below = Below
-by_truth y n Truths.Malformed = Above
-
 module _ (y n : Verdict) where
-  by_value : (v : Value Bool) → by_truth y n (truth_of v) ≡ truth_verdict y n v
-  unfolding truth_of truth_verdict
+  by_value : (v : Value Bool) → told_truth y n (value_taken (answers.Some (said v))) ≡ truth_verdict y n v
+  unfolding truth_verdict
   by_value (ok true) = refl
   by_value (ok false) = refl
   by_value (fault above) = refl
   by_value (fault below) = refl
 
-  pub asked : (ed : Edition) (vs : List ℤ) (s : List ℕ) (r t : Truth) → r ≡ truth_answer vs (truth_in ed (length vs) s) → r ≡ t → by_truth y n t ≡ truth_verdict y n (value_of_truth ed vs s)
-  unfolding value_of_truth truth_answer truth_verdict
-  asked ed vs s r t e f = ap (by_truth y n) (sym f ∙ e) ∙ go (truth_in ed (length vs) s)
+  pub asked : (ed : Edition) (vs : List ℤ) (s : List ℕ) {r : answers.Option (answers.Result Bool Side)} → r ≡ truth_answer vs (truth_in ed (length vs) s) → told_truth y n (value_taken r) ≡ truth_verdict y n (value_of_truth ed vs s)
+  unfolding value_of_truth answer truth_verdict
+  asked ed vs s e = ap (λ r. told_truth y n (value_taken r)) e ∙ go (truth_in ed (length vs) s)
     where
-      go : (o : Option Forms.Truth) → by_truth y n (truth_answer vs o) ≡ truth_verdict y n (elim o [ none ↦ fault above | some x ↦ holds vs x ])
+      go : (o : Option Forms.Truth) → told_truth y n (value_taken (truth_answer vs o)) ≡ truth_verdict y n (elim o [ none ↦ fault above | some x ↦ holds vs x ])
       go none = refl
       go (some x) = by_value (holds vs x)
 

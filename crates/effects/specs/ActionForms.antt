@@ -6,7 +6,7 @@ use Rattle.semantics.specs.Sections.{Variable}
 use Rattle.semantics.specs.Run.{Action, assign, switch, assigned, act}
 use Rattle.semantics.specs.TableFile.{an_assignment, action_kind, action_of_kind}
 use Rattle.effects.specs.Verdicts.{Left, Gives}
-use Rattle.effects.specs.declared.Verdict.{Verdict}
+use Rattle.effects.specs.PaperNumbers.{Verdict}
 
 -- an action of this kind with this operand, and the variable or selector that it names exists
 pub record Performs (k : ℕ) (t : List ℕ) (variables selectors : ℕ) : Type 0 where

@@ -1,4 +1,5 @@
+pub mod PaperNumbers
 pub mod Verdicts
+pub mod Told
 pub mod Ranges
 pub mod ActionForms
-pub mod PaperNumbers

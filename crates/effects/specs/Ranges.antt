@@ -1,12 +1,11 @@
 -- Declared ranges and rates as lists of numbers.
-use Rattle.std.specs.Prelude.{◌≡◌, Bool, true, false, List, [], ◌∷◌, ◌++◌, ℕ, ◌≤◌, ◌<◌, ℤ, pos, length, get_or, take, drop}
+use Rattle.std.specs.Prelude.{◌≡◌, Bool, true, List, [], ◌∷◌, ◌++◌, ℕ, ◌≤◌, ◌<◌, ℤ, pos, length, get_or, take, drop}
 use Rattle.semantics.specs.Sections.{Variable, variable_limit}
 use Rattle.semantics.specs.Plant.{declared_at, added}
 use Rattle.semantics.specs.Run.{valued}
 use Rattle.program.specs.Rows.{high_row}
+use Rattle.effects.specs.PaperNumbers.{Verdict}
 use Rattle.effects.specs.Verdicts.{step_verdict, is_going_on}
-use Rattle.effects.specs.declared.Verdict.{Verdict}
-use Rattle.effects.specs.declared.Verdict.TheVariants.{Stay}
 
 -- variables with these ranges; an initial value plays no part in a run
 unfoldable pub ranges_of : List ℤ → List ℤ → List Variable
@@ -34,11 +33,6 @@ first_sums rs vs k = take k (added (rate_in rs) 0 vs) ++ drop k vs
 abbrev pub told_sum : List Variable → List ℤ → List ℤ → ℕ → Verdict
 told_sum xs rs vs v = step_verdict (valued (declared_at xs v (get_or (added (rate_in rs) 0 vs) v (pos 0))))
 
--- the same for any number v: Stay where there is no such variable
-pub record Side (xs : List Variable) (rs vs : List ℤ) (v : ℕ) (r : Verdict) : Type 0 where
-  pub here : v < length vs → r ≡ told_sum xs rs vs v
-  pub beyond : length vs ≤ v → r ≡ Stay
-
 -- does variable v, with its rate added, stay in its range?
 abbrev pub stays_in : List Variable → List ℤ → List ℤ → ℕ → Bool
 stays_in xs rs vs v = is_going_on (told_sum xs rs vs v)
@@ -47,8 +41,3 @@ stays_in xs rs vs v = is_going_on (told_sum xs rs vs v)
 pub record FirstStay (xs : List Variable) (rs vs : List ℤ) (k : ℕ) : Type 0 where
   pub count : k ≤ length vs
   pub each : (v : ℕ) → v < k → stays_in xs rs vs v ≡ true
-
--- the first k variables stay in their ranges, and the next one, if there is one, does not
-pub record Until (xs : List Variable) (rs vs : List ℤ) (k : ℕ) : Type 0 where
-  pub first : FirstStay xs rs vs k
-  pub leaves : k < length vs → stays_in xs rs vs k ≡ false

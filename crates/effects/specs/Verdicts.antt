@@ -1,12 +1,10 @@
--- What the code answers of a verdict, and what it leaves of values and modes.
+-- How a step of an event ends, and what the event leaves of values and modes.
 use Rattle.std.specs.Prelude.{◌≡◌, Bool, true, false, List, ℕ, ℤ}
 use Rattle.std.proofs.Math.Option.{none, some}
 use Rattle.semantics.specs.Expressions.{above, below, Value, ok, fault}
 use Rattle.semantics.specs.Run as Run
 use Rattle.semantics.specs.Run.{away, faulty, pass, valued, idle, nobody, mover, Done, Control, Situation, at, settle}
-use Rattle.effects.specs.PaperNumbers.{paper_answer}
-use Rattle.effects.specs.declared.Verdict.{Verdict}
-use Rattle.effects.specs.declared.Verdict.TheVariants.{Away, Above, Below, Stay, Move}
+use Rattle.effects.specs.PaperNumbers.{Verdict, Away, Above, Below, Stay, Move, paper_answer}
 
 -- a step of an event: the answer is d where it passes
 unfoldable pub done_verdict : {A : Type 0} → Verdict → Run.Verdict A → Verdict

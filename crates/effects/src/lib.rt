@@ -1,71 +1,74 @@
 // What a step of an event makes of values and modes: truths that are asked, ranges, sums, a picked node's action.
 #![tactic(auto)]
 
-ghost use Rattle.std.specs.Prelude.{◌≡◌, true, ◌*◌, ◌≤◌, ◌<◌, length, get_or, ◌+ℤ◌};
+ghost use Rattle.std.specs.Prelude.{◌≡◌, true, ℕ, ◌*◌, ◌≤◌, ◌<◌, length, get_or, ◌+ℤ◌};
 ghost use Rattle.semantics.specs.Editions.{Edition};
 ghost use Rattle.semantics.specs.Expressions.{ranged as ranged_of, value_of_truth};
 ghost use Rattle.semantics.specs.Sections.{variable_limit};
 ghost use Rattle.semantics.specs.Plant.{stored, advance as advanced};
 ghost use Rattle.semantics.specs.Run.{valued};
-ghost use Rattle.effects.specs.declared.Verdict.TheVariants.{Stay};
+ghost use Rattle.effects.specs.PaperNumbers.{Verdict, Stay};
 ghost use Rattle.effects.specs.Verdicts.{step_verdict, is_going_on, truth_verdict, Gives};
-ghost use Rattle.effects.specs.Ranges.{variables_in, rate_in, Sized, Side, Until, FirstStay, first_sums};
+ghost use Rattle.effects.specs.Told.{told_step, told_done, told_truth, told_pick, value_taken};
+ghost use Rattle.effects.specs.Ranges.{variables_in, rate_in, Sized, FirstStay, first_sums};
 ghost use Rattle.effects.specs.ActionForms.{Performs, Does, Assigns};
 
-use expression::{Number, Truth};
+use expression::Side;
+use paper::answers::TurnedAway;
+use program::Program;
 
-// How an event is answered: turned away with a number, a fault on a side of its range, or taken, with nobody's move or with
-// the move of a node, on done or true, or on false.
-#[derive(Clone, Copy)]
-pub enum Verdict {
-    Away(u8),
+// Why an event is not taken: it is turned away, or a value lies above or below its range.
+#[derive(Clone, Copy, PartialEq, Eq)]
+pub enum Untaken {
+    Away(TurnedAway),
     Above,
     Below,
-    Stay,
-    Move(usize, bool),
 }
 
-// Does the event go on after this step?
-pub fn goes_on(v: Verdict) -> bool
-    ensures { result ≡ is_going_on v }
-{
-    match v {
-        Verdict::Stay => true,
-        _ => false,
-    }
+// The move of a node, on done or true, or on false.
+#[derive(Clone, Copy, PartialEq, Eq)]
+pub struct Mover {
+    pub node: usize,
+    pub outcome: bool,
 }
 
-// A truth: yes where it is true, no where it is false.
-pub fn ask(t: &[u8], values: &[i32], yes: Verdict, no: Verdict) -> Verdict
-    ensures { (ed : Edition) → result ≡ truth_verdict yes no (value_of_truth ed values.now t.now) }
+// The value of an expression, or the event's fault. None is never asked: as in the definition it faults above.
+fn value<T>(told: Option<Result<T, Side>>) -> Result<T, Untaken>
+    ensures { result ≡ value_taken told }
 {
-    match expression::truth_value(t, values) {
-        Truth::Yes => yes,
-        Truth::No => no,
-        Truth::Above => Verdict::Above,
-        Truth::Below => Verdict::Below,
-        Truth::Malformed => Verdict::Above,
+    match told {
+        Some(Ok(x)) => Ok(x),
+        Some(Err(Side::Above)) => Err(Untaken::Above),
+        Some(Err(Side::Below)) => Err(Untaken::Below),
+        None => Err(Untaken::Above),
     }
 }
 
-// A number in its range, or the side on which it lies outside.
-fn ranged(low: i32, high: i32, z: i64) -> Verdict
-    ensures { result ≡ step_verdict (valued (ranged_of low high z)) }
+// Is a truth true?
+pub fn ask(t: &[u8], values: &[i32]) -> Result<bool, Untaken>
+    ensures { (ed : Edition) (yes no : Verdict) → told_truth yes no result ≡ truth_verdict yes no (value_of_truth ed values.now t.now) }
 {
-    if z < (low as i64) {
-        return Verdict::Below;
+    value(expression::truth_value(t, values))
+}
+
+// Does a number lie in its range?
+fn ranged(low: i32, high: i32, z: i64) -> Result<(), Untaken>
+    ensures { told_step result ≡ step_verdict (valued (ranged_of low high z)) }
+{
+    if z < i64::from(low) {
+        return Err(Untaken::Below);
     }
-    if (high as i64) < z {
-        return Verdict::Above;
+    if i64::from(high) < z {
+        return Err(Untaken::Above);
     }
-    Verdict::Stay
+    Ok(())
 }
 
 // A value with its rate added: is the sum in its declared range?
-fn stays(low: i32, high: i32, x: i32, rate: i32) -> Verdict
-    ensures { result ≡ step_verdict (valued (ranged_of low high (x +ℤ rate))) }
+fn stays(low: i32, high: i32, x: i32, rate: i32) -> Result<(), Untaken>
+    ensures { told_step result ≡ step_verdict (valued (ranged_of low high (x +ℤ rate))) }
 {
-    ranged(low, high, (x as i64) + (rate as i64))
+    ranged(low, high, i64::from(x) + i64::from(rate))
 }
 
 fn sum(low: i32, high: i32, x: i32, rate: i32) -> i32
@@ -75,128 +78,95 @@ fn sum(low: i32, high: i32, x: i32, rate: i32) -> i32
     x + rate
 }
 
-// The side on which variable v, with its rate added, leaves its range; Stay where it stays or there is no such variable.
-fn side(ranges: &[i32; program::RANGES], rates: &[i32], values: &[i32], v: usize) -> Verdict
-    requires { Sized rates.now values.now × (length ranges.now ≡ 3 * variable_limit) }
-    ensures { Side (variables_in ranges.now (length values.now)) rates.now values.now v result }
+// Do all values, with their rates added, stay in their ranges? The first that does not is the answer.
+fn all_stay(p: &Program<'_>, rates: &[i32], values: &[i32]) -> Result<(), Untaken>
+    requires { Sized rates.now values.now × (length p.now.ranges.now ≡ 3 * variable_limit) }
+    ensures told { told_step result ≡ step_verdict (valued (advanced (variables_in p.now.ranges.now (length values.now)) (rate_in rates.now) values.now)) }
+    ensures stay { is_going_on (told_step result) ≡ true → FirstStay (variables_in p.now.ranges.now (length values.now)) rates.now values.now (length values.now) }
 {
-    if v < values.len() {
-        return stays(
-            program::low(ranges, v),
-            program::high(ranges, v),
-            values[v],
-            rates[v],
-        );
+    for (v, x) in values.iter().enumerate() {
+        stays(p.low(v), p.high(v), *x, rates[v])?;
     }
-    Verdict::Stay
+    Ok(())
 }
 
-// How many variables, from the first on, stay in their ranges before one leaves its range.
-fn staying(ranges: &[i32; program::RANGES], rates: &[i32], values: &[i32]) -> usize
-    requires { Sized rates.now values.now × (length ranges.now ≡ 3 * variable_limit) }
-    ensures { Until (variables_in ranges.now (length values.now)) rates.now values.now result }
+// Each value adds its rate.
+fn add_all(p: &Program<'_>, rates: &[i32], values: &mut [i32])
+    requires { Sized rates.now values.old × (length p.now.ranges.now ≡ 3 * variable_limit)
+        × FirstStay (variables_in p.now.ranges.now (length values.old)) rates.now values.old (length values.old) }
+    ensures { values.new ≡ first_sums rates.now values.old (length values.old) }
 {
-    let mut i = 0;
-    while i < values.len() {
-        if !goes_on(side(ranges, rates, values, i)) {
-            return i;
-        }
-        i += 1;
-    }
-    i
-}
-
-// Each of the first k values adds its rate.
-fn add_first(ranges: &[i32; program::RANGES], rates: &[i32], values: &mut [i32], k: usize)
-    requires { Sized rates.now values.old × (length ranges.now ≡ 3 * variable_limit) × FirstStay (variables_in ranges.now (length values.old)) rates.now values.old k }
-    ensures { values.new ≡ first_sums rates.now values.old k }
-{
-    let mut v = 0;
-    while v < k {
-        values[v] = sum(
-            program::low(ranges, v),
-            program::high(ranges, v),
-            values[v],
-            rates[v],
-        );
-        v += 1;
+    for v in 0..values.len() {
+        values[v] = sum(p.low(v), p.high(v), values[v], rates[v]);
     }
 }
 
 // Each value adds its rate, or none does.
-pub fn advance(ranges: &[i32; program::RANGES], rates: &[i32], values: &mut [i32]) -> Verdict
+pub fn advance(p: &Program<'_>, rates: &[i32], values: &mut [i32]) -> Result<(), Untaken>
     requires { Sized rates.now values.old }
     ensures { Gives Stay values.old
-        (advanced (variables_in ranges.now (length values.old)) (rate_in rates.now) values.old) result values.new }
+        (advanced (variables_in p.now.ranges.now (length values.old)) (rate_in rates.now) values.old) (told_step result) values.new }
 {
     // for the proof: as a slice its length is known
+    let ranges = p.ranges;
     let all: &[i32] = ranges;
-    let k = staying(ranges, rates, values);
-    let fit = side(ranges, rates, values, k);
-    if k == values.len() {
-        add_first(ranges, rates, values, k);
-        return Verdict::Stay;
-    }
-    fit
+    all_stay(p, rates, values)?;
+    add_all(p, rates, values);
+    Ok(())
 }
 
 // Variable v becomes z where its range allows it.
-fn store(
-    z: i32,
-    v: usize,
-    ranges: &[i32; program::RANGES],
-    values: &mut [i32],
-    done: Verdict,
-) -> Verdict
+fn store(p: &Program<'_>, z: i32, v: usize, values: &mut [i32]) -> Result<(), Untaken>
     requires { (v < length values.old) × (length values.old ≤ variable_limit) }
-    ensures { Gives done values.old (stored (variables_in ranges.now (length values.old)) values.old v z) result values.new }
+    ensures { (done : Verdict) → Gives done values.old (stored (variables_in p.now.ranges.now (length values.old)) values.old v z) (told_done done result) values.new }
 {
     // for the proof: as a slice its length is known
+    let ranges = p.ranges;
     let all: &[i32] = ranges;
-    let r = ranged(program::low(ranges, v), program::high(ranges, v), z as i64);
-    if goes_on(r) {
-        values[v] = z;
-        return done;
-    }
-    r
+    ranged(p.low(v), p.high(v), i64::from(z))?;
+    values[v] = z;
+    Ok(())
 }
 
 // An assignment: its operand is the variable, then the number.
-fn assign(t: &[u8], ranges: &[i32; program::RANGES], values: &mut [i32], done: Verdict) -> Verdict
+fn assign(p: &Program<'_>, t: &[u8], values: &mut [i32]) -> Result<(), Untaken>
     requires { (1 ≤ length t.now) × (get_or t.now 0 0 < length values.old) × (length values.old ≤ variable_limit) }
-    ensures { Assigns t.now (variables_in ranges.now (length values.old)) done values.old result values.new }
+    ensures { (done : Verdict) → Assigns t.now (variables_in p.now.ranges.now (length values.old)) done values.old (told_done done result) values.new }
 {
-    let v = t[0] as usize;
-    match expression::number_value(&t[1..], values) {
-        Number::Is(z) => store(z, v, ranges, values, done),
-        Number::Above => Verdict::Above,
-        Number::Below => Verdict::Below,
-        Number::Malformed => Verdict::Above,
-    }
+    let v = usize::from(t[0]);
+    let z = value(expression::number_value(&t[1..], values))?;
+    store(p, z, v, values)
 }
 
-// What the picked node n does, by its kind and its operand.
+// What a picked node does, by its kind and its operand: the outcome on which it moves.
 pub fn effect(
+    p: &Program<'_>,
     kind: usize,
     t: &[u8],
-    ranges: &[i32; program::RANGES],
-    n: usize,
     values: &mut [i32],
     modes: &mut [u8],
-) -> Verdict
+) -> Result<bool, Untaken>
     requires { Performs kind t.now (length values.old) (length modes.old) × (length values.old ≤ variable_limit) }
-    ensures { Does kind t.now (variables_in ranges.now (length values.old))
-        n values.old modes.old result values.new modes.new }
+    ensures { (n : ℕ) → Does kind t.now (variables_in p.now.ranges.now (length values.old))
+        n values.old modes.old (told_pick n result) values.new modes.new }
 {
     match kind {
-        program::kinds::TEST => ask(t, values, Verdict::Move(n, true), Verdict::Move(n, false)),
-        program::kinds::WAIT => ask(t, values, Verdict::Move(n, true), Verdict::Away(29)),
-        program::kinds::ASSIGN => assign(t, ranges, values, Verdict::Move(n, true)),
-        program::kinds::SWITCH => {
-            let s = t[0] as usize;
-            modes[s] = t[1];
-            Verdict::Move(n, true)
+        program::kinds::TEST => ask(t, values),
+        program::kinds::WAIT => {
+            if !ask(t, values)? {
+                return Err(Untaken::Away(TurnedAway::NotYet));
+            }
+            Ok(true)
         }
-        _ => Verdict::Move(n, true),
+        program::kinds::ASSIGN => {
+            assign(p, t, values)?;
+            Ok(true)
+        }
+        program::kinds::SWITCH => {
+            let s = usize::from(t[0]);
+            modes[s] = t[1];
+            Ok(true)
+        }
+        _ => Ok(true),
     }
 }

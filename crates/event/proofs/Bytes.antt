@@ -3,10 +3,14 @@ use mathlib.Core.Path.{◌≡◌, refl, sym, ap, ◌∙◌}
 use mathlib.Core.Bool.{Bool, true, false, cond}
 use mathlib.Core.List.{List, [], ◌∷◌}
 use mathlib.Core.Option.{none, some}
-use Prim.Native.Nat.{ℕ, ◌+◌, ◌≤◌, ◌<◌}
+use Prim.Native.Nat.{ℕ, ◌+◌, ◌-◌, ◌≤◌}
 use native.Mathlib.Omega.{arith}
 use borrow.Author.Tests.{ne_eqb}
-use lib.ListN.{length, get_or, drop}
+use lib.ListN.{length, get_or, take, drop, length-drop}
+use lib.Seq.{take_all}
+use lib.Dec.{eqb}
+use Rattle.std.specs.Prelude.{◌&&◌, ◌==◌}
+use Rattle.std.specs.List.{list_all}
 use Rattle.semantics.specs.Bytes.{every, Read, broken, read, ◌>>=◌, and_then, byte, number, fail, just, whole}
 use Rattle.semantics.specs.Editions.{Edition}
 use Rattle.semantics.specs.Events as Events
@@ -14,7 +18,7 @@ use Rattle.semantics.specs.Events.{tick, pick, take_switch, senseless, EventKind
 use Rattle.semantics.proofs.Facts.{none-not-some}
 use Rattle.edition.proofs.Widths.{width-high}
 use Rattle.codec.specs.Numbers.{num_at, wide}
-use Rattle.codec.proofs.Reading.{drop_past, drop-some, number-at}
+use Rattle.codec.proofs.Reading.{number-at}
 use Rattle.event.specs.PaperNumbers.{paper_event}
 use Rattle.event.specs.Decoded.{event_of, all_zero, where_zero, Decodes}
 use Rattle.event.specs.declared.Event.{Event}
@@ -81,33 +85,40 @@ module _ (ed : Edition) where
   none_in [] h e f g = absurd (omega arith)
   none_in (a ∷ s) h e f g = ap (λ (k : EventKind). elim (just (read_event_body ed k s)) [ none ↦ senseless | some m ↦ m ]) (no-kind-of a e f g)
 
+-- ---- unused bytes, by std's test
+pub zeros : (s : List ℕ) → list_all (λ b. b == 0) s ≡ all_zero s
+unfolding every
+zeros [] = refl
+zeros (b ∷ s) = go (eqb b 0) (zeros s)
+  where
+    go : (t : Bool) {r q : Bool} → r ≡ q → (t && r) ≡ elim t [ true ↦ q | false ↦ false ]
+    go true e = e
+    go false e = refl
+
+module _ (s : List ℕ) {b : Bool} (h : b ≡ list_all (λ b. b == 0) s) (e : Event) where
+  pub kept : b ≡ true → e ≡ where_zero (all_zero s) e
+  kept k = rw (sym (zeros s) ∙ sym h ∙ k) refl
+
+  pub turned : b ≡ false → Senseless ≡ where_zero (all_zero s) e
+  turned k = rw (sym (zeros s) ∙ sym h ∙ k) refl
+
+-- what `&s[k..]` lends
+behind : (s : List ℕ) (k : ℕ) (e : Event) {r : Event} → r ≡ where_zero (all_zero (take (length s - k) (drop k s))) e → r ≡ where_zero (all_zero (drop k s)) e
+behind s k e {r} h = h ∙ ap (λ t. where_zero (all_zero t) e) (take_all (length s - k) (drop k s) (omega (arith, length-drop k s)))
+
 -- ---- what the code gives
 module _ (ed : Edition) (s : List ℕ) (h : 3 ≤ length s) {r : Event} where
-  pub ticks : get_or s 0 0 ≡ 0 → r ≡ where_zero (all_zero (drop 1 s)) Tick → Decodes ed s r
-  ticks e k = decodes (ap event_of k ∙ made_of (all_zero (drop 1 s)) Tick ∙ sym (tick-in ed s h e))
+  pub ticks : get_or s 0 0 ≡ 0 → r ≡ where_zero (all_zero (take (length s - 1) (drop 1 s))) Tick → Decodes ed s r
+  ticks e k = decodes (ap event_of (behind s 1 Tick k) ∙ made_of (all_zero (drop 1 s)) Tick ∙ sym (tick-in ed s h e))
 
-  pub picks : {w n : ℕ} → get_or s 0 0 ≡ 1 → w ≡ wide ed → n ≡ num_at ed s 1 → r ≡ where_zero (all_zero (drop (1 + w) s)) (Pick n) → Decodes ed s r
-  picks {w} {n} e f g k = decodes (ap event_of k ∙ made_of (all_zero (drop (1 + w) s)) (Pick n) ∙ rw (f, g) (sym (pick-in ed s h e)))
+  pub picks : {w n : ℕ} → get_or s 0 0 ≡ 1 → w ≡ wide ed → n ≡ num_at ed s 1 → r ≡ where_zero (all_zero (take (length s - (1 + w)) (drop (1 + w) s))) (Pick n) → Decodes ed s r
+  picks {w} {n} e f g k = decodes (ap event_of (behind s (1 + w) (Pick n) k) ∙ made_of (all_zero (drop (1 + w) s)) (Pick n) ∙ rw (f, g) (sym (pick-in ed s h e)))
 
-  pub switches : {b c : ℕ} → get_or s 0 0 ≡ 2 → b ≡ get_or s 1 0 → c ≡ get_or s 2 0 → r ≡ where_zero (all_zero (drop 3 s)) (Switch b c) → Decodes ed s r
-  switches {b} {c} e f g k = decodes (ap event_of k ∙ made_of (all_zero (drop 3 s)) (Switch b c) ∙ rw (f, g) (sym (switch-in ed s h e)))
+  pub switches : {b c : ℕ} → get_or s 0 0 ≡ 2 → b ≡ get_or s 1 0 → c ≡ get_or s 2 0 → r ≡ where_zero (all_zero (take (length s - 3) (drop 3 s))) (Switch b c) → Decodes ed s r
+  switches {b} {c} e f g k = decodes (ap event_of (behind s 3 (Switch b c) k) ∙ made_of (all_zero (drop 3 s)) (Switch b c) ∙ rw (f, g) (sym (switch-in ed s h e)))
 
   pub nothing : (get_or s 0 0 ≡ 0 → ⊥) → (get_or s 0 0 ≡ 1 → ⊥) → (get_or s 0 0 ≡ 2 → ⊥) → r ≡ Senseless → Decodes ed s r
   nothing e f g k = decodes (ap event_of k ∙ sym (none_in ed s h e f g))
-
--- ---- unused bytes, one after the other
-module _ (s : List ℕ) (i : ℕ) where
-  pub zero-here : i < length s → get_or s i 0 ≡ 0 → all_zero (drop i s) ≡ all_zero (drop (i + 1) s)
-  unfolding every
-  zero-here h e = rw (drop-some i s h, e) refl
-
-  pub not-here : i < length s → (get_or s i 0 ≡ 0 → ⊥) → all_zero (drop i s) ≡ false
-  unfolding every
-  not-here h e = rw (drop-some i s h, every, ne_eqb (get_or s i 0) 0 e) refl
-
-  pub none_left : length s ≤ i → all_zero (drop i s) ≡ true
-  unfolding every
-  none_left h = rw (drop_past i s h) refl
 
 -- a list of bytes that are those
 pub decodes-as : {ed : Edition} {s t : List ℕ} {r : Event} → s ≡ t → Decodes ed t r → Decodes ed s r

@@ -1,13 +1,16 @@
 // An event, decoded once from its bytes.
 #![tactic(auto)]
 
-ghost use Rattle.std.specs.Prelude.{◌≡◌, ◌+◌, ◌≤◌, length, take, drop};
+ghost use Rattle.std.specs.Prelude.{◌≡◌, ◌+◌, ◌≤◌, ◌==◌, length, take, drop};
+ghost use Rattle.std.specs.List.{list_all};
 ghost use Rattle.edition.specs.Editions.{edition_of};
 ghost use Rattle.event.specs.Decoded.{where_zero, all_zero, Decodes};
 
 use edition::Edition;
+use paper::events::{PICK, SWITCH, TICK};
 
 // A tick; the pick of a node; switch k of selector s's current mode; none of these.
+// No Option of the other three: the definition has all four, and asks first whether the run is over.
 #[derive(Clone, Copy)]
 pub enum Event {
     Tick,
@@ -16,25 +19,18 @@ pub enum Event {
     Senseless,
 }
 
-// The first of the bytes.
-const TICK: u8 = 0;
-
-const PICK: u8 = 1;
-
-const SWITCH: u8 = 2;
-
-// The event where the bytes from a place on, which it does not use, are 0.
-fn unused(s: &[u8], from: usize, e: Event) -> Event
-    ensures { result ≡ where_zero (all_zero (drop from s.now)) e }
+// Are the bytes that an event does not use all 0?
+fn all_zero(s: &[u8]) -> bool
+    ensures { result ≡ list_all (λ b. b == 0) s.now }
 {
-    let mut i = from;
-    while i < s.len() {
-        if s[i] != 0 {
-            return Event::Senseless;
-        }
-        i += 1;
-    }
-    e
+    s.iter().all(|b| *b == 0)
+}
+
+// The event where the bytes that it does not use are 0.
+fn unused(s: &[u8], e: Event) -> Event
+    ensures { result ≡ where_zero (all_zero s.now) e }
+{
+    if all_zero(s) { e } else { Event::Senseless }
 }
 
 // The event of just its bytes.
@@ -43,13 +39,12 @@ fn decoded(s: &[u8], ed: Edition) -> Event
     ensures { Decodes (edition_of ed) s.now result }
 {
     match s[0] {
-        TICK => unused(s, 1, Event::Tick),
+        TICK => unused(&s[1..], Event::Tick),
         PICK => unused(
-            s,
-            1 + edition::width(ed),
+            &s[1 + edition::width(ed)..],
             Event::Pick(codec::number(s, 1, ed)),
         ),
-        SWITCH => unused(s, 3, Event::Switch(codec::wide(s[1]), codec::wide(s[2]))),
+        SWITCH => unused(&s[3..], Event::Switch(usize::from(s[1]), usize::from(s[2]))),
         _ => Event::Senseless,
     }
 }

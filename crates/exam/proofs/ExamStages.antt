@@ -5,6 +5,7 @@ use mathlib.Core.List.{List}
 use mathlib.Core.Option.{some}
 use Prim.Native.Nat.{ℕ, ◌*◌, ◌<◌, ◌≤◌}
 use native.Mathlib.Omega.{arith}
+use Rattle.std.proofs.Common.{Ok, Err}
 use borrow.Author.Tests.{le-leb}
 use lib.ListN.{length, take, drop, length-append}
 use Rattle.semantics.specs.Bytes.{overwrite}
@@ -23,12 +24,15 @@ use Rattle.schedules.specs.Calls as S
 use Rattle.schedules.specs.Calls.{rule_program, rule_run_of, compile, compiled_into}
 use Rattle.schedules.proofs.Agreement.{Taken, compile-taken}
 use Rattle.schedules.specs.Exam as Exam
-use Rattle.schedules.specs.Exam.{judge_exam, agreed, reported, refused_exam, exam_table, examined, exam_of}
+use Rattle.schedules.specs.Exam.{ExamHolds, judge_exam, agreed, reported, refused_exam, exam_table, examined, exam_of}
 use Rattle.exam.specs.Examining.{examined_with, Room}
 use Rattle.records.specs.Reported.{ran_with}
-use Rattle.records.specs.declared.Ran as R
-use Rattle.compiler.specs.Answers.{Told, returned}
-use Rattle.compiler.proofs.Planning.{told-refuses, told-accepts}
+use Rattle.records.specs.declared.Counts.{Counts}
+use Rattle.compiler.specs.Answers.{told}
+use Rattle.compiler.specs.declared.call.Compiled.{Compiled}
+use Rattle.paper.specs.Refusals.{number_of}
+use Rattle.paper.specs.declared.refusals.Refusal.{Refusal}
+use Rattle.exam.proofs.Numbers.{listed}
 use Rattle.compiler.proofs.CallStages.{refused-too, too_short, long-enough}
 use Rattle.schedules.proofs.ExamHolds.{run-numbers, rule-program, exam-judged, exam-numbers, exam-length, exam-refusal, exam-agrees}
 
@@ -60,19 +64,19 @@ another-buffer ed p start events buffer other b = Judging.go-then _ (start-judge
 
 module _ (ed : Edition) (file start events table records others : List ℕ) where
   -- 1 to 13
-  pub by-measure : {a b : ℕ} → Told (judge_table_of ed file) a b → (a ≡ 0 → ⊥) → a ≡ refusal_of (judge_exam ed file start events table records others)
+  pub by-measure : {n : ℕ} → judge_table_of ed file ≡ refused n → n ≡ refusal_of (judge_exam ed file start events table records others)
   unfolding judge_exam
-  by-measure h z = sym (refused-at _ (refused-too ed file table (told-refuses h z)))
+  by-measure h = sym (refused-at _ (refused-too ed file table h))
 
-  module _ {a b : ℕ} (h : Told (judge_table_of ed file) a b) (z : a ≡ 0) where
+  module _ {t : List ℕ} (h : judge_table_of ed file ≡ accepted t) where
     -- 14
-    pub by_table : length table < b → 14 ≡ refusal_of (judge_exam ed file start events table records others)
+    pub by_table : length table < length t → 14 ≡ refusal_of (judge_exam ed file start events table records others)
     unfolding judge_exam
-    by_table l = let k = told-accepts h z in sym (refused-at _ (too_short ed file table k.1 (omega (arith, k.2))))
+    by_table l = sym (refused-at _ (too_short ed file table h l))
 
-    module _ (l : b ≤ length table) where
-      taken : Taken ed file table (told-accepts h z).0
-      taken = let k = told-accepts h z in compile-taken ed file table (long-enough ed file table k.1 (omega (arith, k.2)))
+    module _ (l : length t ≤ length table) where
+      taken : Taken ed file table t
+      taken = compile-taken ed file table (long-enough ed file table h l)
 
       abbrev plant : Plant
       plant = taken.of.plant
@@ -80,7 +84,7 @@ module _ (ed : Edition) (file start events table records others : List ℕ) wher
       compiled : judge_exam ed file start events table records others ≡
           (judge_admission ed plant start events records >>= λ st. ensure 22 (room_for_records ed plant events others) >> accepted (event_count ed events * record_size ed plant))
       unfolding judge_exam
-      compiled = let k = told-accepts h z in Judging.go-then _ (long-enough ed file table k.1 (omega (arith, k.2))) ∙ Judging.go-then _ (rule-program ed file taken.of_file)
+      compiled = Judging.go-then _ (long-enough ed file table h l) ∙ Judging.go-then _ (rule-program ed file taken.of_file)
 
       run_of : (buffer : List ℕ) → refusal_of (judge_run ed (rule_program ed file) start events buffer) ≡ refusal_of (judge_admission ed plant start events buffer)
       unfolding judge_run
@@ -93,10 +97,10 @@ module _ (ed : Edition) (file start events table records others : List ℕ) wher
           sym (ap refusal_of compiled ∙ refused-first (judge_admission ed plant start events records) _ (λ i. y (f ∙ i)) ∙ sym f)
 
       -- 22 of the second buffer
-      pub by-others : {n k : ℕ} → n ≡ refusal_of (judge_run ed (rule_program ed file) start events records) → n ≡ 0 → k ≡ refusal_of (judge_run ed (rule_program ed file) start events others) →
+      pub by-others : {k : ℕ} → 0 ≡ refusal_of (judge_run ed (rule_program ed file) start events records) → k ≡ refusal_of (judge_run ed (rule_program ed file) start events others) →
           k ≡ refusal_of (judge_exam ed file start events table records others)
-      by-others e y f =
-          let a = accepted-of (admission-first ed start events records refl) (run-numbers ed (some plant) start events records) (sym (e ∙ run_of records) ∙ y) in
+      by-others e f =
+          let a = accepted-of (admission-first ed start events records refl) (run-numbers ed (some plant) start events records) (sym (e ∙ run_of records)) in
           let b = another-buffer ed plant start events records others (admission-passed ed plant start events records a.1) in
           f ∙ run_of others ∙ ap refusal_of b ∙ tested-last 22 (room_for_records ed plant events others) a.0 _ ∙ sym (ap refusal_of (compiled ∙ Judging.go-then _ a.1))
 
@@ -146,27 +150,43 @@ module _ (ed : Edition) (file start events table records others : List ℕ) wher
   abbrev Y : Ran
   Y = rule_run_of ed file start events records
 
-  -- compiling wrote l bytes, and left tb
-  module _ {m l k : ℕ} {tb : List ℕ} (h : returned m l k tb ≡ C) where
-    abbrev Z : Ran
-    Z = table_run_of ed (take l tb) start events others
+  -- the call was accepted
+  module _ (z : refusal_of (judge_exam ed file start events table records others) ≡ 0) where
+    holds : ExamHolds ed file start events table records others
+    unfolding exam_of
+    holds = exam-agrees ed file start events table records others (exam-refusal ed file start events table records others (judge_exam ed file start events table records others) ∙ z)
 
-    -- the run of the table that the code made
-    ran-table : Z ≡ X
-    unfolding exam_table
-    ran-table = ap (λ (x : S.Compiled). table_run_of ed (take x.written x.table) start events others) h
+    -- then no call that it makes refuses
+    pub compiles : (why : Refusal) {tb : List ℕ} → told (Err why) tb ≡ C → ⊥
+    compiles why h = listed why (ap (λ (x : S.Compiled). x.refusal) h ∙ holds.compiled)
 
-    -- the call was accepted
-    module _ (z : refusal_of (judge_exam ed file start events table records others) ≡ 0) where
+    pub runs-by_rules : (why : Refusal) (d : List ℕ) → ran_with (Err why) d ≡ Y → ⊥
+    unfolding ran_with
+    runs-by_rules why d h = listed why (ap (λ (x : Ran). x.refusal) h ∙ holds.runs.rules_taken_on)
+
+    -- compiling wrote what the code says, and left tb
+    module _ {c : Compiled} {tb : List ℕ} (h : told (Ok c) tb ≡ C) where
+      abbrev Z : Ran
+      Z = table_run_of ed (take c.length tb) start events others
+
+      -- the run of the table that the code made
+      ran-table : Z ≡ X
+      unfolding exam_table
+      ran-table = ap (λ (x : S.Compiled). table_run_of ed (take x.written x.table) start events others) h
+
+      pub runs-by_table : (why : Refusal) (d : List ℕ) → ran_with (Err why) d ≡ Z → ⊥
+      unfolding ran_with
+      runs-by_table why d j = listed why (ap (λ (x : Ran). x.refusal) (j ∙ ran-table) ∙ holds.runs.table_taken_on)
+
       -- the room for the table holds what is read back from it
-      pub table_fits : l ≤ length tb
+      pub table_fits : c.length ≤ length tb
       table_fits =
           let a = (admitted ed file start events table records others z).compiled in
           let e = ap (λ (x : S.Compiled). x.written) h in
           let f = ap (λ (x : S.Compiled). length x.table) h in
           omega arith
 
-      module _ (r t : R.Ran) (rs os : List ℕ) (i : ran_with r rs ≡ Y) (j : ran_with t os ≡ Z) where
+      module _ (r t : Counts) (rs os : List ℕ) (i : ran_with (Ok r) rs ≡ Y) (j : ran_with (Ok t) os ≡ Z) where
         records-are : rs ≡ Y.records
         unfolding ran_with
         records-are = ap (λ (x : Ran). x.records) i
@@ -177,31 +197,34 @@ module _ (ed : Edition) (file start events table records others : List ℕ) wher
 
         -- the record buffers hold the records that are compared
         pub rooms : Room ed file events rs × Room ed file events os
-        unfolding exam_of
         rooms =
-            let k = exam-agrees ed file start events table records others (exam-refusal ed file start events table records others (judge_exam ed file start events table records others) ∙ z) in
+            let k = holds in
             let p = k.schedule.plant in
             let a = room_after ed p events _ records (records-are ∙ k.runs.rules_records) k.runs.records_length in
             let b = room_after ed p events _ others (others-are ∙ k.runs.table_records) k.runs.records_length in
             (record { schedule = k.schedule; schedule_read = k.schedule_read; enough = a }, record { schedule = k.schedule; schedule_read = k.schedule_read; enough = b })
 
-        pub all_told : {q : Bool} → ((s : Schedule) → judge_file ed file ≡ accepted s → q ≡ agreed (event_count ed events * record_size ed s.plant) (ran_with r rs) (ran_with t os)) →
-            examined_with (record { refusal = 0; length = l; counts = r.counts; table_counts = t.counts; agree = q }) tb rs os ≡ exam_of ed file start events table records others
+        pub all_told : {q : Bool} → ((s : Schedule) → judge_file ed file ≡ accepted s → q ≡ agreed (event_count ed events * record_size ed s.plant) (ran_with (Ok r) rs) (ran_with (Ok t) os)) →
+            examined_with (Ok (record { length = c.length; counts = r; table_counts = t; agree = q })) tb rs os ≡ exam_of ed file start events table records others
         unfolding exam_of examined reported examined_with ran_with
         all_told {q} g =
             let a = admitted ed file start events table records others z in
             let n = event_count ed events * record_size ed a.schedule.plant in
             let k = j ∙ ran-table in
-            let w : q ≡ agreed n Y X = g a.schedule a.schedule_read ∙ ap (λ x. agreed n x (ran_with t os)) i ∙ ap (agreed n Y) k in
-            let x : exam_of ed file start events table records others ≡ reported n C.written C.table Y X = ap (examined ed file start events table records others) a.judged in
-            ap (λ q. told_of l tb (ran_with r rs) (ran_with t os) q) w ∙ ap (λ (c : S.Compiled). told_of c.written c.table (ran_with r rs) (ran_with t os) (agreed n Y X)) h
-            ∙ ap (λ y. told_of C.written C.table y (ran_with t os) (agreed n Y X)) i ∙ ap (λ y. told_of C.written C.table Y y (agreed n Y X)) k ∙ sym x
+            let l = c.length in
+            let y = ran_with (Ok r) rs in
+            let x = ran_with (Ok t) os in
+            let w : q ≡ agreed n Y X = g a.schedule a.schedule_read ∙ ap (λ u. agreed n u x) i ∙ ap (agreed n Y) k in
+            let v : exam_of ed file start events table records others ≡ reported n C.written C.table Y X = ap (examined ed file start events table records others) a.judged in
+            ap (λ q. told_of l tb y x q) w ∙ ap (λ (c : S.Compiled). told_of c.written c.table y x (agreed n Y X)) h
+            ∙ ap (λ u. told_of C.written C.table u x (agreed n Y X)) i ∙ ap (λ u. told_of C.written C.table Y u (agreed n Y X)) k ∙ sym v
 
   -- a refusal, with the buffers as they were
-  pub none_told : {n : ℕ} → n ≡ refusal_of (judge_exam ed file start events table records others) → (n ≡ 0 → ⊥) → refused_exam n table records others ≡ exam_of ed file start events table records others
-  unfolding exam_of refusal_of examined
-  none_told {n} e z = go (judge_exam ed file start events table records others) e
+  pub none_told : (why : Refusal) → number_of why ≡ refusal_of (judge_exam ed file start events table records others) →
+      examined_with (Err why) table records others ≡ exam_of ed file start events table records others
+  unfolding exam_of refusal_of examined examined_with
+  none_told why e = go (judge_exam ed file start events table records others) e
     where
-      go : (j : Judged ℕ) → n ≡ refusal_of j → refused_exam n table records others ≡ examined ed file start events table records others j
+      go : (j : Judged ℕ) → number_of why ≡ refusal_of j → refused_exam (number_of why) table records others ≡ examined ed file start events table records others j
       go (refused m) e = ap (λ n. refused_exam n table records others) e
-      go (accepted m) e = absurd (z e)
+      go (accepted m) e = absurd (listed why e)

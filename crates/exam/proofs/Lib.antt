@@ -1,3 +1,4 @@
 pub mod Comparing
 pub mod ExamStages
 pub mod Sizes
+pub mod Numbers

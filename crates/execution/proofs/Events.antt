@@ -1,10 +1,11 @@
 -- An event, step by step, on the data that is lent.
-use mathlib.Core.Path.{◌≡◌, refl, sym, ap, ap₂, ◌∙◌}
+use mathlib.Core.Path.{◌≡◌, refl, sym, ap, ap₂, subst, ◌∙◌}
 use mathlib.Core.Bool.{Bool, true, false}
 use mathlib.Core.List.{List, map}
 use Prim.Native.Nat.{ℕ}
 use lib.IntN.{ℤ}
 use lib.ListN.{length, get_or, set}
+use Rattle.std.specs.Prelude.{Ok}
 use Rattle.semantics.specs.Bytes.{every}
 use Rattle.semantics.specs.Editions.{Edition}
 use Rattle.semantics.specs.Expressions.{Value, ok, fault, above, below, then_value, value_of_number}
@@ -13,7 +14,6 @@ use Rattle.semantics.specs.Events as Events
 use Rattle.semantics.specs.Run as Run
 use Rattle.semantics.specs.Run.{Action, test, wait, assign, switch, stop, away, faulty, pass, ◌>>=◌, ◌>>◌, allow, valued, nobody, mover, Done, is_wait, wait_truth, check_waits, check_modes, assigned, act, judge_switch, check_of_switch, judge_tick, judge_pick, judge}
 use Rattle.semantics.proofs.Facts.{true-not-false}
-use Rattle.codec.specs.Parts.{between}
 use Rattle.nodeset.specs.Sets.{mem, members}
 use Rattle.nodeset.proofs.Members.{among-set}
 use Rattle.event.specs.Decoded.{event_of}
@@ -21,8 +21,8 @@ use Rattle.event.specs.declared.Event as Decoded
 use Rattle.effects.specs.Verdicts.{done_verdict, step_verdict, is_going_on, Left, or_else, Gives}
 use Rattle.effects.specs.Ranges.{rate_in}
 use Rattle.effects.specs.ActionForms.{Performs, Does}
-use Rattle.effects.specs.declared.Verdict.{Verdict}
-use Rattle.effects.specs.declared.Verdict.TheVariants.{Away, Stay}
+use Rattle.effects.specs.PaperNumbers.{Verdict, Away, Stay, Move}
+use Rattle.effects.specs.Told.{told_pick}
 use Rattle.effects.proofs.PaperNumbers.{left-away, left-above, left_below, left-stay}
 use Rattle.effects.proofs.Steps.{then-on}
 use Rattle.modes.specs.Modes.{modes_from, InForce, Switched}
@@ -32,6 +32,11 @@ use Rattle.execution.specs.Ready.{Ready}
 use Rattle.execution.proofs.Formed.{wait-operand, variable-known, selector-known, map-member}
 use Rattle.execution.proofs.Lending.{modes-current, variables_of, declared_same, advance-is}
 
+-- a picked node moves on its outcome
+pub moved-as : (n : ℕ) (b : Bool) → Move n b ≡ told_pick n (Ok b)
+moved-as n true = refl
+moved-as n false = refl
+
 -- ---- what is left
 module _ (vs : List ℤ) (ms : List ℕ) where
   left_out : {A : Type 0} (u : Run.Verdict A) (w : Run.Verdict Done) {r : Verdict} → r ≡ step_verdict u → is_going_on r ≡ false → Left (u >> w) vs ms r vs ms
@@ -40,6 +45,10 @@ module _ (vs : List ℤ) (ms : List ℕ) where
   left_out (faulty above) w e h = left-above e refl
   left_out (faulty below) w e h = left_below e refl
   left_out (pass a) w e h = true-not-false (sym (ap is_going_on e) ∙ h)
+
+  -- another result that tells the same
+  pub left-told : {j : Run.Verdict Done} {r s : Verdict} {ys : List ℤ} {ns : List ℕ} → r ≡ s → Left j vs ms s ys ns → Left j vs ms r ys ns
+  left-told {j} {ys = ys} {ns} e x = subst (λ r. Left j vs ms r ys ns) (sym e) x
 
   pub left-eq : {j k : Run.Verdict Done} {r : Verdict} {ys : List ℤ} {ns : List ℕ} → j ≡ k → Left k vs ms r ys ns → Left j vs ms r ys ns
   left-eq e x = rw e x
@@ -128,11 +137,10 @@ module _ (ed : Edition) (p : Plant) (f : ℕ → Action) (l : Lent) (ws : List �
 
   -- ---- a pick
   module _ (n : ℕ) where
-    -- what the index has of node n
-    pub record Looked (k b d : ℕ) : Type 0 where
+    -- its operand and the number of its kind
+    pub record Looked (k : ℕ) (t : List ℕ) : Type 0 where
       pub kind : k ≡ get_or l.kinds n 0
-      pub start : b ≡ get_or l.starts n 0
-      pub end : d ≡ get_or l.ends n 0
+      pub operand : t ≡ operand_at l n
 
     abbrev pick : Run.Verdict Done
     pick = judge ed p f (members ws) vs ms (Events.pick n)
@@ -149,13 +157,15 @@ module _ (ed : Edition) (p : Plant) (f : ℕ → Action) (l : Lent) (ws : List �
       pub pick-28 : is_going_on r ≡ false → Left pick vs ms r vs ms
       pick-28 g = left-eq vs ms (pick_is h) (left_out vs ms check (act ed p.variables vs ms n (f n)) e g)
 
-      pub pick_end : is_going_on r ≡ true → {k b d : ℕ} → Looked k b d → {x : Verdict} {ys : List ℤ} {ns : List ℕ} → Does k (between b d l.bytes) (variables_of l (length vs)) n vs ms x ys ns → Left pick vs ms x ys ns
-      pick_end g o {x} {ys} {ns} y = let w : Does (get_or l.kinds n 0) (operand_at l n) (variables_of l (length vs)) n vs ms x ys ns = rw (← o.kind, ← o.start, ← o.end) y in left-eq vs ms (pick_is h ∙ then-on check (act ed p.variables vs ms n (f n)) r e g ∙ act-same ed p l q.plant vs q.fits.values ms n (f n)) (w.leaves ed (f n) (q.nodes n h).is)
+      pub pick_end : is_going_on r ≡ true → {k : ℕ} {t : List ℕ} → Looked k t → {x : Verdict} {ys : List ℤ} {ns : List ℕ} → Does k t (variables_of l (length vs)) n vs ms x ys ns → Left pick vs ms x ys ns
+      pick_end g o {x} {ys} {ns} y =
+          let w : Does (get_or l.kinds n 0) (operand_at l n) (variables_of l (length vs)) n vs ms x ys ns = rw (← o.kind, ← o.operand) y in
+          left-eq vs ms (pick_is h ∙ then-on check (act ed p.variables vs ms n (f n)) r e g ∙ act-same ed p l q.plant vs q.fits.values ms n (f n)) (w.leaves ed (f n) (q.nodes n h).is)
 
-    pub pick-performs : mem ws n ≡ true → {k b d : ℕ} → Looked k b d → Performs k (between b d l.bytes) (length vs) (length ms)
+    pub pick-performs : mem ws n ≡ true → {k : ℕ} {t : List ℕ} → Looked k t → Performs k t (length vs) (length ms)
     pick-performs e o =
         let x = q.nodes n e in
-        rw (o.kind, o.start, o.end, q.fits.values, q.fits.modes) (record {
+        rw (o.kind, o.operand, q.fits.values, q.fits.modes) (record {
           action = f n;
           is = x.is;
           assigns = variable-known ed (length p.variables) (selectors p) x.fits;

@@ -32,6 +32,10 @@ pub events-few : (ed : Edition) (events : List ℕ) → event_count ed events �
 unfolding event_count
 events-few ed events = div-le_self (length events) ed.event_bytes
 
+-- no event is counted at the start
+pub none-counted : (c : Counts) → c.taken ≡ 0 → c.turned_away ≡ 0 → c.faulted ≡ 0 → told c ≡ no_counts
+none-counted c e f g = λ i. record { taken = e i; turned_away = f i; faulted = g i }
+
 abbrev begun : List ℤ → List ℕ → Start
 begun vs ms = record { values = vs; modes = ms }
 

@@ -11,8 +11,7 @@ use Rattle.semantics.specs.Run as Run
 use Rattle.semantics.specs.Run.{stop, finished, away, faulty, pass, nobody, mover, Done, Control, Answered, at, turned_away_by, settle, set_number, acting_set, record_bytes, record_of}
 use Rattle.nodeset.specs.Sets.{members}
 use Rattle.effects.specs.Verdicts.{judged_as, NeverIdle, Left}
-use Rattle.effects.specs.declared.Verdict.{Verdict}
-use Rattle.effects.specs.declared.Verdict.TheVariants.{Away, Above, Below, Stay, Move}
+use Rattle.effects.specs.PaperNumbers.{Verdict, Away, Above, Below, Stay, Move}
 
 -- the event is not taken: values and modes are as they were
 pub record Untaken (j v : Run.Verdict Done) (vs : List ℤ) (ms : List ℕ) (vs' : List ℤ) (ms' : List ℕ) : Type 0 where

@@ -1,5 +1,5 @@
 -- The code's walks over the acting nodes, from one to the next.
-use mathlib.Core.Path.{◌≡◌, refl, sym, ap, ap₂, ◌∙◌}
+use mathlib.Core.Path.{◌≡◌, refl, sym, ap, ◌∙◌}
 use mathlib.Core.Bool.{Bool, true, false, not}
 use mathlib.Core.List.{List, [], ◌∷◌, map}
 use Prim.Native.Nat.{ℕ, ◌+◌, ◌≤◌, ◌<◌}
@@ -13,13 +13,11 @@ use Rattle.semantics.specs.Expressions.{Value, ok, fault, above, below, value_of
 use Rattle.semantics.specs.Run as Run
 use Rattle.semantics.specs.Run.{Action, ◌>>=◌, ◌>>◌, allow, valued, is_wait, walk, check_waits}
 use Rattle.semantics.specs.TableFile.{WAIT}
-use Rattle.codec.specs.Parts.{between, part_at}
 use Rattle.nodeset.specs.Sets.{mem, members, MemberFrom}
 use Rattle.nodeset.proofs.Firsts.{members_on, on-start, on-next, on-member, on-beyond}
 use Rattle.effects.specs.Verdicts.{done_verdict, step_verdict, is_going_on, truth_verdict}
 use Rattle.execution.specs.Operands.{Few, KindsOf}
-use Rattle.effects.specs.declared.Verdict.{Verdict}
-use Rattle.effects.specs.declared.Verdict.TheVariants.{Away, Stay}
+use Rattle.effects.specs.PaperNumbers.{Verdict, Away, Stay}
 use Rattle.effects.proofs.Steps.{walk-out, walk-on}
 use Rattle.execution.proofs.Formed.{wait-kind, every-member}
 
@@ -95,9 +93,8 @@ still_one ed vs t = go (value_of_truth ed vs t)
     go (fault below) = refl
 
 -- its operand lies where the index has it
-pub still-asked : (ed : Edition) (vs : List ℤ) (t starts ends : List ℕ) (n : ℕ) {b e : ℕ} {r : Verdict} → b ≡ get_or starts n 0 → e ≡ get_or ends n 0 → r ≡ truth_verdict (Away 31) Stay (value_of_truth ed vs (between b e t))
-    → r ≡ step_verdict (check_waits ed vs (part_at t starts ends n ∷ []))
-still-asked ed vs t starts ends n p q h = h ∙ ap₂ (λ (b e : ℕ). truth_verdict (Away 31) Stay (value_of_truth ed vs (between b e t))) p q ∙ still_one ed vs (part_at t starts ends n)
+pub still-asked : (ed : Edition) (vs : List ℤ) (o : List ℕ) {t : List ℕ} {r : Verdict} → t ≡ o → r ≡ truth_verdict (Away 31) Stay (value_of_truth ed vs t) → r ≡ step_verdict (check_waits ed vs (o ∷ []))
+still-asked ed vs o e h = h ∙ ap (λ t. truth_verdict (Away 31) Stay (value_of_truth ed vs t)) e ∙ still_one ed vs o
 
 -- those from n on
 abbrev pub still_from : Edition → List ℤ → (ℕ → List ℕ) → List ℕ → ℕ → Run.Verdict (Unit {0})

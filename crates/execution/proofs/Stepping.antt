@@ -21,8 +21,7 @@ use Rattle.effects.specs.Verdicts.{Left}
 use Rattle.program.specs.Lent.{Lent}
 use Rattle.execution.specs.Ready.{Ready, Fits}
 use Rattle.execution.specs.Runs.{Shows, at_place, at_end, Arrives, Steps}
-use Rattle.effects.specs.declared.Verdict.{Verdict}
-use Rattle.effects.specs.declared.Verdict.TheVariants.{Away, Above, Below, Stay, Move}
+use Rattle.effects.specs.PaperNumbers.{Verdict, Away, Above, Below, Stay, Move}
 use Rattle.execution.proofs.Keeping.{fits_kept}
 use Rattle.execution.proofs.Outcomes.{Untaken, heard-away, heard-above, heard-below, heard-stay, heard-move}
 

@@ -9,7 +9,7 @@ use Rattle.program.specs.Lent.{Lent, PlantLent, NodeLent}
 use Rattle.event.specs.Decoded.{event_of}
 use Rattle.event.specs.declared.Event.{Event}
 use Rattle.effects.specs.Verdicts.{Left}
-use Rattle.effects.specs.declared.Verdict.{Verdict}
+use Rattle.effects.specs.PaperNumbers.{Verdict}
 
 -- a value for each variable, and an existing mode for each selector
 pub record Fits (p : Plant) (vs : List ℤ) (ms : List ℕ) : Type 0 where

@@ -1,5 +1,5 @@
 -- A run, event by event and as a loop, for any control.
-use Rattle.std.specs.Prelude.{◌≡◌, true, List, [], ◌++◌, ℕ, ◌-◌, ◌*◌, ◌≤◌, ℤ, length, drop}
+use Rattle.std.specs.Prelude.{◌≡◌, true, List, [], ◌++◌, ℕ, ◌-◌, ◌*◌, ◌≤◌, ℤ, length, drop, Ok}
 use Rattle.std.proofs.Math.Option.{Option, none, some}
 use Rattle.semantics.specs.Editions.{Edition}
 use Rattle.semantics.specs.Refusals.{accepted}
@@ -47,7 +47,7 @@ pub record MayRun (ed : Edition) (p : Plant) (vs : List ℤ) (ms events d : List
 
 -- the counts and d, which was d₀, are those of a run with these answers
 pub record Reports {S : Type 0} (ed : Edition) (c : Control S) (l : List (Answered S)) (d₀ : List ℕ) (cs : Counts) (d : List ℕ) : Type 0 where
-  pub is : ran_with (record { refusal = 0; counts = cs }) d ≡ report d₀ (accepted (outcome_of ed c l))
+  pub is : ran_with (Ok cs) d ≡ report d₀ (accepted (outcome_of ed c l))
 
 -- all events of a run from these values and modes are answered
 abbrev pub Whole : {S : Type 0} → Edition → Program S → List ℤ → (ms events d₀ : List ℕ) → Counts → List ℕ → Type 0

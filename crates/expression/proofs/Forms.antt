@@ -12,6 +12,10 @@ use Rattle.expression.specs.PaperNumbers.{paper_form, paper_operation, paper_com
 use Rattle.expression.specs.declared.Operation.TheVariants.{Sum, Difference, Product}
 use Rattle.expression.specs.declared.Comparison.TheVariants.{AtMost, Less, Equal, Unequal}
 use Rattle.expression.specs.declared.Connective.TheVariants.{Both, Either}
+use Rattle.expression.specs.declared.Operation.{Operation as Operations}
+use Rattle.expression.specs.declared.Comparison.{Comparison as Comparisons}
+use Rattle.expression.specs.declared.Connective.{Connective as Connectives}
+use Rattle.expression.proofs.Steps.{NoNumber, number_comparison, number_connective, number_opposite, number_true, number_unknown, NoTruth, truth_constant, truth_variable, truth_operation, truth_negation, truth_unknown}
 use Rattle.expression.specs.declared.Form.{Form}
 use Rattle.expression.specs.declared.Form.TheVariants.{Constant, Variable, Operation, Negation, Comparison, Connective, Opposite, True, Unknown}
 
@@ -74,3 +78,26 @@ module _ {c : ℕ} where
   no-form n01 n02 f g = form-unknown c n01 n02 (λ e. f (omega arith) (omega arith)) (λ e. f (omega arith) (omega arith)) (λ e. f (omega arith) (omega arith)) (λ e. f (omega arith) (omega arith))
       (λ e. g (omega arith) (omega arith)) (λ e. g (omega arith) (omega arith)) (λ e. g (omega arith) (omega arith)) (λ e. g (omega arith) (omega arith))
       (λ e. g (omega arith) (omega arith)) (λ e. g (omega arith) (omega arith)) (λ e. g (omega arith) (omega arith)) (λ e. g (omega arith) (omega arith))
+
+-- ---- a form of the other sort, or none
+pub no-number : (r : Form) → (r ≡ Constant → ⊥) → (r ≡ Variable → ⊥) → ((o : Operations) → r ≡ Operation o → ⊥) → (r ≡ Negation → ⊥) → NoNumber (form_is r)
+no-number Constant a b f d = absurd (a refl)
+no-number Variable a b f d = absurd (b refl)
+no-number (Operation o) a b f d = absurd (f o refl)
+no-number Negation a b f d = absurd (d refl)
+no-number (Comparison o) a b f d = number_comparison
+no-number (Connective o) a b f d = number_connective
+no-number Opposite a b f d = number_opposite
+no-number True a b f d = number_true
+no-number Unknown a b f d = number_unknown
+
+pub no-truth : (r : Form) → ((o : Comparisons) → r ≡ Comparison o → ⊥) → ((o : Connectives) → r ≡ Connective o → ⊥) → (r ≡ Opposite → ⊥) → (r ≡ True → ⊥) → NoTruth (form_is r)
+no-truth Constant f g a b = truth_constant
+no-truth Variable f g a b = truth_variable
+no-truth (Operation o) f g a b = truth_operation
+no-truth Negation f g a b = truth_negation
+no-truth (Comparison o) f g a b = absurd (f o refl)
+no-truth (Connective o) f g a b = absurd (g o refl)
+no-truth Opposite f g a b = absurd (a refl)
+no-truth True f g a b = absurd (b refl)
+no-truth Unknown f g a b = truth_unknown

@@ -1,6 +1,5 @@
-mod Cases
-mod Ends
 mod Forms
+mod Operands
 mod PaperNumbers
 mod Steps
 mod TwoLeaves

@@ -1,23 +1,29 @@
 -- One step of evaluation: what is found at a position, by what is found at its operands.
-use mathlib.Core.Path.{◌≡◌, refl, sym, ap, ap₂, ◌∙◌}
-use mathlib.Core.List.{List, [], ◌∷◌}
-use mathlib.Core.Bool.{Bool, true}
+use mathlib.Core.Path.{◌≡◌, refl, sym, ap, ◌∙◌}
+use mathlib.Core.List.{List}
+use mathlib.Core.Option.{Option, none, some}
+use mathlib.Core.Bool.{Bool, true, false}
 use Prim.Native.Nat.{ℕ, zero, suc, ◌+◌, ◌-◌, ◌≤◌, ◌<◌}
-use native.Mathlib.Nat.{add-zero}
 use native.Mathlib.Numerals.{add-one, sub-one}
 use native.Mathlib.Omega.{arith}
 use lib.Dec.{ltb}
 use lib.IntN.{ℤ, pos}
-use lib.ListN.{length, drop, get_or, length-drop, drop_of_length-le}
-use lib.Seq.{drop-cons, get_or-drop, drop-drop}
+use lib.ListN.{length, drop, get_or, drop_of_length-le}
+use lib.Seq.{drop-cons}
 use borrow.Author.Tests.{lt-ltb, le-ltb}
-use Rattle.semantics.specs.Bytes.{be4, signed, Read, broken, read, Reader, ◌>>=◌, and_then, give, fail, guard, from, byte, nat4, int4}
+use mir.Syntax.{w32}
+use mir.Val.{SFits}
+use Rattle.std.specs.Prelude as answers
+use Rattle.std.specs.Prelude.{Some, None, Result, Ok, Err}
+use Rattle.semantics.specs.Bytes.{signed, Read, broken, read, Reader, ◌>>=◌, and_then, give, fail, guard, from, byte, int4}
 use Rattle.semantics.specs.Editions.{Edition}
-use Rattle.semantics.specs.Expressions.{above, below, Value, ok, fault, result, Operation, Comparison, Connective, Number, constant, variable, operate, negation, Truth, compare, connect, opposite, value_of, holds, Form, a_constant, a_variable, an_operation, a_negation, a_comparison, a_connective, an_opposite, a_true, unknown, form_of, Expression, a_number, a_truth, number_of_expression, to_truth, read_variable_number, read_as_number, read_truth, read_form, read_expression}
-use Rattle.expression.specs.Evaluation.{number_at, truth_at, found_in, found, next_of, form_found_at, of_number, of_truth, operated, related, joined, negated, opposed}
-use Rattle.expression.specs.declared.Found.{Found}
-use Rattle.expression.specs.declared.Found.TheVariants.{ATruth, Broken}
-use Rattle.expression.proofs.Ends.{Ends, nothing, at_end, ends}
+use Rattle.semantics.specs.Expressions.{Value, result, Operation, Comparison, Connective, constant, variable, operate, negation, compare, connect, opposite, always, value_of, holds, operate_values, negate_value, compare_values, connect_values, oppose_value}
+use Rattle.semantics.specs.Expressions.{Form, a_constant, a_variable, an_operation, a_negation, a_comparison, a_connective, an_opposite, a_true, unknown, form_of, Expression, a_number, a_truth, number_of_expression, to_truth, read_variable_number, read_as_number, read_truth, read_form, read_expression}
+use Rattle.codec.proofs.Reading.{nat4_at, int4-at, int4-short}
+use Rattle.expression.specs.Evaluation.{said, known, At, Finds, finds_at, finds_none, number_reader, truth_reader, NumberAt, TruthAt, FindsNumber, FindsTruth, FindsForm}
+use Rattle.expression.specs.declared.Side.{Side}
+use Rattle.expression.proofs.Widths.{result_fits}
+use Rattle.expression.proofs.Wholes.{found, moved}
 
 -- ---- bytes at a position
 byte_at : (s : List ℕ) (p : ℕ) → p < length s → byte (drop p s) ≡ read (get_or s p 0) (drop (p + 1) s)
@@ -28,214 +34,254 @@ byte_past : (s : List ℕ) (p : ℕ) → length s ≤ p → byte (drop p s) ≡ 
 unfolding byte
 byte_past s p h = rw (drop_of_length-le s h) refl
 
-nat4-long : (t : List ℕ) → 4 ≤ length t → nat4 t ≡ read (be4 (get_or t 0 0) (get_or t 1 0) (get_or t 2 0) (get_or t 3 0)) (drop 4 t)
-unfolding nat4 byte ◌>>=◌ and_then give
-nat4-long [] h = absurd (omega arith)
-nat4-long (a ∷ []) h = absurd (omega arith)
-nat4-long (a ∷ b ∷ []) h = absurd (omega arith)
-nat4-long (a ∷ b ∷ c ∷ []) h = absurd (omega arith)
-nat4-long (a ∷ b ∷ c ∷ d ∷ t) h = refl
-
-nat4-short : (t : List ℕ) → length t < 4 → nat4 t ≡ broken
-unfolding nat4 byte ◌>>=◌ and_then give
-nat4-short [] h = refl
-nat4-short (a ∷ []) h = refl
-nat4-short (a ∷ b ∷ []) h = refl
-nat4-short (a ∷ b ∷ c ∷ []) h = refl
-nat4-short (a ∷ b ∷ c ∷ d ∷ t) h = absurd (omega arith)
-
-pub nat4-at : (s : List ℕ) (p : ℕ) → p + 4 ≤ length s →
-    nat4 (drop p s) ≡ read (be4 (get_or s p 0) (get_or s (p + 1) 0) (get_or s (p + 2) 0) (get_or s (p + 3) 0)) (drop (p + 4) s)
-nat4-at s p h =
-    nat4-long (drop p s) (let e = length-drop p s in omega arith)
-    ∙ rw (get_or-drop p s 0 0, add-zero p, get_or-drop p s 1 0, get_or-drop p s 2 0, get_or-drop p s 3 0, drop-drop 4 p s) refl
-
-nat4-past : (s : List ℕ) (p : ℕ) → length s < p + 4 → nat4 (drop p s) ≡ broken
-nat4-past s p h = nat4-short (drop p s) (let e = length-drop p s in omega arith)
-
--- the position after what was read
-after-at : (s : List ℕ) (p : ℕ) → p ≤ length s → length s - length (drop p s) ≡ p
-after-at s p h = let e = length-drop p s in omega arith
-
-number-next : (n : ℕ) (v : Value ℤ) → next_of (number_at n v) ≡ n
-number-next n (ok z) = refl
-number-next n (fault u) = refl
-
-truth-next : (n : ℕ) (v : Value Bool) → next_of (truth_at n v) ≡ n
-truth-next n (ok b) = refl
-truth-next n (fault u) = refl
-
 -- ---- the forms without operands, at the position after their code
-abbrev pub form_at : Edition → List ℤ → List ℕ → Reader Expression → Form → ℕ → Found
-form_at ed vs s R f p = found_in vs (length s) (read_form ed (length vs) R f (drop p s))
-
 module _ (ed : Edition) (vs : List ℤ) (s : List ℕ) (p : ℕ) where
-  abbrev constant_of : Read ℕ → Found
-  constant_of o = found_in vs (length s) (and_then (and_then o (λ n. give (signed n))) (λ z. give (a_number (constant z))))
+  pub constant-there : {z : ℤ} → p + 4 ≤ length s → z ≡ signed (nat4_at s p) → SFits w32 z → FindsForm ed vs s a_constant p (Some (Ok z, p + 4))
+  unfolding read_as_number read_form ◌>>=◌ and_then give from number_of_expression value_of
+  constant-there {z} h e f = finds_at (record {
+    value = constant (signed (nat4_at s p));
+    got = rw (int4-at s p h) refl;
+    is = sym (ap said (ap result (sym e) ∙ result_fits z f));
+    inside = h;
+  })
 
-  pub constant-there : (w : ℕ) → p + 4 ≤ length s → nat4 (drop p s) ≡ read w (drop (p + 4) s) → number_at (p + 4) (result (signed w)) ≡ form_found_at ed vs s a_constant p
-  unfolding found_in read_form int4 ◌>>=◌ and_then give value_of
-  constant-there w h e = sym (ap constant_of e ∙ ap (λ n. number_at n (result (signed w))) (after-at s (p + 4) h))
+  pub constant-cut : p ≤ length s → length s < p + 4 → FindsForm ed vs s a_constant p None
+  unfolding read_as_number read_form ◌>>=◌ and_then give from number_of_expression
+  constant-cut i h = finds_none (rw (int4-short s p h i) refl)
 
-  pub constant-cut : length s < p + 4 → Broken ≡ form_found_at ed vs s a_constant p
-  unfolding found_in read_form int4 ◌>>=◌ and_then
-  constant-cut h = sym (ap constant_of (nat4-past s p h))
-
-  abbrev variable_of : Read ℕ → Found
-  variable_of o = found_in vs (length s) (and_then o (λ v. guard (ltb v (length vs)) (give (a_number (variable v)))))
-
-  pub variable-cut : length s ≤ p → Broken ≡ form_found_at ed vs s a_variable p
-  unfolding found_in read_form read_variable_number ◌>>=◌ and_then
-  variable-cut h = sym (ap variable_of (byte_past s p h))
+  pub variable-cut : length s ≤ p → FindsForm ed vs s a_variable p None
+  unfolding read_as_number read_form read_variable_number ◌>>=◌ and_then
+  variable-cut h = finds_none (rw (byte_past s p h) refl)
 
   module _ (here : p < length s) where
-    pub variable-there : get_or s p 0 < length vs → number_at (p + 1) (result (get_or vs (get_or s p 0) (pos 0))) ≡ form_found_at ed vs s a_variable p
-    unfolding found_in read_form read_variable_number ◌>>=◌ and_then give value_of guard
-    variable-there h =
-        let e : variable_of (read (get_or s p 0) (drop (p + 1) s)) ≡ number_at (length s - length (drop (p + 1) s)) (result (get_or vs (get_or s p 0) (pos 0))) = rw (lt-ltb _ _ h) refl in
-        sym (ap variable_of (byte_at s p here) ∙ e ∙ ap (λ n. number_at n (result (get_or vs (get_or s p 0) (pos 0)))) (after-at s (p + 1) (omega arith)))
+    pub variable-there : {z : ℤ} → get_or s p 0 < length vs → z ≡ get_or vs (get_or s p 0) (pos 0) → SFits w32 z → FindsForm ed vs s a_variable p (Some (Ok z, p + 1))
+    unfolding read_as_number read_form read_variable_number ◌>>=◌ and_then give from guard number_of_expression value_of
+    variable-there {z} h e f = finds_at (record {
+      value = variable (get_or s p 0);
+      got = rw (byte_at s p here, lt-ltb _ _ h) refl;
+      is = sym (ap said (ap result (sym e) ∙ result_fits z f));
+      inside = omega arith;
+    })
 
-    pub variable-missing : length vs ≤ get_or s p 0 → Broken ≡ form_found_at ed vs s a_variable p
-    unfolding found_in read_form read_variable_number ◌>>=◌ and_then guard fail
-    variable-missing h =
-        let e : variable_of (read (get_or s p 0) (drop (p + 1) s)) ≡ Broken = rw (le-ltb _ _ h) refl in
-        sym (ap variable_of (byte_at s p here) ∙ e)
+    pub variable-missing : length vs ≤ get_or s p 0 → FindsForm ed vs s a_variable p None
+    unfolding read_as_number read_form read_variable_number ◌>>=◌ and_then guard fail
+    variable-missing h = finds_none (rw (byte_at s p here, le-ltb _ _ h) refl)
 
--- ---- a value that was found
-number-seen : (k : Value ℤ → ℕ → Found) (n : ℕ) (v : Value ℤ) → k v n ≡ of_number (number_at n v) k
-number-seen k n (ok z) = refl
-number-seen k n (fault above) = refl
-number-seen k n (fault below) = refl
+-- a leaf that is there
+pub known-found : {E : Type 0} {f : E → Value ℤ} {r : Reader E} {s : List ℕ} {p : ℕ} {o : answers.Option (ℤ × ℕ)} {z : ℤ} {n : ℕ} → o ≡ Some (z, n) → Finds f r s p (known o) → At f r s p (Ok z) n
+known-found e k = found k (ap known e)
 
-truth-seen : (k : Value Bool → ℕ → Found) (n : ℕ) (v : Value Bool) → k v n ≡ of_truth (truth_at n v) k
-truth-seen k n (ok b) = refl
-truth-seen k n (fault above) = refl
-truth-seen k n (fault below) = refl
+-- ---- a form of one operand, and of two: the operands' reader is r, and what is picked of an expression is what it was made of
+module _ {E F A B : Type 0} (f : E → Value A) (g : F → Value B) (r : Reader E) (pick : Expression → Option F) (s : List ℕ) (p : ℕ) (R : Reader F) (q : ℕ) where
+  module _ (mk : E → Expression) (made : E → F) (picks : (a : E) → pick (mk a) ≡ some (made a)) (e : R (drop p s) ≡ ((r >>= (λ a. give (mk a))) >>= (λ e. from (pick e))) (drop q s)) where
+    one-at : {x : Result A Side} {m : ℕ} (k : At f r s q x m) {z : Result B Side} → z ≡ said (g (made k.value)) → At g R s p z m
+    unfolding ◌>>=◌ and_then give from
+    one-at k h = record { value = made k.value; got = e ∙ rw (k.got, picks k.value) refl; is = h; inside = k.inside }
 
-wrong-number : (k : Value ℤ → ℕ → Found) (n : ℕ) (v : Value Bool) → Broken ≡ of_number (truth_at n v) k
-wrong-number k n (ok b) = refl
-wrong-number k n (fault u) = refl
-
-wrong-truth : (k : Value Bool → ℕ → Found) (n : ℕ) (v : Value ℤ) → Broken ≡ of_truth (number_at n v) k
-wrong-truth k n (ok z) = refl
-wrong-truth k n (fault u) = refl
-
--- ---- a form of one operand, and of two
-module _ (vs : List ℤ) (s : List ℕ) where
-  module _ (k : Value ℤ → ℕ → Found) (mk : Number → Expression) (made : (a : Number) (t : List ℕ) → found_in vs (length s) (read (mk a) t) ≡ k (value_of vs a) (length s - length t)) where
-    one_number : (D : Read Expression) → found_in vs (length s) (and_then (and_then D (λ e. from (number_of_expression e))) (λ a. give (mk a))) ≡ of_number (found_in vs (length s) D) k
-    unfolding found_in and_then from give fail number_of_expression
-    one_number broken = refl
-    one_number (read (a_number a) t) = made a t ∙ number-seen k (length s - length t) (value_of vs a)
-    one_number (read (a_truth a) t) = wrong-number k (length s - length t) (holds vs a)
-
-  module _ (k : Value Bool → ℕ → Found) (mk : Truth → Expression) (made : (a : Truth) (t : List ℕ) → found_in vs (length s) (read (mk a) t) ≡ k (holds vs a) (length s - length t)) where
-    one_truth : (D : Read Expression) → found_in vs (length s) (and_then (and_then D (λ e. from (to_truth e))) (λ a. give (mk a))) ≡ of_truth (found_in vs (length s) D) k
-    unfolding found_in and_then from give fail to_truth
-    one_truth broken = refl
-    one_truth (read (a_number a) t) = wrong-truth k (length s - length t) (value_of vs a)
-    one_truth (read (a_truth a) t) = made a t ∙ truth-seen k (length s - length t) (holds vs a)
-
-module _ (ed : Edition) (vs : List ℤ) (s : List ℕ) (R : Reader Expression) where
-  module _ (k : Value ℤ → Value ℤ → ℕ → Found) (mk : Number → Number → Expression)
-      (made : (a b : Number) (t : List ℕ) → found_in vs (length s) (read (mk a b) t) ≡ k (value_of vs a) (value_of vs b) (length s - length t)) where
-    two-numbers : (D : Read Expression) → Ends s D →
-        found_in vs (length s) (and_then (and_then D (λ e. from (number_of_expression e))) (λ a. read_as_number ed (length vs) R >>= λ b. give (mk a b)))
-        ≡ of_number (found_in vs (length s) D) (λ a m. of_number (found_in vs (length s) (R (drop (next_of (found_in vs (length s) D)) s))) (λ b n. k a b n))
-    unfolding found_in and_then from give fail number_of_expression read_as_number ◌>>=◌
-    two-numbers broken nothing = refl
-    two-numbers (read (a_number a) t) (at_end e) =
-        rw (number-next (length s - length t) (value_of vs a), e)
-        (one_number vs s (λ b n. k (value_of vs a) b n) (mk a) (made a) (R t) ∙ number-seen (λ x m. of_number (found_in vs (length s) (R t)) (λ b n. k x b n)) (length s - length t) (value_of vs a))
-    two-numbers (read (a_truth a) t) (at_end e) = wrong-number _ (length s - length t) (holds vs a)
-
-  module _ (k : Value Bool → Value Bool → ℕ → Found) (mk : Truth → Truth → Expression)
-      (made : (a b : Truth) (t : List ℕ) → found_in vs (length s) (read (mk a b) t) ≡ k (holds vs a) (holds vs b) (length s - length t)) where
-    two-truths : (D : Read Expression) → Ends s D →
-        found_in vs (length s) (and_then (and_then D (λ e. from (to_truth e))) (λ a. read_truth ed (length vs) R >>= λ b. give (mk a b)))
-        ≡ of_truth (found_in vs (length s) D) (λ a m. of_truth (found_in vs (length s) (R (drop (next_of (found_in vs (length s) D)) s))) (λ b n. k a b n))
-    unfolding found_in and_then from give fail to_truth read_truth ◌>>=◌
-    two-truths broken nothing = refl
-    two-truths (read (a_number a) t) (at_end e) = wrong-truth _ (length s - length t) (value_of vs a)
-    two-truths (read (a_truth a) t) (at_end e) =
-        rw (truth-next (length s - length t) (holds vs a), e)
-        (one_truth vs s (λ b n. k (holds vs a) b n) (mk a) (made a) (R t) ∙ truth-seen (λ x m. of_truth (found_in vs (length s) (R t)) (λ b n. k x b n)) (length s - length t) (holds vs a))
-
--- ---- a step of depth d, which is not 0
-pub no-depth : (ed : Edition) (vs : List ℤ) (s : List ℕ) (at d : ℕ) → d ≡ 0 → Broken ≡ found ed vs s at d
-unfolding found_in read_expression fail
-no-depth ed vs s at d e = rw e refl
-
-module _ (ed : Edition) (vs : List ℤ) (s : List ℕ) (at d : ℕ) (deep : d ≡ 0 → ⊥) where
-  abbrev R : Reader Expression
-  R = read_expression ed (length vs) (d - 1)
-
-  unroll : read_expression ed (length vs) d ≡ (byte >>= λ c. read_form ed (length vs) R (form_of c))
-  unfolding read_expression
-  unroll = go d deep
-    where
-      go : (d : ℕ) → (d ≡ 0 → ⊥) → read_expression ed (length vs) d ≡ (byte >>= λ c. read_form ed (length vs) (read_expression ed (length vs) (d - 1)) (form_of c))
-      go zero h = absurd (h refl)
-      go (suc n) h = rw (sub-one (suc n)) refl
-
-  pub past : length s ≤ at → Broken ≡ found ed vs s at d
-  unfolding found_in ◌>>=◌ and_then
-  past h = sym (ap (λ r. found_in vs (length s) (r (drop at s))) unroll ∙ ap (λ o. found_in vs (length s) (and_then o (λ c. read_form ed (length vs) R (form_of c)))) (byte_past s at h))
-
-  module _ (here : at < length s) where
-    pub by_form : (f : Form) → form_of (get_or s at 0) ≡ f → form_at ed vs s R f (at + 1) ≡ found ed vs s at d
+    one-none : r (drop q s) ≡ broken → R (drop p s) ≡ broken
     unfolding ◌>>=◌ and_then
-    by_form f e = sym (
-        ap (λ r. found_in vs (length s) (r (drop at s))) unroll
-        ∙ ap (λ o. found_in vs (length s) (and_then o (λ c. read_form ed (length vs) R (form_of c)))) (byte_at s at here)
-        ∙ ap (λ f. form_at ed vs s R f (at + 1)) e)
+    one-none h = e ∙ rw h refl
 
-    pub step-unknown : form_of (get_or s at 0) ≡ unknown → Broken ≡ found ed vs s at d
-    unfolding found_in read_form fail
-    step-unknown e = by_form unknown e
+  module _ (mk : E → E → Expression) (made : E → E → F) (picks : (a b : E) → pick (mk a b) ≡ some (made a b)) (e : R (drop p s) ≡ ((r >>= (λ a. r >>= (λ b. give (mk a b)))) >>= (λ e. from (pick e))) (drop q s)) where
+    two-at : {x y : Result A Side} {m n : ℕ} (k : At f r s q x m) (l : At f r s m y n) {z : Result B Side} → z ≡ said (g (made k.value l.value)) → At g R s p z n
+    unfolding ◌>>=◌ and_then give from
+    two-at k l h = record { value = made k.value l.value; got = e ∙ rw (k.got, l.got, picks k.value l.value) refl; is = h; inside = l.inside }
 
-    pub step-true : form_of (get_or s at 0) ≡ a_true → ATruth true (at + 1) ≡ found ed vs s at d
-    unfolding found_in read_form give holds
-    step-true e = ap (λ n. ATruth true n) (sym (after-at s (at + 1) (omega arith))) ∙ by_form a_true e
+    two-left : r (drop q s) ≡ broken → R (drop p s) ≡ broken
+    unfolding ◌>>=◌ and_then
+    two-left h = e ∙ rw h refl
 
-    pub step-constant : form_of (get_or s at 0) ≡ a_constant → form_found_at ed vs s a_constant (at + 1) ≡ found ed vs s at d
-    unfolding read_form
-    step-constant e = by_form a_constant e
+    two-right : {x : Result A Side} {m : ℕ} → At f r s q x m → r (drop m s) ≡ broken → R (drop p s) ≡ broken
+    unfolding ◌>>=◌ and_then
+    two-right k h = e ∙ rw (k.got, h) refl
 
-    pub step-variable : form_of (get_or s at 0) ≡ a_variable → form_found_at ed vs s a_variable (at + 1) ≡ found ed vs s at d
-    unfolding read_form
-    step-variable e = by_form a_variable e
+-- ---- forms that are no number, and no truth
+pub data NoNumber : Form → Type 0 where
+  number_comparison : {o : Comparison} → NoNumber (a_comparison o)
+  number_connective : {o : Connective} → NoNumber (a_connective o)
+  number_opposite : NoNumber an_opposite
+  number_true : NoNumber a_true
+  number_unknown : NoNumber unknown
 
-    module _ (x l : Found) (l-is : l ≡ found ed vs s (at + 1) (d - 1)) where
-      pub step-negation : form_of (get_or s at 0) ≡ a_negation → x ≡ negated l → x ≡ found ed vs s at d
-      unfolding read_form read_as_number ◌>>=◌ found_in value_of
-      step-negation e q = q ∙ ap negated l-is ∙ sym (one_number vs s _ (λ a. a_number (negation a)) (λ a t. refl) (R (drop (at + 1) s))) ∙ by_form a_negation e
+pub data NoTruth : Form → Type 0 where
+  truth_constant : NoTruth a_constant
+  truth_variable : NoTruth a_variable
+  truth_operation : {o : Operation} → NoTruth (an_operation o)
+  truth_negation : NoTruth a_negation
+  truth_unknown : NoTruth unknown
 
-      pub step-opposite : form_of (get_or s at 0) ≡ an_opposite → x ≡ opposed l → x ≡ found ed vs s at d
-      unfolding read_form read_truth ◌>>=◌ found_in holds
-      step-opposite e q = q ∙ ap opposed l-is ∙ sym (one_truth vs s _ (λ a. a_truth (opposite a)) (λ a t. refl) (R (drop (at + 1) s))) ∙ by_form an_opposite e
+-- what is read and made, is not picked
+module _ {E F : Type 0} (pick : Expression → Option F) (mk : E → Expression) (miss : (a : E) → pick (mk a) ≡ none) where
+  missed : (o : Read E) → and_then (and_then o (λ a. give (mk a))) (λ e. from (pick e)) ≡ broken
+  unfolding and_then give from fail
+  missed broken = refl
+  missed (read a t) = rw (miss a) refl
 
-      module _ (n : ℕ) (r : Found) (n-is : n ≡ next_of l) (r-is : r ≡ found ed vs s n (d - 1)) where
-        right_is : r ≡ found ed vs s (next_of (found ed vs s (at + 1) (d - 1))) (d - 1)
-        right_is = r-is ∙ ap (λ m. found ed vs s m (d - 1)) (n-is ∙ ap next_of l-is)
+module _ {E F : Type 0} (pick : Expression → Option F) (mk : E → E → Expression) (miss : (a b : E) → pick (mk a b) ≡ none) (r : Reader E) where
+  missed-two : (o : Read E) → and_then (and_then o (λ a. r >>= (λ b. give (mk a b)))) (λ e. from (pick e)) ≡ broken
+  unfolding and_then ◌>>=◌
+  missed-two broken = refl
+  missed-two (read a t) = missed pick (mk a) (miss a) (r t)
 
-        pub step-operation : (o : Operation) → form_of (get_or s at 0) ≡ an_operation o → x ≡ operated o l r → x ≡ found ed vs s at d
-        unfolding read_form read_as_number ◌>>=◌ found_in value_of
-        step-operation o e q =
-            q ∙ ap₂ (operated o) l-is right_is
-            ∙ sym (two-numbers ed vs s R _ (λ a b. a_number (operate o a b)) (λ a b t. refl) (R (drop (at + 1) s)) (ends ed (length vs) (d - 1) s (at + 1)))
-            ∙ by_form (an_operation o) e
+module _ (ed : Edition) (v : ℕ) (R : Reader Expression) (l : List ℕ) where
+  no_number : {f : Form} → NoNumber f → read_as_number ed v (read_form ed v R f) l ≡ broken
+  unfolding read_as_number read_form ◌>>=◌ number_of_expression and_then give from fail
+  no_number (number_comparison {o}) = missed-two number_of_expression (λ a b. a_truth (compare o a b)) (λ a b. refl) (read_as_number ed v R) (read_as_number ed v R l)
+  no_number (number_connective {o}) = missed-two number_of_expression (λ a b. a_truth (connect o a b)) (λ a b. refl) (read_truth ed v R) (read_truth ed v R l)
+  no_number number_opposite = missed number_of_expression (λ a. a_truth (opposite a)) (λ a. refl) (read_truth ed v R l)
+  no_number number_true = refl
+  no_number number_unknown = refl
 
-        pub step-comparison : (o : Comparison) → form_of (get_or s at 0) ≡ a_comparison o → x ≡ related o l r → x ≡ found ed vs s at d
-        unfolding read_form read_as_number ◌>>=◌ found_in holds
-        step-comparison o e q =
-            q ∙ ap₂ (related o) l-is right_is
-            ∙ sym (two-numbers ed vs s R _ (λ a b. a_truth (compare o a b)) (λ a b t. refl) (R (drop (at + 1) s)) (ends ed (length vs) (d - 1) s (at + 1)))
-            ∙ by_form (a_comparison o) e
+  no_truth : {f : Form} → NoTruth f → read_truth ed v (read_form ed v R f) l ≡ broken
+  unfolding read_truth read_form read_variable_number ◌>>=◌ to_truth and_then guard give from fail
+  no_truth truth_constant = missed to_truth (λ z. a_number (constant z)) (λ z. refl) (int4 l)
+  no_truth truth_variable = guarded (byte l)
+    where
+      guarded : (o : Read ℕ) → and_then (and_then o (λ n. guard (ltb n v) (give (a_number (variable n))))) (λ e. from (to_truth e)) ≡ broken
+      guarded broken = refl
+      guarded (read n t) = which (ltb n v)
+        where
+          which : (b : Bool) → and_then (guard b (give (a_number (variable n))) t) (λ e. from (to_truth e)) ≡ broken
+          which true = refl
+          which false = refl
+  no_truth (truth_operation {o}) = missed-two to_truth (λ a b. a_number (operate o a b)) (λ a b. refl) (read_as_number ed v R) (read_as_number ed v R l)
+  no_truth truth_negation = missed to_truth (λ a. a_number (negation a)) (λ a. refl) (read_as_number ed v R l)
+  no_truth truth_unknown = refl
 
-        pub step-connective : (o : Connective) → form_of (get_or s at 0) ≡ a_connective o → x ≡ joined o l r → x ≡ found ed vs s at d
-        unfolding read_form read_truth ◌>>=◌ found_in holds
-        step-connective o e q =
-            q ∙ ap₂ (joined o) l-is right_is
-            ∙ sym (two-truths ed vs s R _ (λ a b. a_truth (connect o a b)) (λ a b t. refl) (R (drop (at + 1) s)) (ends ed (length vs) (d - 1) s (at + 1)))
-            ∙ by_form (a_connective o) e
+-- ---- a step of depth d
+module _ (ed : Edition) (vs : List ℤ) (s : List ℕ) (p d : ℕ) where
+  pub number-deep : d ≡ 0 → FindsNumber ed vs s p d None
+  unfolding read_as_number read_expression ◌>>=◌ and_then fail
+  number-deep e = finds_none (rw e refl)
+
+  pub truth-deep : d ≡ 0 → FindsTruth ed vs s p d None
+  unfolding read_truth read_expression ◌>>=◌ and_then fail
+  truth-deep e = finds_none (rw e refl)
+
+  module _ (deep : d ≡ 0 → ⊥) where
+    abbrev R : Reader Expression
+    R = read_expression ed (length vs) (d - 1)
+
+    unroll : read_expression ed (length vs) d ≡ (byte >>= λ c. read_form ed (length vs) R (form_of c))
+    unfolding read_expression
+    unroll = go d deep
+      where
+        go : (d : ℕ) → (d ≡ 0 → ⊥) → read_expression ed (length vs) d ≡ (byte >>= λ c. read_form ed (length vs) (read_expression ed (length vs) (d - 1)) (form_of c))
+        go zero h = absurd (h refl)
+        go (suc n) h = rw (sub-one (suc n)) refl
+
+    past : length s ≤ p → read_expression ed (length vs) d (drop p s) ≡ broken
+    unfolding ◌>>=◌ and_then
+    past h = ap (λ r. r (drop p s)) unroll ∙ ap (λ o. and_then o (λ c. read_form ed (length vs) R (form_of c))) (byte_past s p h)
+
+    pub number-past : length s ≤ p → FindsNumber ed vs s p d None
+    unfolding read_as_number ◌>>=◌ and_then
+    number-past h = finds_none (rw (past h) refl)
+
+    pub truth-past : length s ≤ p → FindsTruth ed vs s p d None
+    unfolding read_truth ◌>>=◌ and_then
+    truth-past h = finds_none (rw (past h) refl)
+
+    module _ (here : p < length s) where
+      by_form : {f : Form} → form_of (get_or s p 0) ≡ f → read_expression ed (length vs) d (drop p s) ≡ read_form ed (length vs) R f (drop (p + 1) s)
+      unfolding ◌>>=◌ and_then
+      by_form {f} e =
+          ap (λ r. r (drop p s)) unroll
+          ∙ ap (λ o. and_then o (λ c. read_form ed (length vs) R (form_of c))) (byte_at s p here)
+          ∙ ap (λ f. read_form ed (length vs) R f (drop (p + 1) s)) e
+
+      as-number : {f : Form} → form_of (get_or s p 0) ≡ f → number_reader ed vs d (drop p s) ≡ read_as_number ed (length vs) (read_form ed (length vs) R f) (drop (p + 1) s)
+      unfolding read_as_number ◌>>=◌
+      as-number e = ap (λ o. and_then o (λ e. from (number_of_expression e))) (by_form e)
+
+      as-truth : {f : Form} → form_of (get_or s p 0) ≡ f → truth_reader ed vs d (drop p s) ≡ read_truth ed (length vs) (read_form ed (length vs) R f) (drop (p + 1) s)
+      unfolding read_truth ◌>>=◌
+      as-truth e = ap (λ o. and_then o (λ e. from (to_truth e))) (by_form e)
+
+      pub step-constant : {o : _} → form_of (get_or s p 0) ≡ a_constant → FindsForm ed vs s a_constant (p + 1) o → FindsNumber ed vs s p d o
+      unfolding read_as_number read_form
+      step-constant e k = moved (as-number e) k
+
+      pub step-variable : {o : _} → form_of (get_or s p 0) ≡ a_variable → FindsForm ed vs s a_variable (p + 1) o → FindsNumber ed vs s p d o
+      unfolding read_as_number read_form
+      step-variable e k = moved (as-number e) k
+
+      pub step-true : form_of (get_or s p 0) ≡ a_true → FindsTruth ed vs s p d (Some (Ok true, p + 1))
+      unfolding read_truth read_form ◌>>=◌ and_then give from to_truth holds
+      step-true e = finds_at (record { value = always; got = as-truth e; is = refl; inside = omega arith })
+
+      -- ---- with operands, one level deeper
+      abbrev NumberNone : Type 0
+      NumberNone = FindsNumber ed vs s p d None
+
+      abbrev TruthNone : Type 0
+      TruthNone = FindsTruth ed vs s p d None
+
+      module _ (o : Operation) (form : form_of (get_or s p 0) ≡ an_operation o) where
+        pub step-operation : {x y : Result ℤ Side} {m n : ℕ} (k : NumberAt ed vs s (p + 1) (d - 1) x m) (l : NumberAt ed vs s m (d - 1) y n) {z : Result ℤ Side} →
+            z ≡ said (operate_values o (value_of vs k.value) (value_of vs l.value)) → NumberAt ed vs s p d z n
+        unfolding read_form ◌>>=◌ read_as_number read_truth number_of_expression value_of
+        step-operation k l h = two-at (value_of vs) (value_of vs) (number_reader ed vs (d - 1)) number_of_expression s p (number_reader ed vs d) (p + 1) (λ a b. a_number (operate o a b)) (operate o) (λ a b. refl) (as-number form) k l h
+
+        pub operation-left : number_reader ed vs (d - 1) (drop (p + 1) s) ≡ broken → NumberNone
+        unfolding read_form ◌>>=◌ read_as_number read_truth number_of_expression value_of
+        operation-left h = finds_none (two-left (value_of vs) (value_of vs) (number_reader ed vs (d - 1)) number_of_expression s p (number_reader ed vs d) (p + 1) (λ a b. a_number (operate o a b)) (operate o) (λ a b. refl) (as-number form) h)
+
+        pub operation-right : {x : Result ℤ Side} {m : ℕ} → NumberAt ed vs s (p + 1) (d - 1) x m → number_reader ed vs (d - 1) (drop m s) ≡ broken → NumberNone
+        unfolding read_form ◌>>=◌ read_as_number read_truth number_of_expression value_of
+        operation-right k h = finds_none (two-right (value_of vs) (value_of vs) (number_reader ed vs (d - 1)) number_of_expression s p (number_reader ed vs d) (p + 1) (λ a b. a_number (operate o a b)) (operate o) (λ a b. refl) (as-number form) k h)
+
+      module _ (o : Comparison) (form : form_of (get_or s p 0) ≡ a_comparison o) where
+        pub step-comparison : {x y : Result ℤ Side} {m n : ℕ} (k : NumberAt ed vs s (p + 1) (d - 1) x m) (l : NumberAt ed vs s m (d - 1) y n) {z : Result Bool Side} →
+            z ≡ said (compare_values o (value_of vs k.value) (value_of vs l.value)) → TruthAt ed vs s p d z n
+        unfolding read_form ◌>>=◌ read_as_number read_truth to_truth holds
+        step-comparison k l h = two-at (value_of vs) (holds vs) (number_reader ed vs (d - 1)) to_truth s p (truth_reader ed vs d) (p + 1) (λ a b. a_truth (compare o a b)) (compare o) (λ a b. refl) (as-truth form) k l h
+
+        pub comparison-left : number_reader ed vs (d - 1) (drop (p + 1) s) ≡ broken → TruthNone
+        unfolding read_form ◌>>=◌ read_as_number read_truth to_truth holds
+        comparison-left h = finds_none (two-left (value_of vs) (holds vs) (number_reader ed vs (d - 1)) to_truth s p (truth_reader ed vs d) (p + 1) (λ a b. a_truth (compare o a b)) (compare o) (λ a b. refl) (as-truth form) h)
+
+        pub comparison-right : {x : Result ℤ Side} {m : ℕ} → NumberAt ed vs s (p + 1) (d - 1) x m → number_reader ed vs (d - 1) (drop m s) ≡ broken → TruthNone
+        unfolding read_form ◌>>=◌ read_as_number read_truth to_truth holds
+        comparison-right k h = finds_none (two-right (value_of vs) (holds vs) (number_reader ed vs (d - 1)) to_truth s p (truth_reader ed vs d) (p + 1) (λ a b. a_truth (compare o a b)) (compare o) (λ a b. refl) (as-truth form) k h)
+
+      module _ (o : Connective) (form : form_of (get_or s p 0) ≡ a_connective o) where
+        pub step-connective : {x y : Result Bool Side} {m n : ℕ} (k : TruthAt ed vs s (p + 1) (d - 1) x m) (l : TruthAt ed vs s m (d - 1) y n) {z : Result Bool Side} →
+            z ≡ said (connect_values o (holds vs k.value) (holds vs l.value)) → TruthAt ed vs s p d z n
+        unfolding read_form ◌>>=◌ read_as_number read_truth to_truth holds
+        step-connective k l h = two-at (holds vs) (holds vs) (truth_reader ed vs (d - 1)) to_truth s p (truth_reader ed vs d) (p + 1) (λ a b. a_truth (connect o a b)) (connect o) (λ a b. refl) (as-truth form) k l h
+
+        pub connective-left : truth_reader ed vs (d - 1) (drop (p + 1) s) ≡ broken → TruthNone
+        unfolding read_form ◌>>=◌ read_as_number read_truth to_truth holds
+        connective-left h = finds_none (two-left (holds vs) (holds vs) (truth_reader ed vs (d - 1)) to_truth s p (truth_reader ed vs d) (p + 1) (λ a b. a_truth (connect o a b)) (connect o) (λ a b. refl) (as-truth form) h)
+
+        pub connective-right : {x : Result Bool Side} {m : ℕ} → TruthAt ed vs s (p + 1) (d - 1) x m → truth_reader ed vs (d - 1) (drop m s) ≡ broken → TruthNone
+        unfolding read_form ◌>>=◌ read_as_number read_truth to_truth holds
+        connective-right k h = finds_none (two-right (holds vs) (holds vs) (truth_reader ed vs (d - 1)) to_truth s p (truth_reader ed vs d) (p + 1) (λ a b. a_truth (connect o a b)) (connect o) (λ a b. refl) (as-truth form) k h)
+
+      module _ (form : form_of (get_or s p 0) ≡ a_negation) where
+        pub step-negation : {x : Result ℤ Side} {m : ℕ} (k : NumberAt ed vs s (p + 1) (d - 1) x m) {z : Result ℤ Side} → z ≡ said (negate_value (value_of vs k.value)) → NumberAt ed vs s p d z m
+        unfolding read_form ◌>>=◌ read_as_number read_truth number_of_expression value_of
+        step-negation k h = one-at (value_of vs) (value_of vs) (number_reader ed vs (d - 1)) number_of_expression s p (number_reader ed vs d) (p + 1) (λ a. a_number (negation a)) negation (λ a. refl) (as-number form) k h
+
+        pub negation-none : number_reader ed vs (d - 1) (drop (p + 1) s) ≡ broken → NumberNone
+        unfolding read_form ◌>>=◌ read_as_number read_truth number_of_expression value_of
+        negation-none h = finds_none (one-none (value_of vs) (value_of vs) (number_reader ed vs (d - 1)) number_of_expression s p (number_reader ed vs d) (p + 1) (λ a. a_number (negation a)) negation (λ a. refl) (as-number form) h)
+
+      module _ (form : form_of (get_or s p 0) ≡ an_opposite) where
+        pub step-opposite : {x : Result Bool Side} {m : ℕ} (k : TruthAt ed vs s (p + 1) (d - 1) x m) {z : Result Bool Side} → z ≡ said (oppose_value (holds vs k.value)) → TruthAt ed vs s p d z m
+        unfolding read_form ◌>>=◌ read_as_number read_truth to_truth holds
+        step-opposite k h = one-at (holds vs) (holds vs) (truth_reader ed vs (d - 1)) to_truth s p (truth_reader ed vs d) (p + 1) (λ a. a_truth (opposite a)) opposite (λ a. refl) (as-truth form) k h
+
+        pub opposite-none : truth_reader ed vs (d - 1) (drop (p + 1) s) ≡ broken → TruthNone
+        unfolding read_form ◌>>=◌ read_as_number read_truth to_truth holds
+        opposite-none h = finds_none (one-none (holds vs) (holds vs) (truth_reader ed vs (d - 1)) to_truth s p (truth_reader ed vs d) (p + 1) (λ a. a_truth (opposite a)) opposite (λ a. refl) (as-truth form) h)
+
+      -- ---- a form of the other sort, or none
+      pub other-number : (f : Form) → NoNumber f → form_of (get_or s p 0) ≡ f → NumberNone
+      unfolding read_as_number
+      other-number f h e = finds_none (as-number e ∙ no_number ed (length vs) R (drop (p + 1) s) h)
+
+      pub other-truth : (f : Form) → NoTruth f → form_of (get_or s p 0) ≡ f → TruthNone
+      unfolding read_truth
+      other-truth f h e = finds_none (as-truth e ∙ no_truth ed (length vs) R (drop (p + 1) s) h)

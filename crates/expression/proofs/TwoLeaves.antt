@@ -1,59 +1,25 @@
--- A form of two leaves is found, and so are two such comparisons joined.
-use mathlib.Core.Path.{◌≡◌, refl, sym, ap, ◌∙◌}
+-- A form of two leaves whose values are known.
+use mathlib.Core.Path.{◌≡◌, ap, ◌∙◌}
 use mathlib.Core.Bool.{Bool}
 use mathlib.Core.List.{List}
-use Prim.Native.Nat.{ℕ, ◌+◌, ◌<◌}
-use native.Mathlib.Omega.{arith}
+use Prim.Native.Nat.{ℕ, ◌+◌, ◌-◌, ◌<◌}
 use lib.IntN.{ℤ}
 use lib.ListN.{length, get_or}
+use Rattle.std.specs.Prelude.{Result, Ok}
 use Rattle.semantics.specs.Editions.{Edition}
-use Rattle.semantics.specs.Expressions.{Operation, Comparison, Connective, applied, compared, connected, result, then_value, operands, an_operation, a_comparison, a_connective, form_of}
-use Rattle.expression.specs.Evaluation.{number_at, found, next_of, LeafSays, related}
-use Rattle.expression.specs.declared.Found.{Found}
-use Rattle.expression.specs.declared.Found.TheVariants.{ANumber, NumberFault, ATruth, TruthFault, Broken}
+use Rattle.semantics.specs.Expressions.{Operation, Comparison, Connective, applied, compared, connected, result, value_of, holds, an_operation, a_comparison, a_connective, form_of}
+use Rattle.expression.specs.Evaluation.{said, NumberAt, TruthAt}
+use Rattle.expression.specs.declared.Side.{Side}
+use Rattle.expression.proofs.Operands.{then-ok, both-ok}
 use Rattle.expression.proofs.Steps.{step-operation, step-comparison, step-connective}
 
-no-number-broken : {f : Found} {z : ℤ} {n : ℕ} → f ≡ ANumber z n → f ≡ Broken → ⊥
-no-number-broken e h = let z : ◌≡◌ {A = ℕ} 0 1 = cc in omega arith
+module _ (ed : Edition) (vs : List ℤ) (s : List ℕ) (p d : ℕ) (deep : d ≡ 0 → ⊥) (here : p < length s) where
+  module _ {a b : ℤ} {m n : ℕ} where
+    pub two-compared : (o : Comparison) → form_of (get_or s p 0) ≡ a_comparison o → NumberAt ed vs s (p + 1) (d - 1) (Ok a) m → NumberAt ed vs s m (d - 1) (Ok b) n → {t : Bool} → t ≡ compared o a b → TruthAt ed vs s p d (Ok t) n
+    two-compared o e k l h = step-comparison ed vs s p d deep here o e k l (ap (λ t. Ok t) h ∙ both-ok (compared o) (value_of vs k.value) (value_of vs l.value) k.is l.is)
 
-pub no-truth-broken : {f : Found} {b : Bool} {n : ℕ} → f ≡ ATruth b n → f ≡ Broken → ⊥
-no-truth-broken e h = let z : ◌≡◌ {A = ℕ} 0 1 = cc in omega arith
+    pub two-operated : (o : Operation) → form_of (get_or s p 0) ≡ an_operation o → NumberAt ed vs s (p + 1) (d - 1) (Ok a) m → NumberAt ed vs s m (d - 1) (Ok b) n → {x : Result ℤ Side} → x ≡ said (result (applied o a b)) → NumberAt ed vs s p d x n
+    two-operated o e k l h = step-operation ed vs s p d deep here o e k l (h ∙ then-ok result _ (both-ok (applied o) (value_of vs k.value) (value_of vs l.value) k.is l.is))
 
--- a comparison that gives something has operands that do
-related-left : (c : Comparison) (l r : Found) → (related c l r ≡ Broken → ⊥) → l ≡ Broken → ⊥
-related-left c l r h e = h (ap (λ x. related c x r) e)
-
-related-right : (c : Comparison) (l r : Found) → (related c l r ≡ Broken → ⊥) → r ≡ Broken → ⊥
-related-right c (ANumber a m) r h e = h (ap (related c (ANumber a m)) e)
-related-right c (NumberFault u m) r h e = h (ap (related c (NumberFault u m)) e)
-related-right c (ATruth a m) r h e = h refl
-related-right c (TruthFault u m) r h e = h refl
-related-right c Broken r h e = h refl
-
-module _ (ed : Edition) (vs : List ℤ) (s : List ℕ) where
-  leaf-found : (p d : ℕ) → (d ≡ 0 → ⊥) → {f : Found} {z : ℤ} {n : ℕ} → LeafSays vs s p f → f ≡ ANumber z n → ANumber z n ≡ found ed vs s p d
-  leaf-found p d deep l e = sym e ∙ l.is ed d deep (no-number-broken e)
-
-  module _ (here : 0 < length s) {f g : Found} {a b : ℤ} {m n : ℕ} (l : LeafSays vs s 1 f) (l-is : f ≡ ANumber a m) (r : LeafSays vs s m g) (r-is : g ≡ ANumber b n) where
-    pub two-related : (o : Comparison) → form_of (get_or s 0 0) ≡ a_comparison o → ATruth (compared o a b) n ≡ found ed vs s 0 16
-    unfolding operands
-    two-related o e =
-        step-comparison ed vs s 0 16 (λ e. omega arith) here _ (ANumber a m) (leaf-found 1 15 (λ e. omega arith) l l-is) m (ANumber b n) refl (leaf-found m 15 (λ e. omega arith) r r-is) o e refl
-
-    pub two-operated : (o : Operation) → form_of (get_or s 0 0) ≡ an_operation o → number_at n (result (applied o a b)) ≡ found ed vs s 0 16
-    unfolding operands then_value
-    two-operated o e =
-        step-operation ed vs s 0 16 (λ e. omega arith) here _ (ANumber a m) (leaf-found 1 15 (λ e. omega arith) l l-is) m (ANumber b n) refl (leaf-found m 15 (λ e. omega arith) r r-is) o e refl
-
-  module _ (at : ℕ) (here : at < length s) (x l r : Found) (n : ℕ) (l-is : LeafSays vs s (at + 1) l) (n-is : n ≡ next_of l) (r-is : LeafSays vs s n r) where
-    pub related-at : (o : Comparison) → form_of (get_or s at 0) ≡ a_comparison o → x ≡ related o l r → (x ≡ Broken → ⊥) → x ≡ found ed vs s at 15
-    related-at o e q h =
-        let k : related o l r ≡ Broken → ⊥ = λ e. h (q ∙ e) in
-        let L = l-is.is ed 14 (λ e. omega arith) (related-left o l r k) in
-        let R = r-is.is ed 14 (λ e. omega arith) (related-right o l r k) in
-        step-comparison ed vs s at 15 (λ e. omega arith) here x l L n r n-is R o e q
-
-  module _ (here : 0 < length s) (a b : Bool) (m n : ℕ) (l : ATruth a m ≡ found ed vs s 1 15) (r : ATruth b n ≡ found ed vs s m 15) where
-    pub two-joined : (o : Connective) → form_of (get_or s 0 0) ≡ a_connective o → ATruth (connected o a b) n ≡ found ed vs s 0 16
-    unfolding operands
-    two-joined o e = step-connective ed vs s 0 16 (λ e. omega arith) here _ (ATruth a m) l m (ATruth b n) refl r o e refl
+  pub two-joined : {a b : Bool} {m n : ℕ} (o : Connective) → form_of (get_or s p 0) ≡ a_connective o → TruthAt ed vs s (p + 1) (d - 1) (Ok a) m → TruthAt ed vs s m (d - 1) (Ok b) n → {t : Bool} → t ≡ connected o a b → TruthAt ed vs s p d (Ok t) n
+  two-joined o e k l h = step-connective ed vs s p d deep here o e k l (ap (λ t. Ok t) h ∙ both-ok (connected o) (holds vs k.value) (holds vs l.value) k.is l.is)

@@ -1,89 +1,53 @@
 -- What the functions inside the crate find at a position, from what the readers of semantics read there.
-use Rattle.std.specs.Prelude.{◌≡◌, List, Bool, true, false, ℕ, ◌-◌, length, drop, ℤ}
-use Rattle.semantics.specs.Bytes.{Read, broken, read, fail}
+use Rattle.std.specs.Prelude.{◌≡◌, List, ℕ, ◌≤◌, length, drop, ℤ, Bool, Option, Some, None, Result, Ok, Err}
+use Rattle.semantics.specs.Bytes.{broken, read, Reader, fail}
 use Rattle.semantics.specs.Editions.{Edition}
-use Rattle.semantics.specs.Expressions.{Side, above, below, Value, ok, fault, operate_values, negate_value, compare_values, connect_values, oppose_value, value_of, holds}
-use Rattle.semantics.specs.Expressions.{Operation, Comparison, Connective, Form, Expression, a_number, a_truth, read_form, read_expression}
-use Rattle.expression.specs.PaperNumbers.{expression_number, paper_found}
-use Rattle.expression.specs.declared.Found.{Found}
-use Rattle.expression.specs.declared.Found.TheVariants.{ANumber, NumberFault, ATruth, TruthFault, Broken}
+use Rattle.semantics.specs.Expressions.{above, below, Value, ok, fault, Number, Truth, value_of, holds, Form, read_as_number, read_truth, read_form, read_expression}
+use Rattle.expression.specs.declared.Side.{Side}
+use Rattle.expression.specs.declared.Side.TheVariants.{Above, Below}
 
--- ---- the side of a fault
-abbrev pub is_above : Side → Bool
-is_above above = true
-is_above below = false
+-- a value, or the side of a fault, as the code has it
+abbrev pub said : {A : Type 0} → Value A → Result A Side
+said (ok a) = Ok a
+said (fault above) = Err Above
+said (fault below) = Err Below
 
-abbrev pub side_of : Bool → Side
-side_of true = above
-side_of false = below
+-- at position p of s the reader takes what has this value, and comes to position m
+pub record At {E A : Type 0} (f : E → Value A) (r : Reader E) (s : List ℕ) (p : ℕ) (x : Result A Side) (m : ℕ) : Type 0 where
+  pub value : E
+  pub got : r (drop p s) ≡ read value (drop m s)
+  pub is : x ≡ said (f value)
+  pub inside : m ≤ length s
 
--- ---- a value whose bytes end at a position
-abbrev pub number_at : ℕ → Value ℤ → Found
-number_at n (ok z) = ANumber z n
-number_at n (fault s) = NumberFault (is_above s) n
+-- what is found there: such a value and position, or None where the reader takes nothing
+pub data Finds {E A : Type 0} (f : E → Value A) (r : Reader E) (s : List ℕ) (p : ℕ) : Option (Result A Side × ℕ) → Type 0 where
+  finds_at : {x : Result A Side} {m : ℕ} → At f r s p x m → Finds f r s p (Some (x, m))
+  finds_none : r (drop p s) ≡ broken → Finds f r s p None
 
-abbrev pub truth_at : ℕ → Value Bool → Found
-truth_at n (ok b) = ATruth b n
-truth_at n (fault s) = TruthFault (is_above s) n
+-- the readers of a number and of a truth of at most this depth
+abbrev pub number_reader : Edition → List ℤ → ℕ → Reader Number
+number_reader ed vs depth = read_as_number ed (length vs) (read_expression ed (length vs) depth)
 
--- what was read of n bytes, by what it left
-unfoldable pub found_in : List ℤ → ℕ → Read Expression → Found
-found_in vs n broken = Broken
-found_in vs n (read (a_number e) t) = number_at (n - length t) (value_of vs e)
-found_in vs n (read (a_truth e) t) = truth_at (n - length t) (holds vs e)
+abbrev pub truth_reader : Edition → List ℤ → ℕ → Reader Truth
+truth_reader ed vs depth = read_truth ed (length vs) (read_expression ed (length vs) depth)
 
--- the expression of at most this depth at a position
-abbrev pub found : Edition → List ℤ → List ℕ → ℕ → ℕ → Found
-found ed vs s at depth = found_in vs (length s) (read_expression ed (length vs) depth (drop at s))
+abbrev pub NumberAt : Edition → List ℤ → List ℕ → ℕ → ℕ → Result ℤ Side → ℕ → Type 0
+NumberAt ed vs s p depth x m = At (value_of vs) (number_reader ed vs depth) s p x m
 
--- what is found of n bytes, with the papers' number of it: 12 broken, 203 a fault above, 204 one below, 0 a value
-pub record FoundSays (vs : List ℤ) (n : ℕ) (o : Read Expression) (r : Found) : Type 0 where
-  pub is : r ≡ found_in vs n o
-  pub number : paper_found r ≡ expression_number vs o
+abbrev pub TruthAt : Edition → List ℤ → List ℕ → ℕ → ℕ → Result Bool Side → ℕ → Type 0
+TruthAt ed vs s p depth x m = At (holds vs) (truth_reader ed vs depth) s p x m
 
-abbrev pub next_of : Found → ℕ
-next_of (ANumber z n) = n
-next_of (NumberFault u n) = n
-next_of (ATruth b n) = n
-next_of (TruthFault u n) = n
-next_of Broken = 0xffff_ffff_ffff_ffff
+abbrev pub FindsNumber : Edition → List ℤ → List ℕ → ℕ → ℕ → Option (Result ℤ Side × ℕ) → Type 0
+FindsNumber ed vs s p depth o = Finds (value_of vs) (number_reader ed vs depth) s p o
 
--- what is made of a value that was found and of the position after it; broken for another sort
-abbrev pub of_number : Found → (Value ℤ → ℕ → Found) → Found
-of_number (ANumber z n) k = k (ok z) n
-of_number (NumberFault u n) k = k (fault (side_of u)) n
-of_number (ATruth b n) k = Broken
-of_number (TruthFault u n) k = Broken
-of_number Broken k = Broken
+abbrev pub FindsTruth : Edition → List ℤ → List ℕ → ℕ → ℕ → Option (Result Bool Side × ℕ) → Type 0
+FindsTruth ed vs s p depth o = Finds (holds vs) (truth_reader ed vs depth) s p o
 
-abbrev pub of_truth : Found → (Value Bool → ℕ → Found) → Found
-of_truth (ANumber z n) k = Broken
-of_truth (NumberFault u n) k = Broken
-of_truth (ATruth b n) k = k (ok b) n
-of_truth (TruthFault u n) k = k (fault (side_of u)) n
-of_truth Broken k = Broken
+-- ---- the forms without operands, at the position after the code
+abbrev pub FindsForm : Edition → List ℤ → List ℕ → Form → ℕ → Option (Result ℤ Side × ℕ) → Type 0
+FindsForm ed vs s f p o = Finds (value_of vs) (read_as_number ed (length vs) (read_form ed (length vs) fail f)) s p o
 
--- ---- the forms without operands
--- at the position after the code
-abbrev pub form_found_at : Edition → List ℤ → List ℕ → Form → ℕ → Found
-form_found_at ed vs s f p = found_in vs (length s) (read_form ed (length vs) fail f (drop p s))
-
--- a leaf, if one is given, is found whatever depth is left, but none; nothing is said of other bytes
-pub record LeafSays (vs : List ℤ) (s : List ℕ) (at : ℕ) (r : Found) : Type 0 where
-  pub is : (ed : Edition) (depth : ℕ) → (depth ≡ 0 → ⊥) → (r ≡ Broken → ⊥) → r ≡ found ed vs s at depth
-
--- ---- the forms, from what their operands gave
-abbrev pub operated : Operation → Found → Found → Found
-operated o l r = of_number l (λ a m. of_number r (λ b n. number_at n (operate_values o a b)))
-
-abbrev pub related : Comparison → Found → Found → Found
-related c l r = of_number l (λ a m. of_number r (λ b n. truth_at n (compare_values c a b)))
-
-abbrev pub joined : Connective → Found → Found → Found
-joined c l r = of_truth l (λ a m. of_truth r (λ b n. truth_at n (connect_values c a b)))
-
-abbrev pub negated : Found → Found
-negated f = of_number f (λ a n. number_at n (negate_value a))
-
-abbrev pub opposed : Found → Found
-opposed f = of_truth f (λ a n. truth_at n (oppose_value a))
+-- a value that is no fault, and the position after it
+abbrev pub known : {A : Type 0} → Option (A × ℕ) → Option (Result A Side × ℕ)
+known None = None
+known (Some (z, n)) = Some (Ok z, n)

@@ -1,14 +1,12 @@
 -- The papers' number and value for each case of the enums that this crate answers with.
 -- "Every result must lie in −2147483648..2147483647, or evaluation faults": 203 for a fault above, 204 for one below; 12 for bytes that 12 turns away; 0 for a value.
-use Rattle.std.specs.Prelude.{Bool, true, false, List, ℕ, ℤ}
+use Rattle.std.specs.Prelude as answers
+use Rattle.std.specs.Prelude.{ℕ, Result, Ok, Err}
 use Rattle.std.proofs.Math.Option.{Option, none, some}
-use Rattle.semantics.specs.Bytes.{Read, broken, read}
-use Rattle.semantics.specs.Expressions.{Value, ok, fault, value_of, holds, Expression, a_number, a_truth}
+use Rattle.semantics.specs.Expressions.{Value, ok, fault}
 use Rattle.semantics.specs.Run.{fault_answer}
-use Rattle.expression.specs.declared.Number.{Number}
-use Rattle.expression.specs.declared.Number.TheVariants as Numbers
-use Rattle.expression.specs.declared.Truth.{Truth}
-use Rattle.expression.specs.declared.Truth.TheVariants as Truths
+use Rattle.expression.specs.declared.Side.{Side}
+use Rattle.expression.specs.declared.Side.TheVariants.{Above, Below}
 use Rattle.expression.specs.declared.Operation.{Operation}
 use Rattle.expression.specs.declared.Operation.TheVariants.{Sum, Difference, Product}
 use Rattle.expression.specs.declared.Comparison.{Comparison}
@@ -17,8 +15,6 @@ use Rattle.expression.specs.declared.Connective.{Connective}
 use Rattle.expression.specs.declared.Connective.TheVariants.{Both, Either}
 use Rattle.expression.specs.declared.Form.{Form}
 use Rattle.expression.specs.declared.Form.TheVariants as Forms
-use Rattle.expression.specs.declared.Found.{Found}
-use Rattle.expression.specs.declared.Found.TheVariants.{ANumber, NumberFault, ATruth, TruthFault, Broken}
 
 -- ---- of what was read: none where 12 turns the bytes away
 unfoldable pub value_number : {A : Type 0} → Value A → ℕ
@@ -37,52 +33,18 @@ unfoldable pub evaluation_value : {E A : Type 0} → (E → Value A) → Option 
 evaluation_value f none = none
 evaluation_value f (some e) = value_given (f e)
 
-unfoldable pub expression_number : List ℤ → Read Expression → ℕ
-expression_number vs broken = 12
-expression_number vs (read (a_number e) t) = value_number (value_of vs e)
-expression_number vs (read (a_truth e) t) = value_number (holds vs e)
-
 -- ---- of the enums
--- a number's value
-unfoldable pub paper_number : Number → ℕ
-paper_number (Numbers.Is z) = 0
-paper_number Numbers.Above = 203
-paper_number Numbers.Below = 204
-paper_number Numbers.Malformed = 12
+-- an answer
+unfoldable pub paper_number : {A : Type 0} → answers.Option (Result A Side) → ℕ
+paper_number (answers.Some (Ok a)) = 0
+paper_number (answers.Some (Err Above)) = 203
+paper_number (answers.Some (Err Below)) = 204
+paper_number answers.None = 12
 
-unfoldable pub paper_value : Number → Option ℤ
-paper_value (Numbers.Is z) = some z
-paper_value Numbers.Above = none
-paper_value Numbers.Below = none
-paper_value Numbers.Malformed = none
-
--- a truth
-unfoldable pub paper_truth_number : Truth → ℕ
-paper_truth_number Truths.Yes = 0
-paper_truth_number Truths.No = 0
-paper_truth_number Truths.Above = 203
-paper_truth_number Truths.Below = 204
-paper_truth_number Truths.Malformed = 12
-
-unfoldable pub paper_truth : Truth → Option Bool
-paper_truth Truths.Yes = some true
-paper_truth Truths.No = some false
-paper_truth Truths.Above = none
-paper_truth Truths.Below = none
-paper_truth Truths.Malformed = none
-
--- the number of a fault: true where it lies above its range, false below
-unfoldable pub paper_fault : Bool → ℕ
-paper_fault true = 203
-paper_fault false = 204
-
--- what stands at a position
-unfoldable pub paper_found : Found → ℕ
-paper_found (ANumber z n) = 0
-paper_found (NumberFault above n) = paper_fault above
-paper_found (ATruth b n) = 0
-paper_found (TruthFault above n) = paper_fault above
-paper_found Broken = 12
+unfoldable pub paper_value : {A : Type 0} → answers.Option (Result A Side) → Option A
+paper_value (answers.Some (Ok a)) = some a
+paper_value (answers.Some (Err u)) = none
+paper_value answers.None = none
 
 -- the form that a first byte says, by its code; a byte that is no code has none, and 12 turns it away
 unfoldable pub paper_operation : Operation → ℕ

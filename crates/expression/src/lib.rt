@@ -1,46 +1,25 @@
 // Numbers and truths: judged from their bytes (condition 12) and evaluated.
 #![tactic(auto)]
 
-ghost use Rattle.std.specs.Prelude.{◌≡◌, List, ◌+◌, ◌-◌, ◌≤◌, length, drop, ℤ, neg_ℤ};
-ghost use Rattle.semantics.specs.Bytes.{be4, signed as signed_of, is_some, read, nat4};
+ghost use Rattle.std.specs.Prelude.{◌≡◌, List, ◌≤◌, length, ℤ, neg_ℤ, Bool, ◌-◌, Ok, Some};
+ghost use Rattle.semantics.specs.Bytes.{is_some};
 ghost use Rattle.semantics.specs.Editions.{Edition};
-ghost use Rattle.semantics.specs.Expressions.{ok, fault, applied, compared, connected, result as in_range};
-ghost use Rattle.semantics.specs.Expressions.{a_constant, a_variable, depth_limit, read_expression, number_in, truth_in};
+ghost use Rattle.semantics.specs.Expressions.{Value, applied, compared, connected, result as in_range};
+ghost use Rattle.semantics.specs.Expressions.{operate_values, negate_value, compare_values, connect_values, oppose_value};
+ghost use Rattle.semantics.specs.Expressions.{a_constant, a_variable, depth_limit, number_in, truth_in};
 ghost use Rattle.semantics.specs.Sections.{variable_limit};
-ghost use Rattle.expression.specs.Answers.{number_of, truth_of, truth_answer, NumberSays, TruthSays};
-ghost use Rattle.expression.specs.Evaluation.{side_of, found, FoundSays, LeafSays, number_at, next_of, form_found_at};
-ghost use Rattle.expression.specs.Evaluation.{operated, related, joined, negated, opposed};
+ghost use Rattle.expression.specs.Answers.{number_answer, truth_answer, NumberSays, TruthSays};
+ghost use Rattle.expression.specs.Evaluation.{said, known, FindsNumber, FindsTruth, FindsForm, NumberAt, TruthAt};
 ghost use Rattle.expression.specs.Forms.{operation_is, comparison_is, connective_is, FormSays};
 
 // the fewest bytes of a form of two leaves: its code and two variables
 const TWO_LEAVES: usize = 5;
 
-// A number's value, or the side on which a result lies outside its range; malformed where condition 12 turns the bytes away.
-#[derive(Clone, Copy)]
-pub enum Number {
-    Is(i32),
+// A result that does not lie in its range lies above or below it.
+#[derive(Clone, Copy, PartialEq, Eq)]
+pub enum Side {
     Above,
     Below,
-    Malformed,
-}
-
-#[derive(Clone, Copy)]
-pub enum Truth {
-    Yes,
-    No,
-    Above,
-    Below,
-    Malformed,
-}
-
-// What stands at a position, and the position after it. A fault says whether the result lies above its range.
-#[derive(Clone, Copy)]
-enum Found {
-    ANumber(i32, usize),
-    NumberFault(bool, usize),
-    ATruth(bool, usize),
-    TruthFault(bool, usize),
-    Broken,
 }
 
 // The forms of two operands.
@@ -128,37 +107,28 @@ fn truth_form(code: u8) -> Form
     }
 }
 
-// The value of the bytes, which are one whole number.
-pub fn number_value(s: &[u8], vars: &[i32]) -> Number
+// The value of the bytes, or the side on which a result lies; None where condition 12 turns them away. A leaf and an operation on two
+// leaves take no recursion.
+pub fn number_value(s: &[u8], vars: &[i32]) -> Option<Result<i32, Side>>
     ensures { (ed : Edition) → NumberSays vars.now (number_in ed (length vars.now) s.now) result }
 {
-    match whole(s, vars) {
-        Found::ANumber(z, n) => {
-            if n == s.len() {
-                Number::Is(z)
-            } else {
-                Number::Malformed
-            }
-        }
-        Found::NumberFault(above, n) => {
-            if n == s.len() {
-                number_side(above)
-            } else {
-                Number::Malformed
-            }
-        }
-        _ => Number::Malformed,
+    if let Some(z) = single(s, vars) {
+        return Some(Ok(z));
     }
+    if let Some(value) = operating(s, vars) {
+        return Some(value);
+    }
+    let (value, n) = number(s, vars, 0, paper::DEPTH)?;
+    if n == s.len() { Some(value) } else { None }
 }
 
-// The value of the bytes, which are one whole truth. Most are a comparison of two leaves, or two of them joined: these take no recursion.
-pub fn truth_value(s: &[u8], vars: &[i32]) -> Truth
+// The same of a truth. Most are a comparison of two leaves, or two of them joined: these take no recursion.
+pub fn truth_value(s: &[u8], vars: &[i32]) -> Option<Result<bool, Side>>
     ensures { (ed : Edition) → TruthSays vars.now (truth_in ed (length vars.now) s.now) result }
 {
     match comparing(s, vars) {
-        Truth::Yes => Truth::Yes,
-        Truth::No => Truth::No,
-        _ => no_comparison(s, vars),
+        Some(b) => Some(Ok(b)),
+        None => no_comparison(s, vars),
     }
 }
 
@@ -168,10 +138,7 @@ pub fn number_reads(s: &[u8], variables: usize) -> bool
     ensures { (ed : Edition) → result ≡ is_some (number_in ed variables s.now) }
 {
     let zeros = [0i32; paper::VARIABLES];
-    match number_value(s, &zeros[..variables]) {
-        Number::Malformed => false,
-        _ => true,
-    }
+    number_value(s, &zeros[..variables]).is_some()
 }
 
 // Condition 12 of a truth.
@@ -180,294 +147,244 @@ pub fn truth_reads(s: &[u8], variables: usize) -> bool
     ensures { (ed : Edition) → result ≡ is_some (truth_in ed variables s.now) }
 {
     let zeros = [0i32; paper::VARIABLES];
-    match truth_value(s, &zeros[..variables]) {
-        Truth::Malformed => false,
-        _ => true,
-    }
+    truth_value(s, &zeros[..variables]).is_some()
 }
 
-// A comparison of two leaves; malformed for any other bytes. It does not go through `compared_at`, so that LLVM inlines it. Its length is
-// tested at once, which spares a test at the first leaf.
-fn comparing(s: &[u8], vars: &[i32]) -> Truth
-    ensures { (ed : Edition) → (result ≡ Truth.Malformed → ⊥) → result ≡ truth_answer vars.now (truth_in ed (length vars.now) s.now) }
+// A leaf alone; None for any other bytes.
+fn single(s: &[u8], vars: &[i32]) -> Option<i32>
+    ensures { (ed : Edition) (z : ℤ) → result ≡ Some z → Some (Ok z) ≡ number_answer vars.now (number_in ed (length vars.now) s.now) }
+{
+    let (z, n) = leaf(s, vars, 0)?;
+    if n == s.len() { Some(z) } else { None }
+}
+
+// An operation on two leaves; None for any other bytes.
+fn operating(s: &[u8], vars: &[i32]) -> Option<Result<i32, Side>>
+    ensures { (ed : Edition) (v : _) → result ≡ Some v → Some v ≡ number_answer vars.now (number_in ed (length vars.now) s.now) }
 {
     if s.len() < TWO_LEAVES {
-        return Truth::Malformed;
+        return None;
+    }
+    let Form::Operation(o) = form_of(s[0]) else {
+        return None;
+    };
+    let (a, m) = leaf(s, vars, 1)?;
+    let (b, n) = leaf(s, vars, m)?;
+    if n == s.len() {
+        Some(arithmetic(o, a, b))
+    } else {
+        None
+    }
+}
+
+// A comparison of two leaves; None for any other bytes. It does not go through `compared_at`, so that LLVM inlines it. Its length is
+// tested at once, which spares a test at the first leaf.
+fn comparing(s: &[u8], vars: &[i32]) -> Option<bool>
+    ensures { (ed : Edition) (b : Bool) → result ≡ Some b → Some (Ok b) ≡ truth_answer vars.now (truth_in ed (length vars.now) s.now) }
+{
+    if s.len() < TWO_LEAVES {
+        return None;
     }
     let Form::Comparison(o) = form_of(s[0]) else {
-        return Truth::Malformed;
+        return None;
     };
-    let Found::ANumber(a, m) = leaf(s, vars, 1) else {
-        return Truth::Malformed;
-    };
-    let Found::ANumber(b, n) = leaf(s, vars, m) else {
-        return Truth::Malformed;
-    };
-    if n != s.len() {
-        return Truth::Malformed;
+    let (a, m) = leaf(s, vars, 1)?;
+    let (b, n) = leaf(s, vars, m)?;
+    if n == s.len() {
+        Some(compare(o, a, b))
+    } else {
+        None
     }
-    plain_truth(compare(o, a, b))
 }
 
-// Two comparisons of leaves, joined; malformed for any other bytes.
-fn joining(s: &[u8], vars: &[i32]) -> Truth
-    ensures { (ed : Edition) → (result ≡ Truth.Malformed → ⊥) → result ≡ truth_answer vars.now (truth_in ed (length vars.now) s.now) }
+// Two comparisons of leaves, joined; None for any other bytes.
+fn joining(s: &[u8], vars: &[i32]) -> Option<bool>
+    ensures { (ed : Edition) (b : Bool) → result ≡ Some b → Some (Ok b) ≡ truth_answer vars.now (truth_in ed (length vars.now) s.now) }
 {
     if s.len() == 0 {
-        return Truth::Malformed;
+        return None;
     }
     let Form::Connective(o) = form_of(s[0]) else {
-        return Truth::Malformed;
+        return None;
     };
-    let Found::ATruth(a, m) = compared_at(s, vars, 1) else {
-        return Truth::Malformed;
-    };
-    let Found::ATruth(b, n) = compared_at(s, vars, m) else {
-        return Truth::Malformed;
-    };
-    if n != s.len() {
-        return Truth::Malformed;
+    let (a, m) = compared_at(s, vars, 1)?;
+    let (b, n) = compared_at(s, vars, m)?;
+    if n == s.len() {
+        Some(connect(o, a, b))
+    } else {
+        None
     }
-    plain_truth(connect(o, a, b))
 }
 
-// A comparison of two leaves at a position; broken for any other bytes.
-fn compared_at(s: &[u8], vars: &[i32], at: usize) -> Found
-    ensures { (ed : Edition) → (result ≡ Found.Broken → ⊥) → result ≡ found ed vars.now s.now at (depth_limit - 1) }
+// A comparison of two leaves at a position, and the position after it; None for any other bytes.
+fn compared_at(s: &[u8], vars: &[i32], at: usize) -> Option<(bool, usize)>
+    ensures { (ed : Edition) (b : Bool) (n : _) → result ≡ Some (b, n) → TruthAt ed vars.now s.now at (depth_limit - 1) (Ok b) n }
 {
     if s.len() <= at {
-        return Found::Broken;
+        return None;
     }
     let Form::Comparison(o) = form_of(s[at]) else {
-        return Found::Broken;
+        return None;
     };
-    let l = leaf(s, vars, at + 1);
-    relate(o, l, leaf(s, vars, next_of(l)))
+    let (a, m) = leaf(s, vars, at + 1)?;
+    let (b, n) = leaf(s, vars, m)?;
+    Some((compare(o, a, b), n))
 }
 
 // A truth of any form: where it is no comparison of two leaves, `truth_value` asks here.
-fn no_comparison(s: &[u8], vars: &[i32]) -> Truth
+fn no_comparison(s: &[u8], vars: &[i32]) -> Option<Result<bool, Side>>
     ensures { (ed : Edition) → TruthSays vars.now (truth_in ed (length vars.now) s.now) result }
 {
-    match joining(s, vars) {
-        Truth::Yes => {
-            return Truth::Yes;
-        }
-        Truth::No => {
-            return Truth::No;
-        }
-        _ => {}
+    if let Some(b) = joining(s, vars) {
+        return Some(Ok(b));
     }
-    match eval(s, vars, 0, paper::DEPTH) {
-        Found::ATruth(b, n) => {
-            if n == s.len() {
-                plain_truth(b)
-            } else {
-                Truth::Malformed
-            }
-        }
-        Found::TruthFault(above, n) => {
-            if n == s.len() {
-                truth_side(above)
-            } else {
-                Truth::Malformed
-            }
-        }
-        _ => Truth::Malformed,
-    }
+    let (value, n) = truth(s, vars, 0, paper::DEPTH)?;
+    if n == s.len() { Some(value) } else { None }
 }
 
-// What stands at the front of the bytes. A leaf and an operation on two leaves take no recursion.
-fn whole(s: &[u8], vars: &[i32]) -> Found
-    ensures { (ed : Edition) → FoundSays vars.now (length s.now) (read_expression ed (length vars.now) depth_limit s.now) result }
-{
-    if s.len() == 0 {
-        return Found::Broken;
-    }
-    match form_of(s[0]) {
-        Form::Constant => constant(s, 1),
-        Form::Variable => variable(s, vars, 1),
-        Form::Operation(o) => {
-            let Found::ANumber(a, m) = leaf(s, vars, 1) else {
-                return eval(s, vars, 0, paper::DEPTH);
-            };
-            let Found::ANumber(b, n) = leaf(s, vars, m) else {
-                return eval(s, vars, 0, paper::DEPTH);
-            };
-            arithmetic(o, a, b, n)
-        }
-        _ => eval(s, vars, 0, paper::DEPTH),
-    }
-}
-
-// A constant or a variable at a position; broken where there is none.
-fn leaf(s: &[u8], vars: &[i32], at: usize) -> Found
-    ensures { LeafSays vars.now s.now at result }
+// A constant or a variable at a position, and the position after it; None where there is none.
+fn leaf(s: &[u8], vars: &[i32], at: usize) -> Option<(i32, usize)>
+    ensures { (z : ℤ) (n : _) → result ≡ Some (z, n) → (ed : Edition) (depth : _) → (depth ≡ 0 → ⊥) → NumberAt ed vars.now s.now at depth (Ok z) n }
 {
     if s.len() <= at {
-        return Found::Broken;
+        return None;
     }
     match form_of(s[at]) {
         Form::Constant => constant(s, at + 1),
         Form::Variable => variable(s, vars, at + 1),
-        _ => Found::Broken,
+        _ => None,
     }
 }
 
-// What stands at a position, of at most this depth. Both operands are evaluated, whatever the first one gives.
-fn eval(s: &[u8], vars: &[i32], at: usize, depth: usize) -> Found
-    ensures { (ed : Edition) → FoundSays vars.now (length s.now) (read_expression ed (length vars.now) depth (drop at s.now)) result }
+// The number at a position, of at most this depth, and the position after it. What an operand faults with does not end the reading: the
+// other one may be no number at all.
+fn number(s: &[u8], vars: &[i32], at: usize, depth: usize) -> Option<(Result<i32, Side>, usize)>
+    ensures { (ed : Edition) → FindsNumber ed vars.now s.now at depth result }
 {
     if depth == 0 {
-        return Found::Broken;
+        return None;
     }
     if s.len() <= at {
-        return Found::Broken;
+        return None;
     }
     let next = at + 1;
     let left = depth - 1;
     match form_of(s[at]) {
-        Form::Constant => constant(s, next),
-        Form::Variable => variable(s, vars, next),
+        Form::Constant => unfaulted(constant(s, next)),
+        Form::Variable => unfaulted(variable(s, vars, next)),
         Form::Operation(o) => {
-            let l = eval(s, vars, next, left);
-            let r = eval(s, vars, next_of(l), left);
-            operate(o, l, r)
+            let (l, m) = number(s, vars, next, left)?;
+            let (r, n) = number(s, vars, m, left)?;
+            Some((operate(o, l, r), n))
         }
-        Form::Negation => negate(eval(s, vars, next, left)),
+        Form::Negation => {
+            let (a, n) = number(s, vars, next, left)?;
+            Some((negate(a), n))
+        }
+        _ => None,
+    }
+}
+
+// The same of a truth.
+fn truth(s: &[u8], vars: &[i32], at: usize, depth: usize) -> Option<(Result<bool, Side>, usize)>
+    ensures { (ed : Edition) → FindsTruth ed vars.now s.now at depth result }
+{
+    if depth == 0 {
+        return None;
+    }
+    if s.len() <= at {
+        return None;
+    }
+    let next = at + 1;
+    let left = depth - 1;
+    match form_of(s[at]) {
         Form::Comparison(o) => {
-            let l = eval(s, vars, next, left);
-            let r = eval(s, vars, next_of(l), left);
-            relate(o, l, r)
+            let (l, m) = number(s, vars, next, left)?;
+            let (r, n) = number(s, vars, m, left)?;
+            Some((relate(o, l, r), n))
         }
         Form::Connective(o) => {
-            let l = eval(s, vars, next, left);
-            let r = eval(s, vars, next_of(l), left);
-            join(o, l, r)
+            let (l, m) = truth(s, vars, next, left)?;
+            let (r, n) = truth(s, vars, m, left)?;
+            Some((join(o, l, r), n))
         }
-        Form::Opposite => oppose(eval(s, vars, next, left)),
-        Form::True => Found::ATruth(true, next),
-        Form::Unknown => Found::Broken,
+        Form::Opposite => {
+            let (a, n) = truth(s, vars, next, left)?;
+            Some((oppose(a), n))
+        }
+        Form::True => Some((Ok(true), next)),
+        _ => None,
     }
 }
 
-// Where the bytes after the expression begin.
-fn next_of(f: Found) -> usize
-    ensures { result ≡ next_of f }
+// A leaf's value, which does not fault.
+fn unfaulted(leaf: Option<(i32, usize)>) -> Option<(Result<i32, Side>, usize)>
+    ensures { result ≡ known leaf }
 {
-    match f {
-        Found::ANumber(_, n) => n,
-        Found::NumberFault(_, n) => n,
-        Found::ATruth(_, n) => n,
-        Found::TruthFault(_, n) => n,
-        Found::Broken => 0xffff_ffff_ffff_ffff,
-    }
+    let (z, n) = leaf?;
+    Some((Ok(z), n))
 }
 
-// The forms, from what their operands gave.
-fn operate(o: Operation, l: Found, r: Found) -> Found
-    ensures { result ≡ operated (operation_is o) l r }
+// The forms, on the values of their operands: the left operand's fault comes first.
+fn operate(o: Operation, l: Result<i32, Side>, r: Result<i32, Side>) -> Result<i32, Side>
+    ensures { (a b : Value ℤ) → l ≡ said a → r ≡ said b → result ≡ said (operate_values (operation_is o) a b) }
 {
-    match l {
-        Found::ANumber(a, _) => match r {
-            Found::ANumber(b, n) => arithmetic(o, a, b, n),
-            Found::NumberFault(above, n) => Found::NumberFault(above, n),
-            _ => Found::Broken,
-        },
-        Found::NumberFault(above, _) => match r {
-            Found::ANumber(_, n) => Found::NumberFault(above, n),
-            Found::NumberFault(_, n) => Found::NumberFault(above, n),
-            _ => Found::Broken,
-        },
-        _ => Found::Broken,
-    }
+    arithmetic(o, l?, r?)
 }
 
-fn relate(o: Comparison, l: Found, r: Found) -> Found
-    ensures { result ≡ related (comparison_is o) l r }
+fn relate(o: Comparison, l: Result<i32, Side>, r: Result<i32, Side>) -> Result<bool, Side>
+    ensures { (a b : Value ℤ) → l ≡ said a → r ≡ said b → result ≡ said (compare_values (comparison_is o) a b) }
 {
-    match l {
-        Found::ANumber(a, _) => match r {
-            Found::ANumber(b, n) => Found::ATruth(compare(o, a, b), n),
-            Found::NumberFault(above, n) => Found::TruthFault(above, n),
-            _ => Found::Broken,
-        },
-        Found::NumberFault(above, _) => match r {
-            Found::ANumber(_, n) => Found::TruthFault(above, n),
-            Found::NumberFault(_, n) => Found::TruthFault(above, n),
-            _ => Found::Broken,
-        },
-        _ => Found::Broken,
-    }
+    Ok(compare(o, l?, r?))
 }
 
-fn join(o: Connective, l: Found, r: Found) -> Found
-    ensures { result ≡ joined (connective_is o) l r }
+fn join(o: Connective, l: Result<bool, Side>, r: Result<bool, Side>) -> Result<bool, Side>
+    ensures { (a b : Value Bool) → l ≡ said a → r ≡ said b → result ≡ said (connect_values (connective_is o) a b) }
 {
-    match l {
-        Found::ATruth(a, _) => match r {
-            Found::ATruth(b, n) => Found::ATruth(connect(o, a, b), n),
-            Found::TruthFault(above, n) => Found::TruthFault(above, n),
-            _ => Found::Broken,
-        },
-        Found::TruthFault(above, _) => match r {
-            Found::ATruth(_, n) => Found::TruthFault(above, n),
-            Found::TruthFault(_, n) => Found::TruthFault(above, n),
-            _ => Found::Broken,
-        },
-        _ => Found::Broken,
-    }
+    Ok(connect(o, l?, r?))
 }
 
-fn negate(f: Found) -> Found
-    ensures { result ≡ negated f }
+fn negate(z: Result<i32, Side>) -> Result<i32, Side>
+    ensures { (a : Value ℤ) → z ≡ said a → result ≡ said (negate_value a) }
 {
-    match f {
-        Found::ANumber(a, n) => negative(a, n),
-        Found::NumberFault(above, n) => Found::NumberFault(above, n),
-        _ => Found::Broken,
-    }
+    negative(z?)
 }
 
-fn oppose(f: Found) -> Found
-    ensures { result ≡ opposed f }
+fn oppose(b: Result<bool, Side>) -> Result<bool, Side>
+    ensures { (a : Value Bool) → b ≡ said a → result ≡ said (oppose_value a) }
 {
-    match f {
-        Found::ATruth(b, n) => Found::ATruth(!b, n),
-        Found::TruthFault(above, n) => Found::TruthFault(above, n),
-        _ => Found::Broken,
-    }
+    Ok(!b?)
 }
 
-// The operations on values. A result is worked out in 64 bits and must lie in 32.
-fn arithmetic(o: Operation, a: i32, b: i32, next: usize) -> Found
-    ensures { result ≡ number_at next (in_range (applied (operation_is o) a b)) }
+// The operations on numbers. A result is worked out in 64 bits and must lie in 32.
+fn arithmetic(o: Operation, a: i32, b: i32) -> Result<i32, Side>
+    ensures { result ≡ said (in_range (applied (operation_is o) a b)) }
 {
     let x = a as i64;
     let y = b as i64;
     match o {
-        Operation::Sum => ranged(x + y, next),
-        Operation::Difference => ranged(x - y, next),
-        Operation::Product => ranged(x * y, next),
+        Operation::Sum => ranged(x + y),
+        Operation::Difference => ranged(x - y),
+        Operation::Product => ranged(x * y),
     }
 }
 
-fn negative(a: i32, next: usize) -> Found
-    ensures { result ≡ number_at next (in_range (neg_ℤ a)) }
+fn negative(a: i32) -> Result<i32, Side>
+    ensures { result ≡ said (in_range (neg_ℤ a)) }
 {
-    ranged(-(a as i64), next)
+    ranged(-(a as i64))
 }
 
-fn ranged(x: i64, next: usize) -> Found
-    ensures { result ≡ number_at next (in_range x) }
+fn ranged(x: i64) -> Result<i32, Side>
+    ensures { result ≡ said (in_range x) }
 {
     if x < -2147483648 {
-        return Found::NumberFault(false, next);
+        return Err(Side::Below);
     }
     if 2147483647 < x {
-        return Found::NumberFault(true, next);
+        return Err(Side::Above);
     }
-    Found::ANumber(x as i32, next)
+    Ok(x as i32)
 }
 
 fn compare(o: Comparison, a: i32, b: i32) -> bool
@@ -490,72 +407,26 @@ fn connect(o: Connective, a: bool, b: bool) -> bool
     }
 }
 
-// The forms without operands.
-fn constant(s: &[u8], at: usize) -> Found
-    ensures { (ed : Edition) (vs : List ℤ) → result ≡ form_found_at ed vs s.now a_constant at }
+// The forms without operands, behind their code: the value, and the position after it.
+fn constant(s: &[u8], at: usize) -> Option<(i32, usize)>
+    requires { at ≤ length s.now }
+    ensures { (ed : Edition) (vs : List ℤ) → FindsForm ed vs s.now a_constant at (known result) }
 {
-    if s.len() < at {
-        return Found::Broken;
-    }
     if s.len() - at < 4 {
-        return Found::Broken;
+        return None;
     }
-    Found::ANumber(signed(word_at(s, at)), at + 4)
+    Some((codec::int4(s, at), at + 4))
 }
 
-fn variable(s: &[u8], vars: &[i32], at: usize) -> Found
-    ensures { (ed : Edition) → result ≡ form_found_at ed vars.now s.now a_variable at }
+fn variable(s: &[u8], vars: &[i32], at: usize) -> Option<(i32, usize)>
+    ensures { (ed : Edition) → FindsForm ed vars.now s.now a_variable at (known result) }
 {
     if s.len() <= at {
-        return Found::Broken;
+        return None;
     }
-    let i = s[at] as usize;
+    let i = usize::from(s[at]);
     if vars.len() <= i {
-        return Found::Broken;
+        return None;
     }
-    Found::ANumber(vars[i], at + 1)
-}
-
-// Four bytes, most significant first.
-fn word_at(s: &[u8], at: usize) -> u32
-    requires { at + 4 ≤ length s.now }
-    ensures { nat4 (drop at s.now) ≡ read result (drop (at + 4) s.now) }
-{
-    word(s[at], s[at + 1], s[at + 2], s[at + 3])
-}
-
-fn word(a: u8, b: u8, c: u8, d: u8) -> u32
-    ensures { result ≡ be4 a b c d }
-{
-    (((a as u32) * 256 + (b as u32)) * 256 + (c as u32)) * 256 + (d as u32)
-}
-
-// 32-bit two's complement.
-fn signed(u: u32) -> i32
-    ensures { result ≡ signed_of u }
-{
-    if u < 2147483648 {
-        u as i32
-    } else {
-        -1 - ((4294967295 - u) as i32)
-    }
-}
-
-// The answers to a caller.
-fn plain_truth(b: bool) -> Truth
-    ensures { result ≡ truth_of (ok b) }
-{
-    if b { Truth::Yes } else { Truth::No }
-}
-
-fn number_side(above: bool) -> Number
-    ensures { result ≡ number_of (fault (side_of above)) }
-{
-    if above { Number::Above } else { Number::Below }
-}
-
-fn truth_side(above: bool) -> Truth
-    ensures { result ≡ truth_of (fault (side_of above)) }
-{
-    if above { Truth::Above } else { Truth::Below }
+    Some((vars[i], at + 1))
 }

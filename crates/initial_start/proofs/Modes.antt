@@ -3,6 +3,7 @@ use mathlib.Core.Path.{◌≡◌, refl, sym, ap, ◌∙◌}
 use mathlib.Core.Bool.{Bool, true, false, cond}
 use mathlib.Core.List.{List, [], ◌∷◌, ◌++◌, append-nil}
 use Prim.Native.Nat.{ℕ, ◌+◌, ◌-◌, ◌≤◌, ◌<◌}
+use native.Mathlib.Nat.{sub-zero}
 use native.Mathlib.Omega.{arith}
 use borrow.Author.Tests.{ne_eqb}
 use lib.Dec.{eqb}
@@ -56,15 +57,15 @@ pub record Written (s : List ℕ) (es : List Equation) (d₀ : List ℕ) (i : �
   pub place : at ≡ i + length done
   pub wrote : Wrote d₀ i done d
 
-pub written_start : (s d : List ℕ) (i : ℕ) (t : SectionStands s) → Written s t.equations d i d i 1 (get_or s 0 0)
-written_start s d i t = record {
+pub written_start : (s d : List ℕ) (i : ℕ) (t : SectionStands s) → Written s t.equations d i d i 1 (get_or s 0 0 - 0)
+written_start s d i t = rw sub-zero (record {
   rest = equations_stand s t;
   done = [];
   modes = refl;
   few = let f = (section-at s t.read).few in omega arith;
   place = omega arith;
   wrote = wrote_none d i;
-}
+})
 
 module _ {s : List ℕ} {es : List Equation} {d₀ d : List ℕ} {i at p left : ℕ} (a : Written s es d₀ i d at p left) (l : 0 < left) where
   pub here-fits : p + 2 < length s
@@ -121,9 +122,9 @@ module _ {s : List ℕ} {es : List Equation} {d₀ d : List ℕ} {i at p left : 
           wrote = put-more a.wrote w n a.place;
         }
 
--- the same of an equal place and buffer
-pub written_as : {s : List ℕ} {es : List Equation} {d₀ d d' : List ℕ} {i at at' p left : ℕ} → at ≡ at' → d ≡ d' → Written s es d₀ i d' at' p left → Written s es d₀ i d at p left
-written_as e f a = rw (e, f) a
+-- the same of an equal place, buffer and number
+pub written_as : {s : List ℕ} {es : List Equation} {d₀ d d' : List ℕ} {i at at' p left left' : ℕ} → at ≡ at' → d ≡ d' → left ≡ left' → Written s es d₀ i d' at' p left' → Written s es d₀ i d at p left
+written_as e f g a = rw (e, f, g) a
 
 -- none is left
 pub record AllWritten (es : List Equation) (d₀ : List ℕ) (i : ℕ) (d : List ℕ) (at : ℕ) : Type 0 where

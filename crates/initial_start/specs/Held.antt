@@ -1,5 +1,5 @@
 -- A start as the code answers it.
-use Rattle.std.specs.Prelude.{List, ℕ, ◌≤◌, length, replicate}
+use Rattle.std.specs.Prelude.{List, [], ℕ, cond, leb, length, replicate, take}
 use Rattle.semantics.specs.Bytes.{overwrite}
 use Rattle.initial_start.specs.declared.Start.{Start}
 
@@ -7,10 +7,6 @@ use Rattle.initial_start.specs.declared.Start.{Start}
 unfoldable pub held : List ℕ → Start
 held s = record { length = length s; bytes = overwrite s (replicate 144 0) }
 
--- ---- for the code's own contract
--- a section from a to b, and one from c to d
-pub record Between (f : List ℕ) (a b c d : ℕ) : Type 0 where
-  pub first_ordered : a ≤ b
-  pub first_inside : b ≤ length f
-  pub second_ordered : c ≤ d
-  pub second_inside : d ≤ length f
+-- the bytes that are held
+abbrev pub held_bytes : Start → List ℕ
+held_bytes x = cond (leb x.length (length x.bytes)) (take x.length x.bytes) []

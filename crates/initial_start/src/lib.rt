@@ -9,8 +9,7 @@ ghost use Rattle.semantics.specs.Editions.{Edition};
 ghost use Rattle.plant.specs.Equations.{SectionStands};
 ghost use Rattle.codec.specs.Writing.{Wrote};
 ghost use Rattle.initial_start.specs.Initial.{initial_modes, sections_start};
-ghost use Rattle.codec.specs.Parts as Parts;
-ghost use Rattle.initial_start.specs.Held.{held, Between};
+ghost use Rattle.initial_start.specs.Held.{held, held_bytes};
 
 // the initial mode of each CASE of a section whose layout is right, at a place; the next place
 fn put_modes(d: &mut [u8], i: usize, es: &[u8]) -> usize
@@ -19,23 +18,30 @@ fn put_modes(d: &mut [u8], i: usize, es: &[u8]) -> usize
 {
     let mut at = i;
     let mut p = 1;
-    let mut left = es[0];
-    while 0 < left {
+    for _ in 0..es[0] {
         let k = p + 2;
         if es[k] != 1 {
             at = codec::put1(d, at, es[k + 1]);
         }
         p = k + codec::nat2(es, p);
-        left -= 1;
     }
     at
 }
 
-// a start's bytes at the front, and how many they are
+// a start's bytes at the front, and how many they are: a slice has no room of its own, and nothing allocates here
 #[derive(Clone, Copy)]
 pub struct Start {
     pub length: usize,
     pub bytes: [u8; paper::START_BYTES],
+}
+
+impl Start {
+    // the start's bytes, none where there is no room for so many
+    pub fn as_slice(&self) -> &[u8]
+        ensures { result.now ≡ held_bytes self.now }
+    {
+        self.bytes.get(..self.length).unwrap_or(&[])
+    }
 }
 
 fn none() -> Start
@@ -51,23 +57,14 @@ fn none() -> Start
 pub fn of(vs: &[u8], es: &[u8]) -> Start
     ensures { (ed : Edition) → result ≡ held (sections_start ed vs.now es.now) }
 {
-    let p = plant::sections::read(vs, es);
-    if p.refusal != 0 {
+    let Ok(v) = plant::variables::read(vs) else {
         return none();
-    }
-    let v = plant::variables::read(vs);
-    let n = v.count;
-    let initials = v.initials;
+    };
+    let Ok(_) = plant::sections::read(vs, es) else {
+        return none();
+    };
     let mut bytes = [0u8; paper::START_BYTES];
-    let at = records::put_values(&mut bytes, 0, &initials[..n]);
+    let at = records::put_values(&mut bytes, 0, &v.initials[..v.count]);
     let length = put_modes(&mut bytes, at, es);
     Start { length, bytes }
-}
-
-// of the sections from a to b and from c to d
-fn between(file: &[u8], a: usize, b: usize, c: usize, d: usize) -> Start
-    requires { Between file.now a b c d }
-    ensures { (ed : Edition) → result ≡ held (sections_start ed (Parts.between a b file.now) (Parts.between c d file.now)) }
-{
-    of(&file[a..b], &file[c..d])
 }

@@ -7,17 +7,12 @@ ghost use Rattle.initial_start.specs.Initial.{schedule_start};
 use super::Start;
 use edition::Edition;
 
-// none where the file is refused: no section of it stands anywhere then
+// none where the file is refused
 pub fn start(file: &[u8]) -> Start
     ensures { result ≡ held (schedule_start edition1 file.now) }
 {
-    let x = schedule_read::call::index(file, Edition::First);
-    let p = x.parts;
-    super::between(
-        file,
-        p.variables_from,
-        p.variables_to,
-        p.equations_from,
-        p.equations_to,
-    )
+    let Ok(x) = schedule_read::call::index(file, Edition::First) else {
+        return super::none();
+    };
+    super::of(x.parts.variables.of(file), x.parts.equations.of(file))
 }

@@ -7,17 +7,12 @@ ghost use Rattle.initial_start.specs.Initial.{table_start};
 use super::Start;
 use edition::Edition;
 
-// none where 15 to 19 refuse the table: no section of it stands anywhere then
+// none where 15 to 19 refuse the table
 pub fn start(table: &[u8]) -> Start
     ensures { result ≡ held (table_start edition1 table.now) }
 {
-    let x = table_read::call::index(table, Edition::First);
-    let p = x.parts;
-    super::between(
-        table,
-        p.variables,
-        p.variables_end,
-        p.equations,
-        p.equations_end,
-    )
+    let Ok(x) = table_read::call::index(table, Edition::First) else {
+        return super::none();
+    };
+    super::of(x.parts.variables.of(table), x.parts.equations.of(table))
 }

@@ -17,8 +17,7 @@ use Rattle.effects.specs.Verdicts.{is_going_on, truth_verdict, Left}
 use Rattle.effects.proofs.PaperNumbers.{left-away, left-above, left_below, left-stay}
 use Rattle.program.specs.Lent.{Stands}
 use Rattle.modes.specs.Modes.{mode_at, Asked, modes_from, place_at}
-use Rattle.effects.specs.declared.Verdict.{Verdict}
-use Rattle.effects.specs.declared.Verdict.TheVariants.{Away, Stay}
+use Rattle.effects.specs.PaperNumbers.{Verdict, Away, Stay}
 use Rattle.modes.proofs.Standing.{parts, switch-bytes}
 
 -- ---- which switch it is
@@ -85,10 +84,10 @@ module _ (ed : Edition) (modes : List Mode) (vs : List ℤ) (ms : List ℕ) (s k
           go (fault below) g = true-not-false (sym h ∙ ap is_going_on g)
 
 -- ---- a switch's truth, asked by the bytes from two past its place to its end
-pub asked-at : {vs : List ℤ} {es : List ℕ} {q : ℕ} {yes no r : Verdict}
-    → ((ed : Edition) → r ≡ truth_verdict yes no (value_of_truth ed vs (take (q + 1 + get_or es q 0 - (q + 2)) (drop (q + 2) es)))) → Asked es q vs yes no r
-asked-at {vs} {es} {q} {yes} {no} h = record {
+pub asked-at : {vs : List ℤ} {es : List ℕ} {q b : ℕ} {yes no r : Verdict} → b ≡ get_or es q 0
+    → ((ed : Edition) → r ≡ truth_verdict yes no (value_of_truth ed vs (take (q + 1 + b - (q + 2)) (drop (q + 2) es)))) → Asked es q vs yes no r
+asked-at {vs} {es} {q} {b} {yes} {no} e h = record {
   answer = λ ed w s.
-      let n : q + 1 + get_or es q 0 - (q + 2) ≡ get_or es q 0 - 1 = omega arith in
+      let n : q + 1 + b - (q + 2) ≡ get_or es q 0 - 1 = omega arith in
       h ed ∙ ap (λ t. truth_verdict yes no (value_of_truth ed vs t)) (ap (λ j. take j (drop (q + 2) es)) n ∙ sym (switch-bytes s).truth);
 }

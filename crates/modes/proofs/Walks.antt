@@ -11,6 +11,7 @@ use lib.Dec.{ltb}
 use lib.IntN.{ℤ}
 use lib.ListN.{length, get_or, set, drop, get_elem?, length-set, drop_of_length-le}
 use lib.Seq.{drop-cons}
+use Rattle.std.specs.Prelude.{Ok}
 use Rattle.semantics.specs.Bytes.{signed, every}
 use Rattle.semantics.specs.Editions.{Edition}
 use Rattle.semantics.specs.Expressions.{value_of_truth}
@@ -23,10 +24,10 @@ use Rattle.codec.proofs.Reading.{nat4_at}
 use Rattle.plant.specs.Equations.{rates_from}
 use Rattle.plant.proofs.RateArrays.{rate-put}
 use Rattle.effects.specs.Verdicts.{done_verdict, step_verdict, is_going_on, truth_verdict}
+use Rattle.effects.specs.Told.{told_truth}
 use Rattle.program.specs.Lent.{Stands, RatesIn}
 use Rattle.modes.specs.Modes.{mode_at, SwitchAt, SwitchHere, Asked, modes_from, place_at, Driving, before, Laid}
-use Rattle.effects.specs.declared.Verdict.{Verdict}
-use Rattle.effects.specs.declared.Verdict.TheVariants.{Away, Stay}
+use Rattle.effects.specs.PaperNumbers.{Verdict, Away, Stay}
 use Rattle.effects.proofs.Steps.{walk-out, walk-on, walk-then, then-out, then-on}
 use Rattle.modes.proofs.Standing.{Ahead, none_ahead, parts, next-rate, next-switch}
 
@@ -74,7 +75,7 @@ lay-start {m = m} zs s h = record { rates = m.rates; ahead = (parts s).rates; na
 pub record OneRate (es : List ℕ) (k p : ℕ) (first : List ℤ) (rs : List Rate) (zs : List ℤ) : Type 0 where
   pub inside : p + 5 ≤ length es
   pub known : get_or es p 0 < length zs
-  pub on : {z : ℤ} → z ≡ signed (nat4_at es (p + 1)) → Laying es (k - 1) (p + 5) first rs (set zs (get_or es p 0) z)
+  pub on : {j v : ℕ} {z : ℤ} → j ≡ k - 1 → v ≡ get_or es p 0 → z ≡ signed (nat4_at es (p + 1)) → Laying es j (p + 5) first rs (set zs v z)
 
 pub lay-next : {es : List ℕ} {k p : ℕ} {first : List ℤ} {rs : List Rate} {zs : List ℤ} → Laying es k p first rs zs → 0 < k → OneRate es k p first rs zs
 lay-next {es} {k} {p} {first} {rs} {zs} l h =
@@ -86,17 +87,25 @@ lay-next {es} {k} {p} {first} {rs} {zs} l h =
     record {
       inside = x.inside;
       known = omega (arith, m.0);
-      on = λ {z} f. record {
+      on = λ {j} {v} {z} e i f. rw (e, i) (record {
         rates = n.tail;
         ahead = n.ahead;
         named = m.1;
         long = length-set zs (get_or es p 0) z ∙ l.long;
         rest = λ ys q. l.rest ys (rw n.is (laid_first zs n.head n.tail (sym d) (f ∙ sym x.rate) q));
-      };
+      });
     }
 
 pub lay-end : {es : List ℕ} {k p : ℕ} {first : List ℤ} {rs : List Rate} {zs : List ℤ} → Laying es k p first rs zs → k ≡ 0 → Laid first rs zs
 lay-end {zs = zs} l h = l.rest zs (rw (none_ahead l.ahead h) (laid_none zs))
+
+-- ---- a truth that is known
+module _ {es : List ℕ} {q : ℕ} {vs : List ℤ} {y n : Verdict} {b : Bool} where
+  pub asked_true : b ≡ true → Asked es q vs y n (told_truth y n (Ok b)) → Asked es q vs y n y
+  asked_true e a = subst (λ (b : Bool). Asked es q vs y n (told_truth y n (Ok b))) e a
+
+  pub asked_false : b ≡ false → Asked es q vs y n (told_truth y n (Ok b)) → Asked es q vs y n n
+  asked_false e a = subst (λ (b : Bool). Asked es q vs y n (told_truth y n (Ok b))) e a
 
 -- ---- a mode's switches
 -- k switches are left, from place p on
@@ -129,8 +138,8 @@ module _ {n : ℕ} {vs : List ℤ} {es : List ℕ} {k p : ℕ} {ws : List Switch
       pub walk-stops : (ed : Edition) → is_going_on r ≡ false → r ≡ step_verdict (walk ed n vs (map (λ (w : Switch). w.truth) ws))
       walk-stops ed f = walk-out ed n vs head.truth tail r (told ed) f ∙ sym (ap step_verdict (truths-are ed))
 
-      pub walk-next : is_going_on r ≡ true → Walking n vs es (k - 1) (p + 1 + get_or es p 0) ws
-      walk-next f = record { switches = (next-switch l.ahead h).tail; ahead = (next-switch l.ahead h).ahead; same = λ ed. truths-are ed ∙ walk-on ed n vs head.truth tail r (told ed) f }
+      pub walk-next : {j q : ℕ} → j ≡ k - 1 → q ≡ get_or es p 0 → is_going_on r ≡ true → Walking n vs es j (p + 1 + q) ws
+      walk-next i g f = rw (i, g) (record { switches = (next-switch l.ahead h).tail; ahead = (next-switch l.ahead h).ahead; same = λ ed. truths-are ed ∙ walk-on ed n vs head.truth tail r (told ed) f })
 
   pub walk_end : (ed : Edition) → k ≡ 0 → Stay ≡ step_verdict (walk ed n vs (map (λ (w : Switch). w.truth) ws))
   unfolding walk done_verdict
@@ -154,11 +163,11 @@ module _ {es : List ℕ} {i p : ℕ} {ws : List Switch} {k : ℕ} (l : Seeking e
   pub seek-here : SwitchHere es p
   seek-here = record { switch = _; stands = (next-switch l.ahead seek-some).here }
 
-  pub seek-next : 0 < i → Seeking es (i - 1) (p + 1 + get_or es p 0) ws k
-  seek-next h =
+  pub seek-next : 0 < i → {j q : ℕ} → j ≡ i - 1 → q ≡ get_or es p 0 → Seeking es j (p + 1 + q) ws k
+  seek-next h f g =
       let x = next-switch l.ahead seek-some in
       let e : i ≡ suc (i - 1) = omega arith in
-      record { count = l.count - 1; switches = x.tail; ahead = x.ahead; enough = omega (arith, l.enough); same = l.same ∙ ap₂ get_elem? x.is e }
+      rw (f, g) (record { count = l.count - 1; switches = x.tail; ahead = x.ahead; enough = omega (arith, l.enough); same = l.same ∙ ap₂ get_elem? x.is e })
 
   pub seek-end : i ≡ 0 → (w : Switch) → get_elem? ws k ≡ some w → SwitchAt es p w
   seek-end h w e =

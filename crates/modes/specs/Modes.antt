@@ -8,7 +8,7 @@ use Rattle.semantics.specs.Plant.{rate_named, driven_once, selectors_of, current
 use Rattle.semantics.specs.Run.{judge_switch}
 use Rattle.program.specs.Lent.{Stands, RatesIn}
 use Rattle.effects.specs.Verdicts.{truth_verdict, Left}
-use Rattle.effects.specs.declared.Verdict.{Verdict}
+use Rattle.effects.specs.PaperNumbers.{Verdict}
 -- the mode that is read at a place
 unfoldable pub use Rattle.plant.specs.Equations.{mode_at}
 

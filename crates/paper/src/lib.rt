@@ -3,6 +3,7 @@
 
 pub mod actions; // actions.rt: the kinds of a table's actions
 pub mod answers; // answers.rt: how an event is answered
+pub mod events; // events.rt: the kinds of events
 pub mod nodes; // nodes.rt: the kinds of a schedule's nodes
 pub mod refusals; // refusals.rt: why a call refuses
 pub mod targets; // targets.rt: where an entry of a table leads to, beside the locations

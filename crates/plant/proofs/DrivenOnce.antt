@@ -6,16 +6,17 @@ use Prim.Native.Nat.{ℕ, ◌+◌, ◌-◌, ◌*◌, ◌≤◌, ◌<◌}
 use native.Mathlib.Omega.{arith}
 use lib.ListN.{length, get_or, set, drop, replicate, length-set, get_or-replicate}
 use Rattle.semantics.specs.Bytes.{every, read, times}
-use Rattle.semantics.specs.Sections.{Rate, Switch, Mode, read_rate, read_switch, read_mode}
+use Rattle.semantics.specs.Sections.{Rate, Mode, read_rate, read_mode}
 use Rattle.semantics.specs.Plant.{among, once_after, mode_drives, rates_drive, mode_once}
 use Rattle.semantics.proofs.Facts.{true-not-false}
 use Rattle.semantics.proofs.Readers.{read-value}
 use Rattle.codec.proofs.Known.{Cons}
-use Rattle.plant.specs.Sound.{Sound}
+use Rattle.semantics.specs.Writing.{write_mode}
+use Rattle.plant.specs.Equations.{Stands}
 use Rattle.plant.specs.Driven.{Small, Held, Marks, Tried, rates_once, modes_apart}
 use Rattle.plant.proofs.MarkTests.{unmarked, Marked, Answered, rates_test, modes_test}
 use Rattle.plant.proofs.Marks.{small-first, small-rest, small-left, small-right, marked-set, Owed, owed_start, owed-set, owed-next, owed-end, by-lists, by-marks}
-use Rattle.plant.proofs.Walks.{next_of, all_left, none_left, NextRate, next-rate, ModeAt, mode-at}
+use Rattle.plant.proofs.Walks.{next_of, all_left, none_left, NextRate, next-rate, ModeAt, mode-at, past-mode}
 
 -- ---- tests
 pub marked-none : Marked [] [] (replicate 32 false)
@@ -64,14 +65,14 @@ pub record RatesGoing (s : List ℕ) (at n : ℕ) (before a seen mine : List Boo
   pub owed : Owed a (rates_drive all) seen (rates_drive rest)
   pub seen_length : length seen ≡ 32
 
-pub rates-start : (s : List ℕ) (at n : ℕ) (before a : List Bool) → length a ≡ 32 → Held (times n read_rate) rates_drive s at → RatesGoing s at n before a a (replicate 32 false) at 0
-rates-start s at n before a h t = record {
+pub rates-start : (s : List ℕ) (at n : ℕ) (before a : List Bool) → length a ≡ 32 → Held (times n read_rate) rates_drive s at → RatesGoing s at n before a a (replicate 32 false) (at + 5 * 0) 0
+rates-start s at n before a h t = let e : at + 5 * 0 ≡ at = omega arith in record {
   all = t.sound.value;
   end = t.sound.end;
   is = t.sound.got;
   rest = t.sound.value;
-  got = all_left read_rate n (drop at s) t.sound.got;
-  inside = t.sound.inside;
+  got = all_left read_rate n (drop (at + 5 * 0) s) (rw e t.sound.got);
+  inside = rw e t.sound.inside;
   few = t.small;
   small = t.small;
   noted = [];
@@ -123,8 +124,8 @@ module _ {s : List ℕ} {at n : ℕ} {before a seen mine : List Bool} {p i : ℕ
   pub rates-twice : get_or mine (get_or s p 0) false ≡ true → rates_test before g.all ≡ false
   rates-twice e = g.same ∙ ap (λ l. once_after g.noted l && unmarked before l) next-rates_drive ∙ ap (λ t. t && unmarked before (get_or s p 0 ∷ rates_drive rate.tail)) (once-not g.noted (get_or s p 0) (rates_drive rate.tail) (sym (g.stands.at (get_or s p 0) rate-variable) ∙ e))
 
-  pub rates-next : get_or before (get_or s p 0) false ≡ false → get_or mine (get_or s p 0) false ≡ false → RatesGoing s at n before a (set seen (get_or s p 0) true) (set mine (get_or s p 0) true) (p + 1 + 4) (i + 1)
-  rates-next e f =
+  pub rates-next : {q : ℕ} → q ≡ p + 1 + 4 → get_or before (get_or s p 0) false ≡ false → get_or mine (get_or s p 0) false ≡ false → RatesGoing s at n before a (set seen (get_or s p 0) true) (set mine (get_or s p 0) true) q (i + 1)
+  rates-next {q} x e f =
       let sl = g.seen_length in
       let ml = g.stands.sized in
       let v = rate-variable in
@@ -133,8 +134,8 @@ module _ {s : List ℕ} {at n : ℕ} {before a seen mine : List Bool} {p i : ℕ
         end = g.end;
         is = g.is;
         rest = rate.tail;
-        got = rate.got;
-        inside = rate.inside;
+        got = rw x rate.got;
+        inside = rw x rate.inside;
         few = g.few;
         small = small-rest (get_or s p 0) (rates_drive rate.tail) next_small;
         noted = get_or s p 0 ∷ g.noted;
@@ -233,9 +234,6 @@ module _ {s : List ℕ} {at n : ℕ} {before a seen : List Bool} {p i : ℕ} (g 
     pub mode-before : p < length s
     mode-before = mode-is.before
 
-    pub mode-between : p + 1 + 5 * get_or s p 0 < length s
-    mode-between = mode-is.between
-
     next-all : flat_map mode_drives g.rest ≡ rates_drive mode.head.rates ++ (flat_map mode_drives) mode.tail
     next-all = ap (flat_map mode_drives) (sym mode.is) ∙ all-next mode.head mode.tail
 
@@ -251,8 +249,8 @@ module _ {s : List ℕ} {at n : ℕ} {before a seen : List Bool} {p i : ℕ} (g 
       small = small-left (rates_drive mode.head.rates) (flat_map mode_drives mode.tail) next-few;
     }
 
-    pub switches-there : Sound (times (get_or s (p + 1 + 5 * get_or s p 0) 0) read_switch) s (p + 1 + 5 * get_or s p 0 + 1)
-    switches-there = let b = mode-is.between in record { value = mode.head.switches; end = mode.mid; got = mode-is.switches_got; inside = omega arith }
+    pub mode-there : Stands read_mode s p
+    mode-there = record { value = mode.head; rest = mode.mid; got = mode.first }
 
     -- the answer for the mode's rates
     module _ {r : Bool} {b : List Bool} (t : (rs : List Rate) (e : List ℕ) → times (get_or s p 0) read_rate (drop (p + 1) s) ≡ read rs e → (old new : List ℕ) → Marks old before → Marks new seen → Tried (rates_once old rs) (rates_drive rs ++ new) r b) where
@@ -266,9 +264,9 @@ module _ {s : List ℕ} {at n : ℕ} {before a seen : List Bool} {p i : ℕ} (g 
           let x : modes_test before g.all ≡ false = next-test ∙ ap (λ y. y && modes_test before mode.tail) (sym tried.is ∙ f) in
           modes-say ms e k (tried-as (modes_test before) (flat_map mode_drives) (read-value (sym g.is ∙ k)) (tried-false x))
 
-      pub modes-next : r ≡ true → (q : ℕ) → ((ss : List Switch) (e : List ℕ) → times (get_or s (p + 1 + 5 * get_or s p 0) 0) read_switch (drop (p + 1 + 5 * get_or s p 0 + 1) s) ≡ read ss e → (e ≡ drop q s) × (q ≤ length s)) → ModesGoing s at n before a b q (i + 1)
+      pub modes-next : r ≡ true → (q : ℕ) → ((t : Stands read_mode s p) → q ≡ p + length (write_mode t.value)) → ModesGoing s at n before a b q (i + 1)
       modes-next f q u =
-          let w = u mode.head.switches mode.mid mode-is.switches_got in
+          let w = past-mode s p g.inside mode.first u in
           record {
             all = g.all;
             end = g.end;

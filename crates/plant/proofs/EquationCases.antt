@@ -4,6 +4,7 @@ use mathlib.Core.List.{List, [], ◌∷◌, ◌++◌, map, append_assoc, append-
 use mathlib.Core.Option.{some}
 use Prim.Native.Nat.{ℕ, suc, ◌+◌, ◌-◌, ◌*◌, ◌≤◌, ◌<◌}
 use native.Mathlib.Omega.{arith}
+use lib.IntN.{ℤ}
 use lib.ListN.{length, get_or, drop, set, replicate, length-append}
 use lib.Seq.{sets, append_snoc}
 use Rattle.semantics.specs.Bytes.{read, times}
@@ -15,7 +16,7 @@ use Rattle.semantics.proofs.Readers.{guarded, whole-read}
 use Rattle.codec.specs.Padding.{pad}
 use Rattle.codec.proofs.Reading.{nat2_at, either}
 use Rattle.codec.proofs.Known.{after-byte, not-past, times-length}
-use Rattle.plant.specs.Equations.{starts_from, places_of_mode, mode_count_of, Stands, SectionStands, CasesOf}
+use Rattle.plant.specs.Equations.{starts_from, places_of_mode, mode_count_of, rates_steady, accepted_equations, Stands, SectionStands}
 use Rattle.plant.proofs.EquationPlaces.{steady-at, ChoiceAt, choice-at}
 use Rattle.plant.proofs.EquationIndex.{equation-fits, equation-kind, next-is, next_fits, equations-left, first-and-left, none_left}
 use Rattle.codec.proofs.Padding.{length-pad, sets-pad, pad-part, pad-map-snoc}
@@ -197,16 +198,13 @@ module _ {s : List ℕ} {es : List Equation} {count : ℕ} {modes places : List 
       }
 
 -- the same of equal counts and arrays
-pub noted-as : {s : List ℕ} {es : List Equation} {count count' : ℕ} {modes modes' places places' : List ℕ} {p left : ℕ} → count ≡ count' → modes ≡ modes' → places ≡ places' → Noted s es count' modes' places' p left → Noted s es count modes places p left
-noted-as e f g a = rw (e, f, g) a
+pub noted-as : {s : List ℕ} {es : List Equation} {count count' : ℕ} {modes modes' places places' : List ℕ} {p left left' : ℕ} → left ≡ left' → count ≡ count' → modes ≡ modes' → places ≡ places' → Noted s es count' modes' places' p left' → Noted s es count modes places p left
+noted-as l e f g a = rw (l, e, f, g) a
 
-pub noted-end : {s : List ℕ} {es : List Equation} {count : ℕ} {modes places : List ℕ} {p left : ℕ} → Noted s es count modes places p left → left ≡ 0 → CasesOf es (record { count = count; modes = modes; mode_offsets = places })
-unfolding selectors_of places_of_mode
-noted-end {es = es} {p = p} {left = left} a e =
+pub noted-end : {s : List ℕ} {es : List Equation} {count : ℕ} {modes places : List ℕ} {steady : List ℤ} {p left : ℕ} → Noted s es count modes places p left → left ≡ 0 → steady ≡ rates_steady es →
+    record { selectors = count; modes = modes; mode_offsets = places; steady = steady } ≡ accepted_equations es
+unfolding selectors_of places_of_mode accepted_equations
+noted-end {es = es} {p = p} {left = left} a e f =
     let n = none_left read_equation left e a.rest in
     let d : a.done ≡ selectors_of es = sym (append-nil a.done) ∙ ap (λ z. a.done ++ selectors_of z) (sym n) ∙ a.selectors in
-    record {
-      count = sym a.counted ∙ ap length d;
-      modes = a.modes_are ∙ ap (λ z. pad 16 0 (map mode_count_of z)) d;
-      mode_offsets = a.places_are ∙ ap (pad 128 0) (sym (append-nil a.noted) ∙ ap (λ z. a.noted ++ places_of_mode p z) (sym n) ∙ a.placed);
-    }
+    rw (sym a.counted ∙ ap length d, a.modes_are ∙ ap (λ z. pad 16 0 (map mode_count_of z)) d, a.places_are ∙ ap (pad 128 0) (sym (append-nil a.noted) ∙ ap (λ z. a.noted ++ places_of_mode p z) (sym n) ∙ a.placed), f) refl

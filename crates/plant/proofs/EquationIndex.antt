@@ -3,20 +3,27 @@ use mathlib.Core.Path.{◌≡◌, refl, sym, ap, ◌∙◌}
 use mathlib.Core.List.{List, [], ◌∷◌, ◌++◌, flat_map}
 use Prim.Native.Nat.{ℕ, ◌+◌, ◌-◌, ◌≤◌, ◌<◌}
 use native.Mathlib.Omega.{arith}
-use lib.ListN.{length, get_or, drop, set, replicate, length-set, length-append, length-drop}
-use lib.Seq.{sets}
+use lib.ListN.{length, get_or, drop, set, length-set, length-append, length-drop}
+use lib.Seq.{sets, set_out}
 use native.Mathlib.Numerals.{add-one}
 use Rattle.codec.proofs.Reading.{nat2_at, nat4_at}
-use lib.IntN.{ℤ, pos}
+use lib.IntN.{ℤ}
 use Rattle.semantics.specs.Bytes.{signed, Reader, read, times}
 use Rattle.semantics.specs.Sections.{Rate, Equation, steady, read_switch, read_mode, read_equation_body, read_equation}
-use Rattle.semantics.specs.Plant.{rates_of, rate_among}
+use Rattle.semantics.specs.Plant.{rates_of}
 use Rattle.semantics.specs.Writing.{write_switch, write_mode, write_equation}
 use Rattle.semantics.proofs.Readers.{given}
-use Rattle.plant.specs.Equations.{starts_from, each, rates_steady, Stands}
+use Rattle.plant.specs.Equations.{starts_from, rates_steady, Stands}
 use Rattle.plant.proofs.EquationSizes.{Cuts, mode-length, cuts-switch, cuts-equation}
 use Rattle.plant.proofs.RateArrays.{rate-put}
 use Rattle.plant.proofs.EquationPlaces.{same-value, Headed, headed, switch-at, mode-at, switches_from, kind-before, steady-at, choice-at, equation-at}
+
+-- ---- how many are left, by how many are done
+pub minus_0 : {n : ℕ} → n - 0 ≡ n
+minus_0 = omega arith
+
+pub minus-more : (n i : ℕ) → n - (i + 1) ≡ n - i - 1
+minus-more n i = omega arith
 
 -- ---- n values from place at on, of which so many are left from place p on
 pub record Ahead {A : Type 0} (r : Reader A) (write : A → List ℕ) (s : List ℕ) (at n p left : ℕ) : Type 0 where
@@ -93,6 +100,10 @@ module _ {A : Type 0} (r : Reader A) (write : A → List ℕ) (s : List ℕ) (at
     unfolding times starts_from
     noting-end e t = ap (λ v. sets places i (starts_from write p v)) (given [] (drop p s) (rw e at a.got)) ∙ a.total t
 
+-- the same at equal numbers
+pub noted-at : {A : Type 0} {r : Reader A} {write : A → List ℕ} {s : List ℕ} {at n from : ℕ} {places₀ places : List ℕ} {p i j left more : ℕ} → i ≡ j → left ≡ more → Noting r write s at n from places₀ places p j more → Noting r write s at n from places₀ places p i left
+noted-at e f a = rw (e, f) a
+
 -- ---- the ends of a mode
 module _ (s : List ℕ) (p : ℕ) where
   pub switches-stand : (t : Stands read_mode s p) → Stands (times (get_or s (switches_from s p) 0) read_switch) s (switches_from s p + 1)
@@ -127,6 +138,10 @@ module _ (s : List ℕ) (p : ℕ) (t : Stands read_equation_body s p) where
       let two : p + 1 + 1 ≡ p + 2 = omega arith in
       one_more es a.rate h (sym a.stands.driven) (e ∙ ap (λ j. signed (nat4_at s j)) (sym two) ∙ sym a.stands.rate) a.is
 
+  -- of a variable that no array has a place for
+  pub with_out : {rates : List ℤ} (es : List Equation) → rates ≡ rates_steady es → get_or s p 0 ≡ 1 → length rates ≤ get_or s (p + 1) 0 → rates ≡ rates_steady (t.value ∷ es)
+  with_out es h k i = sym (set_out _ _ _ i) ∙ with-one es h k refl
+
 -- ---- n equations: the first, and the others
 module _ (s : List ℕ) (p n : ℕ) (t : Stands (times n read_equation) s p) (i : 0 < n) where
   first-equation : Headed read_equation write_equation s p n t.value t.rest
@@ -160,8 +175,7 @@ unfolding times
 none_left r {s} {p} n e t = sym (given [] (drop p s) (rw e at t.got))
 
 -- ---- the rates of kind 1
-pub steady-none : {s : List ℕ} {p : ℕ} (n : ℕ) → n ≡ 0 → (t : Stands (times n read_equation) s p) → replicate 32 (pos 0) ≡ rates_steady t.value
-unfolding each rate_among rates_of
+pub steady-none : {s : List ℕ} {p : ℕ} (n : ℕ) → n ≡ 0 → (t : Stands (times n read_equation) s p) → rates_steady [] ≡ rates_steady t.value
 steady-none n e t = rw (none_left read_equation n e t) refl
 
 pub steady-more : (s : List ℕ) (p n : ℕ) (i : 0 < n) (k : ℕ) (e : k ≡ nat2_at s p) {rates out : List ℤ} → ((t : Stands (times (n - 1) read_equation) s (p + 2 + k)) → rates ≡ rates_steady t.value) → ((t : Stands read_equation_body s (p + 2)) (es : List Equation) → rates ≡ rates_steady es → out ≡ rates_steady (t.value ∷ es)) → (t : Stands (times n read_equation) s p) → out ≡ rates_steady t.value

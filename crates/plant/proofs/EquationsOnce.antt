@@ -9,13 +9,17 @@ use borrow.Author.Tests.{eqb-true, ltb-true}
 use lib.Dec.{eqb, ltb}
 use lib.ListN.{length, get_or, take, drop, replicate}
 use Rattle.semantics.specs.Bytes.{every, read, times}
+use Rattle.semantics.specs.Refusals.{refused, accepted, ensure, ◌>>◌}
 use Rattle.semantics.specs.Sections.{Rate, Mode, Equation, steady, choice, read_rate, read_mode, read_equation, equation_in_bytes, equations_in}
 use Rattle.semantics.specs.Plant.{rate_named, switch_named, mode_named, equation_named, among, once_after, mode_drives, drives, modes_once, equation_once, driven_once, is_driven_in, rates_drive, mode_once}
 use Rattle.semantics.proofs.Facts.{true-not-false, some_is, and_left, and_right, by_cases, All, all_nil, all_cons, every-all}
+use Rattle.semantics.proofs.Judging.{go-ensure}
 use Rattle.semantics.proofs.PlantPassed.{equations-passed}
+use Rattle.paper.specs.Refusals.{answered}
+use Rattle.paper.proofs.Answered.{accepts-with}
 use Rattle.codec.proofs.Reading.{nat2_at}
 use Rattle.codec.proofs.Known.{Cons}
-use Rattle.plant.specs.Driven.{Named, Small, Held, Few, Marks, Tried, rates_once, modes_apart, driven_marks, driven_answer}
+use Rattle.plant.specs.Driven.{Named, Small, Held, Few, Marks, Tried, rates_once, modes_apart, driven_marks, judge_driven}
 use Rattle.plant.specs.Equations.{each}
 use Rattle.plant.proofs.ByVariable.{each-is}
 use Rattle.plant.proofs.Marks.{among-append, among_there, small-left, small-right}
@@ -100,12 +104,12 @@ unfolding driven_once
 once-split noted q es = refl
 
 -- the answer, by whether 8 lets the section pass
-answer-once : (es : List Equation) {seen : List Bool} → driven_once [] es ≡ true → seen ≡ driven_marks es → record { once = true; marks = seen } ≡ driven_answer es
-unfolding driven_answer
-answer-once es e m = rw (e, m) refl
+answer-once : (es : List Equation) {seen : List Bool} → driven_once [] es ≡ true → seen ≡ driven_marks es → accepted seen ≡ answered driven_marks (judge_driven es)
+unfolding judge_driven
+answer-once es e m = accepts-with driven_marks (go-ensure 8 _ e) m
 
-answer-not : (es : List Equation) → driven_once [] es ≡ false → record { once = false; marks = replicate 32 false } ≡ driven_answer es
-unfolding driven_answer
+answer-not : (es : List Equation) → driven_once [] es ≡ false → refused 8 ≡ answered driven_marks (judge_driven es)
+unfolding judge_driven ensure ◌>>◌
 answer-not es e = rw e refl
 
 pub record OnceGoing (s : List ℕ) (seen : List Bool) (p i : ℕ) : Type 0 where
@@ -144,7 +148,7 @@ once-start s n =
     }
 
 module _ {s : List ℕ} {seen : List Bool} {p i : ℕ} (g : OnceGoing s seen p i) where
-  pub once-end : i ≡ get_or s 0 0 → (es : List Equation) → equations_in s ≡ some es → record { once = true; marks = seen } ≡ driven_answer es
+  pub once-end : i ≡ get_or s 0 0 → (es : List Equation) → equations_in s ≡ some es → accepted seen ≡ answered driven_marks (judge_driven es)
   unfolding driven_once among flat_map
   once-end k es h =
       let z = (none_left read_equation (get_or s 0 0) i (drop p s) k g.got).0 in
@@ -187,7 +191,7 @@ module _ {s : List ℕ} {seen : List Bool} {p i : ℕ} (g : OnceGoing s seen p i
         next-test : driven_once [] g.all ≡ (r && driven_once (drives next.head ++ g.noted) next.tail)
         next-test = g.same ∙ ap (driven_once g.noted) (sym next.is) ∙ once-split g.noted next.head next.tail ∙ ap (λ y. y && driven_once (drives next.head ++ g.noted) next.tail) (sym tried.is)
 
-        pub once-false : r ≡ false → (es : List Equation) → equations_in s ≡ some es → record { once = false; marks = replicate 32 false } ≡ driven_answer es
+        pub once-false : r ≡ false → (es : List Equation) → equations_in s ≡ some es → refused 8 ≡ answered driven_marks (judge_driven es)
         once-false f es k = answer-not es (ap (driven_once []) (some_is (sym k ∙ g.is)) ∙ next-test ∙ ap (λ y. y && driven_once (drives next.head ++ g.noted) next.tail) f)
 
         next-named : (v : ℕ) → is_driven_in g.all v ≡ (among v (drives next.head ++ g.noted) || among v (flat_map drives next.tail))

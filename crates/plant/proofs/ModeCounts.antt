@@ -16,7 +16,8 @@ use Rattle.codec.proofs.Known.{past_end}
 use Rattle.codec.proofs.Padding.{length-pad}
 use Rattle.plant.specs.Equations.{mode_count_of}
 use Rattle.plant.specs.ModeCounts.{ModesAt}
-use Rattle.plant.specs.PlantRead.{plant_of}
+use Rattle.plant.specs.PlantRead.{accepted_plant}
+use Rattle.plant.specs.declared.sections.PlantRead.{PlantRead}
 use Rattle.plant.proofs.EquationLaws.{few_selectors, mode-count-at}
 use Rattle.plant.proofs.PlantLaws.{passed-all, selectors-of, modes-of}
 
@@ -34,15 +35,15 @@ module _ {counts : List ℕ} {n : ℕ} {cs : List Selector} (d : ModesAt counts 
       let x = at-exists cs c (omega (arith, d.counted)) in
       ap (ltb m) (d.entries c x.1) ∙ sym (ap (judged m) x.1)
 
-module _ (ed : Edition) (vs es : List ℕ) {p : Plant} (h : judge_plant ed vs es ≡ accepted p) where
-  pub modes-held : ModesAt (plant_of ed vs es).modes (plant_of ed vs es).selectors (selectors p)
+module _ (ed : Edition) (vs es : List ℕ) {p : Plant} (h : judge_plant ed vs es ≡ accepted p) {x : PlantRead} (q : x ≡ accepted_plant p) where
+  pub modes-held : ModesAt x.modes x.selectors (selectors p)
   unfolding selectors
-  modes-held = record { counted = sym (selectors-of ed vs es h); entries = λ j g. ap (λ l. get_or l j 0) (modes-of ed vs es h) ∙ mode-count-at p.equations j g }
+  modes-held = record { counted = sym (selectors-of p q); entries = λ j g. ap (λ l. get_or l j 0) (modes-of p q) ∙ mode-count-at p.equations j g }
 
-  pub modes-full : length (plant_of ed vs es).modes ≡ 16
+  pub modes-full : length x.modes ≡ 16
   unfolding selectors
-  modes-full = ap length (modes-of ed vs es h) ∙ length-pad 16 0 (map mode_count_of (selectors p)) (omega (arith, few_selectors es (passed-all ed vs es h).equations, length-map (selectors p) mode_count_of))
+  modes-full = ap length (modes-of p q) ∙ length-pad 16 0 (map mode_count_of (selectors p)) (omega (arith, few_selectors es (passed-all ed vs es h).equations, length-map (selectors p) mode_count_of))
 
-  pub modes-room : (plant_of ed vs es).selectors ≤ length (plant_of ed vs es).modes
+  pub modes-room : x.selectors ≤ length x.modes
   unfolding selectors
-  modes-room = omega (arith, selectors-of ed vs es h, few_selectors es (passed-all ed vs es h).equations, modes-full)
+  modes-room = omega (arith, selectors-of p q, few_selectors es (passed-all ed vs es h).equations, modes-full)

@@ -12,15 +12,13 @@ use Rattle.semantics.specs.Expressions.{truth_in}
 use Rattle.semantics.specs.Sections.{Switch, Mode, Equation, read_switch, read_mode, read_equation, equation_in_bytes, equations_in}
 use Rattle.semantics.specs.Plant.{switch_reads, equation_reads, mode_reads}
 use Rattle.codec.proofs.Reading.{nat2_at}
+use Rattle.semantics.specs.Writing.{write_mode}
+use Rattle.plant.specs.Equations.{Stands}
 use Rattle.plant.specs.Sound.{There, Sound}
-use Rattle.plant.proofs.Walks.{SwitchAt, switch-at, ModeAt, mode-at, Shape, is_steady, is_choice, shape_of, not-both, EquationAt, equation-at, lent_is, lent-inside, lent-end, section-at}
+use Rattle.plant.proofs.Walks.{SwitchAt, switch-at, ModeAt, mode-at, past-mode, Shape, is_steady, is_choice, shape_of, not-both, EquationAt, equation-at, lent_is, lent-inside, lent-end, section-at}
 use Rattle.plant.proofs.Turns.{Turns, turn, turns-false, turns_next}
 
 -- ---- switches
--- a test that every switch passes
-abbrev pub any_switch : Edition → Switch → Bool
-any_switch ed w = true
-
 module _ {f : Edition → Switch → Bool} {s : List ℕ} {from k p i : ℕ} (t : Turns read_switch f s from k p i) (h : i < k) where
   switch : SwitchAt s p (turn t h).head (turn t h).mid
   switch = switch-at s p (turn t h).first
@@ -35,9 +33,11 @@ module _ {f : Edition → Switch → Bool} {s : List ℕ} {from k p i : ℕ} (t 
   switches-next x = turns_next t h x (p + 1 + get_or s p 0) switch.end switch.inside
 
   -- the slice that is lent is the switch's truth
-  pub switch-reads : (ed : Edition) (variables : ℕ) {r : Bool} → r ≡ is_some (truth_in ed variables (take (p + 1 + get_or s p 0 - (p + 1 + 1)) (drop (p + 1 + 1) s))) → r ≡ switch_reads ed variables (turn t h).head
+  pub switch-reads : (ed : Edition) (variables : ℕ) {r : Bool} → r ≡ is_some (truth_in ed variables (take (p + 1 + get_or s p 0 - (p + 2)) (drop (p + 2) s))) → r ≡ switch_reads ed variables (turn t h).head
   unfolding switch_reads
-  switch-reads ed variables e = e ∙ ap (λ l. is_some (truth_in ed variables l)) (sym switch.truth_is)
+  switch-reads ed variables e =
+      let k : p + 2 ≡ p + 1 + 1 = omega arith in
+      e ∙ ap (λ l. is_some (truth_in ed variables l)) (ap (λ q. take (p + 1 + get_or s p 0 - q) (drop q s)) k ∙ sym switch.truth_is)
 
 -- ---- modes
 module _ {f : Edition → Mode → Bool} {s : List ℕ} {from n p i : ℕ} (t : Turns read_mode f s from n p i) (h : i < n) where
@@ -57,8 +57,11 @@ module _ {f : Edition → Mode → Bool} {s : List ℕ} {from n p i : ℕ} (t : 
   unfolding mode_reads
   mode-reads ed variables u = u (turn t h).head.switches (turn t h).mid mode.switches_got
 
-  pub modes-next : ((ed : Edition) → f ed (turn t h).head ≡ true) → (q : ℕ) → ((ss : List Switch) (e : List ℕ) → times (get_or s (p + 1 + 5 * get_or s p 0) 0) read_switch (drop (p + 1 + 5 * get_or s p 0 + 1) s) ≡ read ss e → (e ≡ drop q s) × (q ≤ length s)) → Turns read_mode f s from n q (i + 1)
-  modes-next x q u = let w = u (turn t h).head.switches (turn t h).mid mode.switches_got in turns_next t h x q w.0 w.1
+  pub mode-there : Stands read_mode s p
+  mode-there = record { value = (turn t h).head; rest = (turn t h).mid; got = (turn t h).first }
+
+  pub modes-next : ((ed : Edition) → f ed (turn t h).head ≡ true) → (q : ℕ) → ((t : Stands read_mode s p) → q ≡ p + length (write_mode t.value)) → Turns read_mode f s from n q (i + 1)
+  modes-next x q u = let w = past-mode s p t.inside (turn t h).first u in turns_next t h x q w.0 w.1
 
 -- ---- one equation
 module _ (ed : Edition) (variables : ℕ) (s : List ℕ) where

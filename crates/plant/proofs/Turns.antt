@@ -6,7 +6,7 @@ use Prim.Native.Nat.{ℕ, ◌+◌, ◌-◌, ◌≤◌, ◌<◌}
 use lib.ListN.{length, drop}
 use Rattle.semantics.specs.Bytes.{every, Reader, read, times}
 use Rattle.semantics.specs.Editions.{Edition}
-use Rattle.semantics.proofs.Readers.{read-value, read-rest}
+use Rattle.semantics.proofs.Readers.{read-value}
 use Rattle.codec.proofs.Known.{Cons}
 use Rattle.plant.specs.Sound.{Sound}
 use Rattle.plant.proofs.Walks.{next_of, all_left, none_left}
@@ -34,10 +34,6 @@ module _ {A : Type 0} {r : Reader A} (f : Edition → A → Bool) {s : List ℕ}
   turns-start t = record { all = t.value; end = t.end; is = t.got; rest = t.value; got = all_left r n (drop from s) t.got; inside = t.inside; same = λ ed. refl }
 
 module _ {A : Type 0} {r : Reader A} {f : Edition → A → Bool} {s : List ℕ} {from n p i : ℕ} (t : Turns r f s from n p i) where
-  -- after the last turn
-  pub turns-place : i ≡ n → (l : List A) (e : List ℕ) → times n r (drop from s) ≡ read l e → (e ≡ drop p s) × (p ≤ length s)
-  turns-place h l e k = (read-rest (sym k ∙ t.is) ∙ sym (none_left r n i (drop p s) h t.got).1, t.inside)
-
   pub turns-true : i ≡ n → (ed : Edition) (l : List A) (e : List ℕ) → times n r (drop from s) ≡ read l e → true ≡ every (f ed) l
   unfolding every
   turns-true h ed l e k = sym (ap (every (f ed)) (read-value (sym k ∙ t.is)) ∙ t.same ed ∙ ap (every (f ed)) (none_left r n i (drop p s) h t.got).0)

@@ -1,6 +1,8 @@
 -- The variable section: its size, the values at a place, and what the answer says of each variable.
 use mathlib.Core.Path.{◌≡◌, refl, sym, ap, ◌∙◌}
-use mathlib.Core.Bool.{Bool, true, false, and-false}
+use mathlib.Core.Bool.{Bool, true, false, cond, ◌&&◌}
+use Rattle.std.specs.Ordering.{is_le, int_cmp}
+use Rattle.std.specs.declared.cmp.Ordering.TheVariants.{Less, Equal, Greater}
 use mathlib.Core.List.{List, [], ◌∷◌, ◌++◌, append_assoc, append-nil}
 use mathlib.Core.Option.{Option, none, some}
 use Prim.Native.Nat.{ℕ, zero, suc, ◌+◌, ◌-◌, ◌*◌, ◌≤◌, ◌<◌}
@@ -15,16 +17,20 @@ use mir.ValLaws.{to_z-of_z}
 use lib.ListN.{length, get_or, set, drop, length-append}
 use Rattle.semantics.specs.Bytes.{every, within, signed, read, and_then, ◌>>=◌, give, guard, byte, times, just, whole}
 use Rattle.semantics.specs.Editions.{Edition}
+use Rattle.semantics.specs.Refusals.{refused, accepted}
 use Rattle.semantics.specs.Sections.{Variable, read_variable, read_variables, variables_in}
-use Rattle.semantics.specs.Plant.{ordered}
+use Rattle.semantics.specs.Plant.{ordered, judge_variables}
 use Rattle.semantics.proofs.Facts.{some_is, true-not-false, within_low, within-high, within_both}
 use Rattle.semantics.proofs.Readers.{read-rest, read-value, split, given, guarded, byte-read, whole-read}
+use Rattle.semantics.proofs.PlantPassed.{variables-accepted}
+use Rattle.paper.specs.Refusals.{answered}
+use Rattle.paper.proofs.Answered.{refuses-with, accepts-with}
 use Rattle.codec.proofs.Padding.{pad-map-snoc}
 use Rattle.codec.proofs.Reading.{nat4_at, int4-at, drop_past, drop-some}
 use Rattle.codec.proofs.Known.{cons, times-length}
 use Rattle.plant.specs.declared.variables.Variables.{Variables}
-use Rattle.plant.proofs.VariableAnswer.{refused-5, accepted-as}
-use Rattle.plant.specs.Variables.{column, answer, refused_by, variables_of, VariablesStand, Counted}
+use Rattle.plant.proofs.VariableAnswer.{refused-5}
+use Rattle.plant.specs.Variables.{column, accepted_variables, VariablesStand}
 use Rattle.plant.proofs.Turns.{every-next, every-not}
 use Rattle.plant.proofs.Costs.{Costs, costs-give, costs-then, costs-int4, costs-times}
 
@@ -54,11 +60,11 @@ none-if (some a) f = absurd (f a refl)
 
 -- ---- the variable at a place
 abbrev pub variable_at : List ℕ → ℕ → Variable
-variable_at s p = record { minimum = signed (nat4_at s p); maximum = signed (nat4_at s (p + 4)); initial = signed (nat4_at s (p + 4 + 4)) }
+variable_at s p = record { minimum = signed (nat4_at s p); maximum = signed (nat4_at s (p + 4)); initial = signed (nat4_at s (p + 8)) }
 
 pub variable-at : (ed : Edition) (s : List ℕ) (p : ℕ) → p + 12 ≤ length s → read_variable ed (drop p s) ≡ read (variable_at s p) (drop (p + 4 + 4 + 4) s)
 unfolding read_variable ◌>>=◌ and_then give
-variable-at ed s p h = rw (int4-at s p (omega arith), int4-at s (p + 4) (omega arith), int4-at s (p + 4 + 4) (omega arith)) refl
+variable-at ed s p h = let e : p + 8 ≡ p + 4 + 4 = omega arith in rw (int4-at s p (omega arith), int4-at s (p + 4) (omega arith), int4-at s (p + 4 + 4) (omega arith), e) refl
 
 -- n variables from a place on are there where their bytes are
 many : (ed : Edition) (s : List ℕ) (n p : ℕ) → p + 12 * n ≤ length s → (vs : List Variable) × (times n (read_variable ed) (drop p s) ≡ read vs (drop (p + 12 * n) s))
@@ -93,14 +99,8 @@ length-is ed s h =
     ap length (some_is (sym h ∙ k.1.is)) ∙ times-length (read_variable ed) (get_or s 0 0) (drop 1 s) k.1.got
 
 -- ---- the count
-pub wrong : (s : List ℕ) → (VariablesStand s (get_or s 0 0) → ⊥) → Counted s 0
-wrong s f = record { wrong = λ e ed. none-if (variables_in ed s) (λ vs h. f (sized_of ed s h)); right = λ h. absurd (omega arith) }
-
-pub right : (s : List ℕ) → get_or s 0 0 ≤ 32 → length s ≡ 1 + 12 * get_or s 0 0 → Counted s (get_or s 0 0)
-right s h k = record {
-  wrong = λ e ed. none-if (variables_in ed s) (λ vs i. let z = (sized_of ed s i).low in omega arith);
-  right = λ l. record { first = refl; low = l; high = h; size = k };
-}
+pub not-counted : (s : List ℕ) → (VariablesStand s (get_or s 0 0) → ⊥) → (ed : Edition) → variables_in ed s ≡ none
+not-counted s f ed = none-if (variables_in ed s) (λ vs h. f (sized_of ed s h))
 
 -- ---- arrays
 column-more : (f : Variable → ℤ) (vs : List Variable) (v : Variable) (i : ℕ) (z : ℤ) → z ≡ f v → length vs ≡ i → i < 32 → set (column f vs) i z ≡ column f (vs ++ (v ∷ []))
@@ -124,34 +124,39 @@ not_more (negsuc a) (negsuc b) h = le-leb a b (ltb-false b a h)
 pub value : {z x : ℤ} → mag z < 2147483648 → z ≡ x → to_z w32 (of_z w32 z) ≡ x
 value {z} h e = to_z-of_z w32 z (record { sfits = h }) ∙ e
 
--- a test of two numbers that are read back from their bits
-pub lt-as : {a b x y : ℤ} {t : Bool} → a ≡ x → b ≡ y → lt_z a b ≡ t → lt_z x y ≡ t
-lt-as e f h = rw (← e, ← f) h
+pub not-both : (a b : ℤ) → lt_z a b ≡ true → lt_z b a ≡ true → ⊥
+not-both (pos a) (pos b) h k = let x = ltb-true a b h in let y = ltb-true b a k in omega arith
+not-both (pos a) (negsuc b) h k = true-not-false (sym h)
+not-both (negsuc a) (pos b) h k = true-not-false (sym k)
+not-both (negsuc a) (negsuc b) h k = let x = ltb-true b a h in let y = ltb-true a b k in omega arith
 
-pub below_minimum : (v : Variable) → lt_z v.initial v.minimum ≡ true → ordered v ≡ false
-unfolding ordered
-below_minimum v h = rw (not-less v.initial v.minimum h) refl
+-- what `<=` answers of signed numbers
+le_as : (a b : ℤ) → is_le (int_cmp a b) ≡ le_z a b
+le_as a b = go (lt_z a b) (lt_z b a) refl refl
+  where
+    go : (s t : Bool) → lt_z a b ≡ s → lt_z b a ≡ t → is_le (cond (lt_z a b) Less (cond (lt_z b a) Greater Equal)) ≡ le_z a b
+    go true true e f = absurd (not-both a b e f)
+    go true false e f = rw (e, not_more b a f) refl
+    go false true e f = rw (e, f, not-less b a f) refl
+    go false false e f = rw (e, f, not_more b a f) refl
 
-pub above_maximum : (v : Variable) → lt_z v.maximum v.initial ≡ true → ordered v ≡ false
+-- a range's test of the initial value
+pub tested : (v : Variable) {low high first : ℤ} {b : Bool} → low ≡ v.minimum → high ≡ v.maximum → first ≡ v.initial → b ≡ (is_le (int_cmp low first) && is_le (int_cmp first high)) → ordered v ≡ b
 unfolding ordered
-above_maximum v h = rw (not-less v.maximum v.initial h, and-false (le_z v.minimum v.initial)) refl
-
-pub in_order : (v : Variable) → lt_z v.initial v.minimum ≡ false → lt_z v.maximum v.initial ≡ false → ordered v ≡ true
-unfolding ordered
-in_order v h k = rw (not_more v.initial v.minimum h, not_more v.maximum v.initial k) refl
+tested v e f g h = sym (rw (e, f, g, le_as v.minimum v.initial, le_as v.initial v.maximum) at h)
 
 -- ---- the answer
-answer-is : (vs : List Variable) (n : ℕ) (lows highs initials : List ℤ) → n ≡ length vs → lows ≡ column (λ (v : Variable). v.minimum) vs → highs ≡ column (λ (v : Variable). v.maximum) vs → initials ≡ column (λ (v : Variable). v.initial) vs → ◌≡◌ {A = Variables} (record { refusal = 0; count = n; lows = lows; highs = highs; initials = initials }) (answer 0 vs)
-unfolding answer
-answer-is vs n lows highs initials a b c d = λ i. record { refusal = 0; count = a i; lows = b i; highs = c i; initials = d i }
+answer-is : (vs : List Variable) (n : ℕ) (lows highs initials : List ℤ) → n ≡ length vs → lows ≡ column (λ (v : Variable). v.minimum) vs → highs ≡ column (λ (v : Variable). v.maximum) vs → initials ≡ column (λ (v : Variable). v.initial) vs → ◌≡◌ {A = Variables} (record { count = n; lows = lows; highs = highs; initials = initials }) (accepted_variables vs)
+unfolding accepted_variables
+answer-is vs n lows highs initials a b c d = λ i. record { count = a i; lows = b i; highs = c i; initials = d i }
 
--- ---- the loop: i variables are noted, and the others stand from p on
-pub record Going (ed : Edition) (s : List ℕ) (n i p : ℕ) (lows highs initials : List ℤ) : Type 0 where
+-- ---- the loop: i variables are noted, and the others stand behind them
+pub record Going (ed : Edition) (s : List ℕ) (n i : ℕ) (lows highs initials : List ℤ) : Type 0 where
   pub all : List Variable
   pub is : variables_in ed s ≡ some all
   pub done : List Variable
   pub rest : List Variable
-  pub got : times (n - i) (read_variable ed) (drop p s) ≡ read rest []
+  pub got : times (n - i) (read_variable ed) (drop (1 + 12 * i) s) ≡ read rest []
   pub join : done ++ rest ≡ all
   pub so_far : every ordered all ≡ every ordered rest
   pub many : length done ≡ i
@@ -159,7 +164,7 @@ pub record Going (ed : Edition) (s : List ℕ) (n i p : ℕ) (lows highs initial
   pub highs_are : highs ≡ column (λ (v : Variable). v.maximum) done
   pub initials_are : initials ≡ column (λ (v : Variable). v.initial) done
 
-pub going_start : (ed : Edition) (s : List ℕ) (n : ℕ) → VariablesStand s n → Going ed s n 0 1 (column (λ (v : Variable). v.minimum) []) (column (λ (v : Variable). v.maximum) []) (column (λ (v : Variable). v.initial) [])
+pub going_start : (ed : Edition) (s : List ℕ) (n : ℕ) → VariablesStand s n → Going ed s n 0 (column (λ (v : Variable). v.minimum) []) (column (λ (v : Variable). v.maximum) []) (column (λ (v : Variable). v.initial) [])
 going_start ed s n z =
     let k = section-of ed s n z in
     record {
@@ -176,24 +181,36 @@ going_start ed s n z =
       initials_are = refl;
     }
 
-module _ (ed : Edition) {s : List ℕ} {n i p : ℕ} {lows highs initials : List ℤ} (g : Going ed s n i p lows highs initials) (h : i < n) (k : p + 12 ≤ length s) where
+module _ (ed : Edition) {s : List ℕ} {n i : ℕ} {lows highs initials : List ℤ} (g : Going ed s n i lows highs initials) (h : i < n) (k : 1 + 12 * i + 12 ≤ length s) where
+  p : ℕ
+  p = 1 + 12 * i
+
   -- the variable at p is the next one
   record Next : Type 0 where
     tail : List Variable
-    rest-is : g.rest ≡ variable_at s p ∷ tail
-    tail-got : times (n - (i + 1)) (read_variable ed) (drop (p + 4 + 4 + 4) s) ≡ read tail []
+    rest-is : g.rest ≡ variable_at s (1 + 12 * i) ∷ tail
+    tail-got : times (n - (i + 1)) (read_variable ed) (drop (1 + 12 * (i + 1)) s) ≡ read tail []
 
   next : Next
+  unfolding p
   next =
       let e : n - i ≡ suc (n - (i + 1)) = omega arith in
       let c = cons (read_variable ed) (n - (i + 1)) (ap (λ m. times m (read_variable ed) (drop p s)) (sym e) ∙ g.got) in
       let v = sym c.first ∙ variable-at ed s p k in
-      record { tail = c.tail; rest-is = sym c.is ∙ ap (λ x. x ∷ c.tail) (read-value v); tail-got = ap (times (n - (i + 1)) (read_variable ed)) (sym (read-rest v)) ∙ c.rest }
+      let q : 1 + 12 * (i + 1) ≡ p + 4 + 4 + 4 = omega arith in
+      record {
+        tail = c.tail;
+        rest-is = sym c.is ∙ ap (λ x. x ∷ c.tail) (read-value v);
+        tail-got = ap (times (n - (i + 1)) (read_variable ed)) (ap (λ z. drop z s) q ∙ sym (read-rest v)) ∙ c.rest;
+      }
 
-  pub stopped : ordered (variable_at s p) ≡ false → variables_of ed s ≡ refused_by 5
-  stopped o = refused-5 ed s g.is (g.so_far ∙ ap (every ordered) next.rest-is ∙ every-not ordered (variable_at s p) next.tail o)
+  pub stopped : ordered (variable_at s (1 + 12 * i)) ≡ false → refused 5 ≡ answered accepted_variables (judge_variables ed s)
+  unfolding p
+  stopped o = refuses-with accepted_variables (refused-5 ed s g.is (g.so_far ∙ ap (every ordered) next.rest-is ∙ every-not ordered (variable_at s p) next.tail o))
 
-  pub going_next : ordered (variable_at s p) ≡ true → (low high first : ℤ) → low ≡ (variable_at s p).minimum → high ≡ (variable_at s p).maximum → first ≡ (variable_at s p).initial → i < 32 → Going ed s n (i + 1) (p + 4 + 4 + 4) (set lows i low) (set highs i high) (set initials i first)
+  pub going_next : ordered (variable_at s (1 + 12 * i)) ≡ true → (low high first : ℤ) → low ≡ (variable_at s (1 + 12 * i)).minimum → high ≡ (variable_at s (1 + 12 * i)).maximum → first ≡ (variable_at s (1 + 12 * i)).initial → i < 32
+      → Going ed s n (i + 1) (set lows i low) (set highs i high) (set initials i first)
+  unfolding p
   going_next o low high first a b d j = record {
     all = g.all;
     is = g.is;
@@ -208,11 +225,14 @@ module _ (ed : Edition) {s : List ℕ} {n i p : ℕ} {lows highs initials : List
     initials_are = ap (λ l. set l i first) g.initials_are ∙ column-more (λ (v : Variable). v.initial) g.done (variable_at s p) i first d g.many j;
   }
 
-pub ended : (ed : Edition) {s : List ℕ} {n i p : ℕ} {lows highs initials : List ℤ} → Going ed s n i p lows highs initials → i ≡ n → ◌≡◌ {A = Variables} (record { refusal = 0; count = n; lows = lows; highs = highs; initials = initials }) (variables_of ed s)
+pub ended : (ed : Edition) {s : List ℕ} {n i : ℕ} {lows highs initials : List ℤ} → Going ed s n i lows highs initials → i ≡ n
+    → accepted (record { count = n; lows = lows; highs = highs; initials = initials }) ≡ answered accepted_variables (judge_variables ed s)
 unfolding every times
-ended ed {s} {n} {i} {p} {lows} {highs} {initials} g e =
+ended ed {s} {n} {i} {lows} {highs} {initials} g e =
+    let p = 1 + 12 * i in
     let z : n - i ≡ 0 = omega arith in
     let r : g.rest ≡ [] = sym (given [] (drop p s) (ap (λ m. times m (read_variable ed) (drop p s)) (sym z) ∙ g.got)) in
     let o : every ordered g.all ≡ true = g.so_far ∙ ap (every ordered) r in
     let d : g.done ≡ g.all = sym (append-nil g.done) ∙ ap (λ l. g.done ++ l) (sym r) ∙ g.join in
-    answer-is g.done n lows highs initials (sym e ∙ sym g.many) g.lows_are g.highs_are g.initials_are ∙ ap (answer 0) d ∙ sym (accepted-as ed s (record { is = g.is; in_order = o }))
+    accepts-with accepted_variables (variables-accepted ed s (record { is = g.is; in_order = o }))
+    (answer-is g.done n lows highs initials (sym e ∙ sym g.many) g.lows_are g.highs_are g.initials_are ∙ ap accepted_variables d)

@@ -17,7 +17,10 @@ use Rattle.semantics.proofs.Readers.{broken-not-read, split, given, given-rest, 
 use Rattle.codec.proofs.Reading.{nat2_at, section2-short, either}
 use Rattle.codec.proofs.Known.{after-byte, not-past, after-bytes, not_short, after-section2, not-section2, not-lost, Cons, cons, last}
 use Rattle.codec.proofs.Places.{Takes, takes-give, takes-then, takes-byte, takes-int4, takes-times}
+use Rattle.semantics.specs.Writing.{write_mode}
 use Rattle.plant.specs.Sound.{There, Sound}
+use Rattle.plant.specs.Equations.{Stands}
+use Rattle.plant.proofs.EquationSizes.{cuts-mode}
 use Rattle.plant.proofs.Costs.{Costs, costs-give, costs-byte, costs-then, costs-int4, costs-times}
 
 -- ---- a reader of a fixed size ends there
@@ -164,6 +167,13 @@ mode-at s p {m} {e} h = either p (length s) (λ i. first i (rated s (p + 1) (get
               between = j;
               switches_got = k.got ∙ ap (λ (x : Mode). read x.switches e) k.made;
             }
+
+-- a mode ends at place q, by what is written of it
+pub past-mode : (s : List ℕ) (p : ℕ) {m : Mode} {e : List ℕ} → p ≤ length s → read_mode (drop p s) ≡ read m e → {q : ℕ} → ((t : Stands read_mode s p) → q ≡ p + length (write_mode t.value)) → (e ≡ drop q s) × (q ≤ length s)
+past-mode s p {m} {e} i h {q} f =
+    let c = cuts-mode.cuts (drop p s) m e h in
+    let k : p + c.count ≡ q = omega (arith, f (record { value = m; rest = e; got = h }), c.fits) in
+    (c.cut.rest ∙ drop-drop c.count p s ∙ ap (λ n. drop n s) k, omega (arith, c.cut.few, length-drop p s))
 
 -- ---- an equation: a rate, or the modes of a CASE
 pub data Shape (s : List ℕ) (q : Equation) : Type 0 where

@@ -1,14 +1,13 @@
 -- Condition 8 of an equation section that 6 and 7 let pass, and which variables its equations drive.
-use Rattle.std.specs.Prelude.{◌≡◌, Bool, true, false, cond, ◌&&◌, ℕ, ◌≤◌, ◌<◌, length, get_or, drop, replicate}
+use Rattle.std.specs.Prelude.{◌≡◌, Bool, true, false, ◌&&◌, ℕ, ◌≤◌, ◌<◌, length, get_or, drop}
 use mathlib.Core.List.{List, [], ◌++◌, flat_map}
 use Rattle.std.proofs.Math.Option.{Option}
 use Rattle.semantics.specs.Bytes.{every, Reader, read}
-use Rattle.semantics.specs.Refusals.{accepted}
+use Rattle.semantics.specs.Refusals.{Judged, accepted, ensure, ◌>>◌}
 use Rattle.semantics.specs.Sections.{Rate, Mode, Equation, variable_limit}
 use Rattle.semantics.specs.Plant.{judge_equations, among, apart, once_after, rates_drive, mode_drives, mode_once, driven_once, is_driven_in}
 use Rattle.plant.specs.Sound.{There, Sound}
 use Rattle.plant.specs.Equations.{each}
-use Rattle.plant.specs.declared.driven.Driven.{Driven}
 
 -- a section that 6 and 7 let pass, where there are at most 32 variables
 pub record Named (s : List ℕ) : Type 0 where
@@ -57,9 +56,9 @@ TriedAt {A} r test named s p a b x c = (v : A) (e : List ℕ) → r (drop p s) �
 abbrev pub driven_marks : List Equation → List Bool
 driven_marks es = each (is_driven_in es) 0 variable_limit
 
--- where 8 applies no variable is marked
-unfoldable pub driven_answer : List Equation → Driven
-driven_answer es = record { once = driven_once [] es; marks = cond (driven_once [] es) (driven_marks es) (replicate variable_limit false) }
+-- 8, of equations that 6 and 7 let pass
+unfoldable pub judge_driven : List Equation → Judged (List Equation)
+judge_driven es = ensure 8 (driven_once [] es) >> accepted es
 
 -- marks tells of every number whether these equations drive a variable of that number
 pub record DrivenAt (marks : List Bool) (es : List Equation) : Type 0 where

@@ -1,20 +1,16 @@
 -- The equation section: conditions 6 and 7, and what a run looks up in it.
-use Rattle.std.specs.Prelude.{◌≡◌, Bool, List, [], ◌∷◌, ◌++◌, map, ℕ, zero, suc, ◌+◌, ◌*◌, ℤ, pos, length, drop, replicate}
+use Rattle.std.specs.Prelude.{◌≡◌, Option as Answer, Some, None, Bool, true, ◌&&◌, List, [], ◌∷◌, ◌++◌, map, ℕ, zero, suc, ◌+◌, ◌*◌, ◌<◌, ℤ, length, drop}
 use Rattle.std.proofs.Math.Option.{Option, none, some}
 use Rattle.semantics.specs.Bytes.{Read, Reader, broken, read}
-use Rattle.semantics.specs.Refusals.{Judged, refused, accepted, refusal_of}
+use Rattle.semantics.specs.Refusals.{refusal_of}
 use Rattle.semantics.specs.Sections.{Rate, Mode, Selector, Equation, steady, choice, variable_limit, equation_limit, mode_limit, read_mode, equations_in}
-use Rattle.semantics.specs.Plant.{selectors_of, no_such_mode, rates_of, rate_among, judge_named, judge_equations}
+use Rattle.semantics.specs.Plant.{selectors_of, no_such_mode, rates_of, rate_among, judge_named}
 use Rattle.semantics.specs.Writing.{write_mode, write_equation}
 use Rattle.codec.specs.Reading.{Reads}
 use Rattle.codec.specs.Padding.{pad}
 use Rattle.plant.specs.PaperNumbers.{paper_step, paper_seen}
 use Rattle.plant.specs.declared.equations.Equations.{Equations}
-use Rattle.plant.specs.declared.equations.Cases.{Cases}
 use Rattle.plant.specs.declared.equations.Step.{Step}
-use Rattle.plant.specs.declared.equations.Step.TheVariants.{At, Broken}
-use Rattle.plant.specs.declared.equations.Seen.{Seen}
-use Rattle.plant.specs.declared.equations.Seen.TheVariants.{Kept, Lost}
 
 -- ---- places
 -- of values written one after the other, the first at p
@@ -47,30 +43,13 @@ abbrev pub rates_steady : List Equation → List ℤ
 rates_steady es = rates_from (rates_of es []) 0 variable_limit
 
 -- ---- the answer
-unfoldable pub refused_equations : ℕ → Equations
-refused_equations n = record {
-  refusal = n;
-  selectors = 0;
-  modes = replicate equation_limit 0;
-  mode_offsets = replicate (equation_limit * mode_limit) 0;
-  steady = replicate variable_limit (pos 0);
-}
-
 unfoldable pub accepted_equations : List Equation → Equations
 accepted_equations es = record {
-  refusal = 0;
   selectors = length (selectors_of es);
   modes = pad equation_limit 0 (map mode_count_of (selectors_of es));
   mode_offsets = pad (equation_limit * mode_limit) 0 (places_of_mode 1 es);
   steady = rates_steady es;
 }
-
-unfoldable pub answer_to : Judged (List Equation) → Equations
-answer_to (refused n) = refused_equations n
-answer_to (accepted es) = accepted_equations es
-
-unfoldable pub equations_of : List ℕ → ℕ → Equations
-equations_of s variables = answer_to (judge_equations variables s)
 
 -- ---- places that are known
 -- what r reads stands at place p of s
@@ -90,26 +69,20 @@ pub record SectionStands (s : List ℕ) : Type 0 where
   pub equations : List Equation
   pub read : equations_in s ≡ some equations
 
--- what the code notes of the CASEs
-pub record CasesOf (es : List Equation) (r : Cases) : Type 0 where
-  pub count : r.count ≡ length (selectors_of es)
-  pub modes : r.modes ≡ pad equation_limit 0 (map mode_count_of (selectors_of es))
-  pub mode_offsets : r.mode_offsets ≡ pad (equation_limit * mode_limit) 0 (places_of_mode 1 es)
-
 -- ---- the answers of the code's own readers
 -- a reader's answer as Reading has it
-abbrev pub view : Step → Option (ℕ × Bool)
-view (At q x) = some (q, x)
-view Broken = none
+abbrev pub view : Answer Step → Option (ℕ × Bool)
+view (Some w) = some (w.end, w.named)
+view None = none
 
 -- the answer of a test
 abbrev pub Says : {A : Type 0} → (A → Bool) → A → Bool → Type 0
 Says P a x = x ≡ P a
 
 -- the same of a whole slice
-unfoldable pub seen : {A : Type 0} → (A → Bool) → Option A → Seen
-seen P none = Lost
-seen P (some a) = Kept (P a)
+unfoldable pub seen : {A : Type 0} → (A → Bool) → Option A → Answer Bool
+seen P none = None
+seen P (some a) = Some (P a)
 
 -- what was read, whatever follows it
 unfoldable pub read_value : {A : Type 0} → Read A → Option A
@@ -117,10 +90,21 @@ read_value broken = none
 read_value (read a s) = some a
 
 -- ---- their contracts: document 01's number is 6 where the layout is broken, 7 where a name is missing, 0 else
-pub record StepSays {A : Type 0} (r : Reader A) (P : A → Bool) (s : List ℕ) (p : ℕ) (w : Step) : Type 0 where
+pub record StepSays {A : Type 0} (r : Reader A) (P : A → Bool) (s : List ℕ) (p : ℕ) (w : Answer Step) : Type 0 where
   pub reads : Reads r (Says P) s p (view w)
   pub number : paper_step w ≡ refusal_of (judge_named P (read_value (r (drop p s))))
 
-pub record SeenSays {A : Type 0} (P : A → Bool) (o : Option A) (w : Seen) : Type 0 where
+pub record SeenSays {A : Type 0} (P : A → Bool) (o : Option A) (w : Answer Bool) : Type 0 where
   pub is : w ≡ seen P o
   pub number : paper_seen w ≡ refusal_of (judge_named P o)
+
+-- ---- parts one after the other, each as `one` answers at its place
+-- the first i of them, from place `at` on
+pub data SoFar (one : ℕ → Answer Step → Type 0) (at : ℕ) : ℕ → Step → Type 0 where
+  at_first : SoFar one at 0 (record { end = at; named = true })
+  and_next : {i : ℕ} {w v : Step} → SoFar one at i w → one w.end (Some v) → SoFar one at (i + 1) (record { end = v.end; named = w.named && v.named })
+
+-- n of them: all, or one is broken
+pub data Several (one : ℕ → Answer Step → Type 0) (at n : ℕ) : Answer Step → Type 0 where
+  all_read : {w : Step} → SoFar one at n w → Several one at n (Some w)
+  one_broken : {i : ℕ} {w : Step} → SoFar one at i w → i < n → one w.end None → Several one at n None

@@ -1,322 +1,177 @@
 // The equation section: its layout (6), its names (7), and where its modes stand.
-ghost use Rattle.std.specs.Prelude.{◌≡◌, true, ◌&&◌, ◌+◌, ◌*◌, ◌≤◌, ◌<◌, length, set};
-ghost use mathlib.Core.List.{List, ◌∷◌, flat_map};
+ghost use Rattle.std.specs.Prelude.{◌≡◌, true, ◌&&◌, ◌+◌, ◌*◌, ◌≤◌, ◌<◌, length, set, Some};
+ghost use mathlib.Core.List.{List, [], ◌∷◌, flat_map};
 ghost use Rattle.std.proofs.lemmas.List.Edits.{sets};
 ghost use Rattle.semantics.specs.Bytes.{times, every};
-ghost use Rattle.semantics.specs.Refusals.{refusal_of};
 ghost use Rattle.semantics.specs.Sections as sections;
-ghost use Rattle.semantics.specs.Writing.{write_switch, write_mode};
+ghost use Rattle.semantics.specs.Writing.{write_mode};
 ghost use Rattle.semantics.specs.Plant as names;
-ghost use Rattle.plant.specs.Equations.{StepSays, SeenSays, Stands, SectionStands, starts_from, rates_steady, CasesOf, equations_of, refused_equations};
+ghost use Rattle.plant.specs.Equations.{Several, StepSays, SeenSays, Stands, SectionStands, starts_from, rates_steady, accepted_equations};
+ghost use Rattle.paper.specs.Refusals.{judged_of, answered};
 
-// The most modes of a CASE and the most equations, as their counts' bytes.
-const MODES: u8 = paper::MODES as u8;
+use crate::places::mode_end;
+use paper::refusals::Refusal;
 
-const EQUATIONS: u8 = paper::EQUATIONS as u8;
-
-// refusal 6, 7 or 0; of selector j its modes, and at entry 8 * j + m where mode m of it stands; of each variable its rate of kind 1
+// of selector j its modes, and at entry 8 * j + m where mode m of it stands; of each variable its rate of kind 1
+// Arrays of the most that there can be: nothing here is on a heap.
 #[derive(Clone, Copy)]
 pub struct Equations {
-    pub refusal: u8,
     pub selectors: usize,
     pub modes: [usize; paper::EQUATIONS],
     pub mode_offsets: [usize; paper::MODE_PLACES],
     pub steady: [i32; paper::VARIABLES],
 }
 
-// the selectors: how many, of each its modes, and where these stand
+// what was read: the place after it, and whether its names are there
 #[derive(Clone, Copy)]
-struct Cases {
-    count: usize,
-    modes: [usize; paper::EQUATIONS],
-    mode_offsets: [usize; paper::MODE_PLACES],
+struct Step {
+    end: usize,
+    named: bool,
 }
 
-// the place after what was read, and whether its names are there
-#[derive(Clone, Copy)]
-enum Step {
-    At(usize, bool),
-    Broken,
-}
-
-// the same of a whole slice
-#[derive(Clone, Copy)]
-enum Seen {
-    Kept(bool),
-    Lost,
-}
-
-pub fn both(a: bool, b: bool) -> bool
-    ensures { result ≡ (a && b) }
+// n parts one after the other, each as `one` reads it
+fn several<F: Fn(usize) -> Option<Step>>(at: usize, n: u8, one: F) -> Option<Step>
+    requires first { F.pre one at }
+    requires next { (p : _) (w : Step) → F.post one p (Some w) → F.pre one w.end }
+    ensures { Several (λ p w. F.post one p w) at n result }
 {
-    if a { b } else { false }
+    let mut whole = Step {
+        end: at,
+        named: true,
+    };
+    for _ in 0..n {
+        let part = one(whole.end)?;
+        whole = Step {
+            end: part.end,
+            named: whole.named & part.named,
+        };
+    }
+    Some(whole)
 }
 
-fn rate(s: &[u8], at: usize, variables: usize) -> Step
+fn rate(s: &[u8], at: usize, variables: usize) -> Option<Step>
     requires { at ≤ length s.now }
     ensures { StepSays sections.read_rate (names.rate_named variables) s.now at result }
 {
     if s.len() - at < 5 {
-        return Step::Broken;
+        return None;
     }
-    Step::At(at + 5, (s[at] as usize) < variables)
+    Some(Step {
+        end: at + 5,
+        named: usize::from(s[at]) < variables,
+    })
 }
 
-fn rates(s: &[u8], at: usize, n: u8, variables: usize) -> Step
-    requires { at ≤ length s.now }
-    ensures { StepSays (times n sections.read_rate) (every (names.rate_named variables)) s.now at result }
-{
-    let mut p = at;
-    let mut named = true;
-    let mut i: u8 = 0;
-    while i < n {
-        let w = rate(s, p, variables);
-        match w {
-            Step::At(q, x) => {
-                p = q;
-                named = both(named, x);
-            }
-            Step::Broken => {
-                return Step::Broken;
-            }
-        }
-        i += 1;
-    }
-    Step::At(p, named)
-}
-
-fn switch(s: &[u8], at: usize, modes: u8) -> Step
+fn switch(s: &[u8], at: usize, modes: u8) -> Option<Step>
     requires { at ≤ length s.now }
     ensures { StepSays sections.read_switch (names.switch_named modes) s.now at result }
 {
     if s.len() <= at {
-        return Step::Broken;
+        return None;
     }
-    let l = s[at];
-    if l < 1 {
-        return Step::Broken;
+    let n = usize::from(s[at]);
+    if n < 1 {
+        return None;
     }
-    if s.len() - at - 1 < l as usize {
-        return Step::Broken;
+    if s.len() - at - 1 < n {
+        return None;
     }
-    Step::At(at + 1 + l as usize, s[at + 1] < modes)
+    Some(Step {
+        end: at + 1 + n,
+        named: s[at + 1] < modes,
+    })
 }
 
-fn switches(s: &[u8], at: usize, n: u8, modes: u8) -> Step
-    requires { at ≤ length s.now }
-    ensures { StepSays (times n sections.read_switch) (every (names.switch_named modes)) s.now at result }
-{
-    let mut p = at;
-    let mut named = true;
-    let mut i: u8 = 0;
-    while i < n {
-        let w = switch(s, p, modes);
-        match w {
-            Step::At(q, x) => {
-                p = q;
-                named = both(named, x);
-            }
-            Step::Broken => {
-                return Step::Broken;
-            }
-        }
-        i += 1;
-    }
-    Step::At(p, named)
-}
-
-fn mode(s: &[u8], at: usize, variables: usize, modes: u8) -> Step
+fn mode(s: &[u8], at: usize, variables: usize, modes: u8) -> Option<Step>
     requires { at ≤ length s.now }
     ensures { StepSays sections.read_mode (names.mode_named variables modes) s.now at result }
 {
     if s.len() <= at {
-        return Step::Broken;
+        return None;
     }
-    let w = rates(s, at + 1, s[at], variables);
-    match w {
-        Step::At(p, x) => {
-            if s.len() <= p {
-                return Step::Broken;
-            }
-            let v = switches(s, p + 1, s[p], modes);
-            match v {
-                Step::At(q, y) => Step::At(q, both(x, y)),
-                Step::Broken => Step::Broken,
-            }
-        }
-        Step::Broken => Step::Broken,
+    let rates = several(at + 1, s[at], |p| rate(s, p, variables))?;
+    if s.len() <= rates.end {
+        return None;
     }
+    let switches = several(rates.end + 1, s[rates.end], |p| switch(s, p, modes))?;
+    Some(Step {
+        end: switches.end,
+        named: rates.named & switches.named,
+    })
 }
 
-fn modes(s: &[u8], at: usize, n: u8, variables: usize) -> Step
-    requires { at ≤ length s.now }
-    ensures { StepSays (times n sections.read_mode) (every (names.mode_named variables n)) s.now at result }
-{
-    let mut p = at;
-    let mut named = true;
-    let mut i: u8 = 0;
-    while i < n {
-        let w = mode(s, p, variables, n);
-        match w {
-            Step::At(q, x) => {
-                p = q;
-                named = both(named, x);
-            }
-            Step::Broken => {
-                return Step::Broken;
-            }
-        }
-        i += 1;
-    }
-    Step::At(p, named)
-}
-
-fn steady(s: &[u8], at: usize, variables: usize) -> Step
-    requires { at ≤ length s.now }
-    ensures { StepSays sections.read_steady (names.equation_named variables) s.now at result }
-{
-    rate(s, at, variables)
-}
-
-fn choice(s: &[u8], at: usize, variables: usize) -> Step
+fn choice(s: &[u8], at: usize, variables: usize) -> Option<Step>
     requires { at ≤ length s.now }
     ensures { StepSays sections.read_choice (names.equation_named variables) s.now at result }
 {
     if s.len() - at < 2 {
-        return Step::Broken;
+        return None;
     }
-    let first = s[at];
     let n = s[at + 1];
-    if n < 1 {
-        return Step::Broken;
+    if !(1..=paper::MODES).contains(&usize::from(n)) {
+        return None;
     }
-    if n > MODES {
-        return Step::Broken;
-    }
-    let w = modes(s, at + 1 + 1, n, variables);
-    match w {
-        Step::At(q, x) => Step::At(q, both(first < n, x)),
-        Step::Broken => Step::Broken,
-    }
+    let modes = several(at + 2, n, |p| mode(s, p, variables, n))?;
+    Some(Step {
+        end: modes.end,
+        named: (s[at] < n) & modes.named,
+    })
 }
 
 // the kind, then an equation of that kind
-fn kind(s: &[u8], variables: usize) -> Step
+fn kind(s: &[u8], variables: usize) -> Option<Step>
     ensures { StepSays sections.read_equation_body (names.equation_named variables) s.now 0 result }
 {
     if s.len() < 1 {
-        return Step::Broken;
+        return None;
     }
-    let k = s[0];
-    match k {
-        1 => steady(s, 1, variables),
+    match s[0] {
+        1 => rate(s, 1, variables),
         2 => choice(s, 1, variables),
-        _ => Step::Broken,
+        _ => None,
     }
 }
 
-fn equation_in(s: &[u8], variables: usize) -> Seen
+// of a whole slice, whether its names are there
+fn equation_in(s: &[u8], variables: usize) -> Option<bool>
     ensures { SeenSays (names.equation_named variables) (sections.equation_in_bytes s.now) result }
 {
-    let w = kind(s, variables);
-    match w {
-        Step::At(q, x) => {
-            if q < s.len() {
-                return Seen::Lost;
-            }
-            Seen::Kept(x)
-        }
-        Step::Broken => Seen::Lost,
+    let body = kind(s, variables)?;
+    if body.end < s.len() {
+        return None;
     }
+    Some(body.named)
 }
 
-fn equation(s: &[u8], at: usize, variables: usize) -> Step
+fn equation(s: &[u8], at: usize, variables: usize) -> Option<Step>
     requires { at ≤ length s.now }
     ensures { StepSays sections.read_equation (names.equation_named variables) s.now at result }
 {
-    if s.len() - at < 2 {
-        return Step::Broken;
-    }
-    let n = codec::nat2(s, at);
-    let b = at + 2;
-    if s.len() - b < n {
-        return Step::Broken;
-    }
-    let e = b + n;
-    let w = equation_in(&s[b..e], variables);
-    match w {
-        Seen::Kept(x) => Step::At(e, x),
-        Seen::Lost => Step::Broken,
-    }
+    let end = codec::end2(s, at)?;
+    let named = equation_in(&s[at + 2..end], variables)?;
+    Some(Step { end, named })
 }
 
-fn some_equations(s: &[u8], at: usize, n: u8, variables: usize) -> Step
-    requires { at ≤ length s.now }
-    ensures { StepSays (times n sections.read_equation) (every (names.equation_named variables)) s.now at result }
-{
-    let mut p = at;
-    let mut named = true;
-    let mut i: u8 = 0;
-    while i < n {
-        let w = equation(s, p, variables);
-        match w {
-            Step::At(q, x) => {
-                p = q;
-                named = both(named, x);
-            }
-            Step::Broken => {
-                return Step::Broken;
-            }
-        }
-        i += 1;
-    }
-    Step::At(p, named)
-}
-
-// 6 where the layout is broken, 7 where a name is missing, else 0
-fn refusal(s: &[u8], variables: usize) -> u8
-    ensures { result ≡ refusal_of (names.judge_equations variables s.now) }
+// 6 and 7
+fn check(s: &[u8], variables: usize) -> Result<(), Refusal>
+    ensures { judged_of result ≡ answered (λ es. tt) (names.judge_equations variables s.now) }
 {
     if s.len() < 1 {
-        return 6;
+        return Err(Refusal::EquationLayout);
     }
-    let n = s[0];
-    if n > EQUATIONS {
-        return 6;
+    if usize::from(s[0]) > paper::EQUATIONS {
+        return Err(Refusal::EquationLayout);
     }
-    let w = some_equations(s, 1, n, variables);
-    match w {
-        Step::At(q, x) => {
-            if q < s.len() {
-                return 6;
-            }
-            if x { 0 } else { 7 }
-        }
-        Step::Broken => 6,
+    let Some(all) = several(1, s[0], |p| equation(s, p, variables)) else {
+        return Err(Refusal::EquationLayout);
+    };
+    if all.end < s.len() {
+        return Err(Refusal::EquationLayout);
     }
-}
-
-// the place after n switches
-fn switches_end(s: &[u8], at: usize, n: u8) -> usize
-    requires { Stands (times n sections.read_switch) s.now at }
-    ensures { (t : Stands (times n sections.read_switch) s.now at) → result ≡ at + length (flat_map write_switch t.value) }
-{
-    let mut p = at;
-    let mut left = n;
-    while 0 < left {
-        p = p + 1 + s[p] as usize;
-        left -= 1;
+    if !all.named {
+        return Err(Refusal::EquationName);
     }
-    p
-}
-
-// the place after a mode
-fn mode_end(s: &[u8], at: usize) -> usize
-    requires { Stands sections.read_mode s.now at }
-    ensures { (t : Stands sections.read_mode s.now at) → result ≡ at + length (write_mode t.value) }
-{
-    let k = at + 1 + 5 * (s[at] as usize);
-    switches_end(s, k + 1, s[k])
+    Ok(())
 }
 
 // the places of n modes, noted from entry `from` on
@@ -325,109 +180,74 @@ fn mode_places(s: &[u8], at: usize, n: u8, from: usize, places: &mut [usize; pap
     ensures { (t : Stands (times n sections.read_mode) s.now at) → places.new ≡ sets places.old from (starts_from write_mode at t.value) }
 {
     let mut p = at;
-    let mut i = from;
-    let mut left = n;
-    while 0 < left {
-        places[i] = p;
+    for m in 0..usize::from(n) {
+        places[from + m] = p;
         p = mode_end(s, p);
-        i += 1;
-        left -= 1;
     }
 }
 
-// what is noted of the CASEs of a section whose layout is right
-fn selectors(s: &[u8]) -> Cases
+// the CASEs of a section whose layout is right, beside its rates of kind 1
+fn with_selectors(s: &[u8], steady: [i32; paper::VARIABLES]) -> Equations
     requires { SectionStands s.now }
-    ensures { (t : SectionStands s.now) → CasesOf t.equations result }
+    ensures { (t : SectionStands s.now) → steady ≡ rates_steady t.equations → result ≡ accepted_equations t.equations }
 {
-    let mut count = 0;
+    let mut selectors = 0;
     let mut modes = [0usize; paper::EQUATIONS];
-    let mut places = [0usize; paper::MODE_PLACES];
+    let mut mode_offsets = [0usize; paper::MODE_PLACES];
     let mut p = 1;
-    let mut left = s[0];
-    while 0 < left {
+    for _ in 0..s[0] {
         let k = p + 2;
         if s[k] != 1 {
             let n = s[k + 2];
-            modes[count] = n as usize;
-            mode_places(s, k + 3, n, paper::MODES * count, &mut places);
-            count += 1;
+            modes[selectors] = usize::from(n);
+            mode_places(s, k + 3, n, paper::MODES * selectors, &mut mode_offsets);
+            selectors += 1;
         }
         p = k + codec::nat2(s, p);
-        left -= 1;
     }
-    Cases {
-        count,
+    Equations {
+        selectors,
         modes,
-        mode_offsets: places,
-    }
-}
-
-// a rate for a variable, where there is one of that number
-fn put_rate(rates: &mut [i32], v: usize, z: i32)
-    ensures { rates.new ≡ set rates.old v z }
-{
-    if v < rates.len() {
-        rates[v] = z;
+        mode_offsets,
+        steady,
     }
 }
 
 // the rates of some equations, and with them that of an equation of kind 1 in front
-fn with_steady(s: &[u8], at: usize, rates: [i32; paper::VARIABLES]) -> [i32; paper::VARIABLES]
+fn put_steady(s: &[u8], at: usize, rates: &mut [i32; paper::VARIABLES])
     requires { Stands sections.read_equation_body s.now at }
-    ensures { (t : Stands sections.read_equation_body s.now at) (es : List sections.Equation) → rates ≡ rates_steady es → result ≡ rates_steady (t.value ∷ es) }
+    ensures { (t : Stands sections.read_equation_body s.now at) (es : List sections.Equation) → rates.old ≡ rates_steady es → rates.new ≡ rates_steady (t.value ∷ es) }
 {
     if s[at] != 1 {
-        return rates;
+        return;
     }
-    let mut put = rates;
-    put_rate(&mut put, s[at + 1] as usize, codec::int4(s, at + 2));
-    put
+    let v = usize::from(s[at + 1]);
+    if v >= paper::VARIABLES {
+        return;
+    }
+    rates[v] = codec::int4(s, at + 2);
 }
 
-// the rates of the equations of kind 1 among n; of two for one variable the first stays
-fn steady_rates(s: &[u8], at: usize, n: u8) -> [i32; paper::VARIABLES]
-    requires { Stands (times n sections.read_equation) s.now at }
-    ensures { (t : Stands (times n sections.read_equation) s.now at) → result ≡ rates_steady t.value }
+// the rates of the equations of kind 1 among n; of two for one variable the first stays, so that those behind are put before it
+fn put_rates(s: &[u8], at: usize, n: u8, rates: &mut [i32; paper::VARIABLES])
+    requires stand { Stands (times n sections.read_equation) s.now at }
+    requires clear { rates.old ≡ rates_steady [] }
+    ensures { (t : Stands (times n sections.read_equation) s.now at) → rates.new ≡ rates_steady t.value }
 {
     if n == 0 {
-        return [0i32; paper::VARIABLES];
+        return;
     }
     let k = at + 2;
-    let rates = steady_rates(s, k + codec::nat2(s, at), n - 1);
-    with_steady(s, k, rates)
-}
-
-fn refused(number: u8) -> Equations
-    ensures { result ≡ refused_equations number }
-{
-    Equations {
-        refusal: number,
-        selectors: 0,
-        modes: [0usize; paper::EQUATIONS],
-        mode_offsets: [0usize; paper::MODE_PLACES],
-        steady: [0i32; paper::VARIABLES],
-    }
+    put_rates(s, k + codec::nat2(s, at), n - 1, rates);
+    put_steady(s, k, rates);
 }
 
 // the section of a plant with so many variables
-pub fn read(s: &[u8], variables: usize) -> Equations
-    ensures { result ≡ equations_of s.now variables }
+pub fn read(s: &[u8], variables: usize) -> Result<Equations, Refusal>
+    ensures { judged_of result ≡ answered accepted_equations (names.judge_equations variables s.now) }
 {
-    let number = refusal(s, variables);
-    if number != 0 {
-        return refused(number);
-    }
-    let found = selectors(s);
-    let selectors = found.count;
-    let modes = found.modes;
-    let places = found.mode_offsets;
-    let steady = steady_rates(s, 1, s[0]);
-    Equations {
-        refusal: 0,
-        selectors,
-        modes,
-        mode_offsets: places,
-        steady,
-    }
+    check(s, variables)?;
+    let mut steady = [0i32; paper::VARIABLES];
+    put_rates(s, 1, s[0], &mut steady);
+    Ok(with_selectors(s, steady))
 }

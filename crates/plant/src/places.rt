@@ -1,19 +1,28 @@
 // Where the parts of an equation section end, after 6.
-ghost use Rattle.std.specs.Prelude.{◌≡◌, List, ℕ, ◌≤◌, length, drop};
-ghost use Rattle.semantics.specs.Bytes.{read, times};
-ghost use Rattle.semantics.specs.Sections.{Switch, read_switch};
-ghost use Rattle.plant.specs.Sound.{Sound};
+ghost use Rattle.std.specs.Prelude.{◌≡◌, ◌+◌, length};
+ghost use mathlib.Core.List.{flat_map};
+ghost use Rattle.semantics.specs.Bytes.{times};
+ghost use Rattle.semantics.specs.Sections.{read_switch, read_mode};
+ghost use Rattle.semantics.specs.Writing.{write_switch, write_mode};
+ghost use Rattle.plant.specs.Equations.{Stands};
 
-// the place after k switches
-pub fn past(s: &[u8], at: usize, k: usize) -> usize
-    requires { Sound (times k read_switch) s.now at }
-    ensures { (ss : List Switch) (e : List ℕ) → times k read_switch (drop at s.now) ≡ read ss e → (e ≡ drop result s.now) × (result ≤ length s.now) }
+// the place after n switches
+fn switches_end(s: &[u8], at: usize, n: u8) -> usize
+    requires { Stands (times n read_switch) s.now at }
+    ensures { (t : Stands (times n read_switch) s.now at) → result ≡ at + length (flat_map write_switch t.value) }
 {
     let mut p = at;
-    let mut i = 0;
-    while i < k {
-        p = p + 1 + s[p] as usize;
-        i += 1;
+    for _ in 0..n {
+        p = p + 1 + usize::from(s[p]);
     }
     p
+}
+
+// the place after a mode
+pub fn mode_end(s: &[u8], at: usize) -> usize
+    requires { Stands read_mode s.now at }
+    ensures { (t : Stands read_mode s.now at) → result ≡ at + length (write_mode t.value) }
+{
+    let k = at + 1 + 5 * usize::from(s[at]);
+    switches_end(s, k + 1, s[k])
 }

@@ -9,8 +9,5 @@ pub fn mode_exists(c: usize, m: usize, selectors: usize, modes: &[usize]) -> boo
     requires { selectors ≤ length modes.now }
     ensures { (cs : List Selector) → ModesAt modes.now selectors cs → result ≡ mode_exists_in cs c m }
 {
-    if c >= selectors {
-        return false;
-    }
-    m < modes[c]
+    c < selectors && m < modes[c]
 }

@@ -1,13 +1,9 @@
 -- The bytes of a seed's event, as the code tells its bits; and the list, one event further.
-use Rattle.std.proofs.Common.{◌≡◌, ℕ, ◌+◌, ◌*◌, ◌/◌, ◌%◌, ◌<◌, ◌≤◌, [], ◌∷◌, ◌++◌, sym, refl, ap, ◌∙◌, ap₂, mul-le-mul, add-one, arith, eq-eqb, ne_eqb}
+use Rattle.std.proofs.Common.{◌≡◌, ℕ, ◌+◌, ◌/◌, ◌%◌, ◌<◌, ◌≤◌, [], ◌∷◌, ◌++◌, sym, refl, ap, ◌∙◌, ap₂, add-one, arith, eq-eqb, ne_eqb}
 use Rattle.semantics.specs.Bytes.{within}
 use Rattle.semantics.specs.Practice.{next_seed, bits, event_of_seed, bytes_of_event, practice_list}
 use Rattle.semantics.proofs.Facts.{within_both}
 use Rattle.semantics.proofs.PracticeCall.{seed_after, seed-more, list-more}
-
--- a product of two numbers of 32 bits has at most 64
-pub product-fits : (a b : ℕ) → a < 4294967296 → b < 4294967296 → a * b < 18446744073709551616
-product-fits a b h k = let p : a * b ≤ 4294967295 * 4294967295 = mul-le-mul {n₁ = a} {m₁ = b} {n₂ = 4294967295} {m₂ = 4294967295} (omega arith) (omega arith) in omega arith
 
 -- the event by the top two bits and the next six
 pub event-tick : (seed : ℕ) → seed < 4294967296 → seed / 1073741824 ≡ 0 → 0 ∷ 0 ∷ 0 ∷ [] ≡ bytes_of_event (event_of_seed seed)

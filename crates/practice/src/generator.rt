@@ -6,14 +6,11 @@ const MULTIPLIER: u32 = 1664525;
 
 const INCREMENT: u32 = 1013904223;
 
-const MODULUS: u64 = 4294967296;
-
-// a * b, modulo 2^32
+// a * b, modulo 2^32. A helper of its own: document 01 names this form.
 fn wrapping_mul_u32(a: u32, b: u32) -> u32
     ensures wraps { result ≡ (a * b) % 2 ^ 32 }
 {
-    let product = (a as u64) * (b as u64);
-    (product % MODULUS) as u32
+    a.wrapping_mul(b)
 }
 
 #[derive(Clone, Copy)]
@@ -22,12 +19,13 @@ pub struct Generator {
 }
 
 impl Generator {
-    // one draw: the generator with the next seed
+    // One draw: the generator with the next seed. By value: document 01 names this form.
     pub fn draw(self) -> Generator
         ensures { result.seed ≡ next_seed self.seed }
     {
         let product = wrapping_mul_u32(MULTIPLIER, self.seed);
-        let seed = std::num::wrapping_add_u32(product, INCREMENT);
-        Generator { seed }
+        Generator {
+            seed: product.wrapping_add(INCREMENT),
+        }
     }
 }

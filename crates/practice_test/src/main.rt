@@ -3,99 +3,81 @@
 // Its functions promise nothing but to end and to be safe.
 #![tactic(auto)]
 
-mod line; // line.rt: words, numbers and bytes of a line
+use std::fmt;
 
-ghost use Rattle.std.specs.Prelude.{◌≡◌, ◌+◌, ◌≤◌, length};
+// the most bytes that are lent: those of 10,000 events and some behind them
+const MOST_BYTES: usize = 30100;
 
-use practice::call::Practised;
-
-// a case: seed (4 bytes), count (8), room (4)
-const COUNT_AT: usize = 4;
-
-const ROOM_AT: usize = 12;
-
-const CASE_BYTES: usize = 16;
-
-// as many seeds as 32 bits have
-const SEEDS: usize = 4294967296;
+// the bytes of all cases
+const INPUT_BYTES: usize = 65536;
 
 // what every lent byte is before a call
 const UNTOUCHED: u8 = 0xAA;
 
-// the count of the case at a place: two numbers of four bytes
-fn count(cases: &[u8], at: usize) -> u64
-    requires { at + 16 ≤ length cases.now }
-{
-    let high = codec::nat4(cases, at + COUNT_AT) as u64;
-    let low = codec::nat4(cases, at + COUNT_AT + 4) as u64;
-    (high << 32) | low
+// what the call is given
+#[derive(Clone, Copy)]
+struct Case {
+    seed: u32,
+    count: u64,
+    // how many bytes are lent
+    room: usize,
 }
 
-fn lent() -> [u8; line::MOST_BYTES]
-    ensures { 30100 ≡ length result }
-{
-    [UNTOUCHED; line::MOST_BYTES]
-}
+const CASE_BYTES: usize = 16;
 
-// the call, with so much of the buffer lent to it
-fn written(seed: u32, count: u64, room: usize, events: &mut [u8]) -> Practised {
-    let k = output::front(room, events);
-    practice::call::write(seed, count, &mut events[..k])
-}
-
-// the two lines of a case
-fn shown(out: &impl Print, seed: u32, count: u64, room: usize) {
-    let mut events = lent();
-    let r = written(seed, count, room, &mut events);
-    line::number(out, b"seed ", seed as u64);
-    line::number(out, b", count ", count);
-    line::number(out, b", room ", room as u64);
-    line::number(out, b": ", r.refusal as u64);
-    line::number(out, b", ", r.length as u64);
-    line::text(out, b"\n");
-    let n = output::front(room, &events);
-    line::bytes(out, &events[..n]);
-}
-
-// the case at a place; whether its room is one that can be lent
-fn case(out: &impl Print, cases: &[u8], at: usize) -> bool
-    requires { at + 16 ≤ length cases.now }
-{
-    let room = codec::nat4(cases, at + ROOM_AT);
-    if room > line::MOST_BYTES {
-        return false;
+impl Case {
+    // seed (4 bytes), count (8), room (4)
+    fn read(bytes: &[u8]) -> Option<Case> {
+        let (seed, rest) = bytes.split_first_chunk::<4>()?;
+        let (count, rest) = rest.split_first_chunk::<8>()?;
+        let room = rest.first_chunk::<4>()?;
+        Some(Case {
+            seed: u32::from_be_bytes(*seed),
+            count: u64::from_be_bytes(*count),
+            room: u32::from_be_bytes(*room) as usize,
+        })
     }
-    let seed = (codec::nat4(cases, at) % SEEDS) as u32;
-    shown(out, seed, count(cases, at), room);
-    true
 }
 
-// the cases one after the other
-fn all(out: &impl Print, cases: &[u8]) {
-    let mut at = 0;
-    while at < cases.len() {
-        if cases.len() - at < CASE_BYTES {
-            line::text(out, b"no list of cases\n");
-            return;
+#[derive(Drop)]
+struct Hexadecimal<'a>(&'a [u8]);
+
+impl fmt::Display for Hexadecimal<'_> {
+    fn fmt<W: fmt::Write>(&self, f: &mut fmt::Formatter<W>) -> fmt::Result {
+        for b in self.0 {
+            write!(f, "{b:02x}")?;
         }
-        if !case(out, cases, at) {
-            line::text(out, b"no list of cases\n");
-            return;
-        }
-        at += CASE_BYTES;
+        Ok(())
     }
-    line::number(out, b"", (cases.len() / CASE_BYTES) as u64);
-    line::text(out, b" cases\n");
 }
 
-fn buffer() -> [u8; 65536]
-    ensures { 65536 ≡ length result }
-{
-    [0; 65536]
+// the two lines of a case; none where its bytes are none, or its room is more than can be lent
+fn shown(out: &impl Print, bytes: &[u8]) -> Option<()> {
+    let Case { seed, count, room } = Case::read(bytes)?;
+    let mut buffer = [UNTOUCHED; MOST_BYTES];
+    let events = buffer.get_mut(..room)?;
+    let (refusal, length) = match practice::call::write(seed, count, events) {
+        Ok(length) => (0, length),
+        Err(why) => (u8::from(why), 0),
+    };
+    let _ = println!(out; "seed {seed}, count {count}, room {room}: {refusal}, {length}");
+    let _ = println!(out; "{}", Hexadecimal(events));
+    Some(())
+}
+
+// the cases one after the other; their number
+fn all(out: &impl Print, cases: &[u8]) -> Option<usize> {
+    for bytes in cases.chunks(CASE_BYTES) {
+        shown(out, bytes)?;
+    }
+    Some(cases.len() / CASE_BYTES)
 }
 
 fn main(rt: HostRuntime) {
-    let mut cases = buffer();
-    let n = input::fill(&mut rt.stdin(), &mut cases);
-    all(&rt, &cases[..n]);
+    let mut buffer = [0; INPUT_BYTES];
+    let n = input::fill(&mut rt.stdin(), &mut buffer);
+    let _ = match all(&rt, &buffer[..n]) {
+        Some(n) => println!(rt; "{n} cases"),
+        None => println!(rt; "no list of cases"),
+    };
 }

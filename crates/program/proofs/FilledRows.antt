@@ -24,7 +24,7 @@ module _ (ix ps : List ℕ) (i by : ℕ) (h : i + length ps ≤ 2048) (l : lengt
   pub place_in : (k : ℕ) → k < length ps → get_or (sets ix i (map (shifted_by by) ps)) (i + k) 0 ≡ shifted_by by (get_or ps k 0)
   place_in k b =
       let m = length-map ps (shifted_by by) in
-      in_row 0 (map (shifted_by by) ps) ix i k (omega arith) (omega arith) ∙ map_at (shifted_by by) ps k b
+      in_row 0 (map (shifted_by by) ps) ix i k (omega arith) (omega arith) ∙ map_at (shifted_by by) ps k 0 b
 
 -- the four rows that `put_index` fills, one after the other
 module _ (p : PlantRead) (ks ss es : List ℕ) (e o : ℕ) (ix₀ : List ℕ) {ix₁ ix₂ ix₃ ix : List ℕ} (long : length ix₀ ≡ 2048)

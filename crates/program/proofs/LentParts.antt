@@ -22,7 +22,7 @@ use Rattle.codec.specs.Parts.{between, part_at}
 use Rattle.codec.proofs.Padding.{pad-long, length-pad}
 use Rattle.plant.specs.Variables.{column}
 use Rattle.plant.specs.Equations.{places_of_mode, rates_from}
-use Rattle.plant.specs.PlantRead.{plant_of}
+use Rattle.plant.specs.PlantRead.{accepted_plant}
 use Rattle.plant.specs.declared.sections.PlantRead.{PlantRead}
 use Rattle.plant.proofs.VariableLaws.{column-front}
 use Rattle.plant.proofs.EquationLookups.{mode-is}
@@ -75,15 +75,15 @@ module _ (xs ys zs : List ℤ) (i : length xs ≡ 32) where
 
 -- ---- the plant: its equations stand from a to b
 module _ (ed : Edition) (f : List ℕ) (small : length f < 2 ^ 64) (a b : ℕ) (vs : List ℕ) {p : Plant} (h : judge_plant ed vs (between a b f) ≡ accepted p)
-    {x : PlantRead} (e : x ≡ plant_of ed vs (between a b f)) where
+    {x : PlantRead} (e : x ≡ accepted_plant p) where
   places_are : x.mode_offsets ≡ pad 128 0 (places_of_mode 1 p.equations)
-  places_are = ap (λ (x : PlantRead). x.mode_offsets) e ∙ places_of ed vs (between a b f) h
+  places_are = places_of p e
 
   lows_are : x.lows ≡ column (λ (v : Variable). v.minimum) p.variables
-  lows_are = ap (λ (x : PlantRead). x.lows) e ∙ lows-of ed vs (between a b f) h
+  lows_are = lows-of p e
 
   highs_are : x.highs ≡ column (λ (v : Variable). v.maximum) p.variables
-  highs_are = ap (λ (x : PlantRead). x.highs) e ∙ highs-of ed vs (between a b f) h
+  highs_are = highs-of p e
 
   column-full : (g : Variable → ℤ) → length (column g p.variables) ≡ 32
   unfolding column
@@ -96,7 +96,7 @@ module _ (ed : Edition) (f : List ℕ) (small : length f < 2 ^ 64) (a b : ℕ) (
       ∙ take-append-le (length p.variables) (column g p.variables) ys (omega (arith, column-full g, variables-high ed vs (between a b f) h)) ∙ column-front g p.variables
 
   steady-are : x.steady ≡ rates_from (rates_of p.equations []) 0 32
-  steady-are = ap (λ (x : PlantRead). x.steady) e ∙ steady-of ed vs (between a b f) h
+  steady-are = steady-of p e
 
   module _ {ks ss es : List ℕ} {o : ℕ} {ix : List ℕ} {rs : List ℤ} (filled : Filled x ks ss es a o ix) (ranges : rs ≡ x.lows ++ (x.highs ++ x.steady)) where
     mode-lent : (j : ℕ) (c : Selector) → get_elem? (selectors p) j ≡ some c → (m : ℕ) → m < length c.modes → ModeLent (lent f ix rs) j c m

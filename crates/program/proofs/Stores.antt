@@ -1,10 +1,12 @@
 -- Entries that are stored one after the other.
-use mathlib.Core.Path.{◌≡◌, refl, ap, ◌∙◌}
-use mathlib.Core.List.{List, [], ◌∷◌, map}
+use mathlib.Core.Path.{◌≡◌, refl, sym, ap, ◌∙◌}
+use mathlib.Core.List.{List, [], ◌∷◌, ◌++◌, map}
 use Prim.Native.Nat.{ℕ, zero, suc, ◌+◌, ◌≤◌, ◌<◌}
 use native.Mathlib.Omega.{arith}
-use lib.ListN.{length, get_or, take, set, length-set}
-use lib.Seq.{sets, take_all, get_or-set_same, get_or-set_other}
+use lib.ListN.{length, get_or, take, drop, set, length-set}
+use borrow.Rule.Slice.PartMut.{put_mid}
+use Rattle.std.proofs.lemmas.Slice.{put_mid-paste}
+use lib.Seq.{sets, sets-eq, take_all, get_or-set_same, get_or-set_other}
 
 -- ---- a loop that stores the entries of vs from i on
 module _ {A : Type 0} (d : A) where
@@ -35,7 +37,19 @@ module _ {A : Type 0} (d : A) where
       let e : i + suc k ≡ suc i + k = omega arith in
       ap (λ z. get_or (sets (set l i x) (suc i) vs) z d) e ∙ in_row vs (set l i x) (suc i) k (omega (arith, length-set l i x)) (omega arith)
 
-pub map_at : (f : ℕ → ℕ) (l : List ℕ) (k : ℕ) → k < length l → get_or (map f l) k 0 ≡ f (get_or l k 0)
-map_at f [] k h = absurd (omega arith)
-map_at f (x ∷ l) zero h = refl
-map_at f (x ∷ l) (suc k) h = map_at f l k (omega arith)
+pub map_at : {A : Type 0} (f : A → ℕ) (l : List A) (k : ℕ) (d : A) → k < length l → get_or (map f l) k 0 ≡ f (get_or l k d)
+map_at f [] k d h = absurd (omega arith)
+map_at f (x ∷ l) zero d h = refl
+map_at f (x ∷ l) (suc k) d h = map_at f l k d (omega arith)
+
+pub map_same : (l : List ℕ) → map (λ (k : ℕ). k) l ≡ l
+map_same [] = refl
+map_same (x ∷ l) = ap (λ z. x ∷ z) (map_same l)
+
+-- ---- a slice copied to i and the entries after it
+pub copied : {A : Type 0} (l vs : List A) (i k : ℕ) {m : List A} → i + length vs ≤ length l → k ≡ length vs → m ≡ vs → put_mid i k l m ≡ sets l i vs
+copied l vs i k h e f =
+    put_mid-paste i k l _ vs k f refl e
+    ∙ ap (λ z. take i l ++ z ++ drop (i + k) l) (take_all k vs (omega arith))
+    ∙ ap (λ z. take i l ++ vs ++ drop (i + z) l) e
+    ∙ sym (sets-eq vs l i h)

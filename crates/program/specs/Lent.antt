@@ -11,6 +11,7 @@ use Rattle.semantics.specs.TableFile.{action_kind, action_of_kind}
 use Rattle.semantics.specs.Tables.{operand_fits}
 use Rattle.codec.specs.Parts.{part_at}
 use Rattle.plant.specs.Equations.{rates_from}
+use Rattle.program.specs.declared.Program.{Program}
 use Rattle.program.specs.Rows.{kind_row, start_row, end_row, location_row, high_row, steady_row}
 
 -- ---- parts of a file at their places
@@ -59,6 +60,10 @@ lent s ix rs = record {
   highs = high_row rs;
   steady = steady_row rs;
 }
+
+-- what a program lends
+abbrev pub lent_of : Program → Lent
+lent_of p = lent p.bytes.now p.index.now p.ranges.now
 
 -- ---- the plant
 -- mode m of selector j stands at its place

@@ -1,22 +1,26 @@
 // How a reader fills a program's rows.
-ghost use Rattle.std.specs.Prelude.{◌≡◌, ◌++◌, map, ◌+◌, ◌≤◌, length};
+ghost use Rattle.std.specs.Prelude.{◌≡◌, ℕ, ◌++◌, map, ◌+◌, ◌≤◌, length};
 ghost use Rattle.std.proofs.lemmas.List.Edits.{sets};
 ghost use Rattle.program.specs.Filled.{shifted_by, Filled};
 
 use super::{ENTRIES, RANGES};
 use plant::sections::PlantRead;
 
-// The greatest number: a sum above it is no place.
-const GREATEST: usize = 0xffff_ffff_ffff_ffff;
-
 // a place in a section that starts at `by`, as a place in the file
 fn shifted(p: usize, by: usize) -> usize
     ensures { result ≡ shifted_by by p }
 {
-    if GREATEST - by < p {
-        return 0;
+    p.checked_add(by).unwrap_or(0)
+}
+
+// a row from entry i on: what `entry` makes of each of `from`
+fn put_row<T: Copy, F: Fn(T) -> usize>(ix: &mut [usize; ENTRIES], i: usize, from: &[T], entry: F)
+    requires { (i + length from.now ≤ 2048) × F.IsAlwaysCallable entry }
+    ensures { (f : T → ℕ) → ((x : T) (r : ℕ) → F.post entry x r → r ≡ f x) → ix.new ≡ sets ix.old i (map f from.now) }
+{
+    for (k, x) in from.iter().enumerate() {
+        ix[i + k] = entry(*x);
     }
-    p + by
 }
 
 // places of a section that starts at `by`, from entry i on
@@ -24,22 +28,14 @@ fn put_places(ix: &mut [usize; ENTRIES], i: usize, from: &[usize], by: usize)
     requires { i + length from.now ≤ 2048 }
     ensures { ix.new ≡ sets ix.old i (map (shifted_by by) from.now) }
 {
-    let mut k = 0;
-    while k < from.len() {
-        ix[i + k] = shifted(from[k], by);
-        k += 1;
-    }
+    put_row(ix, i, from, |p| shifted(p, by));
 }
 
 fn put_kinds(ix: &mut [usize; ENTRIES], from: &[u8])
     requires { 256 + length from.now ≤ 2048 }
     ensures { ix.new ≡ sets ix.old 256 from.now }
 {
-    let mut k = 0;
-    while k < from.len() {
-        ix[super::KINDS + k] = from[k] as usize;
-        k += 1;
-    }
+    put_row(ix, super::KINDS, from, |kind| usize::from(kind));
 }
 
 // All rows but that of locations: of a plant whose equations start at `equations` in the file, and of nodes with actions of these kinds whose
@@ -71,15 +67,11 @@ pub fn put_locations(ix: &mut [usize; ENTRIES], places: &[usize], by: usize)
 }
 
 // a row of ranges and rates, from entry i on
-fn put_row(rs: &mut [i32; RANGES], i: usize, from: &[i32])
+fn put_ranges(rs: &mut [i32; RANGES], i: usize, from: &[i32])
     requires { i + length from.now ≤ 96 }
     ensures { rs.new ≡ sets rs.old i from.now }
 {
-    let mut k = 0;
-    while k < from.len() {
-        rs[i + k] = from[k];
-        k += 1;
-    }
+    rs[i..i + from.len()].copy_from_slice(from);
 }
 
 // the ranges and rates of a plant
@@ -87,8 +79,8 @@ pub fn ranges(p: PlantRead) -> [i32; RANGES]
     ensures { result ≡ p.lows ++ (p.highs ++ p.steady) }
 {
     let mut rs = [0i32; RANGES];
-    put_row(&mut rs, 0, &p.lows);
-    put_row(&mut rs, super::HIGHS, &p.highs);
-    put_row(&mut rs, super::STEADY, &p.steady);
+    put_ranges(&mut rs, 0, &p.lows);
+    put_ranges(&mut rs, super::HIGHS, &p.highs);
+    put_ranges(&mut rs, super::STEADY, &p.steady);
     rs
 }

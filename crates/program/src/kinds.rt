@@ -1,4 +1,4 @@
-// The kinds of a table's actions, as an index has them.
+// The kinds of a table's actions, as an index has them: numbers, since an index is one array of numbers.
 pub const TEST: usize = paper::actions::TEST as usize;
 
 pub const WAIT: usize = paper::actions::WAIT as usize;

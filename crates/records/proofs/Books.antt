@@ -1,11 +1,9 @@
 -- Answers booked one by one are counted.
-use mathlib.Core.Path.{◌≡◌, refl, sym, ap, ◌∙◌}
-use mathlib.Core.Bool.{Bool, true, false, cond}
+use mathlib.Core.Path.{◌≡◌, refl, sym, ap, ap₂, ◌∙◌}
+use mathlib.Core.Bool.{Bool, true, false}
 use mathlib.Core.List.{List, [], ◌∷◌, ◌++◌}
 use Prim.Native.Nat.{ℕ, zero, suc, ◌+◌, ◌^◌, ◌≤◌, ◌<◌}
 use native.Mathlib.Omega.{arith}
-use borrow.Author.Tests.{lt-leb, le-leb}
-use lib.Dec.{leb}
 use lib.ListN.{length}
 use Rattle.semantics.specs.Bytes.{within}
 use Rattle.semantics.specs.Run as Run
@@ -14,26 +12,8 @@ use Rattle.records.specs.Booking.{Room}
 use Rattle.records.specs.Reported.{told}
 use Rattle.records.specs.declared.Counts.{Counts}
 
--- ---- bounds
-pub below-low : (a b n : ℕ) → n < a → false ≡ within a b n
-unfolding within
-below-low a b n h = rw (lt-leb a n h) refl
-
-pub from_low : (a b n : ℕ) → a ≤ n → leb n b ≡ within a b n
-unfolding within
-from_low a b n h = rw (le-leb a n h) refl
-
 -- ---- one more at the end of the list
 module _ (f : ℕ → Bool) where
-  -- the code's count
-  pub counted-one : (n a : ℕ) {b : Bool} → b ≡ f a → cond b (n + 1) n ≡ n + how_many f (a ∷ [])
-  unfolding how_many
-  counted-one n a {b} e = rw e (go (f a))
-    where
-      go : (b : Bool) → cond b (n + 1) n ≡ n + elim b [ true ↦ suc 0 | false ↦ 0 ]
-      go true = omega arith
-      go false = omega arith
-
   more : (l : List ℕ) (a : ℕ) → how_many f (l ++ (a ∷ [])) ≡ how_many f l + how_many f (a ∷ [])
   unfolding how_many
   more [] a = omega arith
@@ -63,16 +43,16 @@ Booked c a r = (l : List ℕ) → told c ≡ counts_from l → told r ≡ counts
 
 -- the record that the code makes
 pub booked-within : (c : Counts) (a : ℕ) {t u v : ℕ} →
-    t ≡ c.taken + how_many (within 200 202) (a ∷ []) → u ≡ c.turned_away + how_many (within 23 31) (a ∷ []) → v ≡ c.faulted + how_many (within 203 204) (a ∷ []) →
-    Booked c a (record { taken = t; turned_away = u; faulted = v })
+    t ≡ how_many (within 200 202) (a ∷ []) → u ≡ how_many (within 23 31) (a ∷ []) → v ≡ how_many (within 203 204) (a ∷ []) →
+    Booked c a (record { taken = c.taken + t; turned_away = c.turned_away + u; faulted = c.faulted + v })
 unfolding counts_from how_many is_taken is_turned_away is_faulted
 booked-within c a {t} {u} {v} p q r l e =
     let x : c.taken ≡ how_many is_taken l = ap (λ (n : Run.Counts). n.taken) e in
     let y : c.turned_away ≡ how_many is_turned_away l = ap (λ (n : Run.Counts). n.turned_away) e in
     let z : c.faulted ≡ how_many is_faulted l = ap (λ (n : Run.Counts). n.faulted) e in
-    let i : t ≡ how_many is_taken (l ++ (a ∷ [])) = p ∙ ap (λ (n : ℕ). n + how_many is_taken (a ∷ [])) x ∙ sym (more is_taken l a) in
-    let j : u ≡ how_many is_turned_away (l ++ (a ∷ [])) = q ∙ ap (λ (n : ℕ). n + how_many is_turned_away (a ∷ [])) y ∙ sym (more is_turned_away l a) in
-    let k : v ≡ how_many is_faulted (l ++ (a ∷ [])) = r ∙ ap (λ (n : ℕ). n + how_many is_faulted (a ∷ [])) z ∙ sym (more is_faulted l a) in
+    let i : c.taken + t ≡ how_many is_taken (l ++ (a ∷ [])) = ap₂ (λ (m n : ℕ). m + n) x p ∙ sym (more is_taken l a) in
+    let j : c.turned_away + u ≡ how_many is_turned_away (l ++ (a ∷ [])) = ap₂ (λ (m n : ℕ). m + n) y q ∙ sym (more is_turned_away l a) in
+    let k : c.faulted + v ≡ how_many is_faulted (l ++ (a ∷ [])) = ap₂ (λ (m n : ℕ). m + n) z r ∙ sym (more is_faulted l a) in
     cc
 
 module _ {c : Counts} (l : List ℕ) (e : told c ≡ counts_from l) where

@@ -13,7 +13,12 @@ use Rattle.semantics.specs.Bytes.{out4}
 use Rattle.semantics.specs.Editions.{Edition}
 use Rattle.semantics.specs.Plant.{Plant}
 use Rattle.semantics.specs.Run.{value_bytes}
-use Rattle.semantics.specs.Calls.{event_count, record_size, room_for_records}
+use Rattle.semantics.specs.Calls.{event_count, record_size, room_for_records, report}
+use Rattle.semantics.specs.Refusals.{refused}
+use Rattle.std.specs.Prelude.{Err}
+use Rattle.paper.specs.Refusals.{number_of}
+use Rattle.paper.specs.declared.refusals.Refusal.{Refusal}
+use Rattle.records.specs.Reported.{ran_with}
 
 -- ---- the values
 pub values-more : (vs : List ℤ) (j : ℕ) → j < length vs → flat_map value_bytes (take j vs) ++ value_bytes (get_or vs j (pos 0)) ≡ flat_map value_bytes (take (j + 1) vs)
@@ -33,3 +38,8 @@ values_length (v ∷ l) = let ih = values_length l in omega arith
 pub room_for : (ed : Edition) (p : Plant) (events records : List ℕ) → room_for_records ed p events records ≡ true → event_count ed events * record_size ed p ≤ length records
 unfolding room_for_records
 room_for ed p events records h = leb-true _ (length records) h
+
+-- ---- a call that is refused
+pub run-refused : (why : Refusal) (d : List ℕ) → ran_with (Err why) d ≡ report d (refused (number_of why))
+unfolding ran_with report
+run-refused why d = refl

@@ -11,7 +11,9 @@ use borrow.Author.Tests.{eqb-true, eqb-false}
 use lib.Pow.{pow-add, shr-shr}
 use lib.ListN.{length, get_or, drop, length-append}
 use lib.Seq.{drop-drop, get_or-drop}
-use Rattle.semantics.specs.Bytes.{big_endian, out4}
+use mir.Syntax.{w64}
+use Rattle.std.specs.Int.{to_be_bytes}
+use Rattle.semantics.specs.Bytes.{big_endian}
 use Rattle.semantics.specs.Run.{set_number}
 use Rattle.nodeset.specs.Sets.{bit, mem, members_from, members, Words}
 use Rattle.codec.specs.Writing.{Wrote}
@@ -181,21 +183,10 @@ word_first ws h k =
     ∙ bytes-above 8 (8 * k) X
     ∙ ap (λ (y : List ℕ). y ++ big_endian (8 * k) X) (ap (big_endian 8) v ∙ bytes_below 8 (get_or ws k 0) (value_of (drop (k + 1) ws)))
 
--- ---- eight bytes from two numbers of four
-out-four : (x : ℕ) → x < 4294967296 → out4 x ≡ big_endian 4 x
-unfolding out4 big_endian
-out-four x h =
-    let a : x / 16777216 ≡ x / 256 ^ 3 % 256 = omega arith in
-    let b : x % 256 ≡ x / 1 % 256 = omega arith in
-    cc
-
-pub eight : (n : ℕ) → n < 2 ^ 64 → out4 (n / 4294967296) ++ out4 (n % 4294967296) ≡ big_endian 8 n
-eight n h =
-    let high = n / 4294967296 in
-    let low = n % 4294967296 in
-    let e : low + high * 256 ^ 4 ≡ n = omega arith in
-    ap₂ (λ (a b : List ℕ). a ++ b) (out-four high (omega arith)) (out-four low (omega arith) ∙ sym (bytes_below 4 low high) ∙ ap (big_endian 4) e)
-    ∙ sym (bytes-above 4 4 n)
+-- ---- the eight bytes of a word
+pub eight : (n : ℕ) → to_be_bytes w64 n ≡ big_endian 8 n
+unfolding big_endian
+eight n = let e : n % 256 ≡ n / 1 % 256 = omega arith in rw e refl
 
 -- ---- the words, from the highest to the lowest
 -- all but the k lowest words are written

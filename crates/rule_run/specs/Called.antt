@@ -2,6 +2,7 @@
 use Rattle.std.specs.Prelude.{◌≡◌, List, ℕ}
 use Rattle.semantics.specs.Editions.{Edition}
 use Rattle.semantics.specs.Refusals.{accepted}
+use Rattle.semantics.specs.Calls.{Outcome}
 use Rattle.schedules.specs.Files.{Schedule, judge_file}
 use Rattle.schedules.specs.Calls.{program_of}
 use Rattle.start_read.specs.declared.admission.Admitted.{Admitted}
@@ -22,3 +23,7 @@ pub record Admitting (ed : Edition) (f : List ℕ) (asked : Admitted) (events d 
 -- all events are answered, of every schedule that is admitted
 abbrev pub Carried : Edition → List ℕ → Admitted → (events d₀ : List ℕ) → Counts → List ℕ → Type 0
 Carried ed f asked events d₀ cs d = (s : Schedule) → Admits ed f asked events d₀ s → Whole ed (program_of s) (values_for s.plant asked) (modes_for s.plant asked) events d₀ cs d
+
+-- whether a run is admitted, of what it gives
+abbrev pub passed : Outcome → Unit {0}
+passed o = tt

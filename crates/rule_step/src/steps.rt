@@ -2,71 +2,73 @@
 ghost use Rattle.std.specs.Prelude.{◌≡◌};
 ghost use Rattle.semantics.specs.Editions as papers;
 ghost use Rattle.edition.specs.Editions.{edition_of};
+ghost use Rattle.paper.specs.Answers.{answer_number};
 ghost use Rattle.nodeset.specs.Sets.{empty_set};
 ghost use Rattle.moves.specs.MoveContracts.{Standing};
-ghost use Rattle.program.specs.Lent.{lent};
+ghost use Rattle.program.specs.Lent.{lent_of};
+ghost use Rattle.effects.specs.Told.{told};
 ghost use Rattle.rule_step.specs.Situations.{Movable, Moved, Settled, Promised, StepsOn};
 
 use edition::Edition;
-use effects::Verdict;
+use effects::{Mover, Untaken};
 use event::Event;
-use moves::How;
+use moves::{How, Moves};
+use nodeset::NodeSet;
+use paper::answers::{Answer, TurnedAway};
+use program::Program;
 
 // The run is over, and no node acts.
-fn end(n: u8, acting: &mut [u64; 4]) -> u8
-    ensures answer { result ≡ n }
-    ensures none { acting.new ≡ empty_set }
+fn end(answer: Answer, acting: &mut NodeSet) -> Answer
+    ensures answer { result ≡ answer }
+    ensures none { acting.new.words ≡ empty_set }
 {
-    nodeset::clear(acting);
-    n
+    acting.clear();
+    answer
 }
 
-// A taken event with the move of node n.
-fn moved<'a>(leads: &'a [u16], fresh: &'a [u64], n: usize, truth: bool, acting: &mut [u64; 4]) -> u8
-    requires { Standing leads.now fresh.now acting.old n }
-    ensures { Moved leads.now fresh.now acting.old n truth result acting.new }
+// A taken event with the move of a node.
+fn moved(moves: &Moves, mover: Mover, acting: &mut NodeSet) -> Answer
+    requires { Standing moves.now acting.old mover.node }
+    ensures { Moved moves.now acting.old.words mover.node mover.outcome (answer_number result) acting.new.words }
 {
-    match moves::advance_in(leads, fresh, acting, n, truth) {
-        How::To => paper::answers::TAKEN,
-        How::Finished => paper::answers::FINISHED,
-        How::Halted => paper::answers::HALTED,
+    match moves.advance(acting, mover.node, mover.outcome) {
+        How::To => Answer::Taken,
+        How::Finished => Answer::Finished,
+        How::Halted => Answer::Halted,
     }
 }
 
 // What a judged event makes of the acting nodes.
-fn settled<'a>(leads: &'a [u16], fresh: &'a [u64], v: Verdict, acting: &mut [u64; 4]) -> u8
-    requires { Movable leads.now fresh.now acting.old v }
-    ensures { (ed : papers.Edition) → Settled ed leads.now fresh.now v acting.old result acting.new }
+fn settled(moves: &Moves, event: Result<Option<Mover>, Untaken>, acting: &mut NodeSet) -> Answer
+    requires { Movable moves.now acting.old (told event) }
+    ensures { (ed : papers.Edition) → Settled ed moves.now (told event) acting.old.words (answer_number result) acting.new.words }
 {
-    match v {
-        Verdict::Away(n) => n,
-        Verdict::Above => end(paper::answers::ABOVE, acting),
-        Verdict::Below => end(paper::answers::BELOW, acting),
-        Verdict::Stay => paper::answers::TAKEN,
-        Verdict::Move(n, truth) => moved(leads, fresh, n, truth, acting),
+    match event {
+        Err(Untaken::Away(why)) => Answer::TurnedAway(why),
+        Err(Untaken::Above) => end(Answer::Above, acting),
+        Err(Untaken::Below) => end(Answer::Below, acting),
+        Ok(None) => Answer::Taken,
+        Ok(Some(mover)) => moved(moves, mover, acting),
     }
 }
 
 // The event e. Acting nodes, values and modes are those that it leaves.
-pub fn step<'a>(
-    t: &[u8],
-    ix: &[usize; program::ENTRIES],
-    ranges: &[i32; program::RANGES],
-    leads: &'a [u16],
-    fresh: &'a [u64],
+pub fn step(
+    p: &Program<'_>,
+    moves: &Moves,
     e: Event,
-    acting: &mut [u64; 4],
+    acting: &mut NodeSet,
     values: &mut [i32],
     modes: &mut [u8],
     ed: Edition,
-) -> u8
-    requires { Promised (edition_of ed) (lent t.now ix.now ranges.now) leads.now fresh.now acting.old values.old modes.old }
-    ensures { StepsOn (edition_of ed) (lent t.now ix.now ranges.now) leads.now fresh.now
-        acting.old values.old modes.old e result acting.new values.new modes.new }
+) -> Answer
+    requires { Promised (edition_of ed) (lent_of p.now) moves.now acting.old.words values.old modes.old }
+    ensures { StepsOn (edition_of ed) (lent_of p.now) moves.now acting.old.words values.old modes.old e
+        (answer_number result) acting.new.words values.new modes.new }
 {
-    if nodeset::none(acting) {
-        return 23;
+    if acting.is_empty() {
+        return Answer::TurnedAway(TurnedAway::Over);
     }
-    let v = execution::judge(t, ix, ranges, acting, e, values, modes, ed);
-    settled(leads, fresh, v, acting)
+    let event = execution::judge(p, acting, e, values, modes, ed);
+    settled(moves, event, acting)
 }

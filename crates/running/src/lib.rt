@@ -3,12 +3,14 @@
 
 mod faults;
 
-ghost use Rattle.std.specs.Prelude.{◌≡◌, length};
-ghost use Rattle.running.specs.Told.{asked, Chooses, given};
+ghost use Rattle.std.specs.Prelude.{◌≡◌, ◌+◌, ◌≤◌, length, IfSome};
+ghost use Rattle.running.specs.Told.{asked, Chooses, size_of};
+ghost use Rattle.output.specs.Written.{given};
 
-use faults::Fault;
+use edition::Edition;
 use initial_start::Start;
-use records::{Counts, Ran};
+use paper::refusals::Refusal;
+use records::Counts;
 use std::env::Env;
 use std::fs::Files;
 
@@ -17,28 +19,11 @@ use std::fs::Files;
 pub fn is_asked(words: usize) -> bool
     ensures { result ≡ asked words }
 {
-    (words == 3) | (words == 4)
-}
-
-pub fn event_buffer() -> [u8; output::EVENT_ROOM]
-    ensures { 30000 ≡ length result }
-{
-    [0; output::EVENT_ROOM]
+    matches!(words, 3 | 4)
 }
 
 // for the records of the events; a run whose records are longer is refused with 22
-pub fn record_buffer() -> [u8; 400000]
-    ensures { 400000 ≡ length result }
-{
-    [0; 400000]
-}
-
-// not whole where the third file could not be read
-#[derive(Drop)]
-pub struct Chosen {
-    pub whole: bool,
-    pub start: Start,
-}
+pub const RECORD_ROOM: usize = 400000;
 
 // the start in the third file, or where none is named the initial one
 pub fn start(
@@ -47,74 +32,111 @@ pub fn start(
     words: usize,
     program: &[u8],
     initial: Start,
-) -> Chosen
+) -> Option<Start>
     ensures { Chooses words initial result }
 {
     if words < 4 {
-        return Chosen {
-            whole: true,
-            start: initial,
-        };
+        return Some(initial);
     }
     let mut bytes = [0u8; paper::START_BYTES];
-    let a = input::load(rt, err, 3, program, &mut bytes);
-    let start = Start {
-        length: a.length,
-        bytes,
-    };
-    Chosen {
-        whole: a.whole,
-        start,
-    }
+    let length = input::load(rt, err, 3, program, &mut bytes)?;
+    Some(Start { length, bytes })
 }
 
 // Which event faulted, if one did, of so many, and on which side of its range the result fell.
-fn report_fault(err: &impl Print, f: Fault, count: usize) {
-    if f.number == 0 {
-        return;
-    }
-    let _ = err.write_all(b"event ");
-    let _ = err.print(f.number);
-    let _ = err.write_all(b" of ");
-    let _ = err.print(count);
-    if f.above {
-        let _ = err.write_all(b" faulted: too high (203)\n");
-    } else {
-        let _ = err.write_all(b" faulted: too low (204)\n");
+fn report_fault(err: &impl Print, records: &[u8], count: usize) {
+    if let Some(fault) = faults::of(records, count) {
+        let number = fault.number;
+        let side = fault.side;
+        let _ = println!(err; "event {number} of {count} faulted: {side}");
     }
 }
 
 fn report(err: &impl Print, counts: Counts) {
-    let _ = err.write_all(b"taken ");
-    let _ = err.print(counts.taken);
-    let _ = err.write_all(b", turned away ");
-    let _ = err.print(counts.turned_away);
-    let _ = err.write_all(b", faulted ");
-    let _ = err.print(counts.faulted);
-    let _ = err.write_all(b"\n");
+    let Counts {
+        taken,
+        turned_away,
+        faulted,
+    } = counts;
+    let _ = println!(err; "taken {taken}, turned away {turned_away}, faulted {faulted}");
 }
 
-// the refusal as one byte; or the records of so many events, so many bytes, and the counts. How many bytes were given to standard output
-#[tactic(auto, unfolding(crate::specs::Told::given))]
+// the number of a refusal as one byte; or the records of so many events, so many bytes, and the counts. How many bytes were given to standard output
 pub fn tell(
     out: &impl Print,
     err: &impl Print,
     program: &[u8],
-    r: Ran,
+    run: Result<Counts, u8>,
     count: usize,
-    length: usize,
+    size: usize,
     records: &[u8],
 ) -> usize
-    ensures { result ≡ given r length records.now }
+    ensures value { result ≡ given (size_of run size) records.now }
+    ensures within { result ≤ length records.now + 1 }
 {
-    if r.refusal != 0 {
-        let refusal = [r.refusal];
-        output::noticed(err, program, out.write_all(&refusal).is_ok());
-        return 1;
+    match run {
+        Ok(counts) => {
+            let n = output::give(out, err, program, Ok(size), records);
+            report(err, counts);
+            report_fault(err, output::front(size, records), count);
+            n
+        }
+        Err(number) => {
+            output::noticed(err, program, out.write_all(&[number]));
+            1
+        }
     }
-    let k = output::front(length, records);
-    output::noticed(err, program, out.write_all(&records[..k]).is_ok());
-    report(err, r.counts);
-    report_fault(err, faults::of(&records[..k], count), count);
-    k
+}
+
+fn usage(err: &impl Print, program: &[u8], kind: &str) {
+    let _ = err.write_all(program);
+    let _ = err.write_all(b": usage: ");
+    let _ = err.write_all(program);
+    let _ = println!(err; " {kind} EVENTS [START]");
+}
+
+// A run of the file, the events and, if one is named, the start that the arguments name: its records on standard output, or the refusal as one byte;
+// the counts, and which event faulted, on standard error. How many bytes were given to standard output, where there was a run.
+// `kind` is what the usage calls the file, `buffer` is as long as the longest that may be accepted; `initial` gives the file's own start,
+// `call` runs it, and `counts` gives its numbers of variables and selectors.
+pub fn run<I, C, N>(
+    rt: &(impl Env + Files + Print),
+    err: &impl Print,
+    program: &[u8],
+    kind: &str,
+    buffer: &mut [u8],
+    initial: I,
+    call: C,
+    counts: N,
+) -> Option<usize>
+where
+    I: FnOnce(&[u8]) -> Start,
+    C: FnOnce(&[u8], &[u8], &[u8], &mut [u8]) -> Result<Counts, Refusal>,
+    N: FnOnce(&[u8]) -> Option<(usize, usize)>,
+    requires initial { I.IsAlwaysCallable initial }
+    requires call { C.IsAlwaysCallable call }
+    requires counts { N.IsAlwaysCallable counts }
+    ensures { IfSome result (λ n. n ≤ 400001) }
+{
+    let words = input::words(rt);
+    if !is_asked(words) {
+        usage(err, program, kind);
+        return None;
+    }
+    let mut events = [0; output::EVENT_ROOM];
+    let n = input::load(rt, err, 1, program, buffer)?;
+    let file = &buffer[..n];
+    let m = input::load(rt, err, 2, program, &mut events)?;
+    let events = &events[..m];
+    let start = start(rt, err, words, program, initial(file))?;
+    let mut records = [0; RECORD_ROOM];
+    let start = start.as_slice();
+    let r = call(file, start, events, &mut records).map_err(u8::from);
+    let ed = Edition::First;
+    let size = match counts(file) {
+        Some((v, s)) => output::records_length(events.len(), v, s, ed).unwrap_or(0),
+        None => 0,
+    };
+    let count = events.len() / edition::event_bytes(ed);
+    Some(tell(rt, err, program, r, count, size, &records))
 }

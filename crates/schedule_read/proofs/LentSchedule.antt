@@ -23,7 +23,6 @@ use Rattle.schedules.proofs.NodeActions.{node-action}
 use Rattle.schedules.proofs.ActionsListed.{operand-fits}
 use Rattle.schedules.proofs.FirstNumber.{passed}
 use Rattle.codec.specs.Parts.{between}
-use Rattle.plant.specs.PlantRead.{plant_of}
 use Rattle.tree_read.specs.Index.{NodesAt}
 use Rattle.program.specs.Filled.{Filled}
 use Rattle.program.specs.Lent.{lent, NodeLent}
@@ -58,19 +57,16 @@ module _ (ed : Edition) (f : List ℕ) {x : ScheduleIndex} {s : Schedule} (p : P
   or-stop n h = rw (node-action s.nodes n, h, action_or_stop) refl
 
   -- ---- the sections, as parts of the file
-  plant_judged : judge_plant ed s.sections.variables (between x.parts.equations_from x.parts.equations_to f) ≡ accepted s.plant
+  plant_judged : judge_plant ed s.sections.variables (between x.parts.equations.start x.parts.equations.end f) ≡ accepted s.plant
   plant_judged = ap (judge_plant ed s.sections.variables) p.equations.is ∙ p.plant_judged
 
-  plant-is : x.plant ≡ plant_of ed s.sections.variables (between x.parts.equations_from x.parts.equations_to f)
-  plant-is = p.plant ∙ ap (plant_of ed s.sections.variables) (sym p.equations.is)
-
-  nodes-at : NodesAt ed (between x.parts.schedule_from x.parts.schedule_to f) x.nodes.kinds x.nodes.starts x.nodes.ends x.nodes.count s.nodes
+  nodes-at : NodesAt ed (between x.parts.schedule.start x.parts.schedule.end f) x.nodes.kinds x.nodes.starts x.nodes.ends x.nodes.count s.nodes
   nodes-at = subst (λ z. NodesAt ed z x.nodes.kinds x.nodes.starts x.nodes.ends x.nodes.count s.nodes) (sym p.schedule.is) p.nodes
 
   -- ---- the index and the ranges: the rows have the entries of m nodes, which are all
   module _ (small : length f < 2 ^ 64) {m : ℕ} (all : x.nodes.count ≤ 256 → m ≡ x.nodes.count)
       {acts ix : List ℕ} {rs : List ℤ} (kinds : ActionKinds x.nodes.kinds m acts)
-      (filled : Filled x.plant (take m acts) (take m x.nodes.starts) (take m x.nodes.ends) x.parts.equations_from x.parts.schedule_from ix)
+      (filled : Filled x.plant (take m acts) (take m x.nodes.starts) (take m x.nodes.ends) x.parts.equations.start x.parts.schedule.start ix)
       (ranges : rs ≡ x.plant.lows ++ (x.plant.highs ++ x.plant.steady)) where
     node_of : (n : ℕ) {a : Action} → action_at (actions_of s.nodes) n ≡ some a → NodeLent ed s.plant a (lent f ix rs) n
     node_of n h =
@@ -82,13 +78,13 @@ module _ (ed : Edition) (f : List ℕ) {x : ScheduleIndex} {s : Schedule} (p : P
         let k : get_or (take m acts) n 0 ≡ get_or acts n 0 = get_or-take m acts n 0 j in
         let b : get_or (take m x.nodes.starts) n 0 ≡ get_or x.nodes.starts n 0 = get_or-take m x.nodes.starts n 0 j in
         let c : get_or (take m x.nodes.ends) n 0 ≡ get_or x.nodes.ends n 0 = get_or-take m x.nodes.ends n 0 j in
-        node-lent ed f small filled x.parts.schedule_to n (omega (arith, d.few)) (omega (arith, kinds.full, length-take m acts))
+        node-lent ed f small filled x.parts.schedule.end n (omega (arith, d.few)) (omega (arith, kinds.full, length-take m acts))
         (omega (arith, d.starts_full, length-take m x.nodes.starts)) (omega (arith, d.ends_full, length-take m x.nodes.ends))
-        (omega (arith, p.schedule.inside.ordered, p.schedule.inside.inside)) (rw (b, c) e.ordered) (rw c e.inside)
+        (omega (arith, p.schedule.inside.ordered, p.schedule.inside.ends)) (rw (b, c) e.ordered) (rw c e.inside)
         (rw (k, b, c) (action-by d n i (kinds.each n j) ∙ h)) (action-fits n h)
 
     pub schedule-lent : ScheduleLent ed s (lent f ix rs)
     schedule-lent = record {
-      plant = plant-lent ed f small x.parts.equations_from x.parts.equations_to s.sections.variables plant_judged plant-is filled ranges;
+      plant = plant-lent ed f small x.parts.equations.start x.parts.equations.end s.sections.variables plant_judged p.plant filled ranges;
       nodes = λ r o n e. (let k = acting-action s.nodes (passed ed f s p.judged).tree o n (among-mem n (acting r) e) in subst (λ a. NodeLent ed s.plant a (lent f ix rs) n) (or-stop n k.1) (node_of n k.1));
     }

@@ -1,5 +1,4 @@
 pub mod PartsStand
-mod SectionPlaces
 pub mod Payloads
 pub mod Passing
 pub mod FoundNodes

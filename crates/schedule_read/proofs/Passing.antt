@@ -7,12 +7,13 @@ use Prim.Native.Nat.{ℕ, zero, suc, ◌+◌, ◌-◌, ◌≤◌, ◌<◌}
 use native.Mathlib.Numerals.{add-one}
 use native.Mathlib.Omega.{arith}
 use lib.ListN.{length, get_or, take, drop, get_elem?}
-use Rattle.semantics.specs.Bytes.{every}
+use Rattle.semantics.specs.Bytes.{is_some, every}
 use Rattle.semantics.specs.Editions.{Edition}
 use Rattle.semantics.proofs.Facts.{none-not-some, some_is, at-exists}
-use Rattle.schedules.specs.Nodes.{Node}
+use Rattle.schedules.specs.Nodes.{Node, kind_of, node_of}
 use Rattle.tree_read.specs.declared.nodes.Nodes.{Nodes}
-use Rattle.schedule_read.specs.Indexed.{NodesIn, Indexed, Made, Tells}
+use Rattle.schedule_read.specs.Indexed.{NodesIn, Indexed, Tells}
+use Rattle.schedule_read.proofs.Payloads.{Made}
 
 -- ---- every element from number i on
 every-next : {A : Type 0} (P : A → Bool) (l : List A) (i : ℕ) {x : A} → get_elem? l i ≡ some x → P x ≡ true → every P (drop i l) ≡ every P (drop (suc i) l)
@@ -39,6 +40,10 @@ pub made : {s : List ℕ} {n : Nodes} (i : ℕ) → i < n.count → Indexed s n 
 made i h d =
     let x = at-exists d.nodes i (omega (arith, d.at.counted)) in
     record { node = x.0; is = (d.at.entries i h).node ∙ x.1 }
+
+pub made-at : {s : List ℕ} {n : Nodes} (i : ℕ) → i < n.count → Indexed s n → is_some (node_of (kind_of (get_or n.kinds i 0)) (take (get_or n.ends i 0 - get_or n.starts i 0) (drop (get_or n.starts i 0) s))) ≡ true
+unfolding is_some
+made-at i h d = let m = made i h d in rw m.is refl
 
 -- ---- a test of each, and t beside it, told so far by r
 pub record Telling (ed : Edition) (P : Node → Bool) (s : List ℕ) (n : Nodes) (i : ℕ) (t r : Bool) : Type 0 where

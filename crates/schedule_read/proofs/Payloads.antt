@@ -2,14 +2,14 @@
 use mathlib.Core.Path.{◌≡◌, refl, ap, ◌∙◌}
 use mathlib.Core.Bool.{Bool, true, false, cond}
 use mathlib.Core.List.{List, [], ◌∷◌}
-use mathlib.Core.Option.{none, some}
+use mathlib.Core.Option.{Option, none, some}
 use Prim.Native.Nat.{ℕ, suc, ◌-◌, ◌≤◌}
 use native.Mathlib.Omega.{arith}
 use borrow.Author.Tests.{eqb-true}
 use lib.Dec.{leb, eqb}
 use lib.ListN.{length, get_or, take, drop}
 use lib.Seq.{take_all}
-use Rattle.semantics.specs.Bytes.{from_no_bytes, from_two_bytes, byte_and_rest}
+use Rattle.semantics.specs.Bytes.{is_some, from_no_bytes, from_two_bytes, byte_and_rest}
 use Rattle.semantics.specs.Editions.{Edition}
 use Rattle.semantics.specs.Sections.{Selector, Equation}
 use Rattle.semantics.proofs.Facts.{none-not-some, some_is}
@@ -28,6 +28,19 @@ module _ (Q : Kind → Type 0) where
       pick (eqb k 1) _ _ (λ e. f₁ (eqb-true k 1 e)) (pick (eqb k 2) _ _ (λ e. f₂ (eqb-true k 2 e)) (pick (eqb k 3) _ _ (λ e. f₃ (eqb-true k 3 e))
       (pick (eqb k 4) _ _ (λ e. f₄ (eqb-true k 4 e)) (pick (eqb k 5) _ _ (λ e. f₅ (eqb-true k 5 e)) (pick (eqb k 6) _ _ (λ e. f₆ (eqb-true k 6 e))
       (pick (eqb k 7) _ _ (λ e. f₇ (eqb-true k 7 e)) (pick (eqb k 8) _ _ (λ e. f₈ (eqb-true k 8 e)) (pick (eqb k 9) _ _ (λ e. f₉ (eqb-true k 9 e)) q))))))))
+
+-- a kind and a payload make some node
+pub record Made (k : ℕ) (b : List ℕ) : Type 0 where
+  pub node : Node
+  pub is : node_of (kind_of k) b ≡ some node
+
+pub made-of : (k : ℕ) (b : List ℕ) → is_some (node_of (kind_of k) b) ≡ true → Made k b
+unfolding is_some
+made-of k b e = go (node_of (kind_of k) b) refl e
+  where
+    go : (o : Option Node) → node_of (kind_of k) b ≡ o → is_some o ≡ true → Made k b
+    go none i e = absurd (cc)
+    go (some x) i e = record { node = x; is = i }
 
 -- ---- the forms of a payload
 pub record Headed (f : ℕ → List ℕ → Node) (b : List ℕ) (x : Node) : Type 0 where

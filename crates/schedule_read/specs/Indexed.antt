@@ -16,11 +16,6 @@ pub record Indexed (s : List ℕ) (n : Nodes) : Type 0 where
   pub nodes : List Node
   pub at : NodesIn edition s n nodes
 
--- a kind and a payload make a node
-pub record Made (k : ℕ) (b : List ℕ) : Type 0 where
-  pub node : Node
-  pub is : node_of (kind_of k) b ≡ some node
-
 -- ---- tests
 -- r is what P says of the node of this kind and payload
 pub record Tells {A : Type 0} (P : Node → A) (k : ℕ) (b : List ℕ) (r : A) : Type 0 where

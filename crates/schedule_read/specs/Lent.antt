@@ -1,5 +1,5 @@
 -- A schedule that is lent to a run: what the reader promises of its file's bytes, index and ranges.
-use Rattle.std.specs.Prelude.{◌≡◌, true, List, ℕ, ◌^◌, ◌<◌, ℤ, length}
+use Rattle.std.specs.Prelude.{◌≡◌, true, List, ℕ, ◌^◌, ◌<◌, ℤ, length, Ok}
 use Rattle.semantics.specs.Editions.{Edition}
 use Rattle.semantics.specs.Refusals.{accepted}
 use Rattle.semantics.specs.Plant.{among}
@@ -19,4 +19,4 @@ pub record ScheduleLent (ed : Edition) (s : Schedule) (l : Lent) : Type 0 where
 -- where x is the index of an accepted file of some edition, of a length that a slice can have, ix and rs lend it together with the file's bytes
 abbrev pub SchedulePrograms : ScheduleIndex → List ℕ → List ℤ → Type 0
 SchedulePrograms x ix rs =
-    (ed : Edition) (f : List ℕ) (s : Schedule) → ScheduleIndexed ed f x → length f < 2 ^ 64 → judge_file ed f ≡ accepted s → ScheduleLent ed s (lent f ix rs)
+    (ed : Edition) (f : List ℕ) (s : Schedule) → ScheduleIndexed ed f (Ok x) → length f < 2 ^ 64 → judge_file ed f ≡ accepted s → ScheduleLent ed s (lent f ix rs)

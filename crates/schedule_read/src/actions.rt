@@ -4,7 +4,7 @@ ghost use Rattle.schedule_read.specs.Actions.{ActsAs, ActionKinds};
 
 use edition::NODES;
 
-// of a node of kind k; 0 where it has no action
+// of a node of kind k; 0, as a run's index has it, where it has no action
 fn kind(k: u8) -> u8
     ensures { ActsAs k result }
 {
@@ -25,10 +25,8 @@ pub fn kinds(kinds: &[u8], count: usize) -> [u8; NODES]
     ensures { ActionKinds kinds.now count result }
 {
     let mut acts = [0u8; NODES];
-    let mut i = 0;
-    while i < count {
+    for i in 0..count {
         acts[i] = kind(kinds[i]);
-        i += 1;
     }
     acts
 }

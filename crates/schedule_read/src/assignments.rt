@@ -3,18 +3,19 @@ ghost use Rattle.std.specs.Prelude.{List};
 ghost use Rattle.semantics.specs.Sections.{Equation};
 ghost use Rattle.plant.specs.Driven.{DrivenAt};
 ghost use Rattle.schedules.specs.Nodes.{node_parted};
-ghost use Rattle.schedule_read.specs.Indexed.{Made, Tells};
+ghost use Rattle.schedule_read.specs.Indexed.{Tells};
 
+use super::node::Node;
 use plant::driven::is_driven;
 
-// one node of kind k and payload b
-pub fn one(k: u8, b: &[u8], driven: &[bool]) -> bool
-    requires { Made k b.now }
-    ensures { (es : List Equation) → DrivenAt driven.now es → Tells (node_parted es) k b.now result }
+// one node
+pub fn one(node: Node<'_>, driven: &[bool]) -> bool
+    ensures { (es : List Equation) → DrivenAt driven.now es → Tells (node_parted es) node.entry.kind node.entry.payload.now result }
 {
-    match k {
-        paper::nodes::RESET => !is_driven(b[0] as usize, driven),
-        paper::nodes::REINITIAL => is_driven(b[0] as usize, driven),
+    let b = node.payload;
+    match node.kind {
+        paper::nodes::RESET => !is_driven(usize::from(b[0]), driven),
+        paper::nodes::REINITIAL => is_driven(usize::from(b[0]), driven),
         _ => true,
     }
 }

@@ -2,14 +2,17 @@
 ghost use Rattle.std.specs.Prelude.{◌≤◌};
 ghost use Rattle.semantics.specs.Editions.{Edition};
 ghost use Rattle.schedules.specs.Nodes.{node_reads};
-ghost use Rattle.schedule_read.specs.Indexed.{Made, Tells};
+ghost use Rattle.schedule_read.specs.Indexed.{Tells};
 
-// one node of kind k and payload b
-pub fn one(k: u8, b: &[u8], variables: usize) -> bool
-    requires { Made k b.now × (variables ≤ 32) }
-    ensures { (ed : Edition) → Tells (node_reads ed variables) k b.now result }
+use super::node::Node;
+
+// one node: a row for each kind, as document 01 lists them
+pub fn one(node: Node<'_>, variables: usize) -> bool
+    requires { variables ≤ 32 }
+    ensures { (ed : Edition) → Tells (node_reads ed variables) node.entry.kind node.entry.payload.now result }
 {
-    match k {
+    let b = node.payload;
+    match node.kind {
         paper::nodes::WHILE => expression::truth_reads(b, variables),
         paper::nodes::IF => expression::truth_reads(b, variables),
         paper::nodes::CONTINUE => expression::truth_reads(b, variables),

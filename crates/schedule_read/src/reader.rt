@@ -1,60 +1,52 @@
-// One reader carries the lent file and its place from section to section.
-ghost use Rattle.std.specs.Prelude.{◌≡◌};
-ghost use Rattle.schedule_read.specs.Sections.{section_end, section_ends};
+// One reader carries the lent file and its place from section to section: document 01 names this form, thin functions over one with plain
+// parameters, codec's `end2`.
+ghost use Rattle.std.specs.Prelude.{◌≡◌, ◌≤◌, length};
+ghost use Rattle.codec.specs.declared.part.Part.{Part};
+ghost use Rattle.schedule_read.specs.Sections.{section_at, SectionsRead};
 
-// the file, and where the next section starts; 0 once a section was missing
+use super::parts::Parts;
+use codec::part::Part;
+
+// the file, and where the next section starts
 #[derive(Clone, Copy)]
 pub struct Reader<'a> {
     file: &'a [u8],
     at: usize,
 }
 
-// where each of the three sections ends; 0 from the first on that is missing
-#[derive(Clone, Copy)]
-pub struct SectionEnds {
-    pub variables: usize,
-    pub equations: usize,
-    pub schedule: usize,
-}
-
-// where the section at a place ends; it is asked at any place: its callers have nothing to prove of it
-fn end(file: &[u8], at: usize) -> usize
-    ensures { result ≡ section_end file.now at }
-{
-    if at == 0 {
-        return 0;
+impl<'a> Reader<'a> {
+    // the section that the reader stands before; it goes behind it
+    fn next(&mut self) -> Option<Part>
+        requires { self.old.at ≤ length self.old.file.now }
+        ensures same { self.new.file.now ≡ self.old.file.now }
+        ensures part { result ≡ section_at self.old.file.now self.old.at }
+        ensures behind { (p : Part) → result ≡ Some p → self.new.at ≡ p.end }
+    {
+        let end = codec::end2(self.file, self.at)?;
+        let part = Part {
+            start: self.at + 2,
+            end,
+        };
+        self.at = end;
+        Some(part)
     }
-    if at > file.len() {
-        return 0;
+}
+
+// the three sections behind the header of 3 bytes, where they fill the file
+pub fn sections(file: &[u8]) -> Option<Parts>
+    requires { 3 ≤ length file.now }
+    ensures { SectionsRead file.now result }
+{
+    let mut r = Reader { file, at: 3 };
+    let variables = r.next()?;
+    let equations = r.next()?;
+    let schedule = r.next()?;
+    if r.at < file.len() {
+        return None;
     }
-    codec::end2(file, at)
-}
-
-// a reader behind the header
-fn start<'a>(file: &'a [u8]) -> Reader<'a>
-    ensures { (result.file ≡ file.entry) × (result.at ≡ 3) }
-{
-    Reader { file, at: 3 }
-}
-
-// the reader behind the section that it stands before
-fn next<'a>(r: Reader<'a>) -> Reader<'a>
-    ensures { (result.file ≡ r.entry.file) × (result.at ≡ section_end r.entry.file.now r.entry.at) }
-{
-    let at = end(r.file, r.at);
-    Reader { file: r.file, at }
-}
-
-// from section to section; every other caller uses this and holds no reader
-pub fn ends(file: &[u8]) -> SectionEnds
-    ensures { result ≡ section_ends file.now }
-{
-    let v = next(start(file));
-    let e = next(v);
-    let s = next(e);
-    SectionEnds {
-        variables: v.at,
-        equations: e.at,
-        schedule: s.at,
-    }
+    Some(Parts {
+        variables,
+        equations,
+        schedule,
+    })
 }

@@ -1,85 +1,72 @@
 // Numbers and truths, from prefix order to a formula.
-use super::bytes;
-use super::out::Out;
+use super::fields::Fields;
+use std::fmt;
 
-// how many operands follow a code
-fn operands(code: usize) -> usize {
-    if code < 0x10 {
-        return 0;
+// a number or a truth at the front of these fields
+#[derive(Clone, Copy)]
+pub struct Formula<'a>(pub Fields<'a>);
+
+impl fmt::Display for Formula<'_> {
+    fn fmt<W: fmt::Write>(&self, f: &mut fmt::Formatter<W>) -> fmt::Result {
+        let mut fields = self.0;
+        form(f, &mut fields, paper::DEPTH)
     }
-    if code == 0x2F {
-        return 0;
-    }
-    if code == 0x14 {
-        return 1;
-    }
-    if code == 0x2A {
-        return 1;
-    }
-    2
 }
 
-// a constant, a variable or true; the place after it
-fn leaf<P: Print>(out: &mut Out<'_, P>, t: &[u8], p: usize, code: usize) -> usize {
-    let q = bytes::on(p, 1);
-    if code == 1 {
-        out.signed(bytes::four(t, q));
-        return bytes::on(p, 5);
+// the sign between two operands
+fn sign(code: u8) -> Option<&'static str> {
+    match code {
+        0x10 => Some("+"),
+        0x11 => Some("-"),
+        0x12 => Some("*"),
+        0x20 => Some("<="),
+        0x21 => Some("<"),
+        0x22 => Some("="),
+        0x23 => Some("!="),
+        0x28 => Some("and"),
+        0x29 => Some("or"),
+        _ => None,
     }
-    if code == 2 {
-        out.byte(b'v');
-        out.decimal(bytes::at(t, q));
-        return bytes::on(p, 2);
-    }
-    out.text(0, b"true");
-    q
 }
 
 // a parenthesis, but not around the whole
-fn bracket<P: Print>(out: &mut Out<'_, P>, levels: usize, b: u8) {
+fn bracket<W: fmt::Write>(f: &mut fmt::Formatter<W>, levels: usize, b: &str) -> fmt::Result {
     if levels < paper::DEPTH {
-        out.byte(b);
+        return f.write_str(b);
     }
+    Ok(())
 }
 
-// what stands before the first operand
-fn before<P: Print>(out: &mut Out<'_, P>, code: usize, levels: usize) {
-    if code == 0x14 {
-        out.byte(b'-');
-        return;
-    }
-    if code == 0x2A {
-        out.text(0, b"not ");
-        return;
-    }
-    bracket(out, levels, b'(');
-}
-
-// what stands between two operands; the codes begin at 0x10
-fn between<P: Print>(out: &mut Out<'_, P>, code: usize) {
-    out.text(
-        code.wrapping_sub(15),
-        b"| + | - | * |||||||||||||| <= | < | = | != ||||| and | or ",
-    );
-}
-
-// the form at a place, of at most so many levels; the place after it
-pub fn form<P: Print>(out: &mut Out<'_, P>, t: &[u8], p: usize, levels: usize) -> usize {
+// the next form, of at most so many levels
+fn form<W: fmt::Write>(
+    f: &mut fmt::Formatter<W>,
+    fields: &mut Fields<'_>,
+    levels: usize,
+) -> fmt::Result {
     if levels == 0 {
-        return p;
+        return Ok(());
     }
-    let code = bytes::at(t, p);
-    let n = operands(code);
-    if n == 0 {
-        return leaf(out, t, p, code);
+    let code = fields.byte();
+    match code {
+        0x01 => write!(f, "{}", fields.signed()),
+        0x02 => write!(f, "v{}", fields.byte()),
+        0x14 => {
+            f.write_str("-")?;
+            form(f, fields, levels - 1)
+        }
+        0x2a => {
+            f.write_str("not ")?;
+            form(f, fields, levels - 1)
+        }
+        _ => {
+            let Some(sign) = sign(code) else {
+                return f.write_str("true");
+            };
+            bracket(f, levels, "(")?;
+            form(f, fields, levels - 1)?;
+            write!(f, " {sign} ")?;
+            form(f, fields, levels - 1)?;
+            bracket(f, levels, ")")
+        }
     }
-    before(out, code, levels);
-    let q = form(out, t, bytes::on(p, 1), levels - 1);
-    if n == 1 {
-        return q;
-    }
-    between(out, code);
-    let r = form(out, t, q, levels - 1);
-    bracket(out, levels, b')');
-    r
 }

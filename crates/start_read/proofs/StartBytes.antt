@@ -1,8 +1,11 @@
 -- The bytes of a start: their number, the values and modes at their places, and what the code's tests say of them.
-use mathlib.Core.Path.{◌≡◌, refl, sym, ap, ◌∙◌, subst}
-use mathlib.Core.Bool.{Bool, true, false, ◌&&◌, and-false}
+use mathlib.Core.Path.{◌≡◌, refl, sym, ap, ap₂, ◌∙◌, subst}
+use mathlib.Core.Bool.{Bool, true, false, not, cond, ◌&&◌, and-false}
 use mathlib.Core.List.{List, [], ◌∷◌}
-use mathlib.Core.Option.{Option, none, some}
+use mathlib.Core.Option.{none, some}
+use Rattle.std.specs.Prelude.{Option, Some, None}
+use Rattle.std.specs.Ordering.{is_le, int_cmp}
+use Rattle.std.specs.declared.cmp.Ordering.TheVariants.{Less, Equal, Greater}
 use Prim.Native.Nat.{ℕ, zero, suc, ◌+◌, ◌-◌, ◌*◌, ◌≤◌}
 use native.Mathlib.Nat.{add-zero}
 use native.Mathlib.Omega.{arith}
@@ -12,12 +15,11 @@ use lib.Signed.{lt_z}
 use lib.ListN.{length, get_or, take, drop, get_elem?, length-drop}
 use lib.Seq.{take_all}
 use mir.Syntax.{w32}
-use mir.Val.{SFits, to_z, of_z}
-use mir.ValLaws.{to_z-of_z}
+use mir.Val.{to_z, of_z}
 use Rattle.semantics.specs.Bytes as Bytes
 use Rattle.semantics.specs.Bytes.{be4, signed, read, and_then, give, byte, int4, times, just, whole}
-use Rattle.semantics.specs.Refusals.{accepted, need, ensure, ◌>>=◌, ◌>>◌}
-use Rattle.semantics.specs.Expressions.{Value, ok, fault, ranged, then_value}
+use Rattle.semantics.specs.Refusals.{refused, accepted, need, ensure, ◌>>=◌, ◌>>◌}
+use Rattle.semantics.specs.Expressions.{Value, ok, fault, below, above, ranged, then_value}
 use Rattle.semantics.specs.Sections.{Variable, Selector}
 use Rattle.semantics.specs.Plant.{Plant, selectors, declared, all_declared}
 use Rattle.semantics.specs.Starts.{Start, read_start, start_in, is_ok, values_fit, modes_fit, fits_start}
@@ -25,15 +27,16 @@ use Rattle.semantics.specs.Calls.{judge_start}
 use Rattle.semantics.proofs.Admission.{start-judged}
 use Rattle.semantics.proofs.Facts.{and_both}
 use Rattle.semantics.proofs.Readers.{whole-read}
+use Rattle.paper.specs.Refusals.{answered}
+use Rattle.paper.proofs.Answered.{accepts-with}
 use Rattle.codec.proofs.Reading.{int4-at, drop_past, drop-some}
 use Rattle.plant.specs.declared.sections.PlantRead.{PlantRead}
-use Rattle.start_read.specs.declared.Values.{Values}
-use Rattle.start_read.specs.declared.Modes.{Modes}
 use Rattle.start_read.specs.declared.admission.Admitted.{Admitted}
 use Rattle.plant.specs.ModeCounts.{ModesAt}
 use Rattle.start_read.specs.StartRead.{Ranges, Arrays, ValuesOf, ModesOf}
-use Rattle.start_read.specs.Admission.{not_admitted, admitted}
+use Rattle.start_read.specs.Admission.{admitted}
 use Rattle.start_read.proofs.StartLoop.{entries}
+use Rattle.plant.proofs.VariableSection.{not-both}
 use Rattle.plant.proofs.Costs.{costs-give, costs-byte, costs-then, costs-int4, costs-times}
 
 -- ---- a value and a mode at their places
@@ -49,21 +52,25 @@ mode_at s k = get_or s k 0
 abbrev pub held : ℤ → ℤ
 held z = to_z w32 (of_z w32 z)
 
-pub lt-held : (a b : ℤ) {t : Bool} → SFits w32 a → SFits w32 b → lt_z (held a) (held b) ≡ t → lt_z a b ≡ t
-lt-held a b f g h = rw (to_z-of_z w32 a f, to_z-of_z w32 b g) at h
+-- what `<=` answers of signed numbers
+le_as : (a b : ℤ) → is_le (int_cmp a b) ≡ not (lt_z b a)
+le_as a b = go (lt_z a b) (lt_z b a) refl refl
+  where
+    go : (s t : Bool) → lt_z a b ≡ s → lt_z b a ≡ t → is_le (cond (lt_z a b) Less (cond (lt_z b a) Greater Equal)) ≡ not (lt_z b a)
+    go true true e f = absurd (not-both a b e f)
+    go true false e f = rw (e, f) refl
+    go false true e f = rw (e, f) refl
+    go false false e f = rw (e, f) refl
 
-module _ (low high z : ℤ) where
-  pub below-low : lt_z z low ≡ true → false ≡ is_ok (ranged low high z)
-  unfolding ranged is_ok
-  below-low h = rw h refl
-
-  pub above-high : lt_z z low ≡ false → lt_z high z ≡ true → false ≡ is_ok (ranged low high z)
-  unfolding ranged is_ok
-  above-high h k = rw (h, k) refl
-
-  pub in_range : lt_z z low ≡ false → lt_z high z ≡ false → true ≡ is_ok (ranged low high z)
-  unfolding ranged is_ok
-  in_range h k = rw (h, k) refl
+-- a range's test of a number
+pub within-range : (low high z : ℤ) → (is_le (int_cmp low z) && is_le (int_cmp z high)) ≡ is_ok (ranged low high z)
+unfolding ranged is_ok
+within-range low high z = ap₂ ◌&&◌ (le_as low z) (le_as z high) ∙ go (lt_z z low) (lt_z high z)
+  where
+    go : (s t : Bool) → (not s && not t) ≡ is_ok (cond s (fault below) (cond t (fault above) (ok z)))
+    go true t = refl
+    go false true = refl
+    go false false = refl
 
 abbrev pub value_fits : Variable → ℤ → Bool
 value_fits x z = is_ok (declared x z)
@@ -137,19 +144,19 @@ start-size p s h =
     omega (arith, c.spent s (whole-read (read_start p) s h))
 
 -- ---- the answer
-not_there : (p : Plant) (s : List ℕ) → start_in p s ≡ none → not_admitted 20 ≡ admitted (judge_start p s)
-unfolding judge_start admitted need ◌>>=◌
+not_there : (p : Plant) (s : List ℕ) → start_in p s ≡ none → refused 20 ≡ answered admitted (judge_start p s)
+unfolding judge_start need ◌>>=◌
 not_there p s h = rw h refl
 
-not-fit : (p : Plant) (s : List ℕ) {st : Start} → start_in p s ≡ some st → fits_start p st ≡ false → not_admitted 20 ≡ admitted (judge_start p s)
-unfolding judge_start admitted need ensure ◌>>=◌ ◌>>◌
+not-fit : (p : Plant) (s : List ℕ) {st : Start} → start_in p s ≡ some st → fits_start p st ≡ false → refused 20 ≡ answered admitted (judge_start p s)
+unfolding judge_start need ensure ◌>>=◌ ◌>>◌
 not-fit p s h k = rw (h, k) refl
 
 module _ (p : Plant) (s : List ℕ) {x : PlantRead} (a : Arrays p x) where
-  pub wrong_size : (length s ≡ 4 * x.variables + x.selectors → ⊥) → not_admitted 20 ≡ admitted (judge_start p s)
+  pub wrong_size : (length s ≡ 4 * x.variables + x.selectors → ⊥) → refused 20 ≡ answered admitted (judge_start p s)
   wrong_size f = not_there p s (go (start_in p s) refl)
     where
-      go : (o : Option Start) → start_in p s ≡ o → start_in p s ≡ none
+      go : (o : mathlib.Core.Option.Option Start) → start_in p s ≡ o → start_in p s ≡ none
       go none e = e
       go (some st) e =
           let z = start-size p s e in
@@ -178,27 +185,25 @@ module _ (p : Plant) (s : List ℕ) {x : PlantRead} (a : Arrays p x) where
     there : start_in p s ≡ some started
     there = start-from p s (ap (λ q. times q int4 s) (sym a.ranges.count) ∙ values-there) (ap (λ q. times q byte rest) a.counts.counted ∙ modes-there)
 
-    pub values-unfit : {r : Values} → ValuesOf s n x.lows x.highs r → r.ok ≡ false → not_admitted 20 ≡ admitted (judge_start p s)
+    pub values-unfit : ValuesOf s n x.lows x.highs None → refused 20 ≡ answered admitted (judge_start p s)
     unfolding fits_start
-    values-unfit v e = not-fit p s there (rw (v.fit values-there p.variables a.ranges ∙ e) refl)
+    values-unfit v = not-fit p s there (rw (v.unfit values-there p.variables a.ranges) refl)
 
-    module _ {r : Values} {t : Modes} (v : ValuesOf s n x.lows x.highs r) (m : ModesOf (take (length s - 4 * n) rest) x.selectors x.modes t) where
-      -- all bytes from that place on
-      modes_are : ModesOf rest x.selectors x.modes t
-      modes_are = subst (λ l. ModesOf l x.selectors x.modes t) (take_all (length s - 4 * n) rest (omega (arith, length-drop (4 * n) s))) m
+    -- all bytes from that place on
+    modes_are : (o : Option (List ℕ)) → ModesOf (take (length s - 4 * n) rest) x.selectors x.modes o → ModesOf rest x.selectors x.modes o
+    modes_are o m = subst (λ l. ModesOf l x.selectors x.modes o) (take_all (length s - 4 * n) rest (omega (arith, length-drop (4 * n) s))) m
 
-      modes-fit : modes_fit (selectors p) started.modes ≡ t.ok
-      modes-fit = modes_are.fit modes-there (selectors p) a.counts
+    pub modes-unfit : ModesOf (take (length s - 4 * n) rest) x.selectors x.modes None → refused 20 ≡ answered admitted (judge_start p s)
+    unfolding fits_start
+    modes-unfit m = not-fit p s there (rw ((modes_are None m).unfit modes-there (selectors p) a.counts) (and-false (values_fit p.variables started.values)))
 
-      pub modes-unfit : t.ok ≡ false → not_admitted 20 ≡ admitted (judge_start p s)
-      unfolding fits_start
-      modes-unfit e = not-fit p s there (rw (modes-fit ∙ e) (and-false (values_fit p.variables started.values)))
-
-      pub all_fit : r.ok ≡ true → t.ok ≡ true → record { refusal = 0; values = r.values; modes = t.modes } ≡ admitted (judge_start p s)
-      unfolding fits_start admitted
-      all_fit e i =
-          let k = start-judged p s (record { is_read = there; fits = and_both (v.fit values-there p.variables a.ranges ∙ e) (modes-fit ∙ i) }) in
-          let y = v.are values-there e in
-          let z = modes_are.are modes-there i in
-          let q : ◌≡◌ {A = Admitted} (record { refusal = 0; values = r.values; modes = t.modes }) (admitted (accepted started)) = λ j. record { refusal = 0; values = y j; modes = z j } in
-          q ∙ ap admitted (sym k)
+    pub all_fit : {values : List ℤ} {modes : List ℕ} → ValuesOf s n x.lows x.highs (Some values) → ModesOf (take (length s - 4 * n) rest) x.selectors x.modes (Some modes)
+        → accepted (record { values = values; modes = modes }) ≡ answered admitted (judge_start p s)
+    unfolding fits_start admitted
+    all_fit {values} {modes} v m =
+        let t = modes_are (Some modes) m in
+        let k = start-judged p s (record { is_read = there; fits = and_both (v.fit values-there p.variables a.ranges) (t.fit modes-there (selectors p) a.counts) }) in
+        let y = v.are values-there in
+        let z = t.are modes-there in
+        let q : ◌≡◌ {A = Admitted} (record { values = values; modes = modes }) (admitted started) = λ j. record { values = y j; modes = z j } in
+        accepts-with admitted k q

@@ -11,7 +11,7 @@ use mir.Val.{SFits}
 use mir.ValLaws.{to_z-of_z}
 use Rattle.semantics.specs.Expressions.{ranged}
 use Rattle.semantics.specs.Starts.{is_ok, values_fit, modes_fit}
-use Rattle.semantics.proofs.Facts.{true-not-false}
+use Rattle.std.specs.Prelude.{Some, None}
 use Rattle.codec.specs.Padding.{pad}
 use Rattle.plant.specs.ModeCounts.{ModesAt}
 use Rattle.start_read.specs.StartRead.{Ranges, ValuesOf, ModesOf}
@@ -33,16 +33,15 @@ module _ (s : List ℕ) (n : ℕ) (lows highs : List ℤ) where
     pub values-next : i < n → i < 32 → is_ok (ranged (get_or lows i (pos 0)) (get_or highs i (pos 0)) (value_at s i)) ≡ true → (z : ℤ) → z ≡ value_at s i → Valued (i + 1) (set values i z)
     values-next h k t z e = going_next 32 (pos 0) values_fit (λ xs. Ranges xs n lows highs) (value_at s) n value_fits values-step (λ xs r. r.count) i g h k (value-at i (value_at s i) t) z e
 
-    pub values-stop : 4 * n ≤ length s → i < n → is_ok (ranged (get_or lows i (pos 0)) (get_or highs i (pos 0)) (value_at s i)) ≡ false → ValuesOf s n lows highs (record { ok = false; values = values })
+    pub values-stop : 4 * n ≤ length s → i < n → is_ok (ranged (get_or lows i (pos 0)) (get_or highs i (pos 0)) (value_at s i)) ≡ false → ValuesOf s n lows highs None
     values-stop j h t = record {
-      fit = λ e xs x. ap (values_fit xs) (values-told s n j e) ∙ stopped 32 (pos 0) values_fit (λ xs. Ranges xs n lows highs) (value_at s) n value_fits values-step (λ xs r. r.count) i g h (value-at i (value_at s i) t) xs x;
-      are = λ e o. true-not-false (sym o);
+      unfit = λ e xs x. ap (values_fit xs) (values-told s n j e) ∙ stopped 32 (pos 0) values_fit (λ xs. Ranges xs n lows highs) (value_at s) n value_fits values-step (λ xs r. r.count) i g h (value-at i (value_at s i) t) xs x;
     }
 
-    pub values-end : 4 * n ≤ length s → i ≡ n → ValuesOf s n lows highs (record { ok = true; values = values })
+    pub values-end : 4 * n ≤ length s → i ≡ n → ValuesOf s n lows highs (Some values)
     values-end j h = record {
       fit = λ e xs x. ap (values_fit xs) (values-told s n j e) ∙ ended 32 (pos 0) values_fit (λ xs. Ranges xs n lows highs) (value_at s) n value_fits values-step (λ xs r. r.count) i g h values-none xs x;
-      are = λ e o. filled-all g h ∙ ap (pad 32 (pos 0)) (sym (values-told s n j e));
+      are = λ e. filled-all g h ∙ ap (pad 32 (pos 0)) (sym (values-told s n j e));
     }
 
 module _ (s : List ℕ) (n : ℕ) (counts : List ℕ) where
@@ -56,14 +55,13 @@ module _ (s : List ℕ) (n : ℕ) (counts : List ℕ) where
     pub modes-next : i < n → i < 16 → mode_at s i < get_or counts i 0 → (m : ℕ) → m ≡ mode_at s i → Moded (i + 1) (set modes i m)
     modes-next h k t m e = going_next 16 0 modes_fit (λ cs. ModesAt counts n cs) (mode_at s) n mode_fits modes-step (λ cs r. sym r.counted) i g h k (mode-at i (mode_at s i) (lt-ltb (mode_at s i) (get_or counts i 0) t)) m e
 
-    pub modes-stop : n ≤ length s → i < n → get_or counts i 0 ≤ mode_at s i → ModesOf s n counts (record { ok = false; modes = modes })
+    pub modes-stop : n ≤ length s → i < n → get_or counts i 0 ≤ mode_at s i → ModesOf s n counts None
     modes-stop j h t = record {
-      fit = λ e cs x. ap (modes_fit cs) (modes-told s n j e) ∙ stopped 16 0 modes_fit (λ cs. ModesAt counts n cs) (mode_at s) n mode_fits modes-step (λ cs r. sym r.counted) i g h (mode-at i (mode_at s i) (le-ltb (mode_at s i) (get_or counts i 0) t)) cs x;
-      are = λ e o. true-not-false (sym o);
+      unfit = λ e cs x. ap (modes_fit cs) (modes-told s n j e) ∙ stopped 16 0 modes_fit (λ cs. ModesAt counts n cs) (mode_at s) n mode_fits modes-step (λ cs r. sym r.counted) i g h (mode-at i (mode_at s i) (le-ltb (mode_at s i) (get_or counts i 0) t)) cs x;
     }
 
-    pub modes-end : n ≤ length s → i ≡ n → ModesOf s n counts (record { ok = true; modes = modes })
+    pub modes-end : n ≤ length s → i ≡ n → ModesOf s n counts (Some modes)
     modes-end j h = record {
       fit = λ e cs x. ap (modes_fit cs) (modes-told s n j e) ∙ ended 16 0 modes_fit (λ cs. ModesAt counts n cs) (mode_at s) n mode_fits modes-step (λ cs r. sym r.counted) i g h modes-none cs x;
-      are = λ e o. filled-all g h ∙ ap (pad 16 0) (sym (modes-told s n j e));
+      are = λ e. filled-all g h ∙ ap (pad 16 0) (sym (modes-told s n j e));
     }

@@ -1,19 +1,14 @@
 -- Conditions 20 to 22: the judged start of a run in the code's arrays.
-use Rattle.std.specs.Prelude.{List, [], ℕ, ℤ, pos, length, take}
-use Rattle.semantics.specs.Refusals.{Judged, refused, accepted}
+use Rattle.std.specs.Prelude.{List, ℕ, ℤ, pos, length, take}
 use Rattle.semantics.specs.Sections.{variable_limit, equation_limit}
 use Rattle.semantics.specs.Plant.{Plant, selectors}
 use Rattle.semantics.specs.Starts.{Start}
 use Rattle.codec.specs.Padding.{pad}
 use Rattle.start_read.specs.declared.admission.Admitted.{Admitted}
 
--- a refusal
-unfoldable pub not_admitted : ℕ → Admitted
-not_admitted n = record { refusal = n; values = pad variable_limit (pos 0) []; modes = pad equation_limit 0 [] }
-
-unfoldable pub admitted : Judged Start → Admitted
-admitted (refused n) = not_admitted n
-admitted (accepted st) = record { refusal = 0; values = pad variable_limit (pos 0) st.values; modes = pad equation_limit 0 st.modes }
+-- what the code has of a start that is admitted
+unfoldable pub admitted : Start → Admitted
+admitted st = record { values = pad variable_limit (pos 0) st.values; modes = pad equation_limit 0 st.modes }
 
 -- the values and modes that are admitted, of this plant
 abbrev pub values_for : Plant → Admitted → List ℤ

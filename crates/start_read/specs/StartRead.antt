@@ -1,16 +1,14 @@
 -- Condition 20: what the code that reads a start's bytes asks and answers.
-use Rattle.std.specs.Prelude.{◌≡◌, true, List, ℕ, ◌*◌, ◌≤◌, length, get_or, ℤ, pos}
+use Rattle.std.specs.Prelude.{◌≡◌, Bool, true, false, List, ℕ, ◌*◌, ◌≤◌, length, get_or, ℤ, pos, Option, Some, None}
 use Rattle.std.proofs.Math.Option.{some}
 use Rattle.std.proofs.Math.ListN.{get_elem?}
-use Rattle.semantics.specs.Bytes.{read, byte, int4, times}
-use Rattle.semantics.specs.Sections.{Variable, Selector, variable_limit, equation_limit}
+use Rattle.semantics.specs.Bytes.{Reader, read, byte, int4, times}
+use Rattle.semantics.specs.Sections.{Variable, variable_limit, equation_limit}
 use Rattle.semantics.specs.Plant.{Plant, selectors}
 use Rattle.semantics.specs.Starts.{values_fit, modes_fit}
 use Rattle.codec.specs.Padding.{pad}
 use Rattle.plant.specs.ModeCounts.{ModesAt}
 use Rattle.plant.specs.declared.sections.PlantRead.{PlantRead}
-use Rattle.start_read.specs.declared.Values.{Values}
-use Rattle.start_read.specs.declared.Modes.{Modes}
 
 -- ---- a plant's numbers in arrays
 -- the range of each variable
@@ -39,17 +37,26 @@ pub record RoomForValues (s : List ℕ) (n : ℕ) (lows highs : List ℤ) : Type
   pub lows_there : n ≤ length lows
   pub highs_there : n ≤ length highs
 
--- the values that `read_start` reads: whether they fit, and the array where they do
-pub record ValuesOf (s : List ℕ) (n : ℕ) (lows highs : List ℤ) (r : Values) : Type 0 where
-  pub fit : {vs : List ℤ} {rest : List ℕ} → times n int4 s ≡ read vs rest → (xs : List Variable) → Ranges xs n lows highs → values_fit xs vs ≡ r.ok
-  pub are : {vs : List ℤ} {rest : List ℕ} → times n int4 s ≡ read vs rest → r.ok ≡ true → r.values ≡ pad variable_limit (pos 0) vs
-
 pub record RoomForModes (s : List ℕ) (n : ℕ) (counts : List ℕ) : Type 0 where
   pub most : n ≤ equation_limit
   pub bytes_there : n ≤ length s
   pub counts_there : n ≤ length counts
 
--- the modes that it reads after them, likewise
-pub record ModesOf (s : List ℕ) (n : ℕ) (counts : List ℕ) (r : Modes) : Type 0 where
-  pub fit : {ms rest : List ℕ} → times n byte s ≡ read ms rest → (cs : List Selector) → ModesAt counts n cs → modes_fit cs ms ≡ r.ok
-  pub are : {ms rest : List ℕ} → times n byte s ≡ read ms rest → r.ok ≡ true → r.modes ≡ pad equation_limit 0 ms
+-- ---- what is read: it fits and is told by the reader of bytes, or does not fit
+-- n things of a reader at the front of s, of a plant's list that fits T
+pub record Fit {A X : Type 0} (r : Reader A) (n : ℕ) (s : List ℕ) (T : List X → Type 0) (fits : List X → List A → Bool) (array : List A → List A) (found : List A) : Type 0 where
+  pub fit : {l : List A} {rest : List ℕ} → times n r s ≡ read l rest → (xs : List X) → T xs → fits xs l ≡ true
+  pub are : {l : List A} {rest : List ℕ} → times n r s ≡ read l rest → found ≡ array l
+
+pub record Unfit {A X : Type 0} (r : Reader A) (n : ℕ) (s : List ℕ) (T : List X → Type 0) (fits : List X → List A → Bool) : Type 0 where
+  pub unfit : {l : List A} {rest : List ℕ} → times n r s ≡ read l rest → (xs : List X) → T xs → fits xs l ≡ false
+
+-- the values that `read_start` reads
+abbrev pub ValuesOf : List ℕ → ℕ → List ℤ → List ℤ → Option (List ℤ) → Type 0
+ValuesOf s n lows highs (Some values) = Fit int4 n s (λ xs. Ranges xs n lows highs) values_fit (pad variable_limit (pos 0)) values
+ValuesOf s n lows highs None = Unfit int4 n s (λ xs. Ranges xs n lows highs) values_fit
+
+-- the modes that it reads after them
+abbrev pub ModesOf : List ℕ → ℕ → List ℕ → Option (List ℕ) → Type 0
+ModesOf s n counts (Some modes) = Fit byte n s (λ cs. ModesAt counts n cs) modes_fit (pad equation_limit 0) modes
+ModesOf s n counts None = Unfit byte n s (λ cs. ModesAt counts n cs) modes_fit

@@ -8,6 +8,7 @@ use native.Mathlib.Omega.{arith}
 use borrow.Author.Tests.{le-leb, eqb-true, ne_eqb}
 use lib.Dec.{leb, eqb}
 use lib.ListN.{length, get_or, take, drop, length-drop}
+use Rattle.std.specs.Prelude.{Some, None}
 use Rattle.semantics.specs.Bytes.{is_some, Reader, read, from, ◌>>=◌, from_no_bytes, from_two_bytes, byte_and_rest}
 use Rattle.semantics.specs.Editions.{Edition}
 use Rattle.semantics.specs.Run.{Action, assign, switch, stop}
@@ -41,23 +42,23 @@ stop-form [] = refl
 stop-form (a ∷ l) = ne_eqb (suc (length l)) 0 (λ e. omega arith)
 
 -- ---- an action at place p of s
-pub action-none : (ed : Edition) (s : List ℕ) (p : ℕ) → length s < p + wide ed → Ends (read_action ed) s p 0
+pub action-none : (ed : Edition) (s : List ℕ) (p : ℕ) → length s < p + wide ed → Ends (read_action ed) s p None
 unfolding read_action
-action-none ed s p h = ends_none refl (lost {K = anything} (no_number _ _ h) refl)
+action-none ed s p h = ends_none (lost {K = anything} (no_number _ _ h) refl)
 
 module _ (ed : Edition) (s : List ℕ) (p : ℕ) (i : p + wide ed ≤ length s) where
-  pub action-low : num_at ed s p < wide ed + 1 → Ends (read_action ed) s p 0
+  pub action-low : num_at ed s p < wide ed + 1 → Ends (read_action ed) s p None
   unfolding read_action
-  action-low h = ends_none refl (lost {K = anything} (then-number _ _ i (no-guard _ _ (within-below (wide ed + 1) (wide ed + 200) _ h))) refl)
+  action-low h = ends_none (lost {K = anything} (then-number _ _ i (no-guard _ _ (within-below (wide ed + 1) (wide ed + 200) _ h))) refl)
 
-  pub action-high : wide ed + 200 < num_at ed s p → Ends (read_action ed) s p 0
+  pub action-high : wide ed + 200 < num_at ed s p → Ends (read_action ed) s p None
   unfolding read_action
-  action-high h = ends_none refl (lost {K = anything} (then-number _ _ i (no-guard _ _ (within-above (wide ed + 1) (wide ed + 200) _ h))) refl)
+  action-high h = ends_none (lost {K = anything} (then-number _ _ i (no-guard _ _ (within-above (wide ed + 1) (wide ed + 200) _ h))) refl)
 
   module _ (g : wide ed + 1 ≤ num_at ed s p) (h : num_at ed s p ≤ wide ed + 200) where
-    pub action-short : length s < p + wide ed + num_at ed s p → Ends (read_action ed) s p 0
+    pub action-short : length s < p + wide ed + num_at ed s p → Ends (read_action ed) s p None
     unfolding read_action
-    action-short j = ends_none refl (lost {K = anything} (then-number _ _ i (then-guard _ _ (within_both (wide ed + 1) (wide ed + 200) _ g h)
+    action-short j = ends_none (lost {K = anything} (then-number _ _ i (then-guard _ _ (within_both (wide ed + 1) (wide ed + 200) _ g h)
         (either (length s) (p + wide ed + wide ed) (λ m. no_number _ _ m) (λ m. then-number _ _ m
         (either (p + wide ed + wide ed) (length s) (λ k. then-byte _ k (no_bytes _ _ (omega arith) (omega arith))) (λ k. no_byte _ k)))))) refl)
 
@@ -76,27 +77,27 @@ module _ (ed : Edition) (s : List ℕ) (p : ℕ) (i : p + wide ed ≤ length s) 
       lift-false f none e q = broke f (no-lift {K = anything} none refl) refl
       lift-false f (some a) e q = true-not-false (sym e)
 
-      action-ok : x ≡ true → Ends (read_action ed) s p (p + wide ed + wide ed + 1 + (num_at ed s p - (wide ed + 1)))
+      action-ok : x ≡ true → Ends (read_action ed) s p (Some (p + wide ed + wide ed + 1 + (num_at ed s p - (wide ed + 1))))
       unfolding read_action
       action-ok t =
-          ends_at {q = p + wide ed + wide ed + 1 + (num_at ed s p - (wide ed + 1))} (omega arith)
+          ends_at {q = p + wide ed + wide ed + 1 + (num_at ed s p - (wide ed + 1))}
           (taken (then-number _ _ i (then-guard _ _ (within_both (wide ed + 1) (wide ed + 200) _ g h) (then-number _ _ (omega arith) (then-byte _ (omega arith) (then-bytes _ _ (omega arith)
           (lift-true _ _ (sym t ∙ rw part at e) _ (omega arith) (λ a. gives _ (omega arith) tt))))))) refl)
 
-      action-bad : x ≡ false → Ends (read_action ed) s p 0
+      action-bad : x ≡ false → Ends (read_action ed) s p None
       unfolding read_action
       action-bad t =
-          ends_none refl (lost {K = anything} (then-number _ _ i (then-guard _ _ (within_both (wide ed + 1) (wide ed + 200) _ g h)
+          ends_none (lost {K = anything} (then-number _ _ i (then-guard _ _ (within_both (wide ed + 1) (wide ed + 200) _ g h)
           (then-number _ _ (omega arith) (then-byte _ (omega arith) (then-bytes _ _ (omega arith)
           (lift-false _ _ (sym t ∙ rw part at e) _)))))) refl)
 
 -- w and l are what code holds
 module _ (ed : Edition) (s : List ℕ) (p : ℕ) {w l : ℕ} (ew : w ≡ wide ed) (el : l ≡ num_at ed s p) (i : p + w ≤ length s) (g : w + 1 ≤ l) (h : l ≤ w + 200) (j : p + w + l ≤ length s)
     {x : Bool} (e : x ≡ is_some (action_of_kind (action_kind (get_or s (p + w + w) 0)) (between (p + w + w + 1) (p + w + w + 1 + (l - (w + 1))) s))) where
-  pub action-here : x ≡ true → Ends (read_action ed) s p (p + w + w + 1 + (l - (w + 1)))
+  pub action-here : x ≡ true → Ends (read_action ed) s p (Some (p + w + w + 1 + (l - (w + 1))))
   action-here t = rw (ew, el) (action-ok ed s p (omega arith) (omega arith) (omega arith) (omega arith) (rw (ew, el) at e) t)
 
-  pub no-action-here : x ≡ false → Ends (read_action ed) s p 0
+  pub no-action-here : x ≡ false → Ends (read_action ed) s p None
   no-action-here t = action-bad ed s p (omega arith) (omega arith) (omega arith) (omega arith) (rw (ew, el) at e) t
 
 -- ---- an action that was read

@@ -9,14 +9,17 @@ use native.Mathlib.Omega.{arith}
 use borrow.Author.Tests.{leb-true, ltb-true, lt-ltb, le-ltb, le-leb, lt-leb}
 use lib.Dec.{ltb}
 use lib.ListN.{length, get_or, set, drop, replicate, length-drop}
+use Rattle.std.specs.Prelude.{Some, None}
 use Rattle.semantics.specs.Bytes.{number, Read, broken, read, and_then, ◌>>=◌, give, fail, guard, times, just, whole}
 use Rattle.semantics.specs.Editions.{Edition}
-use Rattle.semantics.specs.Refusals.{Judged, accepted}
+use Rattle.semantics.specs.Refusals.{Judged, refused, accepted}
 use Rattle.semantics.specs.TableFile.{NodeAction, read_action, read_action_count, read_actions, actions_in}
 use Rattle.semantics.specs.Tables.{rising_from, action_nodes, action_at, node_exists, actions_numbered, judge_actions}
 use Rattle.semantics.proofs.Facts.{and_left, and_right, and_both, within_both, within_low, within-high, none-not-some}
 use Rattle.semantics.proofs.Judging.{go-need, go-ensure}
 use Rattle.semantics.proofs.Readers.{broken-not-read, read-rest, guarded, given, given-rest, whole-read}
+use Rattle.paper.specs.Refusals.{answered}
+use Rattle.paper.proofs.Answered.{accepts-with}
 use Rattle.codec.specs.Numbers.{wide, num_at}
 use Rattle.codec.specs.Reading.{Took}
 use Rattle.codec.specs.Places.{places_from}
@@ -25,8 +28,8 @@ use Rattle.codec.proofs.Known.{after_front, not-lost, snoc}
 use Rattle.codec.proofs.Loops.{counted as as_many}
 use Rattle.codec.proofs.Places.{places-more, places_count}
 use Rattle.table_read.specs.declared.actions.Actions.{Actions}
-use Rattle.table_read.specs.Ends.{anything, follows, or_zero, EndsWith, good_at, good_none}
-use Rattle.table_read.specs.ActionIndex.{kind_code, kind_at, node_of, place_at, operand_start, operand_end, by_node, no_actions, action_index, index_read, actions_of}
+use Rattle.table_read.specs.Ends.{anything, follows, number_read, EndsWith, good_at, good_none}
+use Rattle.table_read.specs.ActionIndex.{kind_code, kind_at, node_of, place_at, operand_start, operand_end, by_node, action_index}
 use Rattle.table_read.proofs.Early.{early}
 use Rattle.table_read.proofs.Fitted.{Fitted, fit, unfit, fitted}
 use Rattle.table_read.proofs.Rising.{rising_one, laid, Laid, laid_none, laid_more, laid-true, not-laid, laid-fronts}
@@ -37,11 +40,15 @@ abbrev places_to : Edition → List ℕ → ℕ → List ℕ
 places_to ed s i = places_from (length s) (read_action ed) i (drop (wide ed) s)
 
 -- ---- refusals
-pub refuse : (ed : Edition) (s : List ℕ) → ((l : List NodeAction) → actions_in ed s ≡ some l → actions_numbered ed l ≡ true → ⊥) → no_actions 18 ≡ actions_of ed s
-unfolding actions_of judge_actions index_read
+-- what the code answers of the section s
+abbrev pub Answer : Edition → List ℕ → Judged Actions
+Answer ed s = answered (action_index ed s) (judge_actions ed s)
+
+pub refuse : (ed : Edition) (s : List ℕ) → ((l : List NodeAction) → actions_in ed s ≡ some l → actions_numbered ed l ≡ true → ⊥) → refused 18 ≡ Answer ed s
+unfolding judge_actions
 refuse ed s h = go (fitted 18 (actions_in ed s) (actions_numbered ed))
   where
-    go : {j : Judged (List NodeAction)} → Fitted 18 (actions_in ed s) (actions_numbered ed) j → no_actions 18 ≡ index_read ed s j
+    go : {j : Judged (List NodeAction)} → Fitted 18 (actions_in ed s) (actions_numbered ed) j → refused 18 ≡ answered (action_index ed s) j
     go (fit {a = l} e k) = absurd (h l e k)
     go (unfit k) = refl
 
@@ -50,23 +57,22 @@ module _ (ed : Edition) (s : List ℕ) {l : List NodeAction} (e : actions_in ed 
   unfolding judge_actions
   judged = go-need 18 _ e ∙ go-ensure 18 _ h
 
-  pub accept : actions_of ed s ≡ action_index ed s l
-  unfolding actions_of index_read
-  accept = rw judged refl
-
 -- ---- the count
-pub no-count : (ed : Edition) (s : List ℕ) → length s < wide ed → 0 ≡ or_zero (read_action_count ed s)
-unfolding read_action_count or_zero ◌>>=◌ and_then
+pub no-count : (ed : Edition) (s : List ℕ) → length s < wide ed → None ≡ number_read (read_action_count ed s)
+unfolding read_action_count number_read ◌>>=◌ and_then
 no-count ed s h = rw (no_front ed.width s h) refl
 
-pub many : (ed : Edition) (s : List ℕ) → wide ed ≤ length s → ed.nodes < num_at ed s 0 → 0 ≡ or_zero (read_action_count ed s)
-unfolding read_action_count or_zero ◌>>=◌ and_then guard fail
+pub few : (ed : Edition) (s : List ℕ) → wide ed ≤ length s → num_at ed s 0 < 1 → None ≡ number_read (read_action_count ed s)
+unfolding read_action_count number_read ◌>>=◌ and_then guard fail
+few ed s i h = rw (number-front ed.width s i, within-below 1 ed.nodes (num_at ed s 0) h) refl
+
+pub many : (ed : Edition) (s : List ℕ) → wide ed ≤ length s → ed.nodes < num_at ed s 0 → None ≡ number_read (read_action_count ed s)
+unfolding read_action_count number_read ◌>>=◌ and_then guard fail
 many ed s i h = rw (number-front ed.width s i, within-above 1 ed.nodes (num_at ed s 0) h) refl
 
-pub count-is : (ed : Edition) (s : List ℕ) {n : ℕ} → n ≡ num_at ed s 0 → wide ed ≤ length s → n ≤ ed.nodes → n ≡ or_zero (read_action_count ed s)
-unfolding read_action_count or_zero ◌>>=◌ and_then guard give fail
-count-is ed s {n} e i h = rw (number-front ed.width s i, ← e) (either 0 n (λ k. rw (within_both 1 ed.nodes n (omega arith) h) refl)
-    (λ k. rw (within-below 1 ed.nodes n (omega arith)) (omega arith)))
+pub count-is : (ed : Edition) (s : List ℕ) {n : ℕ} → n ≡ num_at ed s 0 → wide ed ≤ length s → 1 ≤ n → n ≤ ed.nodes → Some n ≡ number_read (read_action_count ed s)
+unfolding read_action_count number_read ◌>>=◌ and_then guard give fail
+count-is ed s {n} e i l h = rw (number-front ed.width s i, ← e, within_both 1 ed.nodes n l h) refl
 
 pub record Count (ed : Edition) (s : List ℕ) (n : ℕ) : Type 0 where
   pub some_bytes : wide ed ≤ length s
@@ -86,23 +92,23 @@ count-was ed s {n} h = either (length s) (wide ed) (λ i. not-lost _ (number ed.
       first = h ∙ ap (read n) (sym (given-rest _ _ g.1));
     })
 
-pub count_of : (ed : Edition) {s : List ℕ} {n : ℕ} → n ≡ or_zero (read_action_count ed s) → (n ≡ 0 → ⊥) → Count ed s n
-unfolding or_zero
-count_of ed {s} {n} e k = go (read_action_count ed s) refl
+pub count_of : (ed : Edition) {s : List ℕ} {n : ℕ} → Some n ≡ number_read (read_action_count ed s) → Count ed s n
+unfolding number_read
+count_of ed {s} {n} e = go (read_action_count ed s) refl e
   where
-    go : (o : Read ℕ) → read_action_count ed s ≡ o → Count ed s n
-    go broken h = absurd (k (e ∙ ap or_zero h))
-    go (read m t) h = subst (Count ed s) (sym (e ∙ ap or_zero h)) (count-was ed s h)
+    go : (o : Read ℕ) → read_action_count ed s ≡ o → Some n ≡ number_read o → Count ed s n
+    go broken h e = cc
+    go (read m t) h e =
+        let i : n ≡ m = cc in
+        subst (Count ed s) (sym i) (count-was ed s h)
 
-pub refuse-count : (ed : Edition) (s : List ℕ) {n : ℕ} → n ≡ or_zero (read_action_count ed s) → n ≡ 0 → no_actions 18 ≡ actions_of ed s
-unfolding or_zero actions_in read_actions whole just ◌>>=◌ and_then
-refuse-count ed s {n} e k = go (read_action_count ed s) refl
+pub refuse-count : (ed : Edition) (s : List ℕ) → None ≡ number_read (read_action_count ed s) → refused 18 ≡ Answer ed s
+unfolding number_read actions_in read_actions whole just ◌>>=◌ and_then
+refuse-count ed s e = go (read_action_count ed s) refl e
   where
-    go : (o : Read ℕ) → read_action_count ed s ≡ o → no_actions 18 ≡ actions_of ed s
-    go broken h = refuse ed s (λ l i g. none-not-some (sym (ap (λ o. just (and_then o (λ n. times n (read_action ed)))) h) ∙ i))
-    go (read m t) h =
-        let z : m ≡ 0 = sym (e ∙ ap or_zero h) ∙ k in
-        absurd (omega (arith, (count-was ed s h).low))
+    go : (o : Read ℕ) → read_action_count ed s ≡ o → None ≡ number_read o → refused 18 ≡ Answer ed s
+    go broken h e = refuse ed s (λ l i g. none-not-some (sym (ap (λ o. just (and_then o (λ n. times n (read_action ed)))) h) ∙ i))
+    go (read m t) h e = cc
 
 -- ---- what the section's reader does after the count
 after-count : (ed : Edition) {s : List ℕ} {n : ℕ} → Count ed s n → read_actions ed s ≡ times n (read_action ed) (drop (wide ed) s)
@@ -164,8 +170,8 @@ places-more-by f l ps a n p v ss e m new b c h =
     (λ j o. ap f (place_other a l ps p j b (λ i. o (m ∙ i))))
 
 -- ---- the action at p, where its node is the next one
-pub next-broken : (ed : Edition) {s : List ℕ} {p : ℕ} (low : ℕ) → read_action ed (drop p s) ≡ broken → EndsWith (read_action ed) (follows node_of (node_exists ed) low) s p 0
-next-broken ed low h = good_none refl (λ a e k. broken-not-read (sym h ∙ k))
+pub next-broken : (ed : Edition) {s : List ℕ} {p : ℕ} (low : ℕ) → read_action ed (drop p s) ≡ broken → EndsWith (read_action ed) (follows node_of (node_exists ed) low) s p None
+next-broken ed low h = good_none (λ a e k. broken-not-read (sym h ∙ k))
 
 abbrev Next : Edition → List ℕ → ℕ → ℕ → ℕ → Type 0
 Next ed s p q low = Took (read_action ed) (λ a (x : Unit {0}). follows node_of (node_exists ed) low a ≡ true) s p q tt
@@ -175,20 +181,20 @@ module _ (ed : Edition) (s : List ℕ) (p low : ℕ) {w n : ℕ} (ew : w ≡ wid
   node_is : {a : NodeAction} {e : List ℕ} → read_action ed (drop p s) ≡ read a e → n ≡ a.node
   node_is k = en ∙ ap (λ z. num_at ed s (p + z)) ew ∙ (was ed s p k).node
 
-  pub next_low : n < low → EndsWith (read_action ed) (follows node_of (node_exists ed) low) s p 0
+  pub next_low : n < low → EndsWith (read_action ed) (follows node_of (node_exists ed) low) s p None
   unfolding follows
-  next_low h = good_none refl (λ a e k. rw (rising_one low a.node, lt-leb low a.node (subst (λ n. n < low) (node_is k) h)) refl)
+  next_low h = good_none (λ a e k. rw (rising_one low a.node, lt-leb low a.node (subst (λ n. n < low) (node_is k) h)) refl)
 
-  pub next-high : ed.nodes ≤ n → EndsWith (read_action ed) (follows node_of (node_exists ed) low) s p 0
+  pub next-high : ed.nodes ≤ n → EndsWith (read_action ed) (follows node_of (node_exists ed) low) s p None
   unfolding follows node_exists
-  next-high h = good_none refl (λ a e k. rw (le-ltb a.node ed.nodes (subst (λ n. ed.nodes ≤ n) (node_is k) h), and-false (rising_from low (a.node ∷ []))) refl)
+  next-high h = good_none (λ a e k. rw (le-ltb a.node ed.nodes (subst (λ n. ed.nodes ≤ n) (node_is k) h), and-false (rising_from low (a.node ∷ []))) refl)
 
-  pub next-found : {q : ℕ} → (q ≡ 0 → ⊥) → Took (read_action ed) anything s p q tt → low ≤ n → n < ed.nodes → EndsWith (read_action ed) (follows node_of (node_exists ed) low) s p q
+  pub next-found : {q : ℕ} → Took (read_action ed) anything s p q tt → low ≤ n → n < ed.nodes → EndsWith (read_action ed) (follows node_of (node_exists ed) low) s p (Some q)
   unfolding follows node_exists
-  next-found {q} z t h k =
+  next-found {q} t h k =
       let a = t.value.node in
       let node = node_is t.got in
-      good_at {q = q} (omega arith) (record {
+      good_at {q = q} (record {
         value = t.value;
         got = t.got;
         inside = t.inside;
@@ -237,7 +243,7 @@ unfolding actions_numbered action_nodes laid
 laid-is ed l = refl
 
 pub index-stop : (ed : Edition) {s : List ℕ} {i p low n : ℕ} {ks ss es : List ℕ} (x : Indexing ed s i p low ks ss es) → Count ed s n → i < n →
-    ((a : NodeAction) (e : List ℕ) → read_action ed (drop p s) ≡ read a e → follows node_of (node_exists ed) low a ≡ false) → no_actions 18 ≡ actions_of ed s
+    ((a : NodeAction) (e : List ℕ) → read_action ed (drop p s) ≡ read a e → follows node_of (node_exists ed) low a ≡ false) → refused 18 ≡ Answer ed s
 index-stop ed {s} {i} x c h bad =
     refuse ed s (λ l e g. early (read_action ed) (laid node_of (node_exists ed)) (laid-fronts node_of (node_exists ed)) i x.took h
     (λ a r k. not-laid node_of (node_exists ed) a x.sound (bad a r k)) (in-times ed c e) (sym (laid-is ed l) ∙ g))
@@ -247,21 +253,20 @@ module _ (ed : Edition) {s : List ℕ} {i p low n : ℕ} {ks ss es : List ℕ} (
   all : times n (read_action ed) (drop (wide ed) s) ≡ read x.took.value (drop p s)
   all = subst (λ n. times n (read_action ed) (drop (wide ed) s) ≡ read x.took.value (drop p s)) e x.took.got
 
-  pub index-over : p < length s → no_actions 18 ≡ actions_of ed s
+  pub index-over : p < length s → refused 18 ≡ Answer ed s
   index-over h = refuse ed s (λ l k g. let n : length (drop p s) ≡ 0 = ap length (read-rest (sym all ∙ in-times ed c k)) in omega (arith, length-drop p s))
 
   all_read : length s ≤ p → actions_in ed s ≡ some x.took.value
   all_read k = times-in ed c (all ∙ ap (read x.took.value) (drop_past p s k))
 
-  pub index-end : length s ≤ p → ◌≡◌ {A = Actions} (record { refusal = 0; count = n; kinds = ks; starts = ss; ends = es }) (actions_of ed s)
+  pub index-end : length s ≤ p → accepted (record { count = n; kinds = ks; starts = ss; ends = es }) ≡ Answer ed s
   unfolding action_index
   index-end k =
       let l = x.took.value in
       let m = as_many (read_action ed) i x.took in
-      same (sym e ∙ sym m) x.kinds
+      accepts-with (action_index ed s) (judged ed s (all_read k) (laid-is ed l ∙ laid-true node_of (node_exists ed) x.sound)) (same (sym e ∙ sym m) x.kinds
       (x.starts ∙ ap (λ j. by_node (λ m. operand_start ed (place_at l (places_to ed s j) m))) (sym m))
-      (x.stops ∙ ap (λ j. by_node (λ m. operand_end ed s (place_at l (places_to ed s j) m))) (sym m))
-      ∙ sym (accept ed s (all_read k) (laid-is ed l ∙ laid-true node_of (node_exists ed) x.sound))
+      (x.stops ∙ ap (λ j. by_node (λ m. operand_end ed s (place_at l (places_to ed s j) m))) (sym m)))
     where
-      same : {c d : ℕ} {ks ls ss ts es fs : List ℕ} → c ≡ d → ks ≡ ls → ss ≡ ts → es ≡ fs → ◌≡◌ {A = Actions} (record { refusal = 0; count = c; kinds = ks; starts = ss; ends = es }) (record { refusal = 0; count = d; kinds = ls; starts = ts; ends = fs })
+      same : {c d : ℕ} {ks ls ss ts es fs : List ℕ} → c ≡ d → ks ≡ ls → ss ≡ ts → es ≡ fs → ◌≡◌ {A = Actions} (record { count = c; kinds = ks; starts = ss; ends = es }) (record { count = d; kinds = ls; starts = ts; ends = fs })
       same h i j k = cc

@@ -11,11 +11,12 @@ use lib.ListN.{length, get_or, take, drop, length-drop, get_or-eq_default}
 use lib.Seq.{drop-drop}
 use Rattle.semantics.specs.Bytes.{every, read, give, times}
 use Rattle.semantics.specs.Editions.{Edition}
-use Rattle.semantics.specs.Refusals.{Judged, refused}
+use Rattle.semantics.specs.Refusals.{Judged, accepted}
 use Rattle.semantics.specs.Run.{Action, test, wait, assign, switch, stop}
 use Rattle.semantics.specs.TableFile.{NodeAction, action_kind, action_of_kind, kind_number, read_action, read_action_count, read_actions, actions_in}
 use Rattle.semantics.specs.Tables.{rising_from, action_nodes, action_at, node_exists, actions_numbered, judge_actions}
-use Rattle.semantics.proofs.Facts.{All, all_nil, all_cons, every-all, none-not-some, some_is, and_right}
+use Rattle.semantics.proofs.Facts.{All, all_nil, all_cons, every-all, and_right}
+use Rattle.semantics.proofs.Judging.{refused-not-accepted, accepted-is}
 use Rattle.semantics.proofs.Readers.{read-value, split, whole-read}
 use Rattle.codec.specs.Numbers.{wide, num_at}
 use Rattle.codec.specs.Places.{places_from}
@@ -23,43 +24,20 @@ use Rattle.codec.proofs.Known.{cons, times-length}
 use Rattle.codec.proofs.Reading.{either}
 use Rattle.codec.proofs.Places.{Takes, takes-then, takes-guard, takes-byte, takes-number, takes-bytes, takes-from, takes-give, places-next}
 use Rattle.table_read.specs.declared.actions.Actions.{Actions}
-use Rattle.table_read.specs.ActionIndex.{kind_code, kind_at, KindsSay, place_at, operand_start, operand_end, by_node, action_index, index_read, actions_of}
+use Rattle.table_read.specs.ActionIndex.{kind_code, kind_at, KindsSay, place_at, operand_start, operand_end, by_node, action_index}
 use Rattle.table_read.proofs.ActionForms.{was, kind-is}
 use Rattle.table_read.proofs.Fitted.{Fitted, fit, unfit, fitted}
 use Rattle.table_read.proofs.ByNode.{listed-length, listed_at}
-use Rattle.table_read.proofs.ActionLoop.{accept, count-was, in-times}
+use Rattle.table_read.proofs.ActionLoop.{count-was, in-times}
 
--- ---- where nothing is refused
-pub accepted-actions : (ed : Edition) (s : List ℕ) → (actions_of ed s).refusal ≡ 0 → (l : List NodeAction) × (actions_in ed s ≡ some l) × (actions_numbered ed l ≡ true)
-unfolding actions_of judge_actions index_read
-accepted-actions ed s h = go (fitted 18 (actions_in ed s) (actions_numbered ed)) h
+-- ---- what is judged alone: the section, and the numbers of the nodes
+pub was_judged : (ed : Edition) (s : List ℕ) {l : List NodeAction} → judge_actions ed s ≡ accepted l → (actions_in ed s ≡ some l) × (actions_numbered ed l ≡ true)
+unfolding judge_actions
+was_judged ed s {l} h = go (fitted 18 (actions_in ed s) (actions_numbered ed)) h
   where
-    go : {j : Judged (List NodeAction)} → Fitted 18 (actions_in ed s) (actions_numbered ed) j → (index_read ed s j).refusal ≡ 0 →
-        (l : List NodeAction) × (actions_in ed s ≡ some l) × (actions_numbered ed l ≡ true)
-    go (fit {a = l} e k) h = (l, e, k)
-    go (unfit k) h = absurd (omega arith)
-
--- where something is
-pub refused-actions : (ed : Edition) (s : List ℕ) → ((actions_of ed s).refusal ≡ 0 → ⊥) → judge_actions ed s ≡ refused 18
-unfolding actions_of judge_actions index_read action_index
-refused-actions ed s h = go (fitted 18 (actions_in ed s) (actions_numbered ed)) h
-  where
-    go : {j : Judged (List NodeAction)} → Fitted 18 (actions_in ed s) (actions_numbered ed) j → ((index_read ed s j).refusal ≡ 0 → ⊥) → j ≡ refused 18
-    go (fit e k) h = absurd (h refl)
-    go (unfit k) h = refl
-
-pub laid-actions : (ed : Edition) (s : List ℕ) {l : List NodeAction} → actions_in ed s ≡ some l → (actions_of ed s).refusal ≡ 0 → actions_numbered ed l ≡ true
-laid-actions ed s {l} e h =
-    let k = accepted-actions ed s h in
-    subst (λ l. actions_numbered ed l ≡ true) (some_is (sym k.1 ∙ e)) k.2
-
--- the index is that of the actions
-pub index_is : (ed : Edition) (s : List ℕ) {l : List NodeAction} → actions_in ed s ≡ some l → (actions_of ed s).refusal ≡ 0 → actions_of ed s ≡ action_index ed s l
-index_is ed s e h = accept ed s e (laid-actions ed s e h)
-
-pub count-is : (ed : Edition) (s : List ℕ) {l : List NodeAction} → actions_in ed s ≡ some l → (actions_of ed s).refusal ≡ 0 → (actions_of ed s).count ≡ length l
-unfolding action_index
-count-is ed s e h = ap (λ x. x.count) (index_is ed s e h)
+    go : {j : Judged (List NodeAction)} → Fitted 18 (actions_in ed s) (actions_numbered ed) j → j ≡ accepted l → (actions_in ed s ≡ some l) × (actions_numbered ed l ≡ true)
+    go (fit {a = m} e k) h = let i = accepted-is h in (e ∙ ap some i, ap (actions_numbered ed) (sym i) ∙ k)
+    go (unfit k) h = refused-not-accepted h
 
 -- ---- a node's action and its place
 data Looked (ed : Edition) (s : List ℕ) (l : List NodeAction) (ps : List ℕ) (n : ℕ) : Type 0 where
@@ -131,7 +109,7 @@ module _ (ed : Edition) (s : List ℕ) {l : List NodeAction} (e : actions_in ed 
   abbrev places : List ℕ
   places = places_from (length s) (read_action ed) (length l) (drop (wide ed) s)
 
-  here : n < 256 → Here s (action_index ed s l) (action_at l n) n
+  pub here : n < 256 → Here s (action_index ed s l) (action_at l n) n
   unfolding action_index by_node kind_at kind_code operand_start operand_end
   here h =
       let t = times-of ed s e in
@@ -152,10 +130,6 @@ module _ (ed : Edition) (s : List ℕ) {l : List NodeAction} (e : actions_in ed 
           let x = operand_at ed s p r (kind ∙ ap kind_code i) (start ∙ ap (operand_start ed) j) (end ∙ ap (operand_end ed s) j) in
           one_action {a = a} i (kind ∙ ap kind_code i) x.0 x.1 x.2
 
--- the law that a caller cites
-pub action-here : (ed : Edition) (s : List ℕ) {l : List NodeAction} → actions_in ed s ≡ some l → (actions_of ed s).refusal ≡ 0 → (n : ℕ) → n < 256 → Here s (actions_of ed s) (action_at l n) n
-action-here ed s {l} e h n k = subst (λ x. Here s x (action_at l n) n) (sym (index_is ed s e h)) (here ed s e n k)
-
 -- a kind is never 0
 code-some : (a : Action) → 1 ≤ kind_code (some a)
 unfolding kind_code kind_number
@@ -165,36 +139,11 @@ code-some (assign v b) = omega arith
 code-some (switch s m) = omega arith
 code-some stop = omega arith
 
-module _ (ed : Edition) (s : List ℕ) {l : List NodeAction} (e : actions_in ed s ≡ some l) (h : (actions_of ed s).refusal ≡ 0) (n : ℕ) (k : n < 256) where
-  -- 0 exactly where there is no action
-  pub none-0 : action_at l n ≡ none → get_or (actions_of ed s).kinds n 0 ≡ 0
-  none-0 i = go (action-here ed s e h n k)
+module _ (ed : Edition) (s : List ℕ) {l : List NodeAction} (e : actions_in ed s ≡ some l) (n : ℕ) (k : n < 256) where
+  pub operand-inside : (get_or (action_index ed s l).starts n 0 ≤ get_or (action_index ed s l).ends n 0) × (get_or (action_index ed s l).ends n 0 ≤ length s)
+  operand-inside = go (here ed s e n k)
     where
-      go : Here s (actions_of ed s) (action_at l n) n → get_or (actions_of ed s).kinds n 0 ≡ 0
-      go (no_action j z st en) = z
-      go (one_action j z b c o) = none-not-some (sym i ∙ j)
-
-  pub some-not-0 : get_or (actions_of ed s).kinds n 0 ≡ 0 → action_at l n ≡ none
-  some-not-0 i = go (action-here ed s e h n k)
-    where
-      go : Here s (actions_of ed s) (action_at l n) n → action_at l n ≡ none
-      go (no_action j z st en) = j
-      go (one_action {a = a} j z b c o) = absurd (omega (arith, code-some a))
-
-  -- and else the action of its kind and its operand
-  pub operand-is : (get_or (actions_of ed s).kinds n 0 ≡ 0 → ⊥) → action_of_kind (action_kind (get_or (actions_of ed s).kinds n 0))
-      (take (get_or (actions_of ed s).ends n 0 - get_or (actions_of ed s).starts n 0) (drop (get_or (actions_of ed s).starts n 0) s)) ≡ action_at l n
-  operand-is i = go (action-here ed s e h n k)
-    where
-      go : Here s (actions_of ed s) (action_at l n) n → action_of_kind (action_kind (get_or (actions_of ed s).kinds n 0))
-          (take (get_or (actions_of ed s).ends n 0 - get_or (actions_of ed s).starts n 0) (drop (get_or (actions_of ed s).starts n 0) s)) ≡ action_at l n
-      go (no_action j z st en) = absurd (i z)
-      go (one_action j z b c o) = o ∙ sym j
-
-  pub operand-inside : (get_or (actions_of ed s).starts n 0 ≤ get_or (actions_of ed s).ends n 0) × (get_or (actions_of ed s).ends n 0 ≤ length s)
-  operand-inside = go (action-here ed s e h n k)
-    where
-      go : Here s (actions_of ed s) (action_at l n) n → (get_or (actions_of ed s).starts n 0 ≤ get_or (actions_of ed s).ends n 0) × (get_or (actions_of ed s).ends n 0 ≤ length s)
+      go : Here s (action_index ed s l) (action_at l n) n → (get_or (action_index ed s l).starts n 0 ≤ get_or (action_index ed s l).ends n 0) × (get_or (action_index ed s l).ends n 0 ≤ length s)
       go (no_action j z st en) = (omega arith, omega arith)
       go (one_action j z b c o) = (b, c)
 
@@ -209,15 +158,15 @@ nowhere-above ed l n h k = go (every-all (node_exists ed) l h)
         let i = ltb-true a.node ed.nodes h in
         rw (action_at, ne_eqb a.node n (λ e. omega arith)) (go p)
 
-pub kinds-say : (ed : Edition) (s : List ℕ) {l : List NodeAction} → actions_in ed s ≡ some l → (actions_of ed s).refusal ≡ 0 → KindsSay l (actions_of ed s).kinds
+pub kinds-say : (ed : Edition) (s : List ℕ) {l : List NodeAction} → actions_numbered ed l ≡ true → KindsSay l (action_index ed s l).kinds
 unfolding actions_numbered action_index by_node kind_at kind_code
-kinds-say ed s {l} e h = record {
+kinds-say ed s {l} h = record {
   known = λ n a i. sym (said n ∙ ap kind_code i);
-  unknown = λ n i a j. (let z : get_or (actions_of ed s).kinds n 0 ≡ 0 = said n ∙ ap kind_code i in omega (arith, code-some a));
+  unknown = λ n i a j. (let z : get_or (action_index ed s l).kinds n 0 ≡ 0 = said n ∙ ap kind_code i in omega (arith, code-some a));
 }
   where
     exist : every (node_exists ed) l ≡ true
-    exist = and_right (rising_from 0 (action_nodes l)) (every (node_exists ed) l) (laid-actions ed s e h)
+    exist = and_right (rising_from 0 (action_nodes l)) (every (node_exists ed) l) h
 
     size : {n : ℕ} → 256 ≤ n → length (by_node (kind_at l)) ≤ n
     size k = let z = listed-length 256 (kind_at l) in omega arith
@@ -225,7 +174,7 @@ kinds-say ed s {l} e h = record {
     above : {n : ℕ} → 256 ≤ n → ed.nodes ≤ n
     above k = omega (arith, ed.entries_fit)
 
-    said : (n : ℕ) → get_or (actions_of ed s).kinds n 0 ≡ kind_at l n
+    said : (n : ℕ) → get_or (action_index ed s l).kinds n 0 ≡ kind_at l n
     said n =
-        ap (λ x. get_or x.kinds n 0) (index_is ed s e h) ∙ either n 256 (λ k. listed_at 256 (kind_at l) n k)
+        either n 256 (λ k. listed_at 256 (kind_at l) n k)
         (λ k. get_or-eq_default (by_node (kind_at l)) 0 (size k) ∙ sym (ap kind_code (nowhere-above ed l n exist (above k))))

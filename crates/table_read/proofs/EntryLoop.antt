@@ -9,6 +9,7 @@ use native.Mathlib.Omega.{arith}
 use borrow.Author.Tests.{le-leb, lt-leb}
 use lib.Dec.{leb}
 use lib.ListN.{length, get_or, drop, get_or-eq_default}
+use Rattle.std.specs.Prelude.{Option, Some, None}
 use Rattle.semantics.specs.Bytes.{broken, read, give, times}
 use Rattle.semantics.specs.Editions.{Edition}
 use Rattle.semantics.specs.TableFile.{NodeAction, Entry, read_entry, read_location}
@@ -55,18 +56,18 @@ module _ (ed : Edition) (n : ℕ) {ks : List ℕ} {l : List NodeAction} (said : 
   good = follows entry_node (entry_fits n l) low
 
   module _ (s : List ℕ) (p : ℕ) where
-    pub entry-none : length s < p + wide ed + 4 → EndsWith (read_entry ed) good s p 0
-    entry-none h = good_none refl (λ a e k. broken-not-read (sym (entry-short ed s p h) ∙ k))
+    pub entry-none : length s < p + wide ed + 4 → EndsWith (read_entry ed) good s p None
+    entry-none h = good_none (λ a e k. broken-not-read (sym (entry-short ed s p h) ∙ k))
 
-    pub entry-low : num_at ed s p < low → EndsWith (read_entry ed) good s p 0
+    pub entry-low : num_at ed s p < low → EndsWith (read_entry ed) good s p None
     unfolding follows
-    entry-low h = good_none refl (λ a e k. rw (rising_one low a.node, lt-leb low a.node (subst (λ m. m < low) (sym (entry-node ed s p k)) h)) refl)
+    entry-low h = good_none (λ a e k. rw (rising_one low a.node, lt-leb low a.node (subst (λ m. m < low) (sym (entry-node ed s p k)) h)) refl)
 
-    unfit : ((a : Entry) → a ≡ entry_at ed s p → entry_fits n l a ≡ false) → EndsWith (read_entry ed) good s p 0
+    unfit : ((a : Entry) → a ≡ entry_at ed s p → entry_fits n l a ≡ false) → EndsWith (read_entry ed) good s p None
     unfolding follows
-    unfit h = good_none refl (λ a e k. rw (h a (entry-is ed s p k).1, and-false (rising_from low (a.node ∷ []))) refl)
+    unfit h = good_none (λ a e k. rw (h a (entry-is ed s p k).1, and-false (rising_from low (a.node ∷ []))) refl)
 
-    pub entry-outside : length ks ≤ num_at ed s p → EndsWith (read_entry ed) good s p 0
+    pub entry-outside : length ks ≤ num_at ed s p → EndsWith (read_entry ed) good s p None
     entry-outside h = unfit (λ a e. sym (entry-told n l ks a said (subst (λ k. FitsKind n k a.target a.other false) (sym (no_kind a e)) (none-fits n a.target a.other))))
       where
         no_kind : (a : Entry) → a ≡ entry_at ed s p → get_or ks a.node 0 ≡ 0
@@ -77,14 +78,14 @@ module _ (ed : Edition) (n : ℕ) {ks : List ℕ} {l : List NodeAction} (said : 
       here : x ≡ entry_fits n l (entry_at ed s p)
       here = entry-told n l ks (entry_at ed s p) said (rw (em, i, j, ew) at f)
 
-      pub entry-bad : x ≡ false → EndsWith (read_entry ed) good s p 0
+      pub entry-bad : x ≡ false → EndsWith (read_entry ed) good s p None
       entry-bad e = unfit (λ a k. ap (entry_fits n l) k ∙ sym here ∙ e)
 
-      pub entry-ok : x ≡ true → low ≤ num_at ed s p → p + wide ed + 4 ≤ length s → EndsWith (read_entry ed) good s p (p + w + 2 + 2)
+      pub entry-ok : x ≡ true → low ≤ num_at ed s p → p + wide ed + 4 ≤ length s → EndsWith (read_entry ed) good s p (Some (p + w + 2 + 2))
       unfolding follows
       entry-ok e o h = rw ew (
           let k = entry-took ed s p h in
-          good_at {q = p + wide ed + 2 + 2} (omega arith) (record {
+          good_at {q = p + wide ed + 2 + 2} (record {
             value = k.value;
             got = k.got;
             inside = k.inside;
@@ -110,15 +111,15 @@ module _ (ed : Edition) (n : ℕ) (ks s : List ℕ) (p : ℕ) where
   }
 
   -- whatever actions have these kinds
-  abbrev LocationEnds : ℕ → Type 0
+  abbrev LocationEnds : Option ℕ → Type 0
   LocationEnds q = (l : List NodeAction) → KindsSay l ks → EndsWith (read_location ed) (location_fits n l) s p q
 
-  for-all : (q : ℕ) → EndsWith (read_location ed) (location_fits n (actions_like ks)) s p q → LocationEnds q
+  for-all : (q : Option ℕ) → EndsWith (read_location ed) (location_fits n (actions_like ks)) s p q → LocationEnds q
   for-all q h l k = subst (λ f. EndsWith (read_location ed) f s p q) (location-same n l ks k) h
 
-  pub location-none : length s ≤ p → LocationEnds 0
+  pub location-none : length s ≤ p → LocationEnds None
   unfolding read_location
-  location-none h l said = good_none refl (λ a e k. not-past _ s p h k)
+  location-none h l said = good_none (λ a e k. not-past _ s p h k)
 
   module _ (h : p < length s) where
     -- what is read after the count
@@ -126,24 +127,24 @@ module _ (ed : Edition) (n : ℕ) (ks s : List ℕ) (p : ℕ) where
     unfolding read_location
     counted-entries k = guarded _ _ (after-byte _ s p h k)
 
-    pub location-empty : get_or s p 0 < 1 → LocationEnds 0
-    location-empty i l said = good_none refl (λ a e k. true-not-false (sym (counted-entries k).0 ∙ lt-leb 1 (get_or s p 0) i))
+    pub location-empty : get_or s p 0 < 1 → LocationEnds None
+    location-empty i l said = good_none (λ a e k. true-not-false (sym (counted-entries k).0 ∙ lt-leb 1 (get_or s p 0) i))
 
     pub location-stop : {i q low : ℕ} → Entries ed n ks s p i q low → i < get_or s p 0 →
-        ((a : Entry) (e : List ℕ) → read_entry ed (drop q s) ≡ read a e → follows entry_node (entry_fits n (actions_like ks)) low a ≡ false) → LocationEnds 0
+        ((a : Entry) (e : List ℕ) → read_entry ed (drop q s) ≡ read a e → follows entry_node (entry_fits n (actions_like ks)) low a ≡ false) → LocationEnds None
     unfolding location_fits entry_nodes laid
-    location-stop {i} x k bad = for-all 0 (good_none refl (λ es e g. by_cases (location_fits n (actions_like ks) es)
+    location-stop {i} x k bad = for-all None (good_none (λ es e g. by_cases (location_fits n (actions_like ks) es)
         (λ fit. absurd (early (read_entry ed) (laid entry_node (entry_fits n (actions_like ks))) (laid-fronts entry_node (entry_fits n (actions_like ks))) i x.took k
         (λ a r j. not-laid entry_node (entry_fits n (actions_like ks)) a x.sound (bad a r j)) (counted-entries g).1 fit))
         (λ unfit. unfit)))
 
-    pub location-ok : {i q low c : ℕ} → Entries ed n ks s p i q low → 0 < q → i ≡ c → c ≡ get_or s p 0 → 1 ≤ c → LocationEnds q
+    pub location-ok : {i q low c : ℕ} → Entries ed n ks s p i q low → i ≡ c → c ≡ get_or s p 0 → 1 ≤ c → LocationEnds (Some q)
     unfolding read_location location_fits entry_nodes laid
-    location-ok {i} {q} {low} {c} x z e f g =
+    location-ok {i} {q} {low} {c} x e f g =
         let t : Took (times (get_or s p 0) (read_entry ed)) (λ es (x : Unit {0}). location_fits n (actions_like ks) es ≡ true) s (p + 1) q tt = record {
           value = x.took.value;
           got = subst (λ m. times m (read_entry ed) (drop (p + 1) s) ≡ read x.took.value (drop q s)) (e ∙ f) x.took.got;
           inside = x.took.inside;
           means = laid-true entry_node (entry_fits n (actions_like ks)) x.sound;
         } in
-        for-all q (good_at z (taken (then-byte _ h (then-guard _ _ (le-leb 1 (get_or s p 0) (omega arith)) (reads_at t))) refl))
+        for-all (Some q) (good_at (taken (then-byte _ h (then-guard _ _ (le-leb 1 (get_or s p 0) (omega arith)) (reads_at t))) refl))

@@ -16,8 +16,9 @@ use Rattle.semantics.specs.TableFile.{NodeAction, Entry, HALTED, NONE, ActionKin
 use Rattle.semantics.specs.Tables.{rising_from, action_at, is_going_on, targets_fit, entry_fits, entry_nodes, location_fits, locations_fit_in, judge_locations}
 use Rattle.semantics.proofs.Facts.{none-not-some}
 use Rattle.semantics.proofs.Judging.{then_same}
+use Rattle.paper.specs.Refusals.{answered}
 use Rattle.table_read.specs.ActionIndex.{kind_code, KindsSay}
-use Rattle.table_read.specs.LocationIndex.{FitsKind, locations_read_in, locations_of}
+use Rattle.table_read.specs.LocationIndex.{FitsKind, location_index}
 use Rattle.table_read.proofs.ActionForms.{kind-is}
 
 -- an operand of the form that a kind has
@@ -161,7 +162,10 @@ module _ (n : ℕ) (l : List NodeAction) (ks : List ℕ) (k : KindsSay l ks) whe
   unfolding location_fits
   location-same = fun_ext (λ es. ap (λ f. rising_from 0 (entry_nodes es) && every f es) entries-same)
 
--- the answer for such actions is the answer for all
-pub locations-like : (ed : Edition) (l : List NodeAction) (ks s : List ℕ) → KindsSay l ks → locations_of ed (actions_like ks) s ≡ locations_of ed l s
-unfolding locations_of judge_locations locations_fit_in
-locations-like ed l ks s k = ap (locations_read_in ed s) (then_same (need 19 (locations_in ed s)) (λ ls. ap (λ f. ensure 19 (every f ls) >> accepted ls) (location-same (length ls) l ks k)))
+-- the judgement for such actions is the judgement for all
+locations-like : (ed : Edition) (l : List NodeAction) (ks s : List ℕ) → KindsSay l ks → judge_locations ed (actions_like ks) s ≡ judge_locations ed l s
+unfolding judge_locations locations_fit_in
+locations-like ed l ks s k = then_same (need 19 (locations_in ed s)) (λ ls. ap (λ f. ensure 19 (every f ls) >> accepted ls) (location-same (length ls) l ks k))
+
+pub answers-like : (ed : Edition) (l : List NodeAction) (ks s : List ℕ) → KindsSay l ks → answered (location_index ed s) (judge_locations ed (actions_like ks) s) ≡ answered (location_index ed s) (judge_locations ed l s)
+answers-like ed l ks s k = ap (answered (location_index ed s)) (locations-like ed l ks s k)

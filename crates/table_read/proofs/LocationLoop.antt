@@ -7,14 +7,17 @@ use Prim.Native.Nat.{ℕ, ◌+◌, ◌≤◌, ◌<◌}
 use native.Mathlib.Numerals.{add-one}
 use native.Mathlib.Omega.{arith}
 use lib.ListN.{length, set, drop, replicate, length-drop}
+use Rattle.std.specs.Prelude.{Some, None}
 use Rattle.semantics.specs.Bytes.{every, Read, broken, read, and_then, ◌>>=◌, give, fail, guard, times, just, whole}
 use Rattle.semantics.specs.Editions.{Edition}
-use Rattle.semantics.specs.Refusals.{Judged, accepted}
+use Rattle.semantics.specs.Refusals.{Judged, refused, accepted}
 use Rattle.semantics.specs.TableFile.{NodeAction, Entry, read_location, read_location_count, read_locations, locations_in}
 use Rattle.semantics.specs.Tables.{location_fits, locations_fit_in, judge_locations}
 use Rattle.semantics.proofs.Facts.{and_both, within_both, within_low, within-high, none-not-some}
 use Rattle.semantics.proofs.Judging.{go-need, go-ensure}
 use Rattle.semantics.proofs.Readers.{read-rest, guarded, given, given-rest, whole-read}
+use Rattle.paper.specs.Refusals.{answered}
+use Rattle.paper.proofs.Answered.{accepts-with}
 use Rattle.codec.specs.Reading.{Took}
 use Rattle.codec.specs.Places.{places_from}
 use Rattle.codec.specs.Padding.{pad}
@@ -24,18 +27,22 @@ use Rattle.codec.proofs.Loops.{every-snoc}
 use Rattle.codec.proofs.Padding.{pad-none, set-pad}
 use Rattle.codec.proofs.Places.{places-start, places-more, places_count}
 use Rattle.table_read.specs.declared.locations.Locations.{Locations}
-use Rattle.table_read.specs.Ends.{anything, or_zero}
-use Rattle.table_read.specs.LocationIndex.{no_locations, location_index, locations_read_in, locations_of}
+use Rattle.table_read.specs.Ends.{anything, number_read}
+use Rattle.table_read.specs.LocationIndex.{location_index}
 use Rattle.table_read.proofs.Early.{early}
 use Rattle.table_read.proofs.Fitted.{Fitted, fit, unfit, fitted}
 use Rattle.table_read.proofs.Rising.{every_append}
 
 -- ---- refusals
-pub refuse : (ed : Edition) (acts : List NodeAction) (s : List ℕ) → ((ls : List (List Entry)) → locations_in ed s ≡ some ls → locations_fit_in acts ls ≡ true → ⊥) → no_locations 19 ≡ locations_of ed acts s
-unfolding locations_of judge_locations locations_read_in
+-- what the code answers of the section s
+abbrev pub Answer : Edition → List NodeAction → List ℕ → Judged Locations
+Answer ed acts s = answered (location_index ed s) (judge_locations ed acts s)
+
+pub refuse : (ed : Edition) (acts : List NodeAction) (s : List ℕ) → ((ls : List (List Entry)) → locations_in ed s ≡ some ls → locations_fit_in acts ls ≡ true → ⊥) → refused 19 ≡ Answer ed acts s
+unfolding judge_locations
 refuse ed acts s h = go (fitted 19 (locations_in ed s) (locations_fit_in acts))
   where
-    go : {j : Judged (List (List Entry))} → Fitted 19 (locations_in ed s) (locations_fit_in acts) j → no_locations 19 ≡ locations_read_in ed s j
+    go : {j : Judged (List (List Entry))} → Fitted 19 (locations_in ed s) (locations_fit_in acts) j → refused 19 ≡ answered (location_index ed s) j
     go (fit {a = ls} e k) = absurd (h ls e k)
     go (unfit k) = refl
 
@@ -44,22 +51,22 @@ module _ (ed : Edition) (acts : List NodeAction) (s : List ℕ) {ls : List (List
   unfolding judge_locations
   judged = go-need 19 _ e ∙ go-ensure 19 _ h
 
-  pub accept : locations_of ed acts s ≡ location_index ed s (length ls)
-  unfolding locations_of locations_read_in
-  accept = rw judged refl
-
 -- ---- the count
-pub no-count : (s : List ℕ) → length s < 2 → 0 ≡ or_zero (read_location_count s)
-unfolding read_location_count or_zero
-no-count s h = sym (ap or_zero (lost {K = anything} {s = s} {p = 0} (no-nat2 _ h (omega arith)) refl))
+pub no-count : (s : List ℕ) → length s < 2 → None ≡ number_read (read_location_count s)
+unfolding read_location_count number_read
+no-count s h = sym (ap number_read (lost {K = anything} {s = s} {p = 0} (no-nat2 _ h (omega arith)) refl))
 
-pub many : (s : List ℕ) {n : ℕ} → n ≡ nat2_at s 0 → 2 ≤ length s → 1024 < n → 0 ≡ or_zero (read_location_count s)
-unfolding read_location_count or_zero
-many s {n} e i h = sym (ap or_zero (lost {K = anything} {s = s} {p = 0} (then-nat2 _ i (no-guard _ _ (within-above 1 1024 _ (subst (λ n. 1024 < n) e h)))) refl))
+pub few : (s : List ℕ) {n : ℕ} → n ≡ nat2_at s 0 → 2 ≤ length s → n < 1 → None ≡ number_read (read_location_count s)
+unfolding read_location_count number_read
+few s {n} e i h = sym (ap number_read (lost {K = anything} {s = s} {p = 0} (then-nat2 _ i (no-guard _ _ (within-below 1 1024 _ (subst (λ n. n < 1) e h)))) refl))
 
-pub count-is : (s : List ℕ) {n : ℕ} → n ≡ nat2_at s 0 → 2 ≤ length s → n ≤ 1024 → n ≡ or_zero (read_location_count s)
-unfolding read_location_count or_zero ◌>>=◌ and_then guard give fail
-count-is s {n} e i h = rw (nat2-at s 0 i, ← e) (either 0 n (λ k. rw (within_both 1 1024 n (omega arith) h) refl) (λ k. rw (within-below 1 1024 n (omega arith)) (omega arith)))
+pub many : (s : List ℕ) {n : ℕ} → n ≡ nat2_at s 0 → 2 ≤ length s → 1024 < n → None ≡ number_read (read_location_count s)
+unfolding read_location_count number_read
+many s {n} e i h = sym (ap number_read (lost {K = anything} {s = s} {p = 0} (then-nat2 _ i (no-guard _ _ (within-above 1 1024 _ (subst (λ n. 1024 < n) e h)))) refl))
+
+pub count-is : (s : List ℕ) {n : ℕ} → n ≡ nat2_at s 0 → 2 ≤ length s → 1 ≤ n → n ≤ 1024 → Some n ≡ number_read (read_location_count s)
+unfolding read_location_count number_read ◌>>=◌ and_then guard give fail
+count-is s {n} e i l h = rw (nat2-at s 0 i, ← e, within_both 1 1024 n l h) refl
 
 pub record Count (s : List ℕ) (n : ℕ) : Type 0 where
   pub room : 2 ≤ length s
@@ -79,23 +86,23 @@ count-was s {n} h = either (length s) 2 (λ i. not-nat2 _ s 0 i (omega arith) h)
       first = h ∙ ap (read n) (sym (given-rest _ _ g.1));
     })
 
-pub count_of : {s : List ℕ} {n : ℕ} → n ≡ or_zero (read_location_count s) → (n ≡ 0 → ⊥) → Count s n
-unfolding or_zero
-count_of {s} {n} e k = go (read_location_count s) refl
+pub count_of : {s : List ℕ} {n : ℕ} → Some n ≡ number_read (read_location_count s) → Count s n
+unfolding number_read
+count_of {s} {n} e = go (read_location_count s) refl e
   where
-    go : (o : Read ℕ) → read_location_count s ≡ o → Count s n
-    go broken h = absurd (k (e ∙ ap or_zero h))
-    go (read m t) h = subst (Count s) (sym (e ∙ ap or_zero h)) (count-was s h)
+    go : (o : Read ℕ) → read_location_count s ≡ o → Some n ≡ number_read o → Count s n
+    go broken h e = cc
+    go (read m t) h e =
+        let i : n ≡ m = cc in
+        subst (Count s) (sym i) (count-was s h)
 
-pub refuse-count : (ed : Edition) (acts : List NodeAction) (s : List ℕ) {n : ℕ} → n ≡ or_zero (read_location_count s) → n ≡ 0 → no_locations 19 ≡ locations_of ed acts s
-unfolding or_zero locations_in read_locations whole just ◌>>=◌ and_then
-refuse-count ed acts s {n} e k = go (read_location_count s) refl
+pub refuse-count : (ed : Edition) (acts : List NodeAction) (s : List ℕ) → None ≡ number_read (read_location_count s) → refused 19 ≡ Answer ed acts s
+unfolding number_read locations_in read_locations whole just ◌>>=◌ and_then
+refuse-count ed acts s e = go (read_location_count s) refl e
   where
-    go : (o : Read ℕ) → read_location_count s ≡ o → no_locations 19 ≡ locations_of ed acts s
-    go broken h = refuse ed acts s (λ l i g. none-not-some (sym (ap (λ o. just (and_then o (λ n. times n (read_location ed)))) h) ∙ i))
-    go (read m t) h =
-        let z : m ≡ 0 = sym (e ∙ ap or_zero h) ∙ k in
-        absurd (omega (arith, (count-was s h).low))
+    go : (o : Read ℕ) → read_location_count s ≡ o → None ≡ number_read o → refused 19 ≡ Answer ed acts s
+    go broken h e = refuse ed acts s (λ l i g. none-not-some (sym (ap (λ o. just (and_then o (λ n. times n (read_location ed)))) h) ∙ i))
+    go (read m t) h e = cc
 
 -- ---- what the section's reader does after the count
 after-count : (ed : Edition) {s : List ℕ} {n : ℕ} → Count s n → read_locations ed s ≡ times n (read_location ed) (drop 2 s)
@@ -144,7 +151,7 @@ module _ (ed : Edition) (acts : List NodeAction) {n : ℕ} {s : List ℕ} where
       unfolding locations_fit_in
       fits_count ls e = rw e refl
 
-      pub located-stop : i < n → ((a : List Entry) (e : List ℕ) → read_location ed (drop p s) ≡ read a e → location_fits n acts a ≡ false) → no_locations 19 ≡ locations_of ed acts s
+      pub located-stop : i < n → ((a : List Entry) (e : List ℕ) → read_location ed (drop p s) ≡ read a e → location_fits n acts a ≡ false) → refused 19 ≡ Answer ed acts s
       located-stop h bad = refuse ed acts s (λ ls e g. early (read_location ed) (every (location_fits n acts)) (every_append (location_fits n acts)) i x.took h
           (λ a r k. rw (every-snoc (location_fits n acts) x.took.value a, bad a r k, and-false (every (location_fits n acts) x.took.value)) refl)
           (in-times ed c e) (sym (fits_count ls (in_count e)) ∙ g))
@@ -153,17 +160,17 @@ module _ (ed : Edition) (acts : List NodeAction) {n : ℕ} {s : List ℕ} where
         all : times n (read_location ed) (drop 2 s) ≡ read x.took.value (drop p s)
         all = subst (λ n. times n (read_location ed) (drop 2 s) ≡ read x.took.value (drop p s)) e x.took.got
 
-        pub located-over : p < length s → no_locations 19 ≡ locations_of ed acts s
+        pub located-over : p < length s → refused 19 ≡ Answer ed acts s
         located-over h = refuse ed acts s (λ l k g. let n : length (drop p s) ≡ 0 = ap length (read-rest (sym all ∙ in-times ed c k)) in omega (arith, length-drop p s))
 
-        pub located_end : length s ≤ p → ◌≡◌ {A = Locations} (record { refusal = 0; count = n; places = places }) (locations_of ed acts s)
+        pub located_end : length s ≤ p → accepted (record { count = n; places = places }) ≡ Answer ed acts s
         unfolding location_index
         located_end k =
             let ls = x.took.value in
             let found = times-in ed c (all ∙ ap (read ls) (drop_past p s k)) in
             let m : length ls ≡ n = in_count found in
-            same (sym m) (x.noted ∙ ap (λ j. pad 1024 0 (places_from (length s) (read_location ed) j (drop 2 s))) (e ∙ sym m))
-            ∙ sym (accept ed acts s found (fits_count ls m ∙ x.all_fit))
+            accepts-with (location_index ed s) (judged ed acts s found (fits_count ls m ∙ x.all_fit))
+            (same (sym m) (x.noted ∙ ap (λ j. pad 1024 0 (places_from (length s) (read_location ed) j (drop 2 s))) (e ∙ sym m)))
           where
-            same : {c d : ℕ} {ps qs : List ℕ} → c ≡ d → ps ≡ qs → ◌≡◌ {A = Locations} (record { refusal = 0; count = c; places = ps }) (record { refusal = 0; count = d; places = qs })
+            same : {c d : ℕ} {ps qs : List ℕ} → c ≡ d → ps ≡ qs → ◌≡◌ {A = Locations} (record { count = c; places = ps }) (record { count = d; places = qs })
             same h i = cc

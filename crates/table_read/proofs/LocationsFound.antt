@@ -8,10 +8,11 @@ use native.Mathlib.Omega.{arith}
 use lib.ListN.{length, get_or, drop, replicate, get_elem?, length-append, length-replicate, get_or-append}
 use Rattle.semantics.specs.Bytes.{read, give, times}
 use Rattle.semantics.specs.Editions.{Edition}
-use Rattle.semantics.specs.Refusals.{Judged, refused}
+use Rattle.semantics.specs.Refusals.{Judged, accepted}
 use Rattle.semantics.specs.TableFile.{NodeAction, Entry, read_entry, read_location, read_location_count, read_locations, locations_in}
 use Rattle.semantics.specs.Tables.{locations_fit_in, judge_locations}
 use Rattle.semantics.proofs.Facts.{none-not-some, some_is}
+use Rattle.semantics.proofs.Judging.{refused-not-accepted, accepted-is}
 use Rattle.semantics.proofs.Readers.{read-value, read-rest, split, guarded, whole-read}
 use Rattle.codec.specs.Numbers.{wide}
 use Rattle.codec.specs.Places.{places_from}
@@ -19,40 +20,19 @@ use Rattle.codec.specs.Padding.{pad}
 use Rattle.codec.proofs.Reading.{either}
 use Rattle.codec.proofs.Known.{cons, times-length, after-byte, not-past}
 use Rattle.codec.proofs.Places.{Takes, takes-then, takes-guard, takes-byte, takes-number, takes-nat2, takes-give, takes-times, places-length, placed}
-use Rattle.table_read.specs.LocationIndex.{location_index, locations_read_in, locations_of}
+use Rattle.table_read.specs.LocationIndex.{location_index}
 use Rattle.table_read.proofs.Fitted.{Fitted, fit, unfit, fitted}
 use Rattle.table_read.proofs.EntryLoop.{entry_at, entry-is, entry-took}
-use Rattle.table_read.proofs.LocationLoop.{accept, count-was, in-times}
+use Rattle.table_read.proofs.LocationLoop.{count-was, in-times}
 
--- ---- where nothing is refused
-pub accepted-locations : (ed : Edition) (acts : List NodeAction) (s : List ℕ) → (locations_of ed acts s).refusal ≡ 0 →
-    (ls : List (List Entry)) × (locations_in ed s ≡ some ls) × (locations_fit_in acts ls ≡ true)
-unfolding locations_of judge_locations locations_read_in
-accepted-locations ed acts s h = go (fitted 19 (locations_in ed s) (locations_fit_in acts)) h
+-- ---- what is judged alone: the section, and the fit of the targets
+pub was_judged : (ed : Edition) (acts : List NodeAction) (s : List ℕ) {ls : List (List Entry)} → judge_locations ed acts s ≡ accepted ls → (locations_in ed s ≡ some ls) × (locations_fit_in acts ls ≡ true)
+unfolding judge_locations
+was_judged ed acts s {ls} h = go (fitted 19 (locations_in ed s) (locations_fit_in acts)) h
   where
-    go : {j : Judged (List (List Entry))} → Fitted 19 (locations_in ed s) (locations_fit_in acts) j → (locations_read_in ed s j).refusal ≡ 0 →
-        (ls : List (List Entry)) × (locations_in ed s ≡ some ls) × (locations_fit_in acts ls ≡ true)
-    go (fit {a = ls} e k) h = (ls, e, k)
-    go (unfit k) h = absurd (omega arith)
-
--- where something is
-pub refused-locations : (ed : Edition) (acts : List NodeAction) (s : List ℕ) → ((locations_of ed acts s).refusal ≡ 0 → ⊥) → judge_locations ed acts s ≡ refused 19
-unfolding locations_of judge_locations locations_read_in location_index
-refused-locations ed acts s h = go (fitted 19 (locations_in ed s) (locations_fit_in acts)) h
-  where
-    go : {j : Judged (List (List Entry))} → Fitted 19 (locations_in ed s) (locations_fit_in acts) j → ((locations_read_in ed s j).refusal ≡ 0 → ⊥) → j ≡ refused 19
-    go (fit e k) h = absurd (h refl)
-    go (unfit k) h = refl
-
-pub fit-locations : (ed : Edition) (acts : List NodeAction) (s : List ℕ) {ls : List (List Entry)} → locations_in ed s ≡ some ls → (locations_of ed acts s).refusal ≡ 0 → locations_fit_in acts ls ≡ true
-fit-locations ed acts s {ls} e h =
-    let k = accepted-locations ed acts s h in
-    subst (λ ls. locations_fit_in acts ls ≡ true) (some_is (sym k.1 ∙ e)) k.2
-
--- the index is that of the locations
-pub index_is : (ed : Edition) (acts : List NodeAction) (s : List ℕ) {ls : List (List Entry)} → locations_in ed s ≡ some ls → (locations_of ed acts s).refusal ≡ 0 →
-    locations_of ed acts s ≡ location_index ed s (length ls)
-index_is ed acts s e h = accept ed acts s e (fit-locations ed acts s e h)
+    go : {j : Judged (List (List Entry))} → Fitted 19 (locations_in ed s) (locations_fit_in acts) j → j ≡ accepted ls → (locations_in ed s ≡ some ls) × (locations_fit_in acts ls ≡ true)
+    go (fit {a = m} e k) h = let i = accepted-is h in (e ∙ ap some i, ap (locations_fit_in acts) (sym i) ∙ k)
+    go (unfit k) h = refused-not-accepted h
 
 times-of : (ed : Edition) (s : List ℕ) {ls : List (List Entry)} → locations_in ed s ≡ some ls →
     (2 ≤ length s) × (1 ≤ length ls) × (length ls ≤ 1024) × (times (length ls) (read_location ed) (drop 2 s) ≡ read ls [])
@@ -84,40 +64,28 @@ get_d_of [] k d h = none-not-some h
 get_d_of (y ∷ l) zero d h = sym (some_is h)
 get_d_of (y ∷ l) (suc k) d h = get_d_of l k d h
 
-module _ (ed : Edition) (acts : List NodeAction) (s : List ℕ) {ls : List (List Entry)} (e : locations_in ed s ≡ some ls) (h : (locations_of ed acts s).refusal ≡ 0) where
-  pub count-is : (locations_of ed acts s).count ≡ length ls
-  unfolding location_index
-  count-is = ap (λ z. z.count) (index_is ed acts s e h)
-
+module _ (ed : Edition) (s : List ℕ) {ls : List (List Entry)} (e : locations_in ed s ≡ some ls) where
   -- at least location 0 is there
-  pub count-bounds : (1 ≤ (locations_of ed acts s).count) × ((locations_of ed acts s).count ≤ 1024)
-  count-bounds =
-      let n = count-is in
-      let t = times-of ed s e in
-      let low = t.1 in
-      let high = t.2 in
-      (omega arith, omega arith)
+  pub count-bounds : (1 ≤ length ls) × (length ls ≤ 1024)
+  count-bounds = let t = times-of ed s e in (t.1, t.2)
 
-  pub places-full : length (locations_of ed acts s).places ≡ 1024
+  pub places-full : length (location_index ed s ls).places ≡ 1024
   unfolding location_index pad
   places-full =
       let t = times-of ed s e in
       let high = t.2 in
       let ps = places_from (length s) (read_location ed) (length ls) (drop 2 s) in
       let m : length ps ≡ length ls = places-length (length s) (read_location ed) (length ls) (drop 2 s) t.3 in
-      ap (λ z. length z.places) (index_is ed acts s e h) ∙ length-append ps _ ∙ simp length-replicate (omega arith)
+      length-append ps _ ∙ simp length-replicate (omega arith)
 
-  pub location-at : (k : ℕ) → k < (locations_of ed acts s).count → LocationAt ed s ls k (get_or (locations_of ed acts s).places k 0)
+  pub location-at : (k : ℕ) → k < length ls → LocationAt ed s ls k (get_or (location_index ed s ls).places k 0)
   unfolding location_index pad
-  location-at k i =
-      let n = count-is in
+  location-at k j =
       let t = times-of ed s e in
       let ps = places_from (length s) (read_location ed) (length ls) (drop 2 s) in
-      let j : k < length ls = omega arith in
       let m : length ps ≡ length ls = places-length (length s) (read_location ed) (length ls) (drop 2 s) t.3 in
       let x = placed (takes-location ed) s (length ls) k 2 t.0 t.3 j in
-      let at : get_or (locations_of ed acts s).places k 0 ≡ get_or ps k 0 = ap (λ z. get_or z.places k 0) (index_is ed acts s e h) ∙
-      get_or-append ps (replicate (1024 - length ps) 0) 0 k (omega arith) in
+      let at : get_or (location_index ed s ls).places k 0 ≡ get_or ps k 0 = get_or-append ps (replicate (1024 - length ps) 0) 0 k (omega arith) in
       subst (LocationAt ed s ls k) (sym at) (record {
         rest = x.nth.end;
         reads = x.nth.got ∙ ap (λ z. read z x.nth.end) (get_d_of ls k [] x.nth.is);

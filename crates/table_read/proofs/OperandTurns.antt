@@ -16,15 +16,16 @@ use Rattle.semantics.specs.Sections.{Selector}
 use Rattle.semantics.specs.Plant.{selectors, mode_exists_in}
 use Rattle.semantics.specs.Run.{Action}
 use Rattle.semantics.specs.TableFile.{NodeAction, an_assignment, a_switch, a_stop, no_kind, action_kind, action_of_kind, actions_in}
-use Rattle.semantics.specs.Tables.{operand_fits, operands_fit, action_at}
-use Rattle.semantics.proofs.Facts.{true-not-false, by_cases}
+use Rattle.semantics.specs.Tables.{operand_fits, operands_fit, action_at, actions_numbered, judge_actions}
+use Rattle.semantics.proofs.Facts.{true-not-false, by_cases, some_is}
+use Rattle.paper.proofs.Answered.{was-accepted}
 use Rattle.codec.specs.Parts.{part_at}
 use Rattle.codec.proofs.Reading.{either}
 use Rattle.table_read.specs.declared.actions.Actions.{Actions}
-use Rattle.table_read.specs.ActionIndex.{actions_of}
+use Rattle.table_read.specs.ActionIndex.{action_index, Indexes}
 use Rattle.plant.specs.ModeCounts.{ModesAt}
 use Rattle.table_read.specs.OperandForms.{fits_here, AllFit}
-use Rattle.table_read.proofs.ActionsFound.{Here, no_action, one_action, action-here, accepted-actions, laid-actions, operand-inside as inside-here}
+use Rattle.table_read.proofs.ActionsFound.{was_judged, Here, no_action, one_action, here, operand-inside as inside-here}
 use Rattle.table_read.proofs.ActionsFit.{every-by-node, by-node-every}
 
 -- ---- the forms of an operand
@@ -94,23 +95,32 @@ module _ (ed : Edition) (v : ℕ) (cs : List Selector) where
 abbrev pub operand_of : List ℕ → Actions → ℕ → List ℕ
 operand_of s x n = part_at s x.starts x.ends n
 
-module _ (ed : Edition) (s : List ℕ) {x : Actions} (q : x ≡ actions_of ed s) (z : x.refusal ≡ 0) (n : ℕ) (k : n < 256) where
-  here : {l : List NodeAction} → actions_in ed s ≡ some l → Here s x (action_at l n) n
-  here {l} e = subst (λ x. Here s x (action_at l n) n) (sym q) (action-here ed s e (sym (ap (λ (x : Actions). x.refusal) q) ∙ z) n k)
+-- where x is the index of a section, there are such actions
+pub record Indexed (ed : Edition) (s : List ℕ) (x : Actions) : Type 0 where
+  pub actions : List NodeAction
+  pub are : actions_in ed s ≡ some actions
+  pub numbered : actions_numbered ed actions ≡ true
+  pub is : x ≡ action_index ed s actions
 
-  pub operand-of : {l : List NodeAction} → actions_in ed s ≡ some l → action_of_kind (action_kind (get_or x.kinds n 0)) (operand_of s x n) ≡ action_at l n
+pub indexed : (ed : Edition) (s : List ℕ) {x : Actions} → Indexes ed s x → Indexed ed s x
+indexed ed s h =
+    let a = was-accepted (action_index ed s) (judge_actions ed s) h in
+    let j = was_judged ed s a.judged in
+    record { actions = a.value; are = j.0; numbered = j.1; is = a.is }
+
+module _ (ed : Edition) (s : List ℕ) {x : Actions} (q : Indexed ed s x) (n : ℕ) (k : n < 256) where
+  pub operand-of : action_of_kind (action_kind (get_or x.kinds n 0)) (operand_of s x n) ≡ action_at q.actions n
   unfolding action_kind action_of_kind
-  operand-of {l} e = go (here e)
+  operand-of = go (subst (λ x. Here s x (action_at q.actions n) n) (sym q.is) (here ed s q.are n k))
     where
-      go : Here s x (action_at l n) n → action_of_kind (action_kind (get_or x.kinds n 0)) (operand_of s x n) ≡ action_at l n
+      go : Here s x (action_at q.actions n) n → action_of_kind (action_kind (get_or x.kinds n 0)) (operand_of s x n) ≡ action_at q.actions n
       go (no_action i j st en) = rw j (sym i)
       go (one_action i j b c o) = o ∙ sym i
 
-  pub operand-inside : (get_or x.starts n 0 ≤ get_or x.ends n 0) × (get_or x.ends n 0 ≤ length s)
-  operand-inside =
-      let h = sym (ap (λ (x : Actions). x.refusal) q) ∙ z in
-      let i = inside-here ed s (accepted-actions ed s h).1 h n k in
-      subst (λ (x : Actions). (get_or x.starts n 0 ≤ get_or x.ends n 0) × (get_or x.ends n 0 ≤ length s)) (sym q) i
+pub operand-inside : (ed : Edition) (s : List ℕ) {x : Actions} → Indexes ed s x → (n : ℕ) → n < 256 → (get_or x.starts n 0 ≤ get_or x.ends n 0) × (get_or x.ends n 0 ≤ length s)
+operand-inside ed s h n k =
+    let q = indexed ed s h in
+    subst (λ (x : Actions). (get_or x.starts n 0 ≤ get_or x.ends n 0) × (get_or x.ends n 0 ≤ length s)) (sym q.is) (inside-here ed s q.are n k)
 
 -- a node of an edition has its entry in the arrays
 pub few-nodes : (ed : Edition) {m n : ℕ} → m ≡ ed.nodes → n < m → n < 256
@@ -141,23 +151,29 @@ of-plant : (ed : Edition) (s : List ℕ) (v n : ℕ) (counts : List ℕ) {r : Bo
 unfolding operands_fit
 of-plant ed s v n counts f p w d l e = f (selectors p) d l e ∙ ap (λ n. every (λ (a : NodeAction). operand_fits ed n (selectors p) a.action) l) w
 
-module _ (ed : Edition) (s : List ℕ) {x : Actions} (q : x ≡ actions_of ed s) (z : x.refusal ≡ 0) (v n : ℕ) (counts : List ℕ) where
-  told : {i : ℕ} {r : Bool} → i < 256 → FitAt s x.kinds x.starts x.ends v n counts i r → (cs : List Selector) → ModesAt counts n cs → {l : List NodeAction} →
-      actions_in ed s ≡ some l → r ≡ fits_here ed v cs (action_at l i)
-  told {i} k t cs d e = t ed cs d ∙ ap (fits_here ed v cs) (operand-of ed s q z i k e)
+module _ (ed : Edition) (s : List ℕ) {x : Actions} (h : Indexes ed s x) (v n : ℕ) (counts : List ℕ) where
+  q : Indexed ed s x
+  q = indexed ed s h
+
+  told : {i : ℕ} {r : Bool} → i < 256 → FitAt s x.kinds x.starts x.ends v n counts i r → (cs : List Selector) → ModesAt counts n cs → r ≡ fits_here ed v cs (action_at q.actions i)
+  told {i} k t cs d = t ed cs d ∙ ap (fits_here ed v cs) (operand-of ed s q i k)
+
+  -- of the actions that are there, of all that are
+  there : {r : Bool} → ((cs : List Selector) → ModesAt counts n cs → r ≡ every (λ (a : NodeAction). operand_fits ed v cs a.action) q.actions) → AllFitted ed s v n counts r
+  there f cs d l e = f cs d ∙ ap (every (λ (a : NodeAction). operand_fits ed v cs a.action)) (some_is (sym q.are ∙ e))
 
   unfit : {i : ℕ} → i < 256 → FitAt s x.kinds x.starts x.ends v n counts i false → AllFitted ed s v n counts false
   unfolding fits_here
-  unfit {i} k t cs d l e = by_cases (every (λ (a : NodeAction). operand_fits ed v cs a.action) l) (λ y. go y (action_at l i) refl) (λ y. sym y)
+  unfit {i} k t = there (λ cs d. by_cases (every (λ (a : NodeAction). operand_fits ed v cs a.action) q.actions) (λ y. go cs d y (action_at q.actions i) refl) (λ y. sym y))
     where
-      go : every (λ (a : NodeAction). operand_fits ed v cs a.action) l ≡ true → (o : Option Action) → action_at l i ≡ o → false ≡ every (λ (a : NodeAction). operand_fits ed v cs a.action) l
-      go y none p = true-not-false (sym (told k t cs d e ∙ ap (fits_here ed v cs) p))
-      go y (some a) p = true-not-false (sym (by-node-every (operand_fits ed v cs) l i y p) ∙ sym (told k t cs d e ∙ ap (fits_here ed v cs) p))
+      go : (cs : List Selector) → ModesAt counts n cs → every (λ (a : NodeAction). operand_fits ed v cs a.action) q.actions ≡ true → (o : Option Action) → action_at q.actions i ≡ o → false ≡ every (λ (a : NodeAction). operand_fits ed v cs a.action) q.actions
+      go cs d y none p = true-not-false (sym (told k t cs d ∙ ap (fits_here ed v cs) p))
+      go cs d y (some a) p = true-not-false (sym (by-node-every (operand_fits ed v cs) q.actions i y p) ∙ sym (told k t cs d ∙ ap (fits_here ed v cs) p))
 
   pub fit_stop : {i : ℕ} {r : Bool} → i < 256 → FitAt s x.kinds x.starts x.ends v n counts i r → r ≡ false → AllFit ed s v n counts false
   fit_stop k t h = of-plant ed s v n counts (unfit k (λ ed cs d. sym h ∙ t ed cs d))
 
   pub fit-end : {i : ℕ} → ed.nodes ≤ i → Fitting s x.kinds x.starts x.ends v n counts i → AllFit ed s v n counts true
   unfolding fits_here
-  fit-end h f = of-plant ed s v n counts (λ cs d l e. sym (every-by-node ed (operand_fits ed v cs) l (laid-actions ed s e (sym (ap (λ (x : Actions). x.refusal) q) ∙ z))
-      (λ m a k p. sym (told (omega (arith, ed.entries_fit)) (f.at m (omega arith)) cs d e ∙ ap (fits_here ed v cs) p))))
+  fit-end h f = of-plant ed s v n counts (there (λ cs d. sym (every-by-node ed (operand_fits ed v cs) q.actions q.numbered
+      (λ m a k p. sym (told (omega (arith, ed.entries_fit)) (f.at m (omega arith)) cs d ∙ ap (fits_here ed v cs) p)))))

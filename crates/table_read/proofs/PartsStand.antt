@@ -7,42 +7,23 @@ use Prim.Native.Nat.{ℕ, ◌+◌, ◌-◌, ◌≤◌, ◌<◌}
 use native.Mathlib.Omega.{arith}
 use borrow.Author.Tests.{leb-true, le-leb, lt-leb, eq-eqb, ne_eqb}
 use lib.Dec.{leb, eqb}
-use lib.ListN.{length, get_or, take, drop, length-drop}
+use lib.ListN.{length, get_or, drop, length-drop}
 use lib.Seq.{drop-drop}
 use Rattle.semantics.specs.Bytes.{broken, read, and_then, ◌>>=◌, give, section2, section4, just, whole}
 use Rattle.semantics.specs.Editions.{Edition}
-use Rattle.semantics.specs.Refusals.{accepted, ensure, need, ◌>>◌}
+use Rattle.semantics.specs.Refusals.{Judged, refused, accepted, ensure, need, ◌>>◌}
 use Rattle.semantics.specs.TableFile.{TableSections, read_table_sections, table_sections_in}
 use Rattle.semantics.specs.Tables.{table_header, judge_table_layout}
 use Rattle.semantics.proofs.Facts.{and_left}
-use Rattle.semantics.proofs.Judging.{go-ensure}
+use Rattle.semantics.proofs.Judging.{refused-not-accepted, accepted-is}
 use Rattle.semantics.proofs.Readers.{split, given, whole-read}
-use Rattle.codec.specs.Reading.{Took}
+use Rattle.paper.specs.Refusals.{answered}
+use Rattle.codec.specs.Part.{Inside, part_of}
+use Rattle.codec.specs.declared.part.Part.{Part}
 use Rattle.codec.proofs.Reading.{drop_past, drop-some, nat4_at}
-use Rattle.codec.proofs.Sections.{Cut, cuts2, cuts4}
-use Rattle.table_read.specs.Ends.{anything}
+use Rattle.codec.proofs.Sections.{Cut, cuts2, cuts4, Section}
 use Rattle.table_read.specs.declared.parts.Parts.{Parts}
-use Rattle.table_read.specs.TableParts.{Apart, no_parts, parts_at, sections_at, parts_in, parts_read, parts_of}
-
--- from place p to place q
-place-cut : (w p q : ℕ) (t : List ℕ) {x : List ℕ} → p ≤ length t → q ≤ length t → Cut w (drop p t) x (drop q t) → q ≡ p + w + length x
-place-cut w p q t {x} h i k =
-    let few = k.few in
-    let e : length (drop q t) ≡ length (drop p t) - (w + length x) = ap length k.rest ∙ length-drop (w + length x) (drop p t) in
-    omega (arith, length-drop p t, length-drop q t)
-
-pub end2-is : {t : List ℕ} {p q : ℕ} → p ≤ length t → (k : Took section2 anything t p q tt) → q ≡ p + 2 + length k.value
-end2-is {t} {p} {q} h k = place-cut 2 p q t h k.inside (cuts2.cut (drop p t) k.got)
-
-pub end4-is : {t : List ℕ} {p q : ℕ} → p ≤ length t → (k : Took section4 anything t p q tt) → q ≡ p + 4 + length k.value
-end4-is {t} {p} {q} h k = place-cut 4 p q t h k.inside (cuts4.cut (drop p t) k.got)
-
-pub ends-apart : {t : List ℕ} {v e a l : ℕ} → v ≤ length t → Took section2 anything t v e tt → Took section2 anything t e a tt → Took section4 anything t a l tt → Apart v e a l
-ends-apart h es acts ls =
-    let ee = end2-is h es in
-    let ae = end2-is es.inside acts in
-    let le = end4-is acts.inside ls in
-    record { equations = omega arith; actions = omega arith; locations = omega arith }
+use Rattle.table_read.specs.TableParts.{parts_at, parts_in, sections_from, sections_or_none, sections_of}
 
 -- ---- the header
 module _ (ed : Edition) (t : List ℕ) where
@@ -64,83 +45,78 @@ module _ (ed : Edition) (t : List ℕ) where
   header-room e = leb-true 5 (length t) (and_left (leb 5 (length t)) _ e)
 
   -- ---- what the code answers
-  pub refused-15 : table_header ed t ≡ false → parts_of ed t ≡ no_parts 15
-  unfolding parts_of parts_read judge_table_layout ensure ◌>>◌
+  abbrev pub Answer : Judged Parts
+  Answer = answered parts_in (judge_table_layout ed t)
+
+  pub refused-15 : table_header ed t ≡ false → refused 15 ≡ Answer
+  unfolding judge_table_layout ensure ◌>>◌
   refused-15 h = rw h refl
 
-  pub refused-16 : table_header ed t ≡ true → table_sections_in (drop 5 t) ≡ none → parts_of ed t ≡ no_parts 16
-  unfolding parts_of parts_read judge_table_layout ensure need ◌>>◌
-  refused-16 h e = rw (h, e) refl
+  pub after-header : table_header ed t ≡ true → answered parts_in (need 16 (table_sections_in (drop 5 t))) ≡ Answer
+  unfolding judge_table_layout ensure ◌>>◌
+  after-header h = rw h refl
 
-  pub layout_is : {s : TableSections} → table_header ed t ≡ true → table_sections_in (drop 5 t) ≡ some s → judge_table_layout ed t ≡ accepted s
-  unfolding judge_table_layout need
-  layout_is h e = go-ensure 15 _ h ∙ ap (need 16) e
-
-  pub read-parts : {s : TableSections} → judge_table_layout ed t ≡ accepted s → parts_of ed t ≡ parts_in s
-  unfolding parts_of parts_read
-  read-parts e = rw e refl
-
-broken-sections : (l : List ℕ) → read_table_sections l ≡ broken → table_sections_in l ≡ none
-unfolding table_sections_in whole just
+broken-sections : (l : List ℕ) → read_table_sections l ≡ broken → refused 16 ≡ answered parts_in (need 16 (table_sections_in l))
+unfolding table_sections_in whole just need
 broken-sections l e = rw e refl
 
 module _ (t : List ℕ) where
-  pub no-variables : section2 (drop 5 t) ≡ broken → table_sections_in (drop 5 t) ≡ none
+  abbrev pub Found : Judged Parts
+  Found = answered parts_in (need 16 (table_sections_in (drop 5 t)))
+
+  pub no-variables : section2 (drop 5 t) ≡ broken → refused 16 ≡ Found
   unfolding read_table_sections ◌>>=◌ and_then
   no-variables k = broken-sections _ (rw k refl)
 
-  module _ {v : ℕ} (vs : Took section2 anything t 5 v tt) where
-    pub no-equations : section2 (drop v t) ≡ broken → table_sections_in (drop 5 t) ≡ none
+  module _ {v : ℕ} (vs : Section 2 section2 t 5 v) where
+    pub no-equations : section2 (drop v t) ≡ broken → refused 16 ≡ Found
     unfolding read_table_sections ◌>>=◌ and_then
     no-equations k = broken-sections _ (rw (vs.got, k) refl)
 
-    module _ {e : ℕ} (es : Took section2 anything t v e tt) where
-      pub no-actions : section2 (drop e t) ≡ broken → table_sections_in (drop 5 t) ≡ none
+    module _ {e : ℕ} (es : Section 2 section2 t v e) where
+      pub no-actions : section2 (drop e t) ≡ broken → refused 16 ≡ Found
       unfolding read_table_sections ◌>>=◌ and_then
       no-actions k = broken-sections _ (rw (vs.got, es.got, k) refl)
 
-      module _ {a : ℕ} (acts : Took section2 anything t e a tt) where
-        pub no-locations : section4 (drop a t) ≡ broken → table_sections_in (drop 5 t) ≡ none
+      module _ {a : ℕ} (acts : Section 2 section2 t e a) where
+        pub no-locations : section4 (drop a t) ≡ broken → refused 16 ≡ Found
         unfolding read_table_sections ◌>>=◌ and_then
         no-locations k = broken-sections _ (rw (vs.got, es.got, acts.got, k) refl)
 
-        module _ {l : ℕ} (ls : Took section4 anything t a l tt) where
+        module _ {l : ℕ} (ls : Section 4 section4 t a l) where
           sections : TableSections
-          sections = record { variables = vs.value; equations = es.value; actions = acts.value; locations = ls.value }
+          sections = sections_from vs.value es.value acts.value ls.value
 
           all_read : read_table_sections (drop 5 t) ≡ read sections (drop l t)
           unfolding read_table_sections ◌>>=◌ and_then give sections
           all_read = rw (vs.got, es.got, acts.got, ls.got) refl
 
-          pub left_over : l < length t → table_sections_in (drop 5 t) ≡ none
-          unfolding table_sections_in whole just
+          pub left_over : l < length t → refused 16 ≡ Found
+          unfolding table_sections_in whole just need
           left_over h = rw (all_read, drop-some l t h) refl
 
           filled : length t ≤ l → table_sections_in (drop 5 t) ≡ some sections
           unfolding table_sections_in whole just
           filled h = rw (all_read, drop_past l t h) refl
 
-          pub parts-found : (ed : Edition) → 5 ≤ length t → table_header ed t ≡ true → length t ≤ l → parts_at v e a l ≡ parts_of ed t
-          unfolding parts_in sections
-          parts-found ed h k i =
-              same _ _ _ _ (end2-is h vs) (end2-is vs.inside es) (end2-is es.inside acts) (end4-is acts.inside ls) ∙ sym (read-parts ed t (layout_is ed t k (filled i)))
+          pub parts-found : length t ≤ l → accepted (parts_at v e a l) ≡ Found
+          unfolding parts_in sections need
+          parts-found i = rw (filled i) (ap (λ p. accepted p) (same _ _ _ _ vs.is es.is acts.is ls.is))
             where
-              same : {v e a l : ℕ} (w x y z : ℕ) → v ≡ 7 + w → e ≡ v + 2 + x → a ≡ e + 2 + y → l ≡ a + 4 + z → parts_at v e a l ≡ parts_at (7 + w) (7 + w + 2 + x) (7 + w + 2 + x + 2 + y) (7 + w + 2 + x + 2 + y + 4 + z)
+              same : {v e a l : ℕ} (w x y z : ℕ) → v ≡ 5 + 2 + w → e ≡ v + 2 + x → a ≡ e + 2 + y → l ≡ a + 4 + z → parts_at v e a l ≡ parts_at (7 + w) (7 + w + 2 + x) (7 + w + 2 + x + 2 + y) (7 + w + 2 + x + 2 + y + 4 + z)
               same w x y z h i j k = cc
 
 -- ---- where the sections stand
-pub record Stands (t : List ℕ) (start stop : ℕ) (x : List ℕ) : Type 0 where
-  pub ordered : start ≤ stop
-  pub inside : stop ≤ length t
-  pub is : take (stop - start) (drop start t) ≡ x
+pub record Stands (t : List ℕ) (p : Part) (x : List ℕ) : Type 0 where
+  pub inside : Inside p t
+  pub is : part_of p t ≡ x
 
-cut_stands : (w p : ℕ) (t : List ℕ) {x m : List ℕ} → p ≤ length t → Cut w (drop p t) x m → Stands t (p + w) (p + w + length x) x
+cut_stands : (w p : ℕ) (t : List ℕ) {x m : List ℕ} → p ≤ length t → Cut w (drop p t) x m → Stands t (record { start = p + w; end = p + w + length x }) x
 cut_stands w p t {x} h k =
     let few = k.few in
     let n : p + w + length x - (p + w) ≡ length x = omega arith in
     record {
-      ordered = omega arith;
-      inside = omega (arith, length-drop p t);
+      inside = record { ordered = omega arith; ends = omega (arith, length-drop p t) };
       is = rw (n, ← drop-drop w p t) k.value;
     }
 
@@ -150,10 +126,10 @@ cut_next w p t {x} k =
     k.rest ∙ drop-drop (w + length x) p t ∙ ap (λ q. drop q t) n
 
 pub record AllStand (t : List ℕ) (p : Parts) (s : TableSections) : Type 0 where
-  pub variables : Stands t p.variables p.variables_end s.variables
-  pub equations : Stands t p.equations p.equations_end s.equations
-  pub actions : Stands t p.actions p.actions_end s.actions
-  pub locations : Stands t p.locations p.locations_end s.locations
+  pub variables : Stands t p.variables s.variables
+  pub equations : Stands t p.equations s.equations
+  pub actions : Stands t p.actions s.actions
+  pub locations : Stands t p.locations s.locations
 
 chain : (t x y z w : List ℕ) {m n o u : List ℕ} → 5 ≤ length t → section2 (drop 5 t) ≡ read x m → section2 m ≡ read y n → section2 n ≡ read z o → section4 o ≡ read w u → AllStand t (parts_in (record { variables = x; equations = y; actions = z; locations = w })) (record { variables = x; equations = y; actions = z; locations = w })
 unfolding parts_in
@@ -162,12 +138,12 @@ chain t x y z w h a b c d =
     let vs = cut_stands 2 5 t h i in
     let v = 7 + length x in
     let j = cuts2.cut (drop v t) (ap section2 (sym (cut_next 2 5 t i)) ∙ b) in
-    let es = cut_stands 2 v t vs.inside j in
+    let es = cut_stands 2 v t vs.inside.ends j in
     let e = v + 2 + length y in
     let k = cuts2.cut (drop e t) (ap section2 (sym (cut_next 2 v t j)) ∙ c) in
-    let acts = cut_stands 2 e t es.inside k in
+    let acts = cut_stands 2 e t es.inside.ends k in
     let l = cuts4.cut (drop (e + 2 + length z) t) (ap section4 (sym (cut_next 2 e t k)) ∙ d) in
-    record { variables = vs; equations = es; actions = acts; locations = cut_stands 4 (e + 2 + length z) t acts.inside l }
+    record { variables = vs; equations = es; actions = acts; locations = cut_stands 4 (e + 2 + length z) t acts.inside.ends l }
 
 pub sections-stand : (t : List ℕ) {s : TableSections} → 5 ≤ length t → table_sections_in (drop 5 t) ≡ some s → AllStand t (parts_in s) s
 unfolding table_sections_in read_table_sections
@@ -178,28 +154,17 @@ sections-stand t {s} h e =
     let d = split section4 _ c.then in
     subst (λ s. AllStand t (parts_in s) s) (given _ d.rest d.then) (chain t a.value b.value c.value d.value h a.first b.first c.first d.first)
 
--- where nothing is refused, the four parts are the sections
-accepted-parts : (ed : Edition) (t : List ℕ) → (parts_of ed t).refusal ≡ 0 → (s : TableSections) × (judge_table_layout ed t ≡ accepted s) × AllStand t (parts_of ed t) s
-unfolding parts_of parts_read judge_table_layout ensure need ◌>>◌
-accepted-parts ed t h = header (table_header ed t) refl h
+-- ---- a table whose layout is accepted
+pub laid_out : (ed : Edition) (t : List ℕ) {s : TableSections} → judge_table_layout ed t ≡ accepted s → (table_header ed t ≡ true) × (sections_of t ≡ s) × AllStand t (parts_in s) s
+unfolding judge_table_layout ensure need ◌>>◌ sections_of sections_or_none
+laid_out ed t {s} h = header (table_header ed t) refl h
   where
-    sections-of : (o : Option TableSections) → table_header ed t ≡ true → table_sections_in (drop 5 t) ≡ o → (parts_read (need 16 o)).refusal ≡ 0 →
-        (s : TableSections) × (judge_table_layout ed t ≡ accepted s) × AllStand t (parts_of ed t) s
-    sections-of none e k i = absurd (omega arith)
-    sections-of (some s) e k i = let l = layout_is ed t e k in (s, l, rw (read-parts ed t l) (sections-stand t (header-room ed t e) k))
+    sections-in : (o : Option TableSections) → table_header ed t ≡ true → table_sections_in (drop 5 t) ≡ o → need 16 o ≡ accepted s → (table_header ed t ≡ true) × (sections_of t ≡ s) × AllStand t (parts_in s) s
+    sections-in none e k i = refused-not-accepted i
+    sections-in (some r) e k i =
+        let m : r ≡ s = accepted-is i in
+        (e, ap sections_or_none k ∙ m, sections-stand t (header-room ed t e) (k ∙ ap some m))
 
-    header : (b : Bool) → table_header ed t ≡ b → (parts_read (ensure 15 b >> need 16 (table_sections_in (drop 5 t)))).refusal ≡ 0 →
-        (s : TableSections) × (judge_table_layout ed t ≡ accepted s) × AllStand t (parts_of ed t) s
-    header true e k = sections-of (table_sections_in (drop 5 t)) e refl k
-    header false e k = absurd (omega arith)
-
-pub parts_are : (ed : Edition) (t : List ℕ) → (parts_of ed t).refusal ≡ 0 → (judge_table_layout ed t ≡ accepted (sections_at t (parts_of ed t))) × AllStand t (parts_of ed t) (sections_at t (parts_of ed t))
-unfolding sections_at
-parts_are ed t h =
-    let k = accepted-parts ed t h in
-    let st = k.2 in
-    subst (λ s. (judge_table_layout ed t ≡ accepted s) × AllStand t (parts_of ed t) s)
-    (same (sym st.variables.is) (sym st.equations.is) (sym st.actions.is) (sym st.locations.is)) (k.1, st)
-  where
-    same : {x x' y y' z z' w w' : List ℕ} → x ≡ x' → y ≡ y' → z ≡ z' → w ≡ w' → ◌≡◌ {A = TableSections} (record { variables = x; equations = y; actions = z; locations = w }) (record { variables = x'; equations = y'; actions = z'; locations = w' })
-    same h i j k = cc
+    header : (b : Bool) → table_header ed t ≡ b → (ensure 15 b >> need 16 (table_sections_in (drop 5 t))) ≡ accepted s → (table_header ed t ≡ true) × (sections_of t ≡ s) × AllStand t (parts_in s) s
+    header true e k = sections-in (table_sections_in (drop 5 t)) e refl k
+    header false e k = refused-not-accepted k

@@ -11,149 +11,78 @@ use lib.Dec.{leb, eqb}
 use lib.ListN.{length, get_or}
 use Rattle.semantics.specs.Bytes.{every}
 use Rattle.semantics.specs.Editions.{Edition}
-use Rattle.semantics.specs.Refusals.{Judged, refused, accepted, refusal_of}
+use Rattle.semantics.specs.Refusals.{accepted}
 use Rattle.semantics.specs.Plant.{Plant, judge_plant, switches_read, selectors}
 use Rattle.semantics.specs.Run.{Action, test, wait, assign, switch, stop, is_test, possible, to, finished, halted}
 use Rattle.semantics.specs.TableFile.{NodeAction, Entry, HALTED, NONE, action_kind, action_of_kind, actions_in, locations_in}
 use Rattle.semantics.specs.Tables.{actions_fit, Table, rising_from, operand_fits, action_nodes, action_at, is_going_on, targets_fit, entry_fits, entry_nodes, location_fits, locations_fit_in, judge_table, operands_fit, node_exists, actions_numbered}
-use Rattle.semantics.specs.Conditions.{Condition, First, here, further, Firsts, refuses, accepts, ◌if◌, is15, is16, is17, is18, is19, table_conditions}
 use Rattle.semantics.specs.Proper.{GoesOn}
 use Rattle.semantics.specs.TableRuns.{Coded, coded_location, coded_finished, coded_halted}
 use Rattle.semantics.proofs.TablesProper.{goes-there}
 use Rattle.semantics.proofs.Facts.{All, all_nil, all_cons, all_map, every-all, true-not-false, none-not-some, and_left, and_right}
-use Rattle.semantics.proofs.Judging.{refused-not-accepted, refused-is, accepted-is}
 use Rattle.semantics.proofs.TablePassed.{table-passed}
-use Rattle.semantics.proofs.FirstNumber.{table-first}
-use Rattle.plant.specs.PlantRead.{plant_of}
+use Rattle.plant.specs.PlantRead.{accepted_plant}
 use Rattle.codec.proofs.Reading.{either}
-use Rattle.table_read.specs.declared.parts.Parts.{Parts}
 use Rattle.table_read.specs.declared.actions.Actions.{Actions}
 use Rattle.table_read.specs.declared.locations.Locations.{Locations}
 use Rattle.table_read.specs.declared.call.TableIndex.{TableIndex}
-use Rattle.table_read.specs.TableParts.{parts_in, parts_of, sections_at}
-use Rattle.table_read.specs.ActionIndex.{action_index, by_node, actions_of}
-use Rattle.table_read.specs.LocationIndex.{location_index, locations_of}
+use Rattle.table_read.specs.TableParts.{parts_in, sections_or_none, sections_of}
+use Rattle.table_read.specs.ActionIndex.{action_index, by_node}
+use Rattle.table_read.specs.LocationIndex.{location_index}
 use Rattle.table_read.specs.Promised.{LocationPromised, Leads}
 use Rattle.table_read.specs.TableIndex.{index_of, table_index}
-use Rattle.table_read.proofs.PartsStand.{AllStand, layout_is, read-parts, parts_are}
+use Rattle.table_read.proofs.PartsStand.{header-room, AllStand, sections-stand}
 use Rattle.table_read.proofs.ByNode.{listed-length}
-use Rattle.table_read.proofs.ActionLoop.{accept as actions-accept}
-use Rattle.table_read.proofs.LocationLoop.{accept as locations-accept}
-use Rattle.table_read.proofs.ActionsFound.{Here, no_action, one_action, action-here, index_is, laid-actions, nowhere-above}
+use Rattle.table_read.proofs.ActionsFound.{Here, no_action, one_action, here, nowhere-above}
 use Rattle.table_read.proofs.ActionsFit.{by-node-every}
-use Rattle.table_read.proofs.LocationsFound.{location-at, count-is, count-bounds, places-full}
+use Rattle.table_read.proofs.LocationsFound.{location-at, count-bounds, places-full}
 use Rattle.table_read.proofs.OperandTurns.{operand_of}
-
--- ---- accepted or refused
-first_some : {n : ℕ} {l : List Condition} → All (λ (c : Condition). 1 ≤ c.refusal) l → First n l → 1 ≤ n
-first_some all_nil f = elim f [ ]
-first_some (all_cons h p) (here e i) = omega arith
-first_some (all_cons h p) (further e f) = first_some p f
-
-never-0 : (ed : Edition) (t : List ℕ) {n : ℕ} → judge_table ed t ≡ refused n → 1 ≤ n
-unfolding table_conditions
-never-0 ed t {n} e = go (table-first ed t) e
-  where
-    all : All (λ (c : Condition). 1 ≤ c.refusal) (table_conditions ed t)
-    all =
-        all_cons {x = 15 if is15 ed t} (omega arith) (all_cons {x = 16 if is16 ed t} (omega arith)
-        (all_cons {x = 17 if is17 ed t} (omega arith) (all_cons {x = 18 if is18 ed t} (omega arith) (all_cons {x = 19 if is19 ed t} (omega arith) all_nil))))
-
-    go : {j : Judged Table} → Firsts j (table_conditions ed t) → j ≡ refused n → 1 ≤ n
-    go (refuses {n = m} f) e = let i : m ≡ n = refused-is e in omega (arith, first_some all f)
-    go (accepts k) e = refused-not-accepted (sym e)
-
-index-refusal : (ed : Edition) (t : List ℕ) → (table_index ed t).refusal ≡ refusal_of (judge_table ed t)
-unfolding table_index index_of refusal_of
-index-refusal ed t = go (judge_table ed t)
-  where
-    go : (j : Judged Table) → (index_of ed (parts_of ed t) (sections_at t (parts_of ed t)) j).refusal ≡ refusal_of j
-    go (refused n) = refl
-    go (accepted tb) = refl
-
--- a table of which this is the index
-pub record Accepted (ed : Edition) (t : List ℕ) : Type 0 where
-  pub table : Table
-  pub is : judge_table ed t ≡ accepted table
-
-module _ (ed : Edition) (t : List ℕ) {ix : TableIndex} (h : ix ≡ table_index ed t) where
-  refusal_is : ix.refusal ≡ refusal_of (judge_table ed t)
-  refusal_is = ap (λ (x : TableIndex). x.refusal) h ∙ index-refusal ed t
-
-  pub table_of : ix.refusal ≡ 0 → Accepted ed t
-  unfolding refusal_of
-  table_of z = go (judge_table ed t) refl
-    where
-      go : (j : Judged Table) → judge_table ed t ≡ j → Accepted ed t
-      go (refused n) e = let i : n ≡ 0 = sym (ap refusal_of e) ∙ sym refusal_is ∙ z in absurd (omega (arith, never-0 ed t e))
-      go (accepted tb) e = record { table = tb; is = e }
-
-  pub refused-table : (ix.refusal ≡ 0 → ⊥) → judge_table ed t ≡ refused ix.refusal
-  unfolding refusal_of
-  refused-table z = go (judge_table ed t) refl
-    where
-      go : (j : Judged Table) → judge_table ed t ≡ j → judge_table ed t ≡ refused ix.refusal
-      go (refused n) e = e ∙ ap refused (sym (refusal_is ∙ ap refusal_of e))
-      go (accepted tb) e = absurd (z (refusal_is ∙ ap refusal_of e))
 
 -- ---- the sections of an accepted table, and what they passed
 pub record Opened (ed : Edition) (t : List ℕ) (tb : Table) : Type 0 where
-  pub stand : AllStand t (parts_of ed t) (sections_at t (parts_of ed t))
-  pub plant : judge_plant ed (sections_at t (parts_of ed t)).variables (sections_at t (parts_of ed t)).equations ≡ accepted tb.plant
+  pub stand : AllStand t (parts_in (sections_of t)) (sections_of t)
+  pub plant : judge_plant ed (sections_of t).variables (sections_of t).equations ≡ accepted tb.plant
   pub switches : switches_read ed tb.plant ≡ true
-  pub actions : actions_in ed (sections_at t (parts_of ed t)).actions ≡ some tb.actions
-  pub actions_passed : (actions_of ed (sections_at t (parts_of ed t)).actions).refusal ≡ 0
+  pub actions : actions_in ed (sections_of t).actions ≡ some tb.actions
+  pub numbered : actions_numbered ed tb.actions ≡ true
   pub operands : operands_fit ed tb.plant tb.actions ≡ true
-  pub locations : locations_in ed (sections_at t (parts_of ed t)).locations ≡ some tb.locations
+  pub locations : locations_in ed (sections_of t).locations ≡ some tb.locations
   pub locations_fit : locations_fit_in tb.actions tb.locations ≡ true
-  pub locations_passed : (locations_of ed tb.actions (sections_at t (parts_of ed t)).locations).refusal ≡ 0
 
 pub opened : (ed : Edition) (t : List ℕ) {tb : Table} → judge_table ed t ≡ accepted tb → Opened ed t tb
-unfolding parts_in action_index location_index actions_fit
+unfolding actions_fit sections_of sections_or_none
 opened ed t {tb} e =
     let k = table-passed ed t e in
-    let l = layout_is ed t k.header k.is_parts in
-    let z : (parts_of ed t).refusal ≡ 0 = ap (λ (p : Parts). p.refusal) (read-parts ed t l) in
-    let s : k.parts ≡ sections_at t (parts_of ed t) = accepted-is (sym l ∙ (parts_are ed t z).0) in
+    let s : k.parts ≡ sections_of t = sym (ap sections_or_none k.is_parts) in
     let f = k.acts_fit in
-    let laid = and_left (actions_numbered ed tb.actions) (operands_fit ed tb.plant tb.actions) f in
-    let acts : actions_in ed (sections_at t (parts_of ed t)).actions ≡ some tb.actions = ap (λ s. actions_in ed s.actions) (sym s) ∙ k.acts in
-    let locs : locations_in ed (sections_at t (parts_of ed t)).locations ≡ some tb.locations = ap (λ s. locations_in ed s.locations) (sym s) ∙ k.locs in
     record {
-      stand = (parts_are ed t z).1;
+      stand = subst (λ s. AllStand t (parts_in s) s) s (sections-stand t (header-room ed t k.header) k.is_parts);
       plant = subst (λ s. judge_plant ed s.variables s.equations ≡ accepted tb.plant) s k.plant;
       switches = k.switches;
-      actions = acts;
-      actions_passed = ap (λ (x : Actions). x.refusal) (actions-accept ed _ acts laid);
+      actions = ap (λ s. actions_in ed s.actions) (sym s) ∙ k.acts;
+      numbered = and_left (actions_numbered ed tb.actions) (operands_fit ed tb.plant tb.actions) f;
       operands = and_right (actions_numbered ed tb.actions) (operands_fit ed tb.plant tb.actions) f;
-      locations = locs;
+      locations = ap (λ s. locations_in ed s.locations) (sym s) ∙ k.locs;
       locations_fit = k.locs_fit;
-      locations_passed = ap (λ (x : Locations). x.refusal) (locations-accept ed tb.actions _ locs k.locs_fit);
     }
 
 -- the index of an accepted table, field by field
-module _ (ed : Edition) (t : List ℕ) {ix : TableIndex} (h : ix ≡ table_index ed t) {tb : Table} (e : judge_table ed t ≡ accepted tb) where
-  index-of : ix ≡ record {
-    refusal = 0;
-    parts = parts_of ed t;
-    plant = plant_of ed (sections_at t (parts_of ed t)).variables (sections_at t (parts_of ed t)).equations;
-    actions = actions_of ed (sections_at t (parts_of ed t)).actions;
-    locations = locations_of ed tb.actions (sections_at t (parts_of ed t)).locations;
-  }
+module _ (ed : Edition) (t : List ℕ) {ix : TableIndex} (tb : Table) (h : ix ≡ table_index ed t tb) where
+  pub parts-read : ix.parts ≡ parts_in (sections_of t)
   unfolding table_index index_of
-  index-of = h ∙ rw e refl
+  parts-read = ap (λ (x : TableIndex). x.parts) h
 
-  pub parts-read : ix.parts ≡ parts_of ed t
-  parts-read = ap (λ (x : TableIndex). x.parts) index-of
+  pub plant-read : ix.plant ≡ accepted_plant tb.plant
+  unfolding table_index index_of
+  plant-read = ap (λ (x : TableIndex). x.plant) h
 
-  pub plant-read : ix.plant ≡ plant_of ed (sections_at t (parts_of ed t)).variables (sections_at t (parts_of ed t)).equations
-  plant-read = ap (λ (x : TableIndex). x.plant) index-of
+  pub actions_read : ix.actions ≡ action_index ed (sections_of t).actions tb.actions
+  unfolding table_index index_of
+  actions_read = ap (λ (x : TableIndex). x.actions) h
 
-  pub actions_read : ix.actions ≡ actions_of ed (sections_at t (parts_of ed t)).actions
-  actions_read = ap (λ (x : TableIndex). x.actions) index-of
-
-  pub locations_read : ix.locations ≡ locations_of ed tb.actions (sections_at t (parts_of ed t)).locations
-  locations_read = ap (λ (x : TableIndex). x.locations) index-of
+  pub locations_read : ix.locations ≡ location_index ed (sections_of t).locations tb.locations
+  unfolding table_index index_of
+  locations_read = ap (λ (x : TableIndex). x.locations) h
 
 -- ---- a node that has an action; x is the index of the action section s
 pub record ActionPromised (ed : Edition) (s : List ℕ) (x : Actions) (p : Plant) (n : ℕ) (a : Action) : Type 0 where
@@ -167,19 +96,18 @@ nodes-below : (ed : Edition) (l : List NodeAction) (n : ℕ) {a : Action} → ac
 unfolding actions_numbered
 nodes-below ed l n h e = either n ed.nodes (λ i. i) (λ i. none-not-some (sym (nowhere-above ed l n (and_right (rising_from 0 (action_nodes l)) (every (node_exists ed) l) h) i) ∙ e))
 
-pub action-promised : (ed : Edition) (t : List ℕ) {tb : Table} → Opened ed t tb → {x : Actions} → x ≡ actions_of ed (sections_at t (parts_of ed t)).actions → (n : ℕ) {a : Action} →
-    action_at tb.actions n ≡ some a → ActionPromised ed (sections_at t (parts_of ed t)).actions x tb.plant n a
+pub action-promised : (ed : Edition) (t : List ℕ) {tb : Table} → Opened ed t tb → (n : ℕ) {a : Action} → action_at tb.actions n ≡ some a →
+    ActionPromised ed (sections_of t).actions (action_index ed (sections_of t).actions tb.actions) tb.plant n a
 unfolding operands_fit
-action-promised ed t {tb} o {x} q n {a} e = subst (λ x. ActionPromised ed s x tb.plant n a) (sym q)
-    (go (action-here ed s o.actions o.actions_passed n (omega (arith, below, ed.entries_fit))))
+action-promised ed t {tb} o n {a} e = go (here ed s o.actions n (omega (arith, below, ed.entries_fit)))
   where
     s : List ℕ
-    s = (sections_at t (parts_of ed t)).actions
+    s = (sections_of t).actions
 
     below : n < ed.nodes
-    below = nodes-below ed tb.actions n (laid-actions ed s o.actions o.actions_passed) e
+    below = nodes-below ed tb.actions n o.numbered e
 
-    go : Here s (actions_of ed s) (action_at tb.actions n) n → ActionPromised ed s (actions_of ed s) tb.plant n a
+    go : Here s (action_index ed s tb.actions) (action_at tb.actions n) n → ActionPromised ed s (action_index ed s tb.actions) tb.plant n a
     go (no_action i j st en) = none-not-some (sym i ∙ e)
     go (one_action i j b c k) =
         record {
@@ -191,14 +119,10 @@ action-promised ed t {tb} o {x} q n {a} e = subst (λ x. ActionPromised ed s x t
               tb.actions n o.operands e;
         }
 
-pub lengths-of : (ed : Edition) (s : List ℕ) {l : List NodeAction} → actions_in ed s ≡ some l → (actions_of ed s).refusal ≡ 0 →
-    (length (actions_of ed s).kinds ≡ 256) × (length (actions_of ed s).starts ≡ 256) × (length (actions_of ed s).ends ≡ 256)
+pub lengths-of : (ed : Edition) (s : List ℕ) (l : List NodeAction) →
+    (length (action_index ed s l).kinds ≡ 256) × (length (action_index ed s l).starts ≡ 256) × (length (action_index ed s l).ends ≡ 256)
 unfolding action_index by_node
-lengths-of ed s e h =
-    let i = index_is ed s e h in
-    let kinds = ap (λ (x : Actions). length x.kinds) i ∙ listed-length 256 _ in
-    let starts = ap (λ (x : Actions). length x.starts) i ∙ listed-length 256 _ in
-    (kinds, starts, ap (λ (x : Actions). length x.ends) i ∙ listed-length 256 _)
+lengths-of ed s l = (listed-length 256 _, listed-length 256 _, listed-length 256 _)
 
 -- ---- a location
 get_d-all : {A : Type 0} {P : A → Type 0} (l : List A) (k : ℕ) (d : A) → k < length l → All P l → P (get_or l k d)
@@ -206,37 +130,27 @@ get_d-all [] k d h a = absurd (omega arith)
 get_d-all (x ∷ l) zero d h (all_cons i a) = i
 get_d-all (x ∷ l) (suc k) d h (all_cons i a) = get_d-all l k d (omega arith) a
 
-pub location-promised : (ed : Edition) (t : List ℕ) {tb : Table} → Opened ed t tb → {x : Locations} → x ≡ locations_of ed tb.actions (sections_at t (parts_of ed t)).locations →
-    (k : ℕ) → k < length tb.locations → LocationPromised ed (sections_at t (parts_of ed t)).locations (get_or x.places k 0) (length tb.locations) tb.actions
-    (get_or tb.locations k [])
+pub location-promised : (ed : Edition) (t : List ℕ) {tb : Table} → Opened ed t tb → (k : ℕ) → k < length tb.locations →
+    LocationPromised ed (sections_of t).locations (get_or (location_index ed (sections_of t).locations tb.locations).places k 0) (length tb.locations) tb.actions (get_or tb.locations k [])
 unfolding locations_fit_in
-location-promised ed t {tb} o {x} q k h = subst (λ x. LocationPromised ed s (get_or x.places k 0) (length tb.locations) tb.actions (get_or tb.locations k [])) (sym q)
-    (let n = count-is ed tb.actions s o.locations o.locations_passed in
-    let a = location-at ed tb.actions s o.locations o.locations_passed k (omega arith) in
+location-promised ed t {tb} o k h =
+    let a = location-at ed (sections_of t).locations o.locations k h in
     record {
       rest = a.rest;
       reads = a.reads;
       fits = get_d-all tb.locations k [] h (every-all (location_fits (length tb.locations) tb.actions) tb.locations o.locations_fit);
-    })
-  where
-    s : List ℕ
-    s = (sections_at t (parts_of ed t)).locations
+    }
 
 -- how many there are, and how long the array is
 pub record LocationsPromised (x : Locations) (tb : Table) : Type 0 where
-  pub count : x.count ≡ length tb.locations
   pub low : 1 ≤ length tb.locations
   pub high : length tb.locations ≤ 1024
   pub full : length x.places ≡ 1024
 
-pub locations-promised : (ed : Edition) (t : List ℕ) {tb : Table} → Opened ed t tb → {x : Locations} → x ≡ locations_of ed tb.actions (sections_at t (parts_of ed t)).locations →
-    LocationsPromised x tb
-locations-promised ed t {tb} o q = subst (λ x. LocationsPromised x tb) (sym q)
-    (let n = count-is ed tb.actions _ o.locations o.locations_passed in
-    let b = count-bounds ed tb.actions _ o.locations o.locations_passed in
-    let low = b.0 in
-    let high = b.1 in
-    record { count = n; low = omega arith; high = omega arith; full = places-full ed tb.actions _ o.locations o.locations_passed })
+pub locations-promised : (ed : Edition) (t : List ℕ) {tb : Table} → Opened ed t tb → LocationsPromised (location_index ed (sections_of t).locations tb.locations) tb
+locations-promised ed t o =
+    let b = count-bounds ed _ o.locations in
+    record { low = b.0; high = b.1; full = places-full ed _ o.locations }
 
 -- ---- the entries of a location that fits
 -- each with an action
@@ -278,13 +192,13 @@ pub entries-few : (ed : Edition) (t : List ℕ) {tb : Table} → Opened ed t tb 
 unfolding entry_nodes
 entries-few ed t {tb} o k h =
     let es = get_or tb.locations k [] in
-    let fits = (location-promised ed t o refl k h).fits in
+    let fits = (location-promised ed t o k h).fits in
     let few = rising-few ed.nodes 0 (entry_nodes es) (nodes-rise _ _ es fits) (below es (entries-promised _ tb.actions es fits)) in
     omega (arith, same es)
   where
     below : (es : List Entry) → All (EntryPromised (length tb.locations) tb.actions) es → All (λ n. n < ed.nodes) (entry_nodes es)
     below [] all_nil = all_nil
-    below (e ∷ es) (all_cons p a) = all_cons (nodes-below ed tb.actions e.node (laid-actions ed _ o.actions o.actions_passed) p.is) (below es a)
+    below (e ∷ es) (all_cons p a) = all_cons (nodes-below ed tb.actions e.node o.numbered p.is) (below es a)
 
     same : (es : List Entry) → length (entry_nodes es) ≡ length es
     same [] = refl

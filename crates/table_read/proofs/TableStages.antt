@@ -3,128 +3,127 @@ use mathlib.Core.Path.{◌≡◌, refl, sym, ap, subst, ◌∙◌}
 use mathlib.Core.Bool.{Bool, true, false}
 use mathlib.Core.List.{List}
 use mathlib.Core.Option.{some}
-use Prim.Native.Nat.{ℕ, ◌-◌, ◌≤◌}
+use Prim.Native.Nat.{ℕ, ◌≤◌}
 use native.Mathlib.Omega.{arith}
-use lib.ListN.{length, take, drop}
+use lib.ListN.{length}
 use Rattle.semantics.specs.Bytes.{every}
 use Rattle.semantics.specs.Editions.{Edition}
-use Rattle.semantics.specs.Refusals.{Judged, refused, accepted, with_one_number, ensure, ◌>>=◌, ◌>>◌}
+use Rattle.semantics.specs.Refusals.{Judged, refused, accepted, with_one_number, ensure, ◌>>◌}
 use Rattle.semantics.specs.Sections.{Equation, equations_in}
 use Rattle.semantics.specs.Plant.{Plant, judge_plant, switches_read, equation_reads, selectors}
-use Rattle.semantics.specs.TableFile.{NodeAction, TableSections, actions_in}
-use Rattle.semantics.specs.Tables.{Table, operands_fit, judge_actions, judge_table_sections, judge_table_layout, judge_table}
+use Rattle.semantics.specs.TableFile.{NodeAction, TableSections}
+use Rattle.semantics.specs.Tables.{Table, operands_fit, judge_actions, judge_locations, judge_table_sections, judge_table_layout, judge_table}
 use Rattle.semantics.proofs.Judging.{go-then, go-ensure, go-only}
+use Rattle.paper.specs.Refusals.{answered}
+use Rattle.paper.proofs.Answered.{Accepted, was-refused, was-accepted, refuses-with, accepts-with, stops-then}
+use Rattle.codec.specs.Part.{part_of}
 use Rattle.plant.specs.ModeCounts.{ModesAt}
 use Rattle.plant.specs.Sound.{There}
-use Rattle.plant.specs.PlantRead.{refused_plant, accepted_plant, plant_answer, plant_of}
+use Rattle.plant.specs.PlantRead.{accepted_plant}
 use Rattle.plant.specs.declared.sections.PlantRead.{PlantRead}
 use Rattle.plant.proofs.ModeCounts.{modes-held, modes-full, modes-room}
-use Rattle.plant.proofs.PlantLaws.{passed-all, passes, variables-of, variables-high}
+use Rattle.plant.proofs.PlantLaws.{passed-all, variables-of, variables-high}
 use Rattle.table_read.specs.declared.parts.Parts.{Parts}
 use Rattle.table_read.specs.declared.actions.Actions.{Actions}
 use Rattle.table_read.specs.declared.locations.Locations.{Locations}
 use Rattle.table_read.specs.declared.call.TableIndex.{TableIndex}
-use Rattle.table_read.specs.TableParts.{no_parts, parts_in, parts_read, parts_of, sections_at}
-use Rattle.table_read.specs.ActionIndex.{KindsSay, no_actions, actions_of}
+use Rattle.table_read.specs.TableParts.{parts_in, sections_from, sections_of}
+use Rattle.table_read.specs.ActionIndex.{KindsSay, action_index, Indexes}
 use Rattle.table_read.specs.OperandForms.{AllFit}
-use Rattle.table_read.specs.LocationIndex.{no_locations, locations_of}
-use Rattle.table_read.specs.TableIndex.{no_table_index, index_of, table_index, sections_from, sections_index}
-use Rattle.table_read.proofs.PartsStand.{AllStand, read-parts, parts_are}
-use Rattle.table_read.proofs.ActionLoop.{judged as actions-judged}
-use Rattle.table_read.proofs.ActionsFound.{accepted-actions, refused-actions, kinds-say}
-use Rattle.table_read.proofs.LocationLoop.{judged as locations-judged}
-use Rattle.table_read.proofs.LocationsFound.{accepted-locations, refused-locations}
-
-index-refused : (ed : Edition) (p : Parts) (s : TableSections) {j : Judged Table} {n : ℕ} → j ≡ refused n → no_table_index n ≡ index_of ed p s j
-unfolding index_of
-index-refused ed p s e = rw e refl
+use Rattle.table_read.specs.LocationIndex.{location_index}
+use Rattle.table_read.specs.TableIndex.{index_of, table_index}
+use Rattle.table_read.proofs.PartsStand.{AllStand, laid_out}
+use Rattle.table_read.proofs.ActionsFound.{was_judged, kinds-say}
 
 -- ---- 15 and 16
-module _ (ed : Edition) (t : List ℕ) {p : Parts} (h : p ≡ parts_of ed t) where
-  said : {n : ℕ} → parts_of ed t ≡ no_parts n → judge_table ed t ≡ refused n → no_table_index p.refusal ≡ table_index ed t
-  unfolding table_index
-  said e k = ap (λ (p : Parts). no_table_index p.refusal) (h ∙ e) ∙ index-refused ed (parts_of ed t) (sections_at t (parts_of ed t)) k
+module _ (ed : Edition) (t : List ℕ) where
+  pub by_parts : {n : ℕ} → refused n ≡ answered parts_in (judge_table_layout ed t) → judge_table ed t ≡ refused n
+  unfolding judge_table
+  by_parts h = stops-then _ (was-refused parts_in _ h)
 
-  pub by_parts : (p.refusal ≡ 0 → ⊥) → no_table_index p.refusal ≡ table_index ed t
-  unfolding judge_table parts_of parts_read parts_in ◌>>=◌
-  by_parts z = go (judge_table_layout ed t) refl
-    where
-      go : (j : Judged TableSections) → judge_table_layout ed t ≡ j → no_table_index p.refusal ≡ table_index ed t
-      go (refused n) e = said (ap parts_read e) (rw e refl)
-      go (accepted s) e = absurd (z (ap (λ (p : Parts). p.refusal) (h ∙ read-parts ed t e)))
+  module _ {p : Parts} (h : accepted p ≡ answered parts_in (judge_table_layout ed t)) where
+    laid : Accepted parts_in (judge_table_layout ed t) p
+    laid = was-accepted parts_in _ h
 
-  module _ (z : p.refusal ≡ 0) where
-    not-refused : (parts_of ed t).refusal ≡ 0
-    not-refused = sym (ap (λ (p : Parts). p.refusal) h) ∙ z
+    are : sections_of t ≡ laid.value
+    are = (laid_out ed t laid.judged).1
 
-    pub parts-stand : AllStand t p (sections_at t (parts_of ed t))
-    parts-stand = subst (λ p. AllStand t p (sections_at t (parts_of ed t))) (sym h) (parts_are ed t not-refused).1
+    at : p ≡ parts_in (sections_of t)
+    at = laid.is ∙ ap parts_in (sym are)
 
-    after-16 : judge_table ed t ≡ judge_table_sections ed (sections_at t (parts_of ed t))
+    pub parts-stand : AllStand t p (sections_of t)
+    parts-stand = rw (at, are) (laid_out ed t laid.judged).2
+
+    after-16 : judge_table ed t ≡ judge_table_sections ed (sections_of t)
     unfolding judge_table
-    after-16 = go-then _ (parts_are ed t not-refused).0
+    after-16 = go-then _ laid.judged ∙ ap (judge_table_sections ed) (sym are)
 
-    pub by-sections : sections_index ed p (take (p.variables_end - p.variables) (drop p.variables t)) (take (p.equations_end - p.equations) (drop p.equations t))
-        (take (p.actions_end - p.actions) (drop p.actions t)) (take (p.locations_end - p.locations) (drop p.locations t)) ≡ table_index ed t
-    unfolding sections_index table_index sections_at
-    by-sections = ap (λ (p : Parts). index_of ed p (sections_at t p) (judge_table_sections ed (sections_at t p))) h ∙ ap (index_of ed (parts_of ed t) (sections_at t (parts_of ed t))) (sym after-16)
+    -- the sections that are lent
+    pub sections-lent : {vs es ops locs : List ℕ} → vs ≡ part_of p.variables t → es ≡ part_of p.equations t → ops ≡ part_of p.actions t → locs ≡ part_of p.locations t →
+        sections_from vs es ops locs ≡ sections_of t
+    sections-lent i j k l =
+        let s = parts-stand in
+        same (i ∙ s.variables.is) (j ∙ s.equations.is) (k ∙ s.actions.is) (l ∙ s.locations.is)
+      where
+        same : {x y z w : List ℕ} {s : TableSections} → x ≡ s.variables → y ≡ s.equations → z ≡ s.actions → w ≡ s.locations → sections_from x y z w ≡ s
+        same h i j k = λ n. record { variables = h n; equations = i n; actions = j n; locations = k n }
+
+    pub by-sections : {s : TableSections} {r : Judged TableIndex} → s ≡ sections_of t → r ≡ answered (index_of ed p s) (judge_table_sections ed s) → r ≡ answered (table_index ed t) (judge_table ed t)
+    unfolding table_index
+    by-sections e k =
+        k ∙ ap (λ s. answered (index_of ed p s) (judge_table_sections ed s)) e ∙ ap (λ p. answered (index_of ed p (sections_of t)) (judge_table_sections ed (sections_of t))) at
+        ∙ ap (answered (table_index ed t)) (sym after-16)
 
 -- ---- 17
-module _ (ed : Edition) (vs es : List ℕ) {q : PlantRead} (h : q ≡ plant_of ed vs es) (z : q.refusal ≡ 0) where
-  plant : Plant
-  plant = (passes ed vs es (sym (ap (λ (q : PlantRead). q.refusal) h) ∙ z)).plant
+module _ (ed : Edition) (vs es : List ℕ) {q : PlantRead} (h : accepted q ≡ answered accepted_plant (judge_plant ed vs es)) where
+  plant : Accepted accepted_plant (judge_plant ed vs es) q
+  plant = was-accepted accepted_plant _ h
 
-  plant-is : judge_plant ed vs es ≡ accepted plant
-  unfolding plant
-  plant-is = (passes ed vs es (sym (ap (λ (q : PlantRead). q.refusal) h) ∙ z)).is
-
-  variables-are : q.variables ≡ length plant.variables
-  variables-are = ap (λ (q : PlantRead). q.variables) h ∙ variables-of ed vs es plant-is
+  variables-are : q.variables ≡ length plant.value.variables
+  variables-are = variables-of plant.value plant.is
 
   pub few-variables : q.variables ≤ 32
-  few-variables = omega (arith, variables-are, variables-high ed vs es plant-is)
+  few-variables = omega (arith, variables-are, variables-high ed vs es plant.judged)
 
   pub counts-full : length q.modes ≡ 16
-  counts-full = ap (λ (q : PlantRead). length q.modes) h ∙ modes-full ed vs es plant-is
+  counts-full = modes-full ed vs es plant.judged plant.is
 
   pub counts-room : q.selectors ≤ length q.modes
-  counts-room = subst (λ (q : PlantRead). q.selectors ≤ length q.modes) (sym h) (modes-room ed vs es plant-is)
+  counts-room = modes-room ed vs es plant.judged plant.is
 
-  counts-at : ModesAt q.modes q.selectors (selectors plant)
-  counts-at = subst (λ (q : PlantRead). ModesAt q.modes q.selectors (selectors plant)) (sym h) (modes-held ed vs es plant-is)
+  counts-at : ModesAt q.modes q.selectors (selectors plant.value)
+  counts-at = modes-held ed vs es plant.judged plant.is
 
   pub equations-there : There (equations_in es)
-  equations-there = record { value = plant.equations; is = (passed-all ed vs es plant-is).equations }
+  equations-there = record { value = plant.value.equations; is = (passed-all ed vs es plant.judged).equations }
 
-pub found : {p : Parts} {q q' : PlantRead} {a a' : Actions} {l l' : Locations} → q ≡ q' → a ≡ a' → l ≡ l' → ◌≡◌ {A = TableIndex} (record { refusal = 0; parts = p; plant = q; actions = a; locations = l }) (record { refusal = 0; parts = p; plant = q'; actions = a'; locations = l' })
-found e f g = cc
+module _ (ed : Edition) (p : Parts) (vs es ops locs : List ℕ) where
+  abbrev judged : Judged Table
+  judged = judge_table_sections ed (sections_from vs es ops locs)
 
-module _ (ed : Edition) (p : Parts) (vs es ops locs : List ℕ) {q : PlantRead} (h : q ≡ plant_of ed vs es) where
-  refuses : {n : ℕ} → judge_table_sections ed (sections_from vs es ops locs) ≡ refused n → no_table_index n ≡ sections_index ed p vs es ops locs
-  unfolding sections_index
-  refuses e = index-refused ed p (sections_from vs es ops locs) e
+  abbrev Answer : Judged TableIndex
+  Answer = answered (index_of ed p (sections_from vs es ops locs)) judged
 
-  pub by-plant : (q.refusal ≡ 0 → ⊥) → no_table_index 17 ≡ sections_index ed p vs es ops locs
-  unfolding judge_table_sections plant_of plant_answer accepted_plant with_one_number ◌>>=◌
-  by-plant z = go (judge_plant ed vs es) refl
-    where
-      go : (j : Judged Plant) → judge_plant ed vs es ≡ j → no_table_index 17 ≡ sections_index ed p vs es ops locs
-      go (refused n) e = refuses (rw e refl)
-      go (accepted x) e = absurd (z (ap (λ (q : PlantRead). q.refusal) (h ∙ ap plant_answer e)))
+  refuses : {n : ℕ} → judged ≡ refused n → refused n ≡ Answer
+  refuses e = refuses-with _ e
 
-  module _ (z : q.refusal ≡ 0) where
+  pub by-plant : {n : ℕ} → refused n ≡ answered accepted_plant (judge_plant ed vs es) → refused 17 ≡ Answer
+  unfolding judge_table_sections with_one_number
+  by-plant h = refuses (stops-then _ (rw (was-refused accepted_plant _ h) refl))
+
+  module _ {q : PlantRead} (h : accepted q ≡ answered accepted_plant (judge_plant ed vs es)) where
     abbrev own : Plant
-    own = plant ed vs es h z
+    own = (plant ed vs es h).value
 
     abbrev passed-plant : judge_plant ed vs es ≡ accepted own
-    passed-plant = plant-is ed vs es h z
+    passed-plant = (plant ed vs es h).judged
 
     module _ {b : Bool} (k : (qs : List Equation) → equations_in es ≡ some qs → b ≡ every (equation_reads ed q.variables) qs) where
       switches-are : b ≡ switches_read ed own
       unfolding switches_read
-      switches-are = k own.equations (passed-all ed vs es passed-plant).equations ∙ ap (λ n. every (equation_reads ed n) own.equations) (variables-are ed vs es h z)
+      switches-are = k own.equations (passed-all ed vs es passed-plant).equations ∙ ap (λ n. every (equation_reads ed n) own.equations) (variables-are ed vs es h)
 
-      pub by-switches : b ≡ false → no_table_index 17 ≡ sections_index ed p vs es ops locs
+      pub by-switches : b ≡ false → refused 17 ≡ Answer
       unfolding judge_table_sections ensure ◌>>◌
       by-switches e = refuses (go-then _ (go-only 17 passed-plant) ∙ rw (sym switches-are ∙ e) refl)
 
@@ -133,54 +132,44 @@ module _ (ed : Edition) (p : Parts) (vs es ops locs : List ℕ) {q : PlantRead} 
         passed-17 : switches_read ed own ≡ true
         passed-17 = sym switches-are ∙ e
 
-        module _ {a : Actions} (i : a ≡ actions_of ed ops) where
-          pub by-actions : (a.refusal ≡ 0 → ⊥) → no_table_index 18 ≡ sections_index ed p vs es ops locs
-          unfolding judge_table_sections ◌>>=◌
-          by-actions y =
-              refuses (go-then _ (go-only 17 passed-plant) ∙ go-ensure 17 _ passed-17 ∙ rw (refused-actions ed ops (λ w. y (ap (λ (a : Actions). a.refusal) i ∙ w))) refl)
+        pub by-actions : {n : ℕ} → refused n ≡ answered (action_index ed ops) (judge_actions ed ops) → judged ≡ refused n
+        unfolding judge_table_sections
+        by-actions y = go-then _ (go-only 17 passed-plant) ∙ go-ensure 17 _ passed-17 ∙ stops-then _ (was-refused (action_index ed ops) _ y)
 
-          module _ (y : a.refusal ≡ 0) where
-            index-passed : (actions_of ed ops).refusal ≡ 0
-            index-passed = sym (ap (λ (a : Actions). a.refusal) i) ∙ y
+        module _ {a : Actions} (y : Indexes ed ops a) where
+          acts : Accepted (action_index ed ops) (judge_actions ed ops) a
+          acts = was-accepted (action_index ed ops) _ y
 
-            acts : List NodeAction
-            acts = (accepted-actions ed ops index-passed).0
+          module _ {r : Bool} (j : AllFit ed ops q.variables q.selectors q.modes r) where
+            operands-are : r ≡ operands_fit ed own acts.value
+            operands-are = j own (variables-are ed vs es h) (counts-at ed vs es h) acts.value (was_judged ed ops acts.judged).0
 
-            acts-are : actions_in ed ops ≡ some acts
-            unfolding acts
-            acts-are = (accepted-actions ed ops index-passed).1
+            pub by-operands : r ≡ false → refused 18 ≡ Answer
+            unfolding judge_table_sections ensure ◌>>◌
+            by-operands f = refuses (go-then _ (go-only 17 passed-plant) ∙ go-ensure 17 _ passed-17 ∙ go-then _ acts.judged ∙ rw (sym operands-are ∙ f) refl)
 
-            acts-judged : judge_actions ed ops ≡ accepted acts
-            unfolding acts
-            acts-judged = actions-judged ed ops (accepted-actions ed ops index-passed).1 (accepted-actions ed ops index-passed).2
+            -- ---- 19
+            module _ (f : r ≡ true) where
+              passed-18 : operands_fit ed own acts.value ≡ true
+              passed-18 = sym operands-are ∙ f
 
-            module _ {r : Bool} (j : AllFit ed ops q.variables q.selectors q.modes r) where
-              operands-are : r ≡ operands_fit ed own acts
-              operands-are = j own (variables-are ed vs es h z) (counts-at ed vs es h z) acts acts-are
+              kinds : KindsSay acts.value a.kinds
+              kinds = subst (λ (a : Actions). KindsSay acts.value a.kinds) (sym acts.is) (kinds-say ed ops (was_judged ed ops acts.judged).1)
 
-              pub by-operands : r ≡ false → no_table_index 18 ≡ sections_index ed p vs es ops locs
-              unfolding judge_table_sections ensure ◌>>◌
-              by-operands f = refuses (go-then _ (go-only 17 passed-plant) ∙ go-ensure 17 _ passed-17 ∙ go-then _ acts-judged ∙ rw (sym operands-are ∙ f) refl)
+              pub by-locations : {n : ℕ} → ((m : List NodeAction) → KindsSay m a.kinds → refused n ≡ answered (location_index ed locs) (judge_locations ed m locs)) → judged ≡ refused n
+              unfolding judge_table_sections
+              by-locations w = go-then _ (go-only 17 passed-plant) ∙ go-ensure 17 _ passed-17 ∙ go-then _ acts.judged ∙ go-ensure 18 _ passed-18 ∙
+                  stops-then _ (was-refused (location_index ed locs) _ (w acts.value kinds))
 
-              -- ---- 19
-              module _ (f : r ≡ true) {l : Locations} (w : (m : List NodeAction) → KindsSay m a.kinds → l ≡ locations_of ed m locs) where
-                locations-are : l ≡ locations_of ed acts locs
-                locations-are = w acts (subst (λ (a : Actions). KindsSay acts a.kinds) (sym i) (kinds-say ed ops acts-are index-passed))
-
-                pub by-locations : (l.refusal ≡ 0 → ⊥) → no_table_index 19 ≡ sections_index ed p vs es ops locs
-                unfolding judge_table_sections ◌>>=◌
-                by-locations x =
-                    refuses (go-then _ (go-only 17 passed-plant) ∙ go-ensure 17 _ passed-17 ∙ go-then _ acts-judged ∙ go-ensure 18 _ (sym operands-are ∙ f) ∙
-                    rw (refused-locations ed acts locs (λ u. x (ap (λ (l : Locations). l.refusal) locations-are ∙ u))) refl)
-
-                pub all-passed : l.refusal ≡ 0 → record { refusal = 0; parts = p; plant = q; actions = a; locations = l } ≡ sections_index ed p vs es ops locs
-                unfolding sections_index index_of judge_table_sections
-                all-passed x =
-                    let g = accepted-locations ed acts locs (sym (ap (λ (l : Locations). l.refusal) locations-are) ∙ x) in
-                    found h i locations-are ∙ sym (ap (index_of ed p (sections_from vs es ops locs))
-                    (go-then _ (go-only 17 passed-plant) ∙ go-ensure 17 _ passed-17 ∙ go-then _ acts-judged ∙ go-ensure 18 _ (sym operands-are ∙ f) ∙ go-then _
-                    (locations-judged ed acts locs g.1 g.2)))
-
--- ---- the answers
-pub refused-is : {n : ℕ} {p : Parts} {q : PlantRead} {a : Actions} {l : Locations} → p ≡ no_parts n → q ≡ refused_plant n → a ≡ no_actions n → l ≡ no_locations n → record { refusal = n; parts = p; plant = q; actions = a; locations = l } ≡ no_table_index n
-refused-is e f g h = cc
+              pub all-passed : {l : Locations} → ((m : List NodeAction) → KindsSay m a.kinds → accepted l ≡ answered (location_index ed locs) (judge_locations ed m locs)) →
+                  accepted (record { parts = p; plant = q; actions = a; locations = l }) ≡ Answer
+              unfolding index_of judge_table_sections
+              all-passed w =
+                  let x = was-accepted (location_index ed locs) _ (w acts.value kinds) in
+                  accepts-with (index_of ed p (sections_from vs es ops locs))
+                  (go-then _ (go-only 17 passed-plant) ∙ go-ensure 17 _ passed-17 ∙ go-then _ acts.judged ∙ go-ensure 18 _ passed-18 ∙ go-then _ x.judged)
+                  (found (plant ed vs es h).is acts.is x.is)
+                where
+                  found : {q q' : PlantRead} {a a' : Actions} {l l' : Locations} → q ≡ q' → a ≡ a' → l ≡ l' →
+                      ◌≡◌ {A = TableIndex} (record { parts = p; plant = q; actions = a; locations = l }) (record { parts = p; plant = q'; actions = a'; locations = l' })
+                  found e f g = cc

@@ -1,11 +1,12 @@
 -- The actions of a table by node: kind, and where the operand stands.
-use Rattle.std.specs.Prelude.{◌≡◌, true, false, List, [], ◌∷◌, ℕ, zero, suc, ◌+◌, eqb, length, get_or, drop, replicate}
+use Rattle.std.specs.Prelude.{◌≡◌, true, false, List, [], ◌∷◌, ℕ, zero, suc, ◌+◌, eqb, length, get_or, drop}
 use Rattle.std.proofs.Math.Option.{Option, none, some}
 use Rattle.semantics.specs.Editions.{Edition}
-use Rattle.semantics.specs.Refusals.{Judged, refused, accepted}
+use Rattle.semantics.specs.Refusals.{accepted}
 use Rattle.semantics.specs.Run.{Action}
 use Rattle.semantics.specs.TableFile.{NodeAction, kind_number, read_action}
 use Rattle.semantics.specs.Tables.{action_at, judge_actions}
+use Rattle.paper.specs.Refusals.{answered}
 use Rattle.codec.specs.Numbers.{wide, num_at}
 use Rattle.codec.specs.Places.{places_from}
 use Rattle.table_read.specs.declared.actions.Actions.{Actions}
@@ -50,31 +51,17 @@ by_node f = listed 256 f
 abbrev pub node_of : NodeAction → ℕ
 node_of a = a.node
 
--- a refusal
-abbrev pub no_actions : ℕ → Actions
-no_actions n = record {
-  refusal = n;
-  count = 0;
-  kinds = replicate 256 0;
-  starts = replicate 256 0;
-  ends = replicate 256 0;
-}
-
+-- where the accepted actions of the section s stand
 unfoldable pub action_index : Edition → List ℕ → List NodeAction → Actions
 action_index ed s l =
     let ps = places_from (length s) (read_action ed) (length l) (drop (wide ed) s) in
     record {
-      refusal = 0;
       count = length l;
       kinds = by_node (kind_at l);
       starts = by_node (λ n. operand_start ed (place_at l ps n));
       ends = by_node (λ n. operand_end ed s (place_at l ps n));
     }
 
-unfoldable pub index_read : Edition → List ℕ → Judged (List NodeAction) → Actions
-index_read ed s (refused n) = no_actions n
-index_read ed s (accepted l) = action_index ed s l
-
--- the index of the section, or the number that judging it alone gives; operands are not looked at
-unfoldable pub actions_of : Edition → List ℕ → Actions
-actions_of ed s = index_read ed s (judge_actions ed s)
+-- x is the index of the section s, whose actions are accepted; operands are not looked at
+abbrev pub Indexes : Edition → List ℕ → Actions → Type 0
+Indexes ed s x = accepted x ≡ answered (action_index ed s) (judge_actions ed s)

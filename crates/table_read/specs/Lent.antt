@@ -29,4 +29,4 @@ pub record TableLent (ed : Edition) (t : Table) (l : Lent) : Type 0 where
 
 -- where x is the index of an accepted table, of a length that a slice can have, ix and rs lend it together with the table's bytes
 abbrev pub TablePrograms : TableIndex → List ℕ → List ℤ → Type 0
-TablePrograms x ix rs = (ed : Edition) (f : List ℕ) (t : Table) → x ≡ table_index ed f → length f < 2 ^ 64 → judge_table ed f ≡ accepted t → TableLent ed t (lent f ix rs)
+TablePrograms x ix rs = (ed : Edition) (f : List ℕ) (t : Table) → x ≡ table_index ed f t → length f < 2 ^ 64 → judge_table ed f ≡ accepted t → TableLent ed t (lent f ix rs)

@@ -1,45 +1,17 @@
 -- Where the four sections of a table stand.
-use Rattle.std.specs.Prelude.{List, ℕ, ◌+◌, ◌≤◌, length}
-use Rattle.semantics.specs.Editions.{Edition}
-use Rattle.semantics.specs.Refusals.{Judged, refused, accepted}
-use Rattle.semantics.specs.TableFile.{TableSections}
-use Rattle.semantics.specs.Tables.{judge_table_layout}
-use Rattle.codec.specs.Parts.{between}
+use Rattle.std.specs.Prelude.{List, [], ℕ, ◌+◌, length, drop}
+use Rattle.std.proofs.Math.Option.{Option, none, some}
+use Rattle.semantics.specs.TableFile.{TableSections, table_sections_in}
 use Rattle.table_read.specs.declared.parts.Parts.{Parts}
-
--- a refusal
-abbrev pub no_parts : ℕ → Parts
-no_parts n = record {
-  refusal = n;
-  variables = 0;
-  variables_end = 0;
-  equations = 0;
-  equations_end = 0;
-  actions = 0;
-  actions_end = 0;
-  locations = 0;
-  locations_end = 0;
-}
 
 -- the sections that end at v, e, a and l: after the header of 5 bytes each has its length before it, in 2, 2, 2 and 4 bytes
 abbrev pub parts_at : ℕ → ℕ → ℕ → ℕ → Parts
 parts_at v e a l = record {
-  refusal = 0;
-  variables = 7;
-  variables_end = v;
-  equations = v + 2;
-  equations_end = e;
-  actions = e + 2;
-  actions_end = a;
-  locations = a + 4;
-  locations_end = l;
+  variables = record { start = 7; end = v };
+  equations = record { start = v + 2; end = e };
+  actions = record { start = e + 2; end = a };
+  locations = record { start = a + 4; end = l };
 }
-
--- each ends after the length of the next
-pub record Apart (v e a l : ℕ) : Type 0 where
-  pub equations : v + 2 ≤ e
-  pub actions : e + 2 ≤ a
-  pub locations : a + 4 ≤ l
 
 unfoldable pub parts_in : TableSections → Parts
 parts_in s =
@@ -48,19 +20,14 @@ parts_in s =
     let a = e + 2 + length s.actions in
     parts_at v e a (a + 4 + length s.locations)
 
-unfoldable pub parts_read : Judged TableSections → Parts
-parts_read (refused n) = no_parts n
-parts_read (accepted s) = parts_in s
+-- four sections
+abbrev pub sections_from : List ℕ → List ℕ → List ℕ → List ℕ → TableSections
+sections_from vs es ops locs = record { variables = vs; equations = es; actions = ops; locations = locs }
 
--- where the sections stand, or the first number of their layout that applies
-unfoldable pub parts_of : Edition → List ℕ → Parts
-parts_of ed t = parts_read (judge_table_layout ed t)
+unfoldable pub sections_or_none : Option TableSections → TableSections
+sections_or_none none = sections_from [] [] [] []
+sections_or_none (some s) = s
 
--- the sections that stand there
-unfoldable pub sections_at : List ℕ → Parts → TableSections
-sections_at t p = record {
-  variables = between p.variables p.variables_end t;
-  equations = between p.equations p.equations_end t;
-  actions = between p.actions p.actions_end t;
-  locations = between p.locations p.locations_end t;
-}
+-- the sections of a table; no bytes where they do not fill it
+unfoldable pub sections_of : List ℕ → TableSections
+sections_of t = sections_or_none (table_sections_in (drop 5 t))

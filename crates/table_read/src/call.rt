@@ -2,8 +2,11 @@
 ghost use Rattle.std.specs.Prelude.{◌≡◌, length};
 ghost use Rattle.edition.specs.Editions.{edition_of};
 ghost use Rattle.semantics.specs.Editions.{edition1};
+ghost use Rattle.semantics.specs.Tables.{judge_table_sections, judge_table};
 ghost use Rattle.semantics.specs.Calls.{read_table_of};
-ghost use Rattle.table_read.specs.TableIndex.{table_numbers, no_table_index, table_index, sections_index};
+ghost use Rattle.paper.specs.Refusals.{judged_of, answered};
+ghost use Rattle.table_read.specs.TableParts.{sections_from};
+ghost use Rattle.table_read.specs.TableIndex.{told, index_of, table_index};
 ghost use Rattle.table_read.specs.Lent.{TablePrograms};
 
 use super::actions::Actions;
@@ -11,117 +14,85 @@ use super::locations::Locations;
 use super::parts::Parts;
 use super::{actions, locations, operands, parts};
 use edition::Edition;
+use paper::refusals::Refusal;
 use plant::sections::PlantRead;
 use program::{ENTRIES, RANGES, fill};
 
-// 0, or the first number that applies; where the sections stand, and what a run looks up in them
+// where the sections stand, and what a run looks up in them
 #[derive(Clone, Copy)]
 pub struct TableIndex {
-    pub refusal: u8,
     pub parts: Parts,
     pub plant: PlantRead,
     pub actions: Actions,
     pub locations: Locations,
 }
 
-// 0, or the first number that applies; all counts are 0 then
+// how many there are of each
 #[derive(Clone, Copy)]
 pub struct TableRead {
-    pub refusal: u8,
     pub variables: usize,
     pub selectors: usize,
     pub actions: usize,
     pub locations: usize,
 }
 
-fn refused(n: u8) -> TableIndex
-    ensures { result ≡ no_table_index n }
-{
-    let parts = parts::refused(n);
-    let plant = plant::sections::refused(n);
-    let actions = actions::refused(n);
-    let locations = locations::refused(n);
-    TableIndex {
-        refusal: n,
-        parts,
-        plant,
-        actions,
-        locations,
-    }
-}
-
 // 17 to 19, of the four sections
-fn sections(parts: Parts, vs: &[u8], es: &[u8], ops: &[u8], locs: &[u8], ed: Edition) -> TableIndex
-    ensures { result ≡ sections_index (edition_of ed) parts vs.now es.now ops.now locs.now }
+fn sections(
+    parts: Parts,
+    vs: &[u8],
+    es: &[u8],
+    ops: &[u8],
+    locs: &[u8],
+    ed: Edition,
+) -> Result<TableIndex, Refusal>
+    ensures { judged_of result ≡ answered (index_of (edition_of ed) parts (sections_from vs.now es.now ops.now locs.now))
+        (judge_table_sections (edition_of ed) (sections_from vs.now es.now ops.now locs.now)) }
 {
-    let plant = plant::sections::read(vs, es);
-    if plant.refusal != 0 {
-        return refused(17);
-    }
+    let Ok(plant) = plant::sections::read(vs, es) else {
+        return Err(Refusal::TablePlant);
+    };
     let variables = plant.variables;
     let selectors = plant.selectors;
-    let modes = plant.modes;
     if !plant::truths::read(es, variables) {
-        return refused(17);
+        return Err(Refusal::TablePlant);
     }
-    let actions = actions::read(ops, ed);
-    if actions.refusal != 0 {
-        return refused(18);
+    let actions = actions::read(ops, ed)?;
+    if !operands::read(ops, actions, variables, selectors, &plant.modes, ed) {
+        return Err(Refusal::TableActions);
     }
-    if !operands::read(ops, actions, variables, selectors, &modes, ed) {
-        return refused(18);
-    }
-    let kinds = actions.kinds;
-    let locations = locations::read(locs, &kinds, ed);
-    if locations.refusal != 0 {
-        return refused(19);
-    }
-    TableIndex {
-        refusal: 0,
+    let locations = locations::read(locs, &actions.kinds, ed)?;
+    Ok(TableIndex {
         parts,
         plant,
         actions,
         locations,
-    }
+    })
 }
 
-pub fn index(table: &[u8], ed: Edition) -> TableIndex
-    ensures { result ≡ table_index (edition_of ed) table.now }
+pub fn index(table: &[u8], ed: Edition) -> Result<TableIndex, Refusal>
+    ensures { judged_of result ≡ answered (table_index (edition_of ed) table.now) (judge_table (edition_of ed) table.now) }
 {
-    let p = parts::read(table, ed);
-    let first = p.refusal;
-    if first != 0 {
-        return refused(first);
-    }
-    let a = p.variables;
-    let b = p.variables_end;
-    let c = p.equations;
-    let d = p.equations_end;
-    let e = p.actions;
-    let f = p.actions_end;
-    let g = p.locations;
-    let h = p.locations_end;
+    let p = parts::read(table, ed)?;
     sections(
         p,
-        &table[a..b],
-        &table[c..d],
-        &table[e..f],
-        &table[g..h],
+        p.variables.of(table),
+        p.equations.of(table),
+        p.actions.of(table),
+        p.locations.of(table),
         ed,
     )
 }
 
-pub fn read(table: &[u8]) -> TableRead
-    ensures { result ≡ table_numbers (read_table_of edition1 table.now) }
+pub fn read(table: &[u8]) -> Result<TableRead, Refusal>
+    ensures { told result ≡ read_table_of edition1 table.now }
 {
-    let x = index(table, Edition::First);
-    TableRead {
-        refusal: x.refusal,
+    let x = index(table, Edition::First)?;
+    Ok(TableRead {
         variables: x.plant.variables,
         selectors: x.plant.selectors,
         actions: x.actions.count,
         locations: x.locations.count,
-    }
+    })
 }
 
 // an index as a run looks things up in it, with places in the whole table: its rows are put, and its ranges and rates given
@@ -129,23 +100,15 @@ pub fn program(x: TableIndex, index: &mut [usize; ENTRIES]) -> [i32; RANGES]
     requires { length index.old ≡ 2048 }
     ensures { TablePrograms x index.new result }
 {
-    let parts = x.parts;
-    let plant = x.plant;
-    let actions = x.actions;
-    let locations = x.locations;
-    let kinds = actions.kinds;
-    let starts = actions.starts;
-    let ends = actions.ends;
-    let places = locations.places;
     fill::put_index(
         index,
-        plant,
-        &kinds,
-        &starts,
-        &ends,
-        parts.equations,
-        parts.actions,
+        x.plant,
+        &x.actions.kinds,
+        &x.actions.starts,
+        &x.actions.ends,
+        x.parts.equations.start,
+        x.parts.actions.start,
     );
-    fill::put_locations(index, &places, parts.locations);
-    fill::ranges(plant)
+    fill::put_locations(index, &x.locations.places, x.parts.locations.start);
+    fill::ranges(x.plant)
 }

@@ -5,7 +5,7 @@ ghost use Rattle.semantics.specs.Editions as papers;
 ghost use Rattle.semantics.specs.Sections.{Selector};
 ghost use Rattle.semantics.specs.TableFile.{an_assignment, a_switch, action_kind, action_of_kind};
 ghost use Rattle.plant.specs.ModeCounts.{ModesAt};
-ghost use Rattle.table_read.specs.ActionIndex.{actions_of};
+ghost use Rattle.table_read.specs.ActionIndex.{Indexes};
 ghost use Rattle.table_read.specs.OperandForms.{fits_here, AllFit};
 
 use super::actions::Actions;
@@ -19,7 +19,7 @@ fn assigns(b: &[u8], variables: usize) -> bool
     if b.len() < 1 {
         return true;
     }
-    if b[0] as usize >= variables {
+    if usize::from(b[0]) >= variables {
         return false;
     }
     expression::number_reads(&b[1..], variables)
@@ -34,7 +34,7 @@ fn switches(b: &[u8], selectors: usize, modes: &[usize]) -> bool
     if b.len() != 2 {
         return true;
     }
-    plant::selectors::mode_exists(b[0] as usize, b[1] as usize, selectors, modes)
+    plant::selectors::mode_exists(usize::from(b[0]), usize::from(b[1]), selectors, modes)
 }
 
 // one operand; true where the kind is none or the operand has not its form
@@ -60,21 +60,15 @@ pub fn read(
     modes: &[usize],
     ed: Edition,
 ) -> bool
-    requires { (acts ≡ actions_of (edition_of ed) s.now) × (acts.refusal ≡ 0) × (variables ≤ 32) × (selectors ≤ length modes.now) }
+    requires { Indexes (edition_of ed) s.now acts × (variables ≤ 32) × (selectors ≤ length modes.now) }
     ensures { AllFit (edition_of ed) s.now variables selectors modes.now result }
 {
-    let kinds = acts.kinds;
-    let starts = acts.starts;
-    let ends = acts.ends;
-    let nodes = edition::node_limit(ed);
-    let mut i = 0;
-    while i < nodes {
-        let b = starts[i];
-        let e = ends[i];
-        if !fits(kinds[i], &s[b..e], variables, selectors, modes) {
+    for i in 0..edition::node_limit(ed) {
+        let b = acts.starts[i];
+        let e = acts.ends[i];
+        if !fits(acts.kinds[i], &s[b..e], variables, selectors, modes) {
             return false;
         }
-        i += 1;
     }
     true
 }

@@ -1,39 +1,24 @@
 // The header of a table, and where its four sections stand (15, 16).
-ghost use Rattle.std.specs.Prelude.{◌≡◌};
+ghost use Rattle.std.specs.Prelude.{◌≡◌, ◌≤◌, length, drop, ok_or};
 ghost use Rattle.edition.specs.Editions.{edition_of};
-ghost use Rattle.semantics.specs.Tables.{table_header};
-ghost use Rattle.table_read.specs.TableParts.{parts_of, no_parts, parts_at, Apart};
+ghost use Rattle.semantics.specs.Refusals.{need};
+ghost use Rattle.semantics.specs.TableFile.{table_sections_in};
+ghost use Rattle.semantics.specs.Tables.{table_header, judge_table_layout};
+ghost use Rattle.paper.specs.Refusals.{judged_of, answered};
+ghost use Rattle.paper.specs.declared.refusals.Refusal.TheVariants.{TableSections};
+ghost use Rattle.table_read.specs.TableParts.{parts_in};
 
+use codec::part::Part;
 use edition::Edition;
+use paper::refusals::Refusal;
 
-// 0, or the first number that applies; each section from its start to its end
+// where each section stands
 #[derive(Clone, Copy)]
 pub struct Parts {
-    pub refusal: u8,
-    pub variables: usize,
-    pub variables_end: usize,
-    pub equations: usize,
-    pub equations_end: usize,
-    pub actions: usize,
-    pub actions_end: usize,
-    pub locations: usize,
-    pub locations_end: usize,
-}
-
-pub fn refused(n: u8) -> Parts
-    ensures { result ≡ no_parts n }
-{
-    Parts {
-        refusal: n,
-        variables: 0,
-        variables_end: 0,
-        equations: 0,
-        equations_end: 0,
-        actions: 0,
-        actions_end: 0,
-        locations: 0,
-        locations_end: 0,
-    }
+    pub variables: Part,
+    pub equations: Part,
+    pub actions: Part,
+    pub locations: Part,
 }
 
 fn header(t: &[u8], ed: Edition) -> bool
@@ -48,48 +33,40 @@ fn header(t: &[u8], ed: Edition) -> bool
     codec::nat4(t, 1) == t.len()
 }
 
-// the sections that end there
-fn found(v: usize, e: usize, a: usize, l: usize) -> Parts
-    requires { Apart v e a l }
-    ensures { result ≡ parts_at v e a l }
+// after the header
+fn stand(t: &[u8]) -> Option<Parts>
+    requires { 5 ≤ length t.now }
+    ensures { judged_of (ok_or result TableSections) ≡ answered parts_in (need 16 (table_sections_in (drop 5 t.now))) }
 {
-    Parts {
-        refusal: 0,
-        variables: 7,
-        variables_end: v,
-        equations: v + 2,
-        equations_end: e,
-        actions: e + 2,
-        actions_end: a,
-        locations: a + 4,
-        locations_end: l,
+    let v = codec::end2(t, 5)?;
+    let e = codec::end2(t, v)?;
+    let a = codec::end2(t, e)?;
+    let l = codec::end4(t, a)?;
+    if l < t.len() {
+        return None;
     }
+    Some(Parts {
+        variables: Part { start: 7, end: v },
+        equations: Part {
+            start: v + 2,
+            end: e,
+        },
+        actions: Part {
+            start: e + 2,
+            end: a,
+        },
+        locations: Part {
+            start: a + 4,
+            end: l,
+        },
+    })
 }
 
-pub fn read(t: &[u8], ed: Edition) -> Parts
-    ensures { result ≡ parts_of (edition_of ed) t.now }
+pub fn read(t: &[u8], ed: Edition) -> Result<Parts, Refusal>
+    ensures { judged_of result ≡ answered parts_in (judge_table_layout (edition_of ed) t.now) }
 {
     if !header(t, ed) {
-        return refused(15);
+        return Err(Refusal::TableHeader);
     }
-    let v = codec::end2(t, 5);
-    if v == 0 {
-        return refused(16);
-    }
-    let e = codec::end2(t, v);
-    if e == 0 {
-        return refused(16);
-    }
-    let a = codec::end2(t, e);
-    if a == 0 {
-        return refused(16);
-    }
-    let l = codec::end4(t, a);
-    if l == 0 {
-        return refused(16);
-    }
-    if l < t.len() {
-        return refused(16);
-    }
-    found(v, e, a, l)
+    stand(t).ok_or(Refusal::TableSections)
 }

@@ -4,10 +4,17 @@ use Rattle.semantics.specs.Editions.{Edition}
 use Rattle.semantics.specs.Refusals.{accepted}
 use Rattle.semantics.specs.Tables.{Table, judge_table}
 use Rattle.semantics.specs.Calls.{program_of_table}
+use Rattle.paper.specs.Refusals.{answered}
+use Rattle.table_read.specs.TableIndex.{table_index}
+use Rattle.table_read.specs.declared.call.TableIndex.{TableIndex}
 use Rattle.start_read.specs.declared.admission.Admitted.{Admitted}
 use Rattle.start_read.specs.Admission.{values_for, modes_for}
 use Rattle.execution.specs.Runs.{MayRun, Whole}
 use Rattle.records.specs.declared.Counts.{Counts}
+
+-- x is what the reader gives of the bytes f, those of an accepted table
+abbrev pub Read : Edition → List ℕ → TableIndex → Type 0
+Read ed f x = accepted x ≡ answered (table_index ed f) (judge_table ed f)
 
 -- the bytes are those of the table t, and a run of it may start with the values and modes that are admitted
 pub record Admits (ed : Edition) (f : List ℕ) (asked : Admitted) (events d : List ℕ) (t : Table) : Type 0 where

@@ -1,44 +1,37 @@
 // All events of a run of a table.
 ghost use Rattle.edition.specs.Editions.{edition_of};
-ghost use Rattle.program.specs.Lent.{lent};
+ghost use Rattle.program.specs.Lent.{lent_of};
 ghost use Rattle.table_run.specs.Runs.{Asking, Completes};
 
 use edition::Edition;
+use program::Program;
 use records::Counts;
-use table_step::{entries, steps};
+use table_step::steps;
 
 // The record of each event goes to records, one after the other. Values and modes are those that the run starts with.
 pub fn all(
-    t: &[u8],
-    ix: &[usize; program::ENTRIES],
-    ranges: &[i32; program::RANGES],
+    p: &Program<'_>,
     events: &[u8],
     values: &mut [i32],
     modes: &mut [u8],
     records: &mut [u8],
     ed: Edition,
 ) -> Counts
-    requires { Asking (edition_of ed) (lent t.now ix.now ranges.now) values.old modes.old events.now records.old }
-    ensures { Completes (edition_of ed) (lent t.now ix.now ranges.now) values.old modes.old events.now
-        records.old result records.new }
+    requires { Asking (edition_of ed) (lent_of p.now) values.old modes.old events.now records.old }
+    ensures { Completes (edition_of ed) (lent_of p.now) values.old modes.old events.now records.old result records.new }
 {
-    let mut acting = [0u64; 4];
-    entries::acting(t, program::location(ix, steps::START), &mut acting, ed);
-    let mut x = steps::START;
-    let mut counts = records::none();
-    let n = events.len() / edition::event_bytes(ed);
-    let mut at = 0;
-    let mut i = 0;
-    let mut k = 0;
-    while k < n {
-        let e = event::at(events, at, ed);
-        let r = steps::step(t, ix, ranges, e, x, &mut acting, values, modes, ed);
-        let answer = r.answer;
-        x = r.place;
-        i = records::put_record(records, i, answer, &acting, values, modes, ed);
-        counts = records::booked(counts, answer);
-        at += edition::event_bytes(ed);
-        k += 1;
+    let mut at = steps::start(p, ed);
+    let mut counts = Counts::default();
+    let bytes = edition::event_bytes(ed);
+    // where the next event stands, and the next record
+    let mut from = 0;
+    let mut to = 0;
+    for _ in 0..events.len() / bytes {
+        let e = event::at(events, from, ed);
+        let answer = u8::from(steps::step(p, e, &mut at, values, modes, ed));
+        to = records::put_record(records, to, answer, &at.acting, values, modes, ed);
+        counts.book(answer);
+        from += bytes;
     }
     counts
 }

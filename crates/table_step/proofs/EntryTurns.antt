@@ -8,7 +8,6 @@ use native.Mathlib.Numerals.{add-one}
 use native.Mathlib.Omega.{arith}
 use borrow.Author.Tests.{eq-eqb, ne_eqb, eqb-true}
 use lib.Dec.{eqb}
-use lib.IntN.{ℤ}
 use lib.ListN.{length, get_or, get_elem?, take, drop}
 use Rattle.semantics.specs.Editions.{Edition}
 use Rattle.semantics.specs.Plant.{among}
@@ -21,8 +20,7 @@ use Rattle.codec.proofs.Reading.{nat2_at}
 use Rattle.nodeset.specs.Sets.{mem, empty_set, inserted, Words}
 use Rattle.nodeset.proofs.Members.{members-are}
 use Rattle.nodeset.proofs.Membership.{mem-empty, mem-inserted, words-empty, words-inserted}
-use Rattle.program.specs.Rows.{location_row}
-use Rattle.program.specs.Lent.{lent}
+use Rattle.program.specs.Lent.{Lent}
 use Rattle.table_read.specs.Promised.{LocationPromised, Leads}
 use Rattle.table_read.specs.Lent.{TableLent}
 use Rattle.table_read.proofs.EntryLoop.{entry_at}
@@ -225,16 +223,16 @@ module _ (ed : Edition) {s : List ℕ} {p n : ℕ} {acts : List NodeAction} {es 
   acting-leads = all-leading (entries-promised n acts es l.fits)
 
 -- ---- location x of a table that is lent
-module _ (ed : Edition) {s ix : List ℕ} {rs : List ℤ} {t : Table} (d : TableLent ed t (lent s ix rs)) {x : ℕ} (h : x < length t.locations) where
-  pub listed_here : Listed ed s (get_or (location_row ix) x 0) (entries_at t x)
+module _ (ed : Edition) {l : Lent} {t : Table} (d : TableLent ed t l) {x : ℕ} (h : x < length t.locations) where
+  pub listed_here : Listed ed l.bytes (get_or l.locations x 0) (entries_at t x)
   listed_here =
-      let l = (d.locations.at x h).promised in
+      let p = (d.locations.at x h).promised in
       record {
-        rest = l.rest;
-        reads = l.reads;
-        rising = nodes-rise _ t.actions (entries_at t x) l.fits;
-        small = λ n m. omega (arith, (d.nodes n (action_or_stop t.actions n) (acting-action ed l n m)).below, ed.entries_fit);
+        rest = p.rest;
+        reads = p.reads;
+        rising = nodes-rise _ t.actions (entries_at t x) p.fits;
+        small = λ n m. omega (arith, (d.nodes n (action_or_stop t.actions n) (acting-action ed p n m)).below, ed.entries_fit);
       }
 
-  pub located_here : Located ed s (get_or (location_row ix) x 0)
+  pub located_here : Located ed l.bytes (get_or l.locations x 0)
   located_here = record { entries = entries_at t x; listed = listed_here }

@@ -1,114 +1,112 @@
 // One event of a run of a table.
-ghost use Rattle.std.specs.Prelude.{◌≡◌};
+ghost use Rattle.std.specs.Prelude.{◌≡◌, get_or, None};
+ghost use Rattle.semantics.specs.TableFile.{location_limit};
 ghost use Rattle.edition.specs.Editions.{edition_of};
 ghost use Rattle.nodeset.specs.Sets.{empty_set};
-ghost use Rattle.program.specs.Lent.{lent};
-ghost use Rattle.effects.specs.declared.Verdict.TheVariants.{Move};
-ghost use Rattle.table_step.specs.Situations.{Moving, Moved, Settled, Promised, StepsOn};
+ghost use Rattle.program.specs.Rows.{location_row};
+ghost use Rattle.program.specs.Lent.{lent_of};
+ghost use Rattle.effects.specs.PaperNumbers.{Move};
+ghost use Rattle.effects.specs.Told.{told};
+ghost use Rattle.table_step.specs.Situations.{Startable, Started, Moving, Moved, Settled, Promised, StepsOn};
 
 use super::entries;
 use edition::Edition;
-use effects::Verdict;
+use effects::{Mover, Untaken};
 use event::Event;
+use nodeset::NodeSet;
+use paper::answers::{Answer, TurnedAway};
+use program::Program;
 
-// The answer to an event, and the location at which the run then stands: FFFF once it is over.
+// Where a run stands: at a location, none once it is over, and the nodes that act there.
 #[derive(Clone, Copy)]
-pub struct Stepped {
-    pub answer: u8,
-    pub place: usize,
+pub struct Standing {
+    pub place: Option<usize>,
+    pub acting: NodeSet,
 }
 
 // The location at which a run starts.
 pub const START: usize = 0;
 
-// The run is over, and no node acts.
-fn end(n: u8, acting: &mut [u64; 4]) -> Stepped
-    ensures answer { result ≡ record { answer = n; place = 65535 } }
-    ensures none { acting.new ≡ empty_set }
+// Where a run starts.
+pub fn start(p: &Program<'_>, ed: Edition) -> Standing
+    requires { Startable (edition_of ed) (lent_of p.now) }
+    ensures { Started (edition_of ed) (lent_of p.now) result }
 {
-    nodeset::clear(acting);
-    Stepped {
-        answer: n,
-        place: paper::targets::NONE,
+    Standing {
+        place: Some(START),
+        acting: entries::acting(p.bytes, p.location(START), ed),
     }
 }
 
-// A taken event with the move of node n at location x.
-fn moved(
-    t: &[u8],
-    ix: &[usize; program::ENTRIES],
-    x: usize,
-    n: usize,
-    truth: bool,
-    acting: &mut [u64; 4],
-    ed: Edition,
-) -> Stepped
-    requires { Moving (edition_of ed) t.now ix.now x (Move n truth) acting.old }
-    ensures { Moved (edition_of ed) t.now ix.now x n truth result acting.new }
+// The run is over, and no node acts.
+fn end(at: &mut Standing)
+    ensures place { at.new.place ≡ None }
+    ensures none { at.new.acting.words ≡ empty_set }
 {
-    let to = entries::target(t, program::location(ix, x), n, truth, ed);
+    at.place = None;
+    at.acting.clear();
+}
+
+// A taken event with the move of a node at location x.
+fn moved(p: &Program<'_>, x: usize, m: Mover, at: &mut Standing, ed: Edition) -> Answer
+    requires { Moving (edition_of ed) (lent_of p.now) x (Move m.node m.outcome) }
+    ensures { Moved (edition_of ed) (lent_of p.now) x m.node m.outcome result at.new }
+{
+    let to = entries::target(p.bytes, p.location(x), m.node, m.outcome, ed);
     if to == paper::targets::FINISHED {
-        return end(paper::answers::FINISHED, acting);
+        end(at);
+        return Answer::Finished;
     }
     if to == paper::targets::HALTED {
-        return end(paper::answers::HALTED, acting);
+        end(at);
+        return Answer::Halted;
     }
-    entries::acting(t, program::location(ix, to), acting, ed);
-    Stepped {
-        answer: paper::answers::TAKEN,
-        place: to,
-    }
+    at.place = Some(to);
+    at.acting = entries::acting(p.bytes, p.location(to), ed);
+    Answer::Taken
 }
 
 // What a judged event makes of location x and its acting nodes.
 fn settled(
-    t: &[u8],
-    ix: &[usize; program::ENTRIES],
+    p: &Program<'_>,
     x: usize,
-    v: Verdict,
-    acting: &mut [u64; 4],
+    event: Result<Option<Mover>, Untaken>,
+    at: &mut Standing,
     ed: Edition,
-) -> Stepped
-    requires { Moving (edition_of ed) t.now ix.now x v acting.old }
-    ensures { Settled (edition_of ed) t.now ix.now x v acting.old result acting.new }
+) -> Answer
+    requires { Moving (edition_of ed) (lent_of p.now) x (told event) }
+    ensures { Settled (edition_of ed) (lent_of p.now) x at.old (told event) result at.new }
 {
-    match v {
-        Verdict::Away(n) => Stepped {
-            answer: n,
-            place: x,
-        },
-        Verdict::Above => end(paper::answers::ABOVE, acting),
-        Verdict::Below => end(paper::answers::BELOW, acting),
-        Verdict::Stay => Stepped {
-            answer: paper::answers::TAKEN,
-            place: x,
-        },
-        Verdict::Move(n, truth) => moved(t, ix, x, n, truth, acting, ed),
+    match event {
+        Err(Untaken::Away(why)) => Answer::TurnedAway(why),
+        Err(Untaken::Above) => {
+            end(at);
+            Answer::Above
+        }
+        Err(Untaken::Below) => {
+            end(at);
+            Answer::Below
+        }
+        Ok(None) => Answer::Taken,
+        Ok(Some(m)) => moved(p, x, m, at, ed),
     }
 }
 
-// The event e at location x. Acting nodes, values and modes are those that it leaves.
+// The answer to the event e of a run that stands there. Where it stands then, values and modes are those that the event leaves.
 pub fn step(
-    t: &[u8],
-    ix: &[usize; program::ENTRIES],
-    ranges: &[i32; program::RANGES],
+    p: &Program<'_>,
     e: Event,
-    x: usize,
-    acting: &mut [u64; 4],
+    at: &mut Standing,
     values: &mut [i32],
     modes: &mut [u8],
     ed: Edition,
-) -> Stepped
-    requires { Promised (edition_of ed) (lent t.now ix.now ranges.now) x acting.old values.old modes.old }
-    ensures { StepsOn (edition_of ed) (lent t.now ix.now ranges.now) x acting.old values.old modes.old e
-        result acting.new values.new modes.new }
+) -> Answer
+    requires { Promised (edition_of ed) (lent_of p.now) at.old values.old modes.old }
+    ensures { StepsOn (edition_of ed) (lent_of p.now) at.old values.old modes.old e result at.new values.new modes.new }
 {
-    if x == paper::targets::NONE {
-        return Stepped {
-            answer: 23,
-            place: x,
-        };
-    }
-    let v = execution::judge(t, ix, ranges, acting, e, values, modes, ed);
-    settled(t, ix, x, v, acting, ed)
+    let Some(x) = at.place else {
+        return Answer::TurnedAway(TurnedAway::Over);
+    };
+    let event = execution::judge(p, &at.acting, e, values, modes, ed);
+    settled(p, x, event, at, ed)
 }

@@ -7,7 +7,7 @@ ghost use Rattle.table_write.specs.ActionTable.{actions_to, Operands, Measured};
 ghost use Rattle.table_write.specs.LocationTable.{Counted, LocationsPut};
 ghost use Rattle.table_write.specs.Pieces.{Put};
 
-use super::actions;
+use super::actions::Actions;
 use edition::Edition;
 use numbering::locations;
 use numbering::spot::Spot;
@@ -40,28 +40,27 @@ pub fn put_front<'a>(
 }
 
 // the action section, of so many actions and bytes of rows, at a place; the next place
-pub fn put_actions<'a>(
-    s: &'a [u8],
-    acts: &'a [u8],
-    starts: &'a [usize],
-    ends: &'a [usize],
-    count: usize,
+pub fn put_actions(
+    s: &[u8],
+    actions: Actions<'_>,
     list: Spot,
     table: &mut [u8],
     i: usize,
     ed: Edition,
 ) -> usize
-    requires in_index { Operands (edition_of ed) s.now acts.now starts.now ends.now count × Measured (edition_of ed) acts.now starts.now ends.now count list.count list.at }
-    requires room { i + length (action_section (write_actions (edition_of ed) (actions_to s.now acts.now starts.now ends.now count))) ≤ length table.old }
+    requires in_index { Operands (edition_of ed) s.now actions.kinds.now actions.starts.now actions.ends.now actions.count
+        × Measured (edition_of ed) actions.kinds.now actions.starts.now actions.ends.now actions.count list.count list.at }
+    requires room { i + length (action_section (write_actions (edition_of ed) (actions_to s.now actions.kinds.now actions.starts.now actions.ends.now actions.count))) ≤ length table.old }
     ensures { Put table.old i
-        (action_section (write_actions (edition_of ed) (actions_to s.now acts.now starts.now ends.now count))) table.new result }
+        (action_section (write_actions (edition_of ed) (actions_to s.now actions.entry.kinds.now actions.entry.starts.now actions.entry.ends.now actions.entry.count))) table.new result }
 {
     let j = codec::put2(table, i, list.at + edition::width(ed));
     let l = codec::put_number(table, j, list.count, ed);
-    actions::write(s, acts, starts, ends, count, table, l, ed)
+    actions.write(s, table, l, ed)
 }
 
 // the location section, of so many locations and bytes of rows, at a place; the next place, and the comparisons of numbering
+// The tree's arrays are not put into a struct: numbering asks for them one by one.
 pub fn put_locations<'a>(
     kinds: &'a [u8],
     subs: &'a [usize],

@@ -19,7 +19,7 @@ use Rattle.tree_read.specs.Walks.{Makes}
 use Rattle.tree_read.specs.declared.nodes.Nodes.{Nodes}
 use Rattle.codec.proofs.Padding.{pad-none, pad-map-snoc}
 use Rattle.tree_read.proofs.NodeIndex.{indexed, nodes-none}
-use Rattle.tree_read.proofs.NodeKinds.{Says, says}
+use Rattle.tree_read.proofs.NodeKinds.{Says, says, kind-from-1}
 
 -- ---- a node by number
 pub record Known (s : List ℕ) (r : Nodes) (ns : List Node) (i : ℕ) : Type 0 where
@@ -66,6 +66,9 @@ module _ {s : List ℕ} {k b : ℕ} {x : Node} (m : Makes s k b x) where
 
   pub count-given : k ≤ 2 → get_or s b 0 ≡ children x
   count-given h = sym (part-first s b m.stop (part-begins s b m.stop (said.begins h)).0) ∙ said.counted h
+
+  pub no_child-given : (k ≡ 1 → ⊥) → (k ≡ 2 → ⊥) → (k ≡ 3 → ⊥) → (k ≡ 4 → ⊥) → 0 ≡ children x
+  no_child-given f g h i = said.no_child (omega (arith, said.number, kind-from-1 x))
 
 -- ---- the loop
 take_next : {A : Type 0} (l : List A) (i : ℕ) {x : A} → get_elem? l i ≡ some x → take (suc i) l ≡ take i l ++ (x ∷ [])

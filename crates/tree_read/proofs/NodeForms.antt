@@ -1,6 +1,6 @@
 -- The forms of a payload, and what a node that is read at a place says of its bytes.
 use mathlib.Core.Path.{◌≡◌, refl, sym, ap, ◌∙◌}
-use mathlib.Core.Bool.{Bool, true, false, cond}
+use mathlib.Core.Bool.{Bool, true, false, cond, not}
 use mathlib.Core.List.{List, [], ◌∷◌}
 use mathlib.Core.Option.{Option, none, some}
 use Prim.Native.Nat.{ℕ, suc, ◌+◌, ◌-◌, ◌≤◌, ◌<◌}
@@ -19,7 +19,8 @@ use Rattle.codec.specs.Reading.{Reads}
 use Rattle.codec.proofs.Reading.{lost, drop-some, number-at, then-number, no_number, then-byte, no_byte, no_bytes, then-guard, no-guard, within-below, within-above, either}
 use Rattle.codec.proofs.Known.{after-number, not-number, after-byte, not-past, after-bytes, not_short}
 use Rattle.codec.proofs.Places.{Takes, takes-then, takes-number, takes-guard, takes-byte, takes-bytes, takes-from}
-use Rattle.tree_read.specs.Index.{was_read}
+use Rattle.tree_read.specs.Index.{kind_at, start_at, end_at, found_at, was_read}
+use Rattle.tree_read.specs.declared.nodes.Found.{Found}
 
 -- ---- payloads
 pub not-one : (f : ℕ → Node) (b : List ℕ) → (length b ≡ 1 → ⊥) → false ≡ is_some (child_count f b)
@@ -38,10 +39,10 @@ one f (a ∷ []) h = go (leb 1 a)
     go false = refl
 one f (a ∷ b ∷ l) h = absurd (omega arith)
 
-pub rest-form : {A : Type 0} (f : ℕ → List ℕ → A) (b : List ℕ) → leb 1 (length b) ≡ is_some (byte_and_rest f b)
+pub rest-form : {A : Type 0} (f : ℕ → List ℕ → A) (b : List ℕ) → not (eqb (length b) 0) ≡ is_some (byte_and_rest f b)
 unfolding is_some byte_and_rest
 rest-form f [] = refl
-rest-form f (a ∷ l) = le-leb 1 (suc (length l)) (omega arith)
+rest-form f (a ∷ l) = ap not (ne_eqb (suc (length l)) 0 (λ e. omega arith))
 
 pub two-form : {A : Type 0} (f : ℕ → ℕ → A) (b : List ℕ) → eqb (length b) 2 ≡ is_some (from_two_bytes f b)
 unfolding is_some from_two_bytes
@@ -101,6 +102,11 @@ module _ (ed : Edition) (s : List ℕ) (p : ℕ) (i : p + wide ed ≤ length s) 
     has-payload {w = w} {l = l} j ew el e =
         let n : p + w + l - (p + w + 1) ≡ l - 1 = omega arith in
         (rw (n, ew, el) at e) ∙ sym (ap was_read (opened (omega arith)) ∙ made _ _)
+
+-- what is laid of it; w and l are what code holds
+pub found_is : (ed : Edition) (s : List ℕ) (p : ℕ) {w l : ℕ} → w ≡ wide ed → l ≡ num_at ed s p → ◌≡◌ {A = Found} (record { kind = get_or s (p + w) 0; start = p + w + 1; end = p + w + l }) (found_at ed s p)
+unfolding kind_at start_at end_at
+found_is ed s p ew el = rw (ew, el) refl
 
 -- ---- a node that was read
 pub record Was (ed : Edition) (s : List ℕ) (p : ℕ) (x : Node) (m : List ℕ) : Type 0 where

@@ -6,13 +6,15 @@ use mathlib.Core.Option.{Option, none, some}
 use Prim.Native.Nat.{ℕ, ◌+◌, ◌-◌, ◌≤◌, ◌<◌}
 use native.Mathlib.Omega.{arith}
 use lib.ListN.{length, get_or, drop, set, replicate, length-map}
+use Rattle.std.proofs.Common.{Result, Ok}
 use Rattle.semantics.specs.Bytes.{Read, broken, read, and_then, ◌>>=◌, guard, fail, times, just, whole, within}
 use Rattle.semantics.specs.Editions.{Edition}
-use Rattle.semantics.specs.Refusals.{need}
+use Rattle.semantics.specs.Refusals.{refused, accepted, need}
 use Rattle.semantics.proofs.Facts.{true-not-false, within_both, within_low, within-high}
 use Rattle.semantics.proofs.Readers.{guarded, whole-read}
-use Rattle.edition.proofs.Widths.{width_low}
+use Rattle.paper.specs.Refusals.{answered}
 use Rattle.schedules.specs.Nodes.{Node, read_node, read_nodes, nodes_in}
+use Rattle.schedules.specs.Files.{judge_node_section}
 use Rattle.codec.specs.Numbers.{wide, num_at}
 use Rattle.codec.specs.Reading.{Took}
 use Rattle.codec.specs.Padding.{pad}
@@ -20,8 +22,9 @@ use Rattle.codec.proofs.Reading.{drop_past, drop-some, number-front, no_front, w
 use Rattle.codec.proofs.Known.{not-lost, after_front, snoc-none, times-length}
 use Rattle.codec.proofs.Loops.{loop-start, loop-next, counted}
 use Rattle.codec.proofs.Places.{places-start, places-length, places-more, places_count, placed}
-use Rattle.tree_read.specs.Index.{kind_at, start_at, end_at, node_places, no_nodes, nodes_as, NodesLaid, index, nodes_read_in, nodes_of, not_nodes, was_read, NodeAt, NodesAt}
+use Rattle.tree_read.specs.Index.{kind_at, start_at, end_at, node_places, no_nodes, nodes_as, index, nodes_read_in, nodes_of, found_at, was_read, NodeAt, NodesAt}
 use Rattle.tree_read.specs.declared.nodes.Nodes.{Nodes}
+use Rattle.tree_read.specs.declared.nodes.Found.{Found}
 use Rattle.codec.proofs.Padding.{pad-none, pad-map-snoc, pad-map, length-pad}
 use Rattle.tree_read.proofs.NodeForms.{was, takes-node}
 
@@ -29,7 +32,7 @@ abbrev Any : {A : Type 0} → A → Unit {0} → Type 0
 Any a x = Unit {0}
 
 -- ---- the answer, by what the reader of the section gives
-pub nodes-none : (ed : Edition) (s : List ℕ) → nodes_in ed s ≡ none → nodes_of ed s ≡ no_nodes 9
+pub nodes-none : (ed : Edition) (s : List ℕ) → nodes_in ed s ≡ none → nodes_of ed s ≡ no_nodes
 unfolding nodes_of nodes_read_in need
 nodes-none ed s e = ap (λ o. nodes_read_in ed s (need 9 o)) e
 
@@ -40,9 +43,6 @@ nodes-some ed s e = ap (λ o. nodes_read_in ed s (need 9 o)) e
 pub no-section : (ed : Edition) (s : List ℕ) → length s < wide ed → nodes_in ed s ≡ none
 unfolding nodes_in read_nodes whole just ◌>>=◌ and_then
 no-section ed s h = rw (no_front ed.width s h) refl
-
-pub not-nodes : (ed : Edition) → not_nodes ed ≡ no_nodes 9
-not-nodes ed = nodes-none ed [] (no-section ed [] (width_low ed.width))
 
 module _ (ed : Edition) (s : List ℕ) (i : wide ed ≤ length s) where
   pub too_few : num_at ed s 0 < 1 → nodes_in ed s ≡ none
@@ -97,21 +97,18 @@ stands ed s p e = go (read_node ed (drop p s)) refl e
     go broken k e = true-not-false e
     go (read x m) k e = (x, m, k)
 
-pub stands-inside : (ed : Edition) (s : List ℕ) (p : ℕ) → true ≡ was_read (read_node ed (drop p s)) → (1 ≤ num_at ed s p) × (p + wide ed + num_at ed s p ≤ length s)
-stands-inside ed s p e = let k = stands ed s p e in let w = was ed s p k.2 in (w.low, w.inside)
-
 taken : (ed : Edition) (s : List ℕ) (p : ℕ) → true ≡ was_read (read_node ed (drop p s)) → Took (read_node ed) Any s p (p + wide ed + num_at ed s p) tt
 taken ed s p e =
     let k = stands ed s p e in
     let w = was ed s p k.2 in
     record { value = k.0; got = k.2 ∙ ap (read k.0) w.rest; inside = w.inside; means = tt }
 
-pub fill-next : (ed : Edition) (s ks bs es : List ℕ) (i p : ℕ) {w l : ℕ} → w ≡ wide ed → l ≡ num_at ed s p → i < 256 → Filled ed s ks bs es i p → true ≡ was_read (read_node ed (drop p s)) →
-    Filled ed s (set ks i (get_or s (p + w) 0)) (set bs i (p + w + 1)) (set es i (p + w + l)) (i + 1) (p + w + l)
-unfolding kind_at start_at end_at
-fill-next ed s ks bs es i p ew el h f e =
+pub fill-next : (ed : Edition) (s ks bs es : List ℕ) (i p : ℕ) {x : Found} → x ≡ found_at ed s p → i < 256 → Filled ed s ks bs es i p → true ≡ was_read (read_node ed (drop p s)) →
+    Filled ed s (set ks i x.kind) (set bs i x.start) (set es i x.end) (i + 1) x.end
+unfolding end_at
+fill-next ed s ks bs es i p ex h f e =
     let u = taken ed s p e in
-    rw (ew, el) (record {
+    rw ex (record {
       took = loop-next (read_node ed) Any Any s (wide ed) i f.took u (λ l a x y. tt);
       kinds = filled_more ed s f.took u (kind_at ed s) h f.kinds;
       starts = filled_more ed s f.took u (start_at ed) h f.starts;
@@ -137,21 +134,26 @@ module _ (ed : Edition) (s ks bs es : List ℕ) (i p : ℕ) (f : Filled ed s ks 
   unfolding just
   fill-over j k = whole_is ∙ rw (all_read j, drop-some p s k) refl
 
-  pub fill_end : i ≡ n → length s ≤ p → record { refusal = 0; count = n; kinds = ks; starts = bs; ends = es } ≡ nodes_of ed s
+  pub fill_end : i ≡ n → length s ≤ p → (n ≡ length f.took.value) × (nodes_in ed s ≡ some f.took.value) × (nodes_as n ks bs es ≡ nodes_of ed s)
   unfolding just index
   fill_end j k =
       let ns = f.took.value in
       let m : length ns ≡ i = counted (read_node ed) i f.took in
       let e : nodes_in ed s ≡ some ns = whole_is ∙ rw (all_read j, drop_past p s k) refl in
-      rw (f.kinds, f.starts, f.ends, ← j, ← m) (sym (nodes-some ed s e))
+      (sym j ∙ sym m, e, rw (f.kinds, f.starts, f.ends, ← j, ← m) (sym (nodes-some ed s e)))
 
--- ---- the answer, with the arrays
-module _ {ed : Edition} {s : List ℕ} {ks bs es : List ℕ} where
-  pub none-laid : nodes_in ed s ≡ none → NodesLaid ed s 0 ks bs es
-  none-laid e = record { refused = λ z. e; found = λ z. absurd (z refl) }
+-- ---- what is answered
+module _ (ed : Edition) (s : List ℕ) where
+  pub none-told : nodes_in ed s ≡ none → refused 9 ≡ answered (λ (ns : List Node). length ns) (judge_node_section ed s)
+  unfolding need
+  none-told e = rw e refl
 
-  pub all_laid : {n : ℕ} → 1 ≤ n → nodes_as n ks bs es ≡ nodes_of ed s → NodesLaid ed s n ks bs es
-  all_laid h e = record { refused = λ z. absurd (omega arith); found = λ z. e }
+  pub all_told : {n : ℕ} {ns : List Node} → n ≡ length ns → nodes_in ed s ≡ some ns → accepted n ≡ answered (λ (ns : List Node). length ns) (judge_node_section ed s)
+  unfolding need
+  all_told i e = rw (e, i) refl
+
+pub ok-is : {E : Type 0} {m n : ℕ} → ◌≡◌ {A = Result ℕ E} (Ok m) (Ok n) → m ≡ n
+ok-is e = cc
 
 -- ---- what the index says of each node
 module _ (ed : Edition) (s : List ℕ) (n : ℕ) {ns : List Node} {m : List ℕ} (a : wide ed ≤ length s) (t : times n (read_node ed) (drop (wide ed) s) ≡ read ns m) (i : ℕ) (h : i < n) where
@@ -221,13 +223,19 @@ indexed ed s {ns} h = subst Stand (sym (nodes-some ed s h)) (go (section ed s h)
       entries = λ i b. entry ed s (length ns) k.long k.got i b;
     }
 
--- ---- what a call that tests the refusal knows
-nine-not-none : {C : Type 0} → ◌≡◌ {A = ℕ} 9 0 → C
-nine-not-none h = absurd (omega arith)
-
-pub nodes-accepted : (ed : Edition) (s : List ℕ) → (nodes_of ed s).refusal ≡ 0 → (ns : List Node) × (nodes_in ed s ≡ some ns)
-nodes-accepted ed s h = go (nodes_in ed s) refl
+-- ---- what a call knows where a count was answered
+pub nodes-accepted : (ed : Edition) (s : List ℕ) {n : ℕ} → accepted n ≡ answered (λ (ns : List Node). length ns) (judge_node_section ed s) → (ns : List Node) × (nodes_in ed s ≡ some ns)
+unfolding need
+nodes-accepted ed s {n} h = go (nodes_in ed s) refl h
   where
-    go : (o : Option (List Node)) → nodes_in ed s ≡ o → (ns : List Node) × (o ≡ some ns)
-    go none e = nine-not-none (ap (λ (r : Nodes). r.refusal) (sym (nodes-none ed s e)) ∙ h)
-    go (some ns) e = (ns, refl)
+    go : (o : Option (List Node)) → nodes_in ed s ≡ o → accepted n ≡ answered (λ (ns : List Node). length ns) (need 9 o) → (ns : List Node) × (o ≡ some ns)
+    go none e h = absurd (cc)
+    go (some ns) e h = (ns, refl)
+
+pub nodes-refused : (ed : Edition) (s : List ℕ) {n : ℕ} → refused n ≡ answered (λ (ns : List Node). length ns) (judge_node_section ed s) → (nodes_in ed s ≡ none) × (n ≡ 9)
+unfolding need
+nodes-refused ed s {n} h = go (nodes_in ed s) refl h
+  where
+    go : (o : Option (List Node)) → nodes_in ed s ≡ o → refused n ≡ answered (λ (ns : List Node). length ns) (need 9 o) → (o ≡ none) × (n ≡ 9)
+    go none e h = (refl, cc)
+    go (some ns) e h = absurd (cc)

@@ -27,6 +27,18 @@ kind_number (reinitial v e) = 7
 kind_number (switch_to s m) = 8
 kind_number stop_all = 9
 
+pub kind-from-1 : (x : Node) → 1 ≤ kind_number x
+unfolding kind_number
+kind-from-1 (sequence k) = omega arith
+kind-from-1 (parallel k) = omega arith
+kind-from-1 (while_do t) = omega arith
+kind-from-1 (if_else t) = omega arith
+kind-from-1 (continue_until t) = omega arith
+kind-from-1 (reset v e) = omega arith
+kind-from-1 (reinitial v e) = omega arith
+kind-from-1 (switch_to s m) = omega arith
+kind-from-1 stop_all = omega arith
+
 -- ---- the kind of a number
 data Numbered (k : ℕ) : Kind → Type 0 where
   n_sequence : k ≡ 1 → Numbered k a_sequence

@@ -10,7 +10,6 @@ use lib.ListN.{length, get_or}
 use Rattle.schedules.specs.Trees.{Tree, Forest, leaf, halt, loop, branch, seq, par, nil, cons}
 use Rattle.schedules.specs.Laid.{NodeRow, Laid, LaidF, laid_leaf, laid-halt, laid-loop, laid-branch, laid-seq, laid-par, laid_nil, laid_cons}
 use Rattle.tree_read.specs.Ends.{TreeAt}
-use Rattle.tree_read.specs.declared.tree.Subtrees.{Subtrees}
 
 record Told (es fs : List ℕ) (n e f : ℕ) : Type 0 where
   pub end : e ≡ f
@@ -83,12 +82,9 @@ same-list [] (y ∷ m) e f = absurd (omega arith)
 same-list (x ∷ l) [] e f = absurd (omega arith)
 same-list (x ∷ l) (y ∷ m) e f = ap₂ (λ (a : ℕ) (k : List ℕ). a ∷ k) (f 0) (same-list l m (omega arith) (λ i. f (suc i)))
 
-same-subtrees : {a b : Bool} {l m : List ℕ} → a ≡ b → l ≡ m → ◌≡◌ {A = Subtrees} (record { ok = a; ends = l }) (record { ok = b; ends = m })
-same-subtrees e f = cc
-
-pub one_answer : {kinds : List ℕ} {count : ℕ} {t : Tree} {q r : Subtrees} → TreeAt kinds count t q → TreeAt kinds count t r → q ≡ r
-one_answer {count = count} {q = q} {r = r} a b = same-subtrees (a.ok ∙ sym b.ok) (same-list q.ends r.ends (a.full ∙ sym b.full) (λ i. go i (leb count i) refl))
+pub one_answer : {kinds : List ℕ} {count : ℕ} {t : Tree} {es fs : List ℕ} → TreeAt kinds count t es → TreeAt kinds count t fs → es ≡ fs
+one_answer {count = count} {es = es} {fs = fs} a b = same-list es fs (a.full ∙ sym b.full) (λ i. go i (leb count i) refl)
   where
-    go : (i : ℕ) (t : Bool) → leb count i ≡ t → get_or q.ends i 0 ≡ get_or r.ends i 0
+    go : (i : ℕ) (t : Bool) → leb count i ≡ t → get_or es i 0 ≡ get_or fs i 0
     go i true e = a.behind i (leb-true count i e) ∙ sym (b.behind i (leb-true count i e))
     go i false e = let z = leb-false count i e in let w = a.whole in (laid-told a.lies.laid (opened b.lies.laid)).at i (omega arith) (omega arith)

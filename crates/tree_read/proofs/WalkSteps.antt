@@ -7,50 +7,31 @@ use native.Mathlib.Numerals.{add-one, sub-one}
 use native.Mathlib.Omega.{arith}
 use lib.ListN.{length, get_or, drop, set, get_elem?, drop_of_length-le, length-map, length-set}
 use lib.Seq.{get_or-set_same, get_or-set_other}
-use Rattle.semantics.specs.Refusals.{refusal_of, need}
 use Rattle.semantics.proofs.Facts.{none-not-some, some_is, at-exists, at-below}
 use Rattle.schedules.specs.Nodes.{Node}
-use Rattle.schedules.specs.Trees.{Tree, Forest, cons, children, tree_from, Walked, lost, walked, onward, found, read_forest, read_tree, when_none_left, tree_of}
+use Rattle.schedules.specs.Trees.{Tree, Forest, cons, children, tree_from, Walked, lost, walked, onward, found, read_forest, read_tree}
 use Rattle.schedules.specs.Laid.{NodeRow, Laid, LaidF, laid_nil, laid_cons}
-use Rattle.schedules.specs.Files.{judge_tree}
 use Rattle.schedules.proofs.OneTree.{forest-sound, read-written}
-use Rattle.tree_read.specs.PaperNumbers.{paper_walk, next_node}
 use Rattle.tree_read.specs.Walks.{Parent, Counts, KindsOf, Bound, Kept, TreeWalked, ForestWalked}
-use Rattle.tree_read.specs.declared.tree.Walk.{Walk}
-use Rattle.tree_read.specs.declared.tree.Walk.TheVariants.{Next, Lost}
+use Rattle.std.proofs.Common.{Option, Some, None}
 use Rattle.tree_read.proofs.NodeKinds.{kind_number, says}
 use Rattle.tree_read.proofs.LaidSteps.{Same, laid_same, laid_f-same, laid_root}
 
--- ---- the paper's number and the next node, by the answer's case
-pub lost-number : {r : Walk} → r ≡ Lost → paper_walk r ≡ refusal_of (judge_tree [])
-unfolding paper_walk refusal_of need tree_of when_none_left read_tree
-lost-number e = ap paper_walk e
+-- ---- the next node
+pub lost-not-some : {C : Type 0} {r : Option ℕ} {m : ℕ} → r ≡ None → r ≡ Some m → C
+lost-not-some p q = absurd (cc)
 
-pub next-is : {r : Walk} {m : ℕ} → r ≡ Next m → next_node r ≡ some m
-unfolding next_node
-next-is e = ap next_node e
-
--- a lost walk has no next node, and one that goes on is not 10
-pub no-next : {C : Type 0} {r : Walk} {m : ℕ} → r ≡ Lost → next_node r ≡ some m → C
-unfolding next_node
-no-next p q = none-not-some (sym (ap next_node p) ∙ q)
-
-pub not-10 : {C : Type 0} {r : Walk} {m : ℕ} → r ≡ Next m → paper_walk r ≡ refusal_of (judge_tree []) → C
-unfolding paper_walk refusal_of need tree_of when_none_left read_tree
-not-10 p q = let z : ◌≡◌ {A = ℕ} 0 10 = sym (ap paper_walk p) ∙ q in absurd (omega arith)
-
-pub next-same : {r : Walk} {m n : ℕ} → r ≡ Next m → next_node r ≡ some n → m ≡ n
-unfolding next_node
-next-same p q = some_is (sym (ap next_node p) ∙ q)
+pub same-next : {r : Option ℕ} {m n : ℕ} → r ≡ Some m → r ≡ Some n → m ≡ n
+same-next p q = cc
 
 -- ---- bounds
-pub bound-lost : {low high : ℕ} → Bound low high Lost
-bound-lost = record { within = λ m e. no-next refl e }
+pub bound-lost : {low high : ℕ} → Bound low high None
+bound-lost = record { within = λ m e. absurd (cc) }
 
-pub bound-next : {low high m : ℕ} → low ≤ m → m ≤ high → Bound low high (Next m)
-bound-next {m = m} a b = record { within = λ k e. let q : m ≡ k = next-same refl e in omega arith }
+pub bound-next : {low high m : ℕ} → low ≤ m → m ≤ high → Bound low high (Some m)
+bound-next {m = m} a b = record { within = λ k e. let q : m ≡ k = cc in omega arith }
 
-pub bound-wider : {low low' high : ℕ} {r : Walk} → low' ≤ low → Bound low high r → Bound low' high r
+pub bound-wider : {low low' high : ℕ} {r : Option ℕ} → low' ≤ low → Bound low high r → Bound low' high r
 bound-wider h b = record { within = λ k e. omega (arith, b.within k e) }
 
 -- ---- a node and the nodes after it
@@ -114,21 +95,21 @@ same_set e n v m = record { long = length-set e n v; at = λ i h l. get_or-set_o
 
 -- ---- children
 module _ (ns : List Node) (r : ℕ → List Node → Walked Tree) where
-  pub forest-none : (d : List ℕ) (k n : ℕ) → k ≡ 0 → ForestWalked ns n d d (read_forest r k n (drop n ns)) (Next n)
+  pub forest-none : (d : List ℕ) (k n : ℕ) → k ≡ 0 → ForestWalked ns n d d (read_forest r k n (drop n ns)) (Some n)
   unfolding read_forest
-  forest-none d k n e = rw e (record { answer = next-is refl; rest = refl; kept = kept-none d n }, λ ks h. laid_nil refl)
+  forest-none d k n e = rw e (record { answer = refl; rest = refl; kept = kept-none d n }, λ ks h. laid_nil refl)
 
-  pub forest-lost : (d e e' : List ℕ) (k n : ℕ) {w : Walk} → (k ≡ 0 → ⊥) → TreeWalked ns n d e (r n (drop n ns)) w → w ≡ Lost → ForestWalked ns n d e' (read_forest r k n (drop n ns)) Lost
+  pub forest-lost : (d e e' : List ℕ) (k n : ℕ) {w : Option ℕ} → (k ≡ 0 → ⊥) → TreeWalked ns n d e (r n (drop n ns)) w → w ≡ None → ForestWalked ns n d e' (read_forest r k n (drop n ns)) None
   unfolding read_forest onward
   forest-lost d e e' zero n z p q = absurd (z refl)
   forest-lost d e e' (suc k) n {w} z p q = go (r n (drop n ns)) p
     where
-      go : (o : Walked Tree) → TreeWalked ns n d e o w → ForestWalked ns n d e' (onward o (λ t m ms. onward (read_forest r k m ms) (λ ts l ls. walked (cons t ts) l ls))) Lost
-      go lost p = lost-number refl
-      go (walked t m ms) p = no-next q p.0.answer
+      go : (o : Walked Tree) → TreeWalked ns n d e o w → ForestWalked ns n d e' (onward o (λ t m ms. onward (read_forest r k m ms) (λ ts l ls. walked (cons t ts) l ls))) None
+      go lost p = refl
+      go (walked t m ms) p = lost-not-some q p.0.answer
 
 -- a tree, and then the others
-forest-cons : (ns : List Node) (d e e' : List ℕ) (t : Tree) (n m : ℕ) (z : Walk) (o : Walked Forest) → Kept d e n m → ((ks : List ℕ) → KindsOf ks ns → Laid ks e t n m) → ForestWalked ns m e e' o z →
+forest-cons : (ns : List Node) (d e e' : List ℕ) (t : Tree) (n m : ℕ) (z : Option ℕ) (o : Walked Forest) → Kept d e n m → ((ks : List ℕ) → KindsOf ks ns → Laid ks e t n m) → ForestWalked ns m e e' o z →
     ForestWalked ns n d e' (onward o (λ ts l ls. walked (cons t ts) l ls)) z
 unfolding onward
 forest-cons ns d e e' t n m z lost k l p = p
@@ -138,51 +119,51 @@ forest-cons ns d e e' t n m z (walked ts j ms) k l p = (
 )
 
 module _ (ns : List Node) (r : ℕ → List Node → Walked Tree) where
-  pub forest-more : (d e e' : List ℕ) (k n m : ℕ) {w : Walk} (z : Walk) → (k ≡ 0 → ⊥) → TreeWalked ns n d e (r n (drop n ns)) w → w ≡ Next m →
+  pub forest-more : (d e e' : List ℕ) (k n m : ℕ) {w : Option ℕ} (z : Option ℕ) → (k ≡ 0 → ⊥) → TreeWalked ns n d e (r n (drop n ns)) w → w ≡ Some m →
       ForestWalked ns m e e' (read_forest r (k - 1) m (drop m ns)) z → ForestWalked ns n d e' (read_forest r k n (drop n ns)) z
   unfolding read_forest onward
   forest-more d e e' zero n m z f p q s = absurd (f refl)
   forest-more d e e' (suc k) n m {w} z f p q s = go (r n (drop n ns)) p
     where
       go : (o : Walked Tree) → TreeWalked ns n d e o w → ForestWalked ns n d e' (onward o (λ t m ms. onward (read_forest r k m ms) (λ ts l ls. walked (cons t ts) l ls))) z
-      go lost p = not-10 q p
+      go lost p = lost-not-some p q
       go (walked t j ms) p =
-          let same : m ≡ j = next-same q p.0.answer in
+          let same : m ≡ j = same-next q p.0.answer in
           let g : ForestWalked ns j e e' (read_forest r k j ms) z = subst (λ i. ForestWalked ns j e e' (read_forest r k j i) z) (sym p.0.rest) (subst (λ i. ForestWalked ns i e e' (read_forest r k i (drop i ns)) z) same (subst (λ i. ForestWalked ns m e e' (read_forest r i m (drop m ns)) z) (sub-one (suc k)) s)) in
           forest-cons ns d e e' t n j z (read_forest r k j ms) p.0.kept p.1 g
 
 -- ---- a node
 -- what the walk over the children of node n says
-abbrev Below : List ℕ → List Node → ℕ → List ℕ → List ℕ → Walk → Type 0
+abbrev Below : List ℕ → List Node → ℕ → List ℕ → List ℕ → Option ℕ → Type 0
 Below ks ns n d e w = (f : ℕ) → length ks ≤ n + 1 + f → ForestWalked ns (n + 1) d e (read_forest (read_tree f) (get_or ks n 0) (n + 1) (drop (n + 1) ns)) w
 
 module _ (ks : List ℕ) (ns : List Node) (n : ℕ) (c : Counts ks ns) where
-  pub tree-out : (d e : List ℕ) (f : ℕ) → length ks ≤ n → TreeWalked ns n d e (read_tree f n (drop n ns)) Lost
+  pub tree-out : (d e : List ℕ) (f : ℕ) → length ks ≤ n → TreeWalked ns n d e (read_tree f n (drop n ns)) None
   unfolding read_tree
   tree-out d e f h =
       let k : length ns ≤ n = omega (arith, counts-length c) in
       rw (drop_of_length-le ns k) (go f)
     where
-      go : (f : ℕ) → TreeWalked ns n d e (read_tree f n []) Lost
-      go zero = lost-number refl
-      go (suc f) = lost-number refl
+      go : (f : ℕ) → TreeWalked ns n d e (read_tree f n []) None
+      go zero = refl
+      go (suc f) = refl
 
   -- the walk over the children, where the node is read
-  below : (d e : List ℕ) (w : Walk) (h : n < length ks) → Below ks ns n d e w → (f : ℕ) → length ks ≤ n + suc f →
+  below : (d e : List ℕ) (w : Option ℕ) (h : n < length ks) → Below ks ns n d e w → (f : ℕ) → length ks ≤ n + suc f →
       ForestWalked ns (n + 1) d e (read_forest (read_tree f) (children (head n c h).node) (suc n) (drop (n + 1) ns)) w
   below d e w h s f l = rw ((head n c h).counts, ← add-one n) (s f (omega arith))
 
-  pub tree-lost : (d e e' : List ℕ) {w : Walk} → n < length ks → Below ks ns n d e w → w ≡ Lost → (f : ℕ) → length ks ≤ n + f → TreeWalked ns n d e' (read_tree f n (drop n ns)) Lost
+  pub tree-lost : (d e e' : List ℕ) {w : Option ℕ} → n < length ks → Below ks ns n d e w → w ≡ None → (f : ℕ) → length ks ≤ n + f → TreeWalked ns n d e' (read_tree f n (drop n ns)) None
   unfolding read_tree onward
   tree-lost d e e' {w} h s q zero l = absurd (omega arith)
   tree-lost d e e' {w} h s q (suc f) l = rw (head n c h).is (go (read_forest (read_tree f) (children (head n c h).node) (suc n) (drop (n + 1) ns)) (below d e w h s f l))
     where
-      go : (o : Walked Forest) → ForestWalked ns (n + 1) d e o w → TreeWalked ns n d e' (onward o (λ ts m ms. found (tree_from n (head n c h).node ts) m ms)) Lost
-      go lost p = lost-number refl
-      go (walked ts m ms) p = no-next q p.0.answer
+      go : (o : Walked Forest) → ForestWalked ns (n + 1) d e o w → TreeWalked ns n d e' (onward o (λ ts m ms. found (tree_from n (head n c h).node ts) m ms)) None
+      go lost p = refl
+      go (walked ts m ms) p = lost-not-some q p.0.answer
 
-  pub tree-read : (d e : List ℕ) (m : ℕ) {w : Walk} → n < length ks → n < length d → Below ks ns n d e w → w ≡ Next m → (f : ℕ) → length ks ≤ n + f →
-      TreeWalked ns n d (set e n m) (read_tree f n (drop n ns)) (Next m)
+  pub tree-read : (d e : List ℕ) (m : ℕ) {w : Option ℕ} → n < length ks → n < length d → Below ks ns n d e w → w ≡ Some m → (f : ℕ) → length ks ≤ n + f →
+      TreeWalked ns n d (set e n m) (read_tree f n (drop n ns)) (Some m)
   unfolding read_tree onward found
   tree-read d e m {w} h b s q zero l = absurd (omega arith)
   tree-read d e m {w} h b s q (suc f) l = rw (head n c h).is (go _ refl (below d e w h s f l))
@@ -200,16 +181,16 @@ module _ (ks : List ℕ) (ns : List Node) (n : ℕ) (c : Counts ks ns) where
             ends = get_or-set_same e n m 0 (omega arith) ∙ same;
           }
 
-      made : (ts : Forest) (j : ℕ) (ms : List Node) {t : Tree} → tree_from n x ts ≡ some t → ForestWalked ns (n + 1) d e (walked ts j ms) w → TreeWalked ns n d (set e n m) (walked t j ms) (Next m)
+      made : (ts : Forest) (j : ℕ) (ms : List Node) {t : Tree} → tree_from n x ts ≡ some t → ForestWalked ns (n + 1) d e (walked ts j ms) w → TreeWalked ns n d (set e n m) (walked t j ms) (Some m)
       made ts j ms {t} g p =
-          let same : m ≡ j = next-same q p.0.answer in (
-            record { answer = next-is (ap Next same); rest = p.0.rest; kept = kept_set m p.0.kept },
+          let same : m ≡ j = same-next q p.0.answer in (
+            record { answer = ap Some same; rest = p.0.rest; kept = kept_set m p.0.kept },
             λ ks k. laid_root x ts g (here ks k j same p.0.kept.long) (laid_f-same (subst (λ i. LaidF ks e ts i j) (add-one n) (p.1 ks k)) (same_set e n m j)),
           )
 
       go : (o : Walked Forest) → read_forest (read_tree f) (children x) (suc n) (drop (n + 1) ns) ≡ o → ForestWalked ns (n + 1) d e o w →
-          TreeWalked ns n d (set e n m) (onward o (λ ts m ms. found (tree_from n x ts) m ms)) (Next m)
-      go lost k p = not-10 q p
+          TreeWalked ns n d (set e n m) (onward o (λ ts m ms. found (tree_from n x ts) m ms)) (Some m)
+      go lost k p = lost-not-some p q
       go (walked ts j ms) k p =
           let t = (head n c h).parent n ts (forest-sound (read_tree f) (read-written f) (children x) (suc n) (drop (n + 1) ns) k).0 in
           rw t.1 (made ts j ms t.1 p)

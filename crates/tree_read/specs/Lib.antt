@@ -2,4 +2,3 @@
 pub mod Index
 pub mod Ends
 pub mod Walks
-pub mod PaperNumbers

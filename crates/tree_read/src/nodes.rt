@@ -1,64 +1,40 @@
 // The layout of the schedule section (9), and its nodes by number.
-ghost use Rattle.std.specs.Prelude.{◌≡◌, ℕ, ◌≤◌, length, drop, replicate};
+ghost use Rattle.std.specs.Prelude.{◌≡◌, ℕ, ◌≤◌, List, length, replicate};
 ghost use Rattle.semantics.specs.Bytes.{is_some};
-ghost use Rattle.semantics.specs.Editions as papers;
+ghost use Rattle.paper.specs.Refusals.{judged_of, answered};
 ghost use Rattle.edition.specs.Editions.{edition_of};
-ghost use Rattle.schedules.specs.Nodes.{Node, kind_of, child_count, node_of, read_node};
-ghost use Rattle.tree_read.specs.Index.{was_read, not_nodes, nodes_as, NodesLaid};
+ghost use Rattle.schedules.specs.Nodes.{Node, kind_of, child_count, node_of};
+ghost use Rattle.schedules.specs.Files.{judge_node_section};
+ghost use Rattle.tree_read.specs.Index.{FoundAt, nodes_as, nodes_of};
 
 use edition::Edition;
+use paper::refusals::Refusal;
 
+// three columns, since moves, sizes, numbering and table_write are lent one or two of them each; kinds are bytes of the file
 #[derive(Clone, Copy)]
 pub struct Nodes {
-    pub refusal: u8,
     pub count: usize,
     pub kinds: [u8; edition::NODES],
     pub starts: [usize; edition::NODES],
     pub ends: [usize; edition::NODES],
 }
 
-// nodes that stand in these arrays
-pub fn found(
-    count: usize,
-    kinds: [u8; edition::NODES],
-    starts: [usize; edition::NODES],
-    ends: [usize; edition::NODES],
-) -> Nodes
-    ensures { result ≡ nodes_as count kinds starts ends }
-{
-    Nodes {
-        refusal: 0,
-        count,
-        kinds,
-        starts,
-        ends,
-    }
-}
-
-pub fn refused() -> Nodes
-    ensures { (ed : papers.Edition) → result ≡ not_nodes ed }
-{
-    let kinds = [0u8; edition::NODES];
-    let places = [0usize; edition::NODES];
-    Nodes {
-        refusal: 9,
-        count: 0,
-        kinds: kinds,
-        starts: places,
-        ends: places,
-    }
+// a node's kind, and where its payload starts and ends
+#[derive(Clone, Copy)]
+struct Found {
+    kind: u8,
+    start: usize,
+    end: usize,
 }
 
 // the payload is a child count, of a SEQUENCE or a PARALLEL
 fn one_count(b: &[u8]) -> bool
     ensures { (f : ℕ → Node) → result ≡ is_some (child_count f b.now) }
 {
-    if b.len() != 1 {
-        return false;
-    }
-    b[0] >= 1
+    b.len() == 1 && b[0] >= 1
 }
 
+// a row for each kind, as document 01 lists them: whether these bytes are its payload
 fn payload(k: u8, b: &[u8]) -> bool
     ensures { result ≡ is_some (node_of (kind_of k) b.now) }
 {
@@ -68,75 +44,75 @@ fn payload(k: u8, b: &[u8]) -> bool
         paper::nodes::WHILE => true,
         paper::nodes::IF => true,
         paper::nodes::CONTINUE => true,
-        paper::nodes::RESET => b.len() >= 1,
-        paper::nodes::REINITIAL => b.len() >= 1,
+        paper::nodes::RESET => !b.is_empty(),
+        paper::nodes::REINITIAL => !b.is_empty(),
         paper::nodes::SWITCH => b.len() == 2,
-        paper::nodes::STOP => b.len() == 0,
+        paper::nodes::STOP => b.is_empty(),
         _ => false,
     }
 }
 
-// a node stands at this place
-fn node(s: &[u8], at: usize, ed: Edition) -> bool
+// the node at a place, where one stands there
+fn node(s: &[u8], at: usize, ed: Edition) -> Option<Found>
     requires { at ≤ length s.now }
-    ensures { result ≡ was_read (read_node (edition_of ed) (drop at s.now)) }
+    ensures { FoundAt (edition_of ed) s.now at result }
 {
     let w = edition::width(ed);
     if s.len() - at < w {
-        return false;
+        return None;
     }
     let l = codec::number(s, at, ed);
     if l < 1 {
-        return false;
+        return None;
     }
     if l > paper::NODE_BYTES {
-        return false;
+        return None;
     }
     if s.len() - at - w < l {
-        return false;
+        return None;
     }
-    let b = at + w + 1;
-    let e = at + w + l;
-    payload(s[at + w], &s[b..e])
+    let kind = s[at + w];
+    let start = at + w + 1;
+    let end = at + w + l;
+    if !payload(kind, &s[start..end]) {
+        return None;
+    }
+    Some(Found { kind, start, end })
 }
 
-// The nodes of a section, laid in arrays that hold zeros: how many there are, or 0 where the section breaks its layout.
+// The nodes of a section, laid in arrays that hold zeros: how many there are.
 pub fn read(
     s: &[u8],
     kinds: &mut [u8; edition::NODES],
     starts: &mut [usize; edition::NODES],
     ends: &mut [usize; edition::NODES],
     ed: Edition,
-) -> usize
+) -> Result<usize, Refusal>
     requires { (kinds.old ≡ replicate 256 0) × (starts.old ≡ replicate 256 0) × (ends.old ≡ replicate 256 0) }
-    ensures { NodesLaid (edition_of ed) s.now result kinds.new starts.new ends.new }
+    ensures answers { judged_of result ≡ answered (λ (ns : List Node). length ns) (judge_node_section (edition_of ed) s.now) }
+    ensures laid { (n : ℕ) → result ≡ Ok n → nodes_as n kinds.new starts.new ends.new ≡ nodes_of (edition_of ed) s.now }
 {
     let w = edition::width(ed);
     if s.len() < w {
-        return 0;
+        return Err(Refusal::NodeLayout);
     }
     let n = codec::number(s, 0, ed);
     if n < 1 {
-        return 0;
+        return Err(Refusal::NodeLayout);
     }
     if n > edition::node_limit(ed) {
-        return 0;
+        return Err(Refusal::NodeLayout);
     }
     let mut p = w;
-    let mut i = 0;
-    while i < n {
-        if !node(s, p, ed) {
-            return 0;
-        }
-        let e = p + w + codec::number(s, p, ed);
-        kinds[i] = s[p + w];
-        starts[i] = p + w + 1;
-        ends[i] = e;
-        p = e;
-        i += 1;
+    for i in 0..n {
+        let x = node(s, p, ed).ok_or(Refusal::NodeLayout)?;
+        kinds[i] = x.kind;
+        starts[i] = x.start;
+        ends[i] = x.end;
+        p = x.end;
     }
     if p < s.len() {
-        return 0;
+        return Err(Refusal::NodeLayout);
     }
-    n
+    Ok(n)
 }

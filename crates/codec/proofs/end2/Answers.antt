@@ -1,12 +1,10 @@
+use mathlib.Core.Path.{sym, ◌∙◌}
 use native.Mathlib.Omega.{arith}
-use Rattle.codec.proofs.Sections.{short2, past2, at2}
+use Rattle.codec.proofs.Sections.{short2, at2}
 use Rattle.codec.proofs.end2.Goals as goal
 
-pub returns-then-s-at-lt2 : goal.returns-then-s-at-lt2
-returns-then-s-at-lt2 c = short2 _ _ (omega arith) (omega arith)
-
-pub returns-then-s-at : goal.returns-then-s-at
-returns-then-s-at c = past2 _ _ c.nat2-n.ensures (omega arith) (omega arith)
+pub returns-in_err-start : goal.returns-in_err-start
+returns-in_err-start c = c.from_residual.ensures ∙ short2 _ _ (sym c.behind.ensures ∙ c.in_err-start.was) (omega arith)
 
 pub returns : goal.returns
-returns c = at2 _ _ c.nat2-n.ensures (omega arith)
+returns c = c.behind-2.ensures ∙ at2 _ _ (sym c.behind.ensures ∙ c.in_ok-start.was) c.nat2.ensures

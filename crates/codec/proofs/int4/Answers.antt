@@ -1,8 +1,9 @@
+use mathlib.Core.Path.{ap, ◌∙◌}
 use mir.Syntax.{w32}
 use mir.ValLaws.{to_z-of_z}
-use mathlib.Core.Path.{ap, ◌∙◌}
 use Rattle.semantics.specs.Bytes.{signed}
+use Rattle.codec.proofs.Words.{from-four, to-signed}
 use Rattle.codec.proofs.int4.Goals as goal
 
 pub returns : goal.returns
-returns c = to_z-of_z w32 c.signed.result (record { sfits = c.signed.type_inv }) ∙ c.signed.ensures ∙ ap signed c.word.ensures
+returns c = to_z-of_z w32 c.from_be_bytes.result (record { sfits = c.from_be_bytes.type_inv }) ∙ c.from_be_bytes.ensures ∙ to-signed _ ∙ ap signed (from-four _ _ _ _)

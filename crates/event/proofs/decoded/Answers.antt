@@ -10,6 +10,12 @@ use Rattle.event.proofs.decoded.Goals as goal
 pub overflow_add-width : goal.overflow_add-width
 overflow_add-width c = omega (arith, c.width.ensures, width-high (edition_of c.args.ed).width)
 
+pub slice_bounds-unused-count-in-1 : goal.slice_bounds-unused-count-in-1
+slice_bounds-unused-count-in-1 c = omega (arith, c.width.ensures, width-high (edition_of c.args.ed).width)
+
+pub slice_bounds-unused-start-in-1 : goal.slice_bounds-unused-start-in-1
+slice_bounds-unused-start-in-1 c = omega (arith, c.width.ensures, width-high (edition_of c.args.ed).width)
+
 pub number-requires : goal.number-requires
 number-requires c = omega (arith, width-high (edition_of c.args.ed).width)
 
@@ -22,7 +28,7 @@ returns-in-1 c = let s = c.args in
 
 pub returns-in-2 : goal.returns-in-2
 returns-in-2 c = let s = c.args in
-    switches (edition_of s.ed) s.s.now (search rules) c.in-2.is c.wide.ensures c.wide-in-2.ensures c.unused-in-2.ensures
+    switches (edition_of s.ed) s.s.now (search rules) c.in-2.is c.from.ensures c.from-in-2.ensures c.unused-in-2.ensures
 
 pub returns-in_default : goal.returns-in_default
 returns-in_default c = let s = c.args in

@@ -1,21 +1,8 @@
-use mathlib.Core.Path.{refl, sym, ap, ◌∙◌}
-use native.Mathlib.Omega.{arith}
-use Rattle.event.specs.Decoded.{where_zero}
-use Rattle.event.proofs.Bytes.{zero-here, not-here, none_left}
+use Rattle.event.proofs.Bytes.{kept, turned}
 use Rattle.event.proofs.unused.Goals as goal
 
-pub returns-then-s-i-ne0 : goal.returns-then-s-i-ne0
-returns-then-s-i-ne0 c = let s = c.args in
-    let l = c.loop-i in
-    sym (ap (λ z. where_zero z s.e) (l.invariant ∙ not-here s.s.now l.i (omega arith) c.if-s-i-ne0.true))
+pub returns-then-all_zero : goal.returns-then-all_zero
+returns-then-all_zero c = kept c.args.s.now c.all_zero.ensures c.args.e c.if-all_zero.true
 
-pub loop-i-preserved : goal.loop-i-preserved
-loop-i-preserved c = let l = c.loop-i in l.invariant ∙ zero-here c.args.s.now l.i (omega arith) c.if-s-i-ne0.false
-
-pub returns : goal.returns
-returns c = let s = c.args in
-    let l = c.loop-i in
-    sym (ap (λ z. where_zero z s.e) (l.invariant ∙ none_left s.s.now l.i (omega arith)))
-
-pub loop-i-init : goal.loop-i-init
-loop-i-init c = refl
+pub returns-else-all_zero : goal.returns-else-all_zero
+returns-else-all_zero c = turned c.args.s.now c.all_zero.ensures c.args.e c.if-all_zero.false

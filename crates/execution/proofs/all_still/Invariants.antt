@@ -11,7 +11,7 @@ use Rattle.execution.proofs.Scans.{At, still_from}
 use Rattle.execution.proofs.all_still.Given as goal
 
 abbrev pub invariant-loop-n : goal.invariant-loop-n
-invariant-loop-n l = At l.acting l.n × ((ed : Edition) → check_waits ed l.values (map (part_at l.t (start_row l.ix) (end_row l.ix)) (members l.acting)) ≡ still_from ed l.values (part_at l.t (start_row l.ix) (end_row l.ix)) l.acting l.n)
+invariant-loop-n l = At l.acting.words l.n × ((ed : Edition) → check_waits ed l.values (map (part_at l.p.bytes.now (start_row l.p.index.now) (end_row l.p.index.now)) (members l.acting.words)) ≡ still_from ed l.values (part_at l.p.bytes.now (start_row l.p.index.now) (end_row l.p.index.now)) l.acting.words l.n)
 
 abbrev pub decreases-loop-n : goal.decreases-loop-n
 decreases-loop-n l = 256 - l.n

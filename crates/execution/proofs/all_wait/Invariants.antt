@@ -8,7 +8,7 @@ use Rattle.execution.proofs.Scans.{At, is_wait_kind, all}
 use Rattle.execution.proofs.all_wait.Given as goal
 
 abbrev pub invariant-loop-n : goal.invariant-loop-n
-invariant-loop-n l = At l.acting l.n × (every (is_wait_kind (kind_row l.ix)) (members l.acting) ≡ all (kind_row l.ix) l.acting l.n)
+invariant-loop-n l = At l.acting.words l.n × (every (is_wait_kind (kind_row l.p.index.now)) (members l.acting.words) ≡ all (kind_row l.p.index.now) l.acting.words l.n)
 
 abbrev pub decreases-loop-n : goal.decreases-loop-n
 decreases-loop-n l = 256 - l.n

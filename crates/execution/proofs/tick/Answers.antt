@@ -1,7 +1,9 @@
 -- The stages of a tick, each by its law of Events.
-use mathlib.Core.Path.{sym, ◌∙◌}
+use mathlib.Core.Path.{sym, ap, ◌∙◌}
+use Rattle.effects.specs.Told.{told_step}
+use Rattle.effects.proofs.Told.{err_is, stops, stay-goes_on}
 use Rattle.execution.proofs.Lending.{is_current, is-driving, is-sized}
-use Rattle.execution.proofs.Events.{few-acting, cut-acting, kinds-of, tick-27, tick-28, tick-31, tick-end}
+use Rattle.execution.proofs.Events.{few-acting, cut-acting, kinds-of, left-told, tick-27, tick-28, tick-31, tick-end}
 use Rattle.execution.proofs.tick.Goals as goal
 
 pub all_wait-requires : goal.all_wait-requires
@@ -10,17 +12,19 @@ all_wait-requires c = let p = c.requires in record { few = few-acting _ _ _ _ _ 
 pub returns-then-not-all_wait : goal.returns-then-not-all_wait
 returns-then-not-all_wait c = λ p f q. tick-27 _ _ _ _ _ _ _ q (sym (c.all_wait.ensures f (kinds-of _ _ _ _ _ _ _ q)) ∙ c.if-not-all_wait.true)
 
-pub switch_check-check-requires : goal.switch_check-check-requires
-switch_check-check-requires c = let r = c.requires.ready in is_current _ _ r.plant _ _ r.fits
+pub switch_check-requires : goal.switch_check-requires
+switch_check-requires c = let r = c.requires.ready in is_current _ _ r.plant _ _ r.fits
 
-pub returns-then-not-goes_on : goal.returns-then-not-goes_on
-returns-then-not-goes_on c = λ p f q. tick-28 _ _ _ _ _ _ _ q (sym (c.all_wait.ensures f (kinds-of _ _ _ _ _ _ _ q)) ∙ c.if-not-all_wait.false) _ (c.switch_check-check.ensures _) (sym c.goes_on.ensures ∙ c.if-not-goes_on.true)
+pub returns-in_err-switch_check : goal.returns-in_err-switch_check
+returns-in_err-switch_check c = λ p f q. left-told _ _ (ap told_step (err_is _ _ c.from_residual.ensures.1))
+    (tick-28 _ _ _ _ _ _ _ q (sym (c.all_wait.ensures f (kinds-of _ _ _ _ _ _ _ q)) ∙ c.if-not-all_wait.false) _ (c.in_err-switch_check.ensures _) (stops _))
 
-pub all_still-walk-requires : goal.all_still-walk-requires
-all_still-walk-requires c = let r = c.requires.ready in record { few = few-acting _ _ _ _ _ _ _ r; cut = cut-acting _ _ _ _ _ _ _ r }
+pub all_still-requires : goal.all_still-requires
+all_still-requires c = let r = c.requires.ready in record { few = few-acting _ _ _ _ _ _ _ r; cut = cut-acting _ _ _ _ _ _ _ r }
 
-pub returns-then-not-goes_on-2 : goal.returns-then-not-goes_on-2
-returns-then-not-goes_on-2 c = λ p f q. tick-31 _ _ _ _ _ _ _ q (sym (c.all_wait.ensures f (kinds-of _ _ _ _ _ _ _ q)) ∙ c.if-not-all_wait.false) _ (c.switch_check-check.ensures _) (sym c.goes_on.ensures ∙ c.if-not-goes_on.false) _ c.all_still-walk.ensures (sym c.goes_on-2.ensures ∙ c.if-not-goes_on-2.true)
+pub returns-in_err-all_still : goal.returns-in_err-all_still
+returns-in_err-all_still c = λ p f q. left-told _ _ (ap told_step (err_is _ _ c.from_residual-in_err-all_still.ensures.1))
+    (tick-31 _ _ _ _ _ _ _ q (sym (c.all_wait.ensures f (kinds-of _ _ _ _ _ _ _ q)) ∙ c.if-not-all_wait.false) _ (c.in_ok-switch_check.ensures _) stay-goes_on _ c.in_err-all_still.ensures (stops _))
 
 pub rates_now-rates-requires : goal.rates_now-rates-requires
 rates_now-rates-requires c = let r = c.requires.ready in (is_current _ _ r.plant _ _ r.fits, is-driving _ _ r.plant _ _ r.fits)
@@ -30,4 +34,5 @@ advance-requires c = let r = c.requires.ready in
     is-sized _ _ r.plant _ _ r.fits _ c.rates_now-rates.ensures
 
 pub returns : goal.returns
-returns c = λ p f q. tick-end _ _ _ _ _ _ _ q (sym (c.all_wait.ensures f (kinds-of _ _ _ _ _ _ _ q)) ∙ c.if-not-all_wait.false) _ (c.switch_check-check.ensures _) (sym c.goes_on.ensures ∙ c.if-not-goes_on.false) _ c.all_still-walk.ensures (sym c.goes_on-2.ensures ∙ c.if-not-goes_on-2.false) _ c.rates_now-rates.ensures c.advance.ensures
+returns c = λ p f q. tick-end _ _ _ _ _ _ _ q (sym (c.all_wait.ensures f (kinds-of _ _ _ _ _ _ _ q)) ∙ c.if-not-all_wait.false) _ (c.in_ok-switch_check.ensures _) stay-goes_on _
+    c.in_ok-all_still.ensures stay-goes_on _ c.rates_now-rates.ensures c.advance.ensures

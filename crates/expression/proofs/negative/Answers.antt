@@ -6,7 +6,7 @@ use mir.Syntax.{w64}
 use mir.Val.{SFits}
 use mir.ValLaws.{to_z-of_z}
 use Rattle.semantics.specs.Expressions.{result}
-use Rattle.expression.specs.Evaluation.{number_at}
+use Rattle.expression.specs.Evaluation.{said}
 use Rattle.expression.proofs.Widths.{widens, widened, difference-fits}
 use Rattle.expression.proofs.negative.Goals as goal
 
@@ -19,4 +19,4 @@ overflow_sub-a c = subst (λ (y : ℤ). SFits w64 (pos 0 -ℤ y)) (sym (widened 
 
 pub returns : goal.returns
 returns c = c.ranged.ensures
-    ∙ ap (λ (z : ℤ). number_at c.args.next (result z)) (to_z-of_z w64 _ (subst (λ (y : ℤ). SFits w64 (pos 0 -ℤ y)) (sym (widened c.args.a c.ranges.a)) (difference-fits (pos 0) c.args.a (record { sfits = lit< tt }) c.ranges.a)) ∙ ap (λ (y : ℤ). pos 0 -ℤ y) (widened c.args.a c.ranges.a) ∙ +ℤ_idl (neg_ℤ c.args.a))
+    ∙ ap (λ (z : ℤ). said (result z)) (to_z-of_z w64 _ (subst (λ (y : ℤ). SFits w64 (pos 0 -ℤ y)) (sym (widened c.args.a c.ranges.a)) (difference-fits (pos 0) c.args.a (record { sfits = lit< tt }) c.ranges.a)) ∙ ap (λ (y : ℤ). pos 0 -ℤ y) (widened c.args.a c.ranges.a) ∙ +ℤ_idl (neg_ℤ c.args.a))

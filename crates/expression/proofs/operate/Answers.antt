@@ -1,39 +1,26 @@
--- By what the two operands gave; where one is no number, `off-number` says that the whole is broken.
-use mathlib.Core.Path.{sym, ap, ap₂, ◌∙◌}
+-- The first fault, or what is made of both values.
+use mathlib.Core.Path.{sym, ap₂, ◌∙◌}
+use Rattle.std.proofs.Common.{rules}
 use lib.IntN.{ℤ}
 use mir.Syntax.{w32}
 use mir.ValLaws.{to_z-of_z}
-use Rattle.semantics.specs.Expressions.{applied, result, operands, then_value}
-use Rattle.expression.specs.Evaluation.{operated, number_at}
+use Rattle.std.proofs.lemmas.Result.{err_from_is_err_and}
+use Rattle.semantics.specs.Expressions.{operands, applied, result}
+use Rattle.expression.specs.Evaluation.{said}
 use Rattle.expression.specs.Forms.{operation_is}
-use Rattle.expression.specs.declared.Found.{Found}
-use Rattle.expression.proofs.Cases.{not-number, off-number, number-fault-at}
+use Rattle.expression.proofs.Operands.{then-fault, then-ok, left-fault, right-fault, both-ok}
 use Rattle.expression.proofs.operate.Goals as goal
 
-pub returns-in-ANumber-r : goal.returns-in-ANumber-r
-unfolding operands then_value
-returns-in-ANumber-r c = c.arithmetic.ensures
-    ∙ ap₂ (λ (x y : ℤ). number_at c.in-ANumber-r.n (result (applied (operation_is c.args.o) x y)))
-    (to_z-of_z w32 c.in-ANumber.a (record { sfits = c.in-ANumber.known_told-1-own.given.0.1 })) (to_z-of_z w32 c.in-ANumber-r.b (record { sfits = c.in-ANumber-r.known_told-in-ANumber-1-own.given.0.1 }))
-    ∙ sym (ap₂ (operated (operation_is c.args.o)) c.in-ANumber.is c.in-ANumber-r.is)
+pub returns-in_err-l : goal.returns-in_err-l
+returns-in_err-l c a b p q = let e = err_from_is_err_and c.from_residual.result c.from_residual.ensures.1 in
+    rw (e.1, e.2) (then-fault result (operands (applied (operation_is c.args.o)) a b) (left-fault (applied (operation_is c.args.o)) a b (sym c.in_err-l.was ∙ p)))
 
-pub returns-in-NumberFault-r : goal.returns-in-NumberFault-r
-unfolding operands then_value
-returns-in-NumberFault-r c = number-fault-at _ _ ∙ sym (ap₂ (operated (operation_is c.args.o)) c.in-ANumber.is c.in-NumberFault-r.is)
+pub returns-in_err-r : goal.returns-in_err-r
+returns-in_err-r c a b p q = let e = err_from_is_err_and c.from_residual-in_err-r.result c.from_residual-in_err-r.ensures.1 in
+    rw (e.1, e.2) (then-fault result (operands (applied (operation_is c.args.o)) a b) (right-fault (applied (operation_is c.args.o)) a b (sym c.in_ok-l.was ∙ p) (sym c.in_err-r.was ∙ q)))
 
-pub returns-in_default-r : goal.returns-in_default-r
-returns-in_default-r c = off-number _ c.args.r (not-number c.args.r c.in_default-r.in_default-r-own.keys3) ∙ sym (ap (λ (x : Found). operated (operation_is c.args.o) x c.args.r) c.in-ANumber.is)
-
-pub returns-in-ANumber-r-2 : goal.returns-in-ANumber-r-2
-unfolding operands then_value
-returns-in-ANumber-r-2 c = number-fault-at _ _ ∙ sym (ap₂ (operated (operation_is c.args.o)) c.in-NumberFault.is c.in-ANumber-r-2.is)
-
-pub returns-in-NumberFault-r-2 : goal.returns-in-NumberFault-r-2
-unfolding operands then_value
-returns-in-NumberFault-r-2 c = number-fault-at _ _ ∙ sym (ap₂ (operated (operation_is c.args.o)) c.in-NumberFault.is c.in-NumberFault-r-2.is)
-
-pub returns-in_default-r-2 : goal.returns-in_default-r-2
-returns-in_default-r-2 c = off-number _ c.args.r (not-number c.args.r c.in_default-r-2.in_default-r-2-own.keys3) ∙ sym (ap (λ (x : Found). operated (operation_is c.args.o) x c.args.r) c.in-NumberFault.is)
-
-pub returns-in_default : goal.returns-in_default
-returns-in_default c = off-number _ c.args.l (not-number c.args.l c.in_default.in_default-own.keys3)
+pub returns : goal.returns
+returns c a b p q = let x = to_z-of_z w32 c.in_ok-l.field-0 (search rules) in
+    let y = to_z-of_z w32 c.in_ok-r.field-0 (search rules) in
+    c.arithmetic.ensures ∙ ap₂ (λ (v w : ℤ). said (result (applied (operation_is c.args.o) v w))) x y
+    ∙ then-ok result _ (both-ok (applied (operation_is c.args.o)) a b (sym c.in_ok-l.was ∙ p) (sym c.in_ok-r.was ∙ q))

@@ -1,17 +1,11 @@
--- By what the operand gave; where it is no truth, `off-truth` says that the whole is broken.
-use mathlib.Core.Path.{sym, ap, ◌∙◌}
-use Rattle.semantics.specs.Expressions.{then_value}
-use Rattle.expression.specs.Evaluation.{opposed}
-use Rattle.expression.proofs.Cases.{not-truth, off-truth, truth-fault-at}
+use mathlib.Core.Path.{sym, ◌∙◌}
+use Rattle.std.proofs.lemmas.Result.{err_from_is_err_and}
+use Rattle.expression.proofs.Operands.{then-fault, then-ok}
 use Rattle.expression.proofs.oppose.Goals as goal
 
-pub returns-in-ATruth : goal.returns-in-ATruth
-unfolding then_value
-returns-in-ATruth c = sym (ap opposed c.in-ATruth.is)
+pub returns-in_err-b : goal.returns-in_err-b
+returns-in_err-b c a p = let e = err_from_is_err_and c.from_residual.result c.from_residual.ensures.1 in
+    rw (e.1, e.2) (then-fault _ a (sym c.in_err-b.was ∙ p))
 
-pub returns-in-TruthFault : goal.returns-in-TruthFault
-unfolding then_value
-returns-in-TruthFault c = truth-fault-at _ _ ∙ sym (ap opposed c.in-TruthFault.is)
-
-pub returns-in_default : goal.returns-in_default
-returns-in_default c = off-truth _ c.args.f (not-truth c.args.f c.in_default.in_default-own.keys3)
+pub returns : goal.returns
+returns c a p = then-ok _ a (sym c.in_ok-b.was ∙ p)

@@ -21,4 +21,4 @@ pub ahead-requires : goal.ahead-requires
 ahead-requires c = lending _ (omega (arith, c.well_formed)) c.program-ranges.ensures c.requires
 
 pub returns : goal.returns
-returns c = answers-start _ (omega (arith, c.well_formed)) c.program-ranges.ensures c.requires c.args.a c.args.b c.args.c c.ahead.ensures
+returns c = answers-start _ (omega (arith, c.well_formed)) c.program-ranges.ensures c.requires c.args.a c.args.b c.args.c c.ahead.result c.ahead.ensures

@@ -1,23 +1,21 @@
 -- One law of Looking for each return.
-use mathlib.Core.Path.{◌∙◌}
 use Rattle.semantics.specs.Editions.{edition1}
 use Rattle.lookahead.proofs.Looking.{by_table, room_of, by-start, admitting, by-events}
 use Rattle.lookahead.proofs.three.Goals as goal
 
-pub returns-then-unread-ne0 : goal.returns-then-unread-ne0
-returns-then-unread-ne0 c = c.refused.ensures ∙ by_table edition1 c.args.table.now c.args.start.now c.args.a c.args.b c.args.c c.index-x.ensures c.if-unread-ne0.true
+pub returns-in_err-x : goal.returns-in_err-x
+returns-in_err-x c = let q = c.args in
+    by_table edition1 q.table.now q.start.now q.a q.b q.c c.from_residual.result c.in_err-x.field-0.0 c.from_residual.ensures.1 c.in_err-x.ensures
 
-pub admit-asked-requires : goal.admit-asked-requires
-admit-asked-requires c = room_of edition1 c.args.table.now c.index-x.ensures c.if-unread-ne0.false
+pub admit-requires : goal.admit-requires
+admit-requires c = let q = c.args in room_of edition1 q.table.now q.start.now q.a q.b q.c c.in_ok-x.ensures
 
-pub returns-then-unfit-ne0 : goal.returns-then-unfit-ne0
-returns-then-unfit-ne0 c = c.refused-then-unfit-ne0.ensures
-    ∙ by-start edition1 c.args.table.now c.args.start.now c.args.a c.args.b c.args.c c.index-x.ensures c.if-unread-ne0.false c.admit-asked.ensures
-    c.if-unfit-ne0.true
+pub returns-in_err-asked : goal.returns-in_err-asked
+returns-in_err-asked c = let q = c.args in
+    by-start edition1 q.table.now q.start.now q.a q.b q.c c.in_ok-x.ensures c.from_residual-in_err-asked.result c.in_err-asked.field-0.0 c.from_residual-in_err-asked.ensures.1 c.in_err-asked.ensures
 
 pub lend-requires : goal.lend-requires
-lend-requires c = admitting edition1 c.args.table.now c.index-x.ensures c.if-unread-ne0.false c.args.start.now c.admit-asked.ensures c.if-unfit-ne0.false
+lend-requires c = let q = c.args in admitting edition1 q.table.now q.start.now q.a q.b q.c c.in_ok-x.ensures c.in_ok-asked.ensures
 
 pub returns : goal.returns
-returns c = by-events edition1 c.args.table.now c.args.start.now c.args.a c.args.b c.args.c c.index-x.ensures c.if-unread-ne0.false c.admit-asked.ensures
-    c.if-unfit-ne0.false c.lend.ensures
+returns c = let q = c.args in by-events edition1 q.table.now q.start.now q.a q.b q.c c.in_ok-x.ensures c.in_ok-asked.ensures c.lend.result c.lend.ensures

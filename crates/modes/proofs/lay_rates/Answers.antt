@@ -1,5 +1,8 @@
 use mathlib.Core.Path.{◌∙◌}
+use Prim.Native.Nat.{◌-◌, ◌<◌}
+use native.Mathlib.Nat.{sub-zero}
 use native.Mathlib.Omega.{arith}
+use lib.ListN.{get_or}
 use mir.Syntax.{w32}
 use mir.ValLaws.{to_z-of_z}
 use Rattle.modes.proofs.Standing.{parts}
@@ -9,41 +12,20 @@ use Rattle.modes.proofs.lay_rates.Goals as goal
 pub bounds-es-at : goal.bounds-es-at
 bounds-es-at c = omega (arith, (parts c.requires.0).some)
 
-pub overflow_cast-left : goal.overflow_cast-left
-overflow_cast-left c = omega (arith, c.type_inv.es c.args.at)
-
-pub overflow_add-p : goal.overflow_add-p
-overflow_add-p c = omega (arith, (parts c.requires.0).some)
-
-pub loop-left-init : goal.loop-left-init
-loop-left-init c = lay-start _ c.requires.0 c.requires.1
+pub loop-init : goal.loop-init
+loop-init c = rw sub-zero (lay-start _ c.requires.0 c.requires.1)
 
 pub bounds-es-p : goal.bounds-es-p
-bounds-es-p c = let x = lay-next c.loop-left.invariant c.loop-left-test.true in omega (arith, x.inside, x.known)
-
-pub overflow_cast-v : goal.overflow_cast-v
-overflow_cast-v c = omega (arith, c.type_inv.es c.loop-left.p)
-
-pub overflow_add-p-in-loop-left : goal.overflow_add-p-in-loop-left
-overflow_add-p-in-loop-left c = let x = lay-next c.loop-left.invariant c.loop-left-test.true in omega (arith, x.inside, x.known)
+bounds-es-p c = let h : 0 < get_or c.args.es.now c.args.at 0 - c.loop.counter = omega arith in omega (arith, (lay-next c.loop.invariant h).inside)
 
 pub int4-requires : goal.int4-requires
-int4-requires c = let x = lay-next c.loop-left.invariant c.loop-left-test.true in omega (arith, x.inside, x.known)
-
-pub offset_bounds-rates-v : goal.offset_bounds-rates-v
-offset_bounds-rates-v c = let x = lay-next c.loop-left.invariant c.loop-left-test.true in omega (arith, x.inside, x.known)
+int4-requires c = let h : 0 < get_or c.args.es.now c.args.at 0 - c.loop.counter = omega arith in omega (arith, (lay-next c.loop.invariant h).inside)
 
 pub bounds-rates-v : goal.bounds-rates-v
-bounds-rates-v c = let x = lay-next c.loop-left.invariant c.loop-left-test.true in omega (arith, x.inside, x.known)
+bounds-rates-v c = let h : 0 < get_or c.args.es.now c.args.at 0 - c.loop.counter = omega arith in omega (arith, (lay-next c.loop.invariant h).known)
 
-pub overflow_add-p-in-loop-left-2 : goal.overflow_add-p-in-loop-left-2
-overflow_add-p-in-loop-left-2 c = let x = lay-next c.loop-left.invariant c.loop-left-test.true in omega (arith, x.inside, x.known)
-
-pub loop-left-preserved : goal.loop-left-preserved
-loop-left-preserved c = (lay-next c.loop-left.invariant c.loop-left-test.true).on (to_z-of_z w32 c.int4.result (record { sfits = c.int4.type_inv }) ∙ c.int4.ensures)
-
-pub shape_of-rates : goal.shape_of-rates
-shape_of-rates c = c.loop-left.invariant.long
+pub loop-preserved : goal.loop-preserved
+loop-preserved c = (lay-next c.loop.invariant (omega arith)).on (omega arith) c.from-v.ensures (to_z-of_z w32 c.int4.result (record { sfits = c.int4.type_inv }) ∙ c.int4.ensures)
 
 pub returns : goal.returns
-returns c = lay-end c.loop-left.invariant (omega arith)
+returns c = lay-end c.loop.invariant (omega arith)

@@ -1,43 +1,42 @@
-use mathlib.Core.Path.{sym, ap, ◌∙◌}
+use mathlib.Core.Path.{ap, ◌∙◌}
+use Prim.Native.Nat.{◌-◌, ◌<◌}
+use native.Mathlib.Nat.{sub-zero}
 use native.Mathlib.Omega.{arith}
+use lib.ListN.{get_or}
+use Rattle.paper.specs.declared.answers.TurnedAway.TheVariants.{SwitchTrue}
+use Rattle.effects.specs.declared.Untaken.TheVariants as Code
+use Rattle.effects.specs.PaperNumbers.{Away, Stay}
 use Rattle.effects.specs.Verdicts.{step_verdict}
+use Rattle.effects.specs.Told.{told_step}
+use Rattle.effects.proofs.Told.{err_is, stops, stay-goes_on}
 use Rattle.modes.proofs.Standing.{parts, switch-bytes}
-use Rattle.modes.proofs.Walks.{walk_start, walk_here, walk-stops, walk-next, walk_end, check-one}
+use Rattle.modes.proofs.Walks.{asked_true, asked_false, walk_start, walk_here, walk-stops, walk-next, walk_end, check-one}
 use Rattle.modes.proofs.mode_check.Goals as goal
 
 pub bounds-es-count : goal.bounds-es-count
 bounds-es-count c = omega (arith, (parts c.requires).room, c.switches_at-count.ensures)
 
-pub overflow_cast-left : goal.overflow_cast-left
-overflow_cast-left c = omega (arith, c.type_inv.es c.switches_at-count.result)
+pub loop-init : goal.loop-init
+loop-init c = rw sub-zero (walk_start 28 _ c.requires _ c.switches_at-count.ensures)
 
-pub overflow_add-p : goal.overflow_add-p
-overflow_add-p c = omega (arith, (parts c.requires).room, c.switches_at-count.ensures)
+pub truth-requires : goal.truth-requires
+truth-requires c = walk_here c.loop.invariant (omega arith)
 
-pub loop-left-init : goal.loop-left-init
-loop-left-init c = walk_start 28 _ c.requires _ c.switches_at-count.ensures
-
-pub truth-r-requires : goal.truth-r-requires
-truth-r-requires c = walk_here c.loop-left.invariant c.loop-left-test.true
-
-pub returns-then-not-goes_on : goal.returns-then-not-goes_on
-returns-then-not-goes_on c ed = walk-stops c.loop-left.invariant c.loop-left-test.true c.truth-r.ensures ed (sym c.goes_on.ensures ∙ c.if-not-goes_on.true)
+pub returns-in_err-truth : goal.returns-in_err-truth
+returns-in_err-truth c ed = ap told_step (err_is _ _ c.from_residual.ensures.1)
+    ∙ walk-stops c.loop.invariant (omega arith) (c.in_err-truth.ensures (Away 28) Stay) ed (stops _)
     ∙ ap step_verdict (check-one ed _ _)
 
-pub overflow_add-p-in-loop-left : goal.overflow_add-p-in-loop-left
-overflow_add-p-in-loop-left c = let x = switch-bytes (walk_here c.loop-left.invariant c.loop-left-test.true).stands in omega (arith, x.long, x.inside)
+pub returns-then-branch : goal.returns-then-branch
+returns-then-branch c ed = walk-stops c.loop.invariant (omega arith) (asked_true c.if-branch.true (c.in_ok-truth.ensures (Away 28) Stay)) ed (stops (Code.Away SwitchTrue))
+    ∙ ap step_verdict (check-one ed _ _)
 
 pub bounds-es-p : goal.bounds-es-p
-bounds-es-p c = let x = switch-bytes (walk_here c.loop-left.invariant c.loop-left-test.true).stands in omega (arith, x.long, x.inside)
+bounds-es-p c = let h : 0 < get_or c.args.es.now c.switches_at-count.result 0 - c.loop.counter = omega arith in
+    let x = switch-bytes (walk_here c.loop.invariant h).stands in omega (arith, x.long, x.inside)
 
-pub overflow_cast-p : goal.overflow_cast-p
-overflow_cast-p c = omega (arith, c.type_inv.es c.loop-left.p)
-
-pub overflow_add-p-in-loop-left-2 : goal.overflow_add-p-in-loop-left-2
-overflow_add-p-in-loop-left-2 c = let x = switch-bytes (walk_here c.loop-left.invariant c.loop-left-test.true).stands in omega (arith, x.long, x.inside)
-
-pub loop-left-preserved : goal.loop-left-preserved
-loop-left-preserved c = walk-next c.loop-left.invariant c.loop-left-test.true c.truth-r.ensures (sym c.goes_on.ensures ∙ c.if-not-goes_on.false)
+pub loop-preserved : goal.loop-preserved
+loop-preserved c = walk-next c.loop.invariant (omega arith) (asked_false c.if-branch.false (c.in_ok-truth.ensures (Away 28) Stay)) (omega arith) c.from.ensures stay-goes_on
 
 pub returns : goal.returns
-returns c ed = walk_end c.loop-left.invariant ed (omega arith) ∙ ap step_verdict (check-one ed _ _)
+returns c ed = walk_end c.loop.invariant ed (omega arith) ∙ ap step_verdict (check-one ed _ _)

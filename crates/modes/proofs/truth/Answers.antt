@@ -13,9 +13,6 @@ overflow_add-e c = let x = switch-bytes c.requires.stands in omega (arith, x.lon
 pub bounds-es-at : goal.bounds-es-at
 bounds-es-at c = let x = switch-bytes c.requires.stands in omega (arith, x.long, x.inside)
 
-pub overflow_cast-e : goal.overflow_cast-e
-overflow_cast-e c = omega (arith, c.type_inv.es c.args.at)
-
 pub overflow_add-e-2 : goal.overflow_add-e-2
 overflow_add-e-2 c = let x = switch-bytes c.requires.stands in omega (arith, x.long, x.inside)
 
@@ -29,4 +26,4 @@ pub slice_bounds-ask-end : goal.slice_bounds-ask-end
 slice_bounds-ask-end c = let x = switch-bytes c.requires.stands in omega (arith, x.long, x.inside)
 
 pub returns : goal.returns
-returns c = asked-at c.ask.ensures
+returns c y n = asked-at c.from.ensures (λ ed. c.ask.ensures ed y n)

@@ -1,5 +1,5 @@
 -- The four parts of the record are written one after the other.
-use mathlib.Core.List.{◌∷◌, append_assoc, flat_map}
+use mathlib.Core.List.{[], ◌∷◌, append_assoc, flat_map}
 use Prim.Native.Nat.{◌≤◌}
 use native.Mathlib.Omega.{arith}
 use lib.ListN.{length, length-append}
@@ -19,10 +19,10 @@ returns c = let a = c.args in
     let q = c.put_set-k in
     let r = c.put_values-l in
     let t = c.put_slice in
-    let S = big_endian (edition_of a.ed).set_bytes (set_number (members a.acting.now)) in
+    let S = big_endian (edition_of a.ed).set_bytes (set_number (members a.acting.now.words)) in
     let Q = flat_map value_bytes a.values.now in
-    let h : a.i ≤ length a.d.now = omega (arith, c.requires.0) in
-    let e = length-bytes (edition_of a.ed).set_bytes (set_number (members a.acting.now)) in
+    let h : a.i ≤ length a.d.now = omega (arith, c.requires) in
+    let e = length-bytes (edition_of a.ed).set_bytes (set_number (members a.acting.now.words)) in
     let n = values_length a.values.now in
     let m = length-append (a.answer ∷ S) Q in
     let one = put-more p.ensures.1 q.ensures.1 h p.ensures.0 in

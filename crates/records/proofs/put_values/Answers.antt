@@ -13,25 +13,25 @@ use Rattle.codec.proofs.Writing.{wrote_none, put-more, wrote_as}
 use Rattle.records.proofs.Records.{values-more, values_length}
 use Rattle.records.proofs.put_values.Goals as goal
 
-pub loop-j-init : goal.loop-j-init
+pub loop-z-init : goal.loop-z-init
 unfolding flat_map
-loop-j-init c = (omega arith, omega arith, refl, wrote_none _ _)
+loop-z-init c = (omega arith, omega arith, refl, wrote_none _ _)
 
-pub loop-j-preserved : goal.loop-j-preserved
-loop-j-preserved c = let l = c.loop-j in
+pub loop-z-preserved : goal.loop-z-preserved
+loop-z-preserved c = let l = c.loop-z in
     let vs = c.args.values.now in
     let p = c.put_signed-at in
-    let h : l.j < length vs = omega arith in
-    let z = get_or vs l.j (pos 0) in
-    let n = values_length (take l.j vs) in
-    let k = length-take-le l.j vs l.invariant.0 in (
+    let h : l.z-index < length vs = omega arith in
+    let z = get_or vs l.z-index (pos 0) in
+    let n = values_length (take l.z-index vs) in
+    let k = length-take-le l.z-index vs l.invariant.0 in (
       omega arith,
       omega (arith, p.ensures.0),
       p.auto.d ∙ l.invariant.2,
-      wrote_as (values-more vs l.j h) (put-more l.invariant.3 (wrote_as (ap value_bytes (to_z-of_z w32 z (search rules))) p.ensures.1) (omega arith) (omega arith)),
+      wrote_as (values-more vs l.z-index h) (put-more l.invariant.3 (wrote_as (ap value_bytes (to_z-of_z w32 z (search rules))) p.ensures.1) (omega arith) (omega arith)),
     )
 
 pub returns : goal.returns
-returns c = let l = c.loop-j in
-    let e : l.j ≡ length c.args.values.now = omega arith in
-    (omega arith, wrote_as (ap (flat_map value_bytes) (take_all l.j c.args.values.now (omega arith))) l.invariant.3)
+returns c = let l = c.loop-z in
+    let e : l.z-index ≡ length c.args.values.now = omega arith in
+    (omega arith, wrote_as (ap (flat_map value_bytes) (take_all l.z-index c.args.values.now (omega arith))) l.invariant.3)

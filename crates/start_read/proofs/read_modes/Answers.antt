@@ -6,22 +6,19 @@ use Rattle.start_read.proofs.read_modes.Goals as goal
 
 pub loop-i-init : goal.loop-i-init
 unfolding pad
-loop-i-init c = let a = c.args in (omega arith, modes-start a.s.now a.n a.counts.now)
+loop-i-init c = let a = c.args in modes-start a.s.now a.n a.counts.now
 
-pub overflow_cast-m : goal.overflow_cast-m
-overflow_cast-m c = omega (arith, c.type_inv.s c.loop-i.i)
-
-pub returns-then-m-counts : goal.returns-then-m-counts
-returns-then-m-counts c = let a = c.args in
+pub returns-then-from-counts : goal.returns-then-from-counts
+returns-then-from-counts c = let a = c.args in
     let l = c.loop-i in
-    modes-stop a.s.now a.n a.counts.now l.i l.invariant.1 (omega arith) (omega arith) (omega arith)
+    modes-stop a.s.now a.n a.counts.now l.i l.invariant (omega arith) (omega arith) (omega arith)
 
 pub loop-i-preserved : goal.loop-i-preserved
 loop-i-preserved c = let a = c.args in
     let l = c.loop-i in
-    (omega arith, modes-next a.s.now a.n a.counts.now l.i l.invariant.1 (omega arith) (omega arith) (omega arith) _ refl)
+    modes-next a.s.now a.n a.counts.now l.i l.invariant (omega arith) (omega arith) (omega arith) _ refl
 
 pub returns : goal.returns
 returns c = let a = c.args in
     let l = c.loop-i in
-    modes-end a.s.now a.n a.counts.now l.i l.invariant.1 (omega arith) (omega arith)
+    modes-end a.s.now a.n a.counts.now l.i l.invariant (omega arith) (omega arith)

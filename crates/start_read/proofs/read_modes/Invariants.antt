@@ -1,10 +1,6 @@
 -- The first i modes are stored, and whether all fit is left to the others (`Moded`).
-use Prim.Native.Nat.{◌-◌, ◌≤◌}
 use Rattle.start_read.proofs.StartTurns.{Moded}
 use Rattle.start_read.proofs.read_modes.Given as goal
 
 abbrev pub invariant-loop-i : goal.invariant-loop-i
-invariant-loop-i l = (l.i ≤ l.n) × Moded l.s l.n l.counts l.i l.modes
-
-abbrev pub decreases-loop-i : goal.decreases-loop-i
-decreases-loop-i l = l.n - l.i
+invariant-loop-i l = Moded l.s l.n l.counts l.i l.modes

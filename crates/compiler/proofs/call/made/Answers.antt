@@ -21,12 +21,9 @@ table_length-requires c = let f = c.requires.found in
     let l : c.measured-list.result.at ≤ 52224 = omega (arith, c.measured-list.ensures.short, f.promise.nodes.few, (edition_of c.args.ed).entries_fit) in
     record {
       ordered = (v.ordered, q.ordered);
-      short = (omega (arith, v.inside, f.short), omega (arith, q.inside, f.short), l, c.row_bytes-size.ensures.1);
+      short = (omega (arith, v.ends, f.short), omega (arith, q.ends, f.short), l, c.row_bytes-size.ensures.1);
     }
 
 pub returns : goal.returns
-returns c = (
-  refl,
-  λ f g. plan-made _ g c.kinds-acts.ensures c.measured-list.ensures refl c.row_bytes-size.ensures.0
-      (c.table_length.ensures.is, c.table_length.ensures.fits),
-)
+returns c = λ f g. plan-made _ g c.kinds-acts.ensures c.measured-list.ensures refl c.row_bytes-size.ensures.0
+    (c.table_length.ensures.is, c.table_length.ensures.fits)

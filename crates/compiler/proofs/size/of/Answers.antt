@@ -1,17 +1,19 @@
 -- The index refuses, or the size of its tree is told.
+use Rattle.std.proofs.lemmas.Result.{err_from_is_err_and}
 use Rattle.semantics.specs.Editions.{edition1}
 use Rattle.compiler.proofs.SizeStages.{size-refused, size-over, size_exact}
 use Rattle.compiler.proofs.Indexes.{indexed, planted}
 use Rattle.compiler.proofs.size.of.Goals as goal
 
-pub returns-then-refusal-ne0 : goal.returns-then-refusal-ne0
-returns-then-refusal-ne0 c = size-refused edition1 c.args.file.now c.index-x.ensures c.if-refusal-ne0.true
+pub returns-in_err-x : goal.returns-in_err-x
+returns-in_err-x c = let p = err_from_is_err_and c.from_residual.result c.from_residual.ensures.1 in
+    rw (p.1, p.2) (size-refused edition1 c.args.file.now {why = c.in_err-x.field-0.0} c.in_err-x.ensures)
 
-pub of-m-requires : goal.of-m-requires
-of-m-requires c = planted (indexed edition1 c.args.file.now c.index-x.ensures c.if-refusal-ne0.false)
+pub of-requires : goal.of-requires
+of-requires c = planted (indexed edition1 c.args.file.now c.in_ok-x.ensures)
 
-pub returns-then-m : goal.returns-then-m
-returns-then-m c = size-over (indexed edition1 c.args.file.now c.index-x.ensures c.if-refusal-ne0.false) c.of-m.ensures c.if-m.true
+pub returns-in-Ok : goal.returns-in-Ok
+returns-in-Ok c = size_exact (indexed edition1 c.args.file.now c.in_ok-x.ensures) c.in-Ok.ensures
 
-pub returns : goal.returns
-returns c = size_exact (indexed edition1 c.args.file.now c.index-x.ensures c.if-refusal-ne0.false) c.of-m.ensures c.if-m.false
+pub returns-in-Err : goal.returns-in-Err
+returns-in-Err c = size-over (indexed edition1 c.args.file.now c.in_ok-x.ensures) c.in-Err.ensures

@@ -1,11 +1,19 @@
-use mathlib.Core.Path.{ap, ◌∙◌}
+use mathlib.Core.Path.{sym, ap, ap₂, ◌∙◌}
 use Rattle.semantics.specs.Editions.{edition1}
+use Rattle.schedule_read.proofs.Promises.{index-refused}
 use Rattle.initial_start.specs.Held.{held}
-use Rattle.initial_start.proofs.StartGiven.{schedule-gives}
+use Rattle.initial_start.specs.Initial.{sections_start}
+use Rattle.initial_start.proofs.StartGiven.{schedule-none, schedule-promised, schedule-gives}
 use Rattle.initial_start.proofs.schedule.start.Goals as goal
 
-pub between-requires : goal.between-requires
-between-requires c = (schedule-gives edition1 _ c.index-x.ensures).stand
+pub returns-in_default : goal.returns-in_default
+returns-in_default c = c.none.ensures ∙ ap held (sym (schedule-none edition1 _ (index-refused edition1 _ c.in_default.ensures)))
+
+pub of-requires : goal.of-requires
+of-requires c = (schedule-promised edition1 _ c.in-Ok.ensures).variables.inside
+
+pub of-requires-2 : goal.of-requires-2
+of-requires-2 c = (schedule-promised edition1 _ c.in-Ok.ensures).equations.inside
 
 pub returns : goal.returns
-returns c = c.between.ensures edition1 ∙ ap held (schedule-gives edition1 _ c.index-x.ensures).is
+returns c = c.of-3.ensures edition1 ∙ ap held (ap₂ (sections_start edition1) c.of.ensures c.of-2.ensures ∙ schedule-gives edition1 _ c.in-Ok.ensures)

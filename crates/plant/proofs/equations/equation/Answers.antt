@@ -1,20 +1,27 @@
--- The slice after its two-byte length is missing, cut short, kept or lost: one law for each.
+-- The section is missing, or its equation is kept or lost: one law for each.
+use mathlib.Core.Path.{sym, ◌∙◌}
 use native.Mathlib.Omega.{arith}
-use Rattle.semantics.specs.Sections.{read_equation}
-use Rattle.codec.proofs.Reading.{no-section2}
+use Rattle.codec.proofs.Sections.{cuts2, ended}
 use Rattle.plant.proofs.EquationParts.{equation-cut, equation-kept, equation-lost}
 use Rattle.plant.proofs.PaperNumbers.{step-says}
 use Rattle.plant.proofs.equations.equation.Goals as goal
 
-pub returns-then-s-at-lt2 : goal.returns-then-s-at-lt2
-unfolding read_equation
-returns-then-s-at-lt2 c = step-says (no-section2 _ (omega arith) (omega arith))
+pub returns-in_err-end : goal.returns-in_err-end
+returns-in_err-end c = rw c.from_residual.ensures (step-says (equation-cut _ _ _ c.requires (sym c.in_err-end.was ∙ c.end2.ensures)))
 
-pub returns-then-s-b : goal.returns-then-s-b
-returns-then-s-b c = step-says (equation-cut _ _ _ _ c.nat2-n.ensures (omega arith) (omega arith))
+pub slice_bounds-equation_in-count : goal.slice_bounds-equation_in-count
+slice_bounds-equation_in-count c = let e = ended cuts2 _ _ c.requires (sym c.in_ok-end.was ∙ c.end2.ensures) in omega (arith, e.is)
 
-pub returns-in-Kept : goal.returns-in-Kept
-returns-in-Kept c = step-says (equation-kept _ _ _ _ c.nat2-n.ensures (omega arith) (omega arith) c.equation_in-w.ensures.is c.in-Kept.is)
+pub slice_bounds-equation_in-start : goal.slice_bounds-equation_in-start
+slice_bounds-equation_in-start c = let e = ended cuts2 _ _ c.requires (sym c.in_ok-end.was ∙ c.end2.ensures) in omega (arith, e.is)
 
-pub returns-in-Lost : goal.returns-in-Lost
-returns-in-Lost c = step-says (equation-lost _ _ _ _ c.nat2-n.ensures (omega arith) (omega arith) c.equation_in-w.ensures.is c.in-Lost.is)
+pub slice_bounds-equation_in-end : goal.slice_bounds-equation_in-end
+slice_bounds-equation_in-end c = let e = ended cuts2 _ _ c.requires (sym c.in_ok-end.was ∙ c.end2.ensures) in e.inside
+
+pub returns-in_err-named : goal.returns-in_err-named
+returns-in_err-named c =
+    rw c.from_residual-in_err-named.ensures
+    (step-says (equation-lost _ _ _ c.requires (sym c.in_ok-end.was ∙ c.end2.ensures) c.equation_in.ensures.is c.in_err-named.was))
+
+pub returns : goal.returns
+returns c = step-says (equation-kept _ _ _ c.requires (sym c.in_ok-end.was ∙ c.end2.ensures) c.equation_in.ensures.is c.in_ok-named.was)

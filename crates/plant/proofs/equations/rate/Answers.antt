@@ -6,8 +6,5 @@ use Rattle.plant.proofs.equations.rate.Goals as goal
 pub returns-then-s-at-lt5 : goal.returns-then-s-at-lt5
 returns-then-s-at-lt5 c = step-says (rate-short _ _ _ (omega arith) (omega arith))
 
-pub overflow_cast-result : goal.overflow_cast-result
-overflow_cast-result c = omega (arith, c.type_inv.s c.args.at)
-
 pub returns : goal.returns
-returns c = step-says (rate-there _ _ _ (omega arith))
+returns c = step-says (rw c.from.ensures (rate-there _ _ _ (omega arith)))

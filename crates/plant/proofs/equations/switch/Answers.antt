@@ -10,14 +10,11 @@ pub returns-then-s-at : goal.returns-then-s-at
 unfolding read_switch
 returns-then-s-at c = step-says (no_byte _ (omega arith))
 
-pub returns-then-l-lt1 : goal.returns-then-l-lt1
-returns-then-l-lt1 c = step-says (switch-empty _ _ _ (omega arith) (omega arith))
-
-pub overflow_cast-l : goal.overflow_cast-l
-overflow_cast-l c = omega (arith, c.type_inv.s c.args.at)
+pub returns-then-n-lt1 : goal.returns-then-n-lt1
+returns-then-n-lt1 c = step-says (switch-empty _ _ _ (omega arith) (omega (arith, c.from-n.ensures)))
 
 pub returns-then-s-at-2 : goal.returns-then-s-at-2
-returns-then-s-at-2 c = step-says (switch-short _ _ _ (omega arith) (omega arith) (omega arith))
+returns-then-s-at-2 c = step-says (switch-short _ _ _ (omega arith) (omega (arith, c.from-n.ensures)) (omega (arith, c.from-n.ensures)))
 
 pub returns : goal.returns
-returns c = step-says (switch-there _ _ _ (omega arith) (omega arith) (omega arith))
+returns c = step-says (rw c.from-n.ensures (switch-there _ _ _ (omega arith) (omega (arith, c.from-n.ensures)) (omega (arith, c.from-n.ensures))))

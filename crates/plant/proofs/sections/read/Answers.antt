@@ -1,27 +1,17 @@
 -- Refused by the variables, by the equations or by 8, or all is passed: a law each.
-use mathlib.Core.Path.{◌∙◌}
-use native.Mathlib.Omega.{arith}
-use borrow.Author.Tests.{not-true, not-false}
-use Rattle.plant.proofs.PlantJudged.{by-variables, by-equations, named, by_8, passed}
+use Rattle.paper.proofs.PassedOn.{passed_on}
+use Rattle.plant.proofs.PlantJudged.{by-variables, by-equations, by_8, passed}
 use Rattle.plant.proofs.sections.read.Goals as goal
 
-pub returns-then-first-ne0 : goal.returns-then-first-ne0
-returns-then-first-ne0 c ed = c.refused.ensures ∙ by-variables ed c.args.vs.now c.args.es.now (c.read-v.ensures.0 ed) (omega (arith, c.if-first-ne0.true))
+pub returns-in_err-variables : goal.returns-in_err-variables
+returns-in_err-variables c ed = passed_on _ _ _ c.from_residual.ensures.1 (by-variables ed _ _ (c.in_err-variables.ensures.judged ed))
 
-pub returns-then-second-ne0 : goal.returns-then-second-ne0
-returns-then-second-ne0 c ed = c.refused-then-second-ne0.ensures ∙ by-equations ed c.args.vs.now c.args.es.now (c.read-v.ensures.0 ed) c.if-first-ne0.false c.read-e.ensures c.if-second-ne0.true
+pub returns-in_err-selectors : goal.returns-in_err-selectors
+returns-in_err-selectors c ed = passed_on _ _ _ c.from_residual-in_err-selectors.ensures.1 (by-equations ed _ _ (c.in_ok-variables.ensures.judged ed) c.in_err-selectors.ensures)
 
-pub read-d-requires : goal.read-d-requires
-read-d-requires c = let a = c.args in
-    named a.es.now c.read-v.ensures.1 c.read-e.ensures c.if-second-ne0.false
-
-pub returns-then-not-d : goal.returns-then-not-d
-returns-then-not-d c ed = let a = c.args in
-    c.refused-then-not-d.ensures
-    ∙ by_8 ed a.vs.now a.es.now (c.read-v.ensures.0 ed) c.if-first-ne0.false c.read-e.ensures c.if-second-ne0.false
-    c.read-d.ensures (not-true _ c.if-not-d.true)
+pub returns-in_err-driven : goal.returns-in_err-driven
+returns-in_err-driven c ed =
+    passed_on _ _ _ c.from_residual-in_err-driven.ensures.1 (by_8 ed _ _ (c.in_ok-variables.ensures.judged ed) c.in_ok-selectors.ensures c.in_err-driven.ensures)
 
 pub returns : goal.returns
-returns c ed = let a = c.args in
-    passed ed a.vs.now a.es.now (c.read-v.ensures.0 ed) c.if-first-ne0.false c.read-e.ensures c.if-second-ne0.false
-    c.read-d.ensures (not-false _ c.if-not-d.false)
+returns c ed = passed ed _ _ (c.in_ok-variables.ensures.judged ed) c.in_ok-selectors.ensures c.in_ok-driven.ensures

@@ -8,35 +8,26 @@ use Rattle.plant.proofs.truths.read.Goals as goal
 pub bounds-s-0 : goal.bounds-s-0
 bounds-s-0 c = (section-sound _ c.requires.0).inside
 
-pub overflow_cast-n : goal.overflow_cast-n
-overflow_cast-n c = omega (arith, c.type_inv.s 0)
-
-pub loop-i-init : goal.loop-i-init
-loop-i-init c = (omega arith, turns-start _ _ (section-sound _ c.requires.0))
-
-pub overflow_add-b : goal.overflow_add-b
-overflow_add-b c = omega (arith, equation-ends c.loop-i.invariant.1 (omega arith))
+pub loop-init : goal.loop-init
+loop-init c = turns-start _ _ (section-sound _ c.requires.0)
 
 pub nat2-requires : goal.nat2-requires
-nat2-requires c = omega (arith, equation-ends c.loop-i.invariant.1 (omega arith))
+nat2-requires c = omega (arith, equation-ends c.loop.invariant (omega arith))
 
 pub overflow_add-e : goal.overflow_add-e
-overflow_add-e c = omega (arith, slice_inside c.loop-i.invariant.1 (omega arith) c.nat2.ensures)
+overflow_add-e c = omega (arith, slice_inside c.loop.invariant (omega arith) c.nat2.ensures)
 
-pub slice_bounds-equation-end : goal.slice_bounds-equation-end
-slice_bounds-equation-end c = slice_inside c.loop-i.invariant.1 (omega arith) c.nat2.ensures
+pub slice_bounds-of_equation-end : goal.slice_bounds-of_equation-end
+slice_bounds-of_equation-end c = slice_inside c.loop.invariant (omega arith) c.nat2.ensures
 
-pub equation-requires : goal.equation-requires
-equation-requires c = (slice-there c.loop-i.invariant.1 (omega arith) c.nat2.ensures, c.requires.1)
+pub of_equation-requires : goal.of_equation-requires
+of_equation-requires c = slice-there c.loop.invariant (omega arith) c.nat2.ensures
 
-pub returns-then-not-equation : goal.returns-then-not-equation
-returns-then-not-equation c ed es h = equations-false c.loop-i.invariant.1 (omega arith) c.nat2.ensures c.equation.ensures c.if-not-equation.true ed es [] (section-at _ h).got
+pub returns-then-not-of_equation : goal.returns-then-not-of_equation
+returns-then-not-of_equation c ed es h = equations-false c.loop.invariant (omega arith) c.nat2.ensures c.of_equation.ensures c.if-not-of_equation.true ed es [] (section-at _ h).got
 
-pub overflow_add-i : goal.overflow_add-i
-overflow_add-i c = omega (arith, c.type_inv.s 0)
-
-pub loop-i-preserved : goal.loop-i-preserved
-loop-i-preserved c = (omega arith, equations-next c.loop-i.invariant.1 (omega arith) c.nat2.ensures c.equation.ensures c.if-not-equation.false)
+pub loop-preserved : goal.loop-preserved
+loop-preserved c = equations-next c.loop.invariant (omega arith) c.nat2.ensures c.of_equation.ensures c.if-not-of_equation.false
 
 pub returns : goal.returns
-returns c ed es h = turns-true c.loop-i.invariant.1 (omega arith) ed es [] (section-at _ h).got
+returns c ed es h = turns-true c.loop.invariant (omega arith) ed es [] (section-at _ h).got

@@ -1,10 +1,7 @@
-use mathlib.Core.Path.{sym, ◌∙◌}
-use native.Mathlib.Omega.{arith}
-use Rattle.plant.proofs.VariableAnswer.{refused-4, few-refused}
+use Rattle.paper.proofs.Answered.{refuses-with}
+use Rattle.plant.specs.Variables.{accepted_variables}
+use Rattle.plant.proofs.VariableAnswer.{refused-4}
 use Rattle.plant.proofs.variables.read.Goals as goal
 
-pub returns-then-n-lt1 : goal.returns-then-n-lt1
-returns-then-n-lt1 c = (λ ed. c.refused.ensures ∙ sym (refused-4 ed _ (c.counted-n.ensures.wrong (omega arith) ed)), few-refused 4 c.refused.ensures)
-
-pub values-requires : goal.values-requires
-values-requires c = c.counted-n.ensures.right (omega arith)
+pub returns-in-None-clause-judged : goal.returns-in-None-clause-judged
+returns-in-None-clause-judged c ed = refuses-with accepted_variables (refused-4 ed c.args.s.now (c.in-None.ensures ed))

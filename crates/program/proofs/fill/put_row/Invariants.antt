@@ -1,12 +1,10 @@
 -- The first k entries are put.
 use mathlib.Core.Path.{◌≡◌}
-use Prim.Native.Nat.{◌≤◌, ◌-◌}
-use lib.ListN.{length, take}
+use mathlib.Core.List.{map}
+use Prim.Native.Nat.{ℕ}
+use lib.ListN.{take}
 use lib.Seq.{sets}
 use Rattle.program.proofs.fill.put_row.Given as goal
 
 abbrev pub invariant-loop-k : goal.invariant-loop-k
-invariant-loop-k l = (l.k ≤ length l.from) × (l.rs ≡ sets l.initial.rs l.i (take l.k l.from))
-
-abbrev pub decreases-loop-k : goal.decreases-loop-k
-decreases-loop-k l = length l.from - l.k
+invariant-loop-k g l = (f : _ → ℕ) → ((x : _) (r : ℕ) → goal.F-post g l.entry x r → r ≡ f x) → l.ix ≡ sets l.initial.ix l.i (take l.k (map f l.from))

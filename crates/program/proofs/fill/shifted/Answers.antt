@@ -1,9 +1,6 @@
-use native.Mathlib.Omega.{arith}
-use Rattle.program.proofs.Shifts.{shift-over, shift-place}
+use mathlib.Core.Path.{◌∙◌}
+use Rattle.program.proofs.Shifts.{shifted}
 use Rattle.program.proofs.fill.shifted.Goals as goal
 
-pub returns-then-by-p : goal.returns-then-by-p
-returns-then-by-p c = shift-over _ _ (omega arith)
-
 pub returns : goal.returns
-returns c = shift-place _ _ (omega arith)
+returns c = c.unwrap_or.ensures ∙ shifted _ _ _ c.checked_add.ensures

@@ -1,10 +1,7 @@
--- The records that the walk has passed tell of no fault (`Passed`).
-use Rattle.std.proofs.Common.{◌-◌, length}
-use Rattle.running.proofs.Scanned.{Passed}
+-- The records before n tell of no fault.
+use Rattle.std.proofs.Common.{ℕ, ◌≤◌, ◌<◌}
+use Rattle.running.specs.Faulting.{answer_at}
 use Rattle.running.proofs.faults.first.Given as goal
 
-abbrev pub invariant-loop-at : goal.invariant-loop-at
-invariant-loop-at l = Passed l.records l.size l.at l.n
-
-abbrev pub decreases-loop-at : goal.decreases-loop-at
-decreases-loop-at l = length l.records - l.at
+abbrev pub invariant-loop-n : goal.invariant-loop-n
+invariant-loop-n l = (k : ℕ) → k < l.n → answer_at l.records l.size k ≤ 202

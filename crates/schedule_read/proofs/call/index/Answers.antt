@@ -1,57 +1,56 @@
--- The parts refuse (`by_parts`), or they stand in the file and the sections are indexed (`by-sections`).
-use mathlib.Core.Path.{refl, sym, subst}
+-- One law of Stages for each return, in the order of the calls.
+use mathlib.Core.Path.{refl}
+use Rattle.std.proofs.lemmas.Result.{err_from_is_err_and}
 use Rattle.edition.specs.Editions.{edition_of}
-use Rattle.schedule_read.specs.ScheduleFile.{ScheduleIndexed}
-use Rattle.schedule_read.proofs.Stages.{by_parts, parts-stand, by-sections, same_index}
+use Rattle.schedule_read.proofs.PartsStand.{parts-stand}
+use Rattle.schedule_read.proofs.Stages.{by-layout, standing, by-plant, plant-planted, by-nodes, index-of, by-tree, by_last, all-passed}
 use Rattle.schedule_read.proofs.call.index.Goals as goal
 
-pub returns-then-first-ne0 : goal.returns-then-first-ne0
-returns-then-first-ne0 c = by_parts _ c.args.file.now c.read-p.ensures c.if-first-ne0.true (c.refused.ensures _)
+pub returns-in_err-parts : goal.returns-in_err-parts
+returns-in_err-parts c = let p = err_from_is_err_and c.from_residual.result c.from_residual.ensures.1 in
+    rw (p.1, p.2) (by-layout _ c.args.file.now c.in_err-parts.ensures)
 
-pub slice_bounds-read-count : goal.slice_bounds-read-count
-slice_bounds-read-count c = (parts-stand _ c.args.file.now c.read-p.ensures c.if-first-ne0.false).variables.ordered
+pub of-es-requires : goal.of-es-requires
+of-es-requires c = (parts-stand _ c.args.file.now c.in_ok-parts.ensures).equations
 
-pub slice_bounds-read-start : goal.slice_bounds-read-start
-slice_bounds-read-start c = (parts-stand _ c.args.file.now c.read-p.ensures c.if-first-ne0.false).variables.ordered
+pub of-s-requires : goal.of-s-requires
+of-s-requires c = (parts-stand _ c.args.file.now c.in_ok-parts.ensures).schedule
 
-pub slice_bounds-read-end : goal.slice_bounds-read-end
-slice_bounds-read-end c = (parts-stand _ c.args.file.now c.read-p.ensures c.if-first-ne0.false).variables.inside
+pub of-requires : goal.of-requires
+of-requires c = (parts-stand _ c.args.file.now c.in_ok-parts.ensures).variables
 
-pub slice_bounds-read-count-2 : goal.slice_bounds-read-count-2
-slice_bounds-read-count-2 c = (parts-stand _ c.args.file.now c.read-p.ensures c.if-first-ne0.false).equations.ordered
+pub returns-in_err-plant : goal.returns-in_err-plant
+returns-in_err-plant c = let p = err_from_is_err_and c.from_residual-in_err-plant.result c.from_residual-in_err-plant.ensures.1 in
+    let a = standing _ c.args.file.now c.in_ok-parts.ensures c.of.ensures c.of-es.ensures c.of-s.ensures in
+    rw (p.1, p.2) (by-plant _ c.args.file.now a (c.in_err-plant.ensures _))
 
-pub slice_bounds-read-start-2 : goal.slice_bounds-read-start-2
-slice_bounds-read-start-2 c = (parts-stand _ c.args.file.now c.read-p.ensures c.if-first-ne0.false).equations.ordered
+pub returns-in_err-count : goal.returns-in_err-count
+returns-in_err-count c = let p = err_from_is_err_and c.from_residual-in_err-count.result c.from_residual-in_err-count.ensures.1 in
+    let a = standing _ c.args.file.now c.in_ok-parts.ensures c.of.ensures c.of-es.ensures c.of-s.ensures in
+    rw (p.1, p.2) (by-nodes _ c.args.file.now a (c.in_ok-plant.ensures _) c.in_err-count.ensures.answers)
 
-pub slice_bounds-read-end-2 : goal.slice_bounds-read-end-2
-slice_bounds-read-end-2 c = (parts-stand _ c.args.file.now c.read-p.ensures c.if-first-ne0.false).equations.inside
+pub read-requires-4 : goal.read-requires-4
+read-requires-4 c = ((edition_of c.args.ed, (_, c.in_ok-count.ensures.laid _ refl)), refl)
 
-pub slice_bounds-sections-count : goal.slice_bounds-sections-count
-slice_bounds-sections-count c = (parts-stand _ c.args.file.now c.read-p.ensures c.if-first-ne0.false).equations.ordered
+pub returns-in_err-read : goal.returns-in_err-read
+returns-in_err-read c = let p = err_from_is_err_and c.from_residual-in_err-read.result c.from_residual-in_err-read.ensures.1 in
+    let a = standing _ c.args.file.now c.in_ok-parts.ensures c.of.ensures c.of-es.ensures c.of-s.ensures in
+    let n = c.in_ok-count.ensures.laid _ refl in
+    rw (p.1, p.2) (by-tree _ c.args.file.now a (c.in_ok-plant.ensures _) c.in_ok-count.ensures.answers n (c.read-4.ensures (edition_of c.args.ed) (_, n)) c.in_err-read.was)
 
-pub slice_bounds-sections-start : goal.slice_bounds-sections-start
-slice_bounds-sections-start c = (parts-stand _ c.args.file.now c.read-p.ensures c.if-first-ne0.false).equations.ordered
+pub checked-requires : goal.checked-requires
+checked-requires c = let a = standing _ c.args.file.now c.in_ok-parts.ensures c.of.ensures c.of-es.ensures c.of-s.ensures in
+    let n = c.in_ok-count.ensures.laid _ refl in
+    (index-of _ c.args.file.now a (c.in_ok-plant.ensures _) c.in_ok-count.ensures.answers n, plant-planted (edition_of c.args.ed) c.args.file.now a (c.in_ok-plant.ensures _))
 
-pub slice_bounds-sections-end : goal.slice_bounds-sections-end
-slice_bounds-sections-end c = (parts-stand _ c.args.file.now c.read-p.ensures c.if-first-ne0.false).equations.inside
-
-pub slice_bounds-sections-count-2 : goal.slice_bounds-sections-count-2
-slice_bounds-sections-count-2 c = (parts-stand _ c.args.file.now c.read-p.ensures c.if-first-ne0.false).schedule.ordered
-
-pub slice_bounds-sections-start-2 : goal.slice_bounds-sections-start-2
-slice_bounds-sections-start-2 c = (parts-stand _ c.args.file.now c.read-p.ensures c.if-first-ne0.false).schedule.ordered
-
-pub slice_bounds-sections-end-2 : goal.slice_bounds-sections-end-2
-slice_bounds-sections-end-2 c = (parts-stand _ c.args.file.now c.read-p.ensures c.if-first-ne0.false).schedule.inside
-
-pub sections-x-requires : goal.sections-x-requires
-sections-x-requires c = ((_, c.read-plant.ensures _), refl, refl, refl, refl)
-
-pub returns-then-second-ne0 : goal.returns-then-second-ne0
-returns-then-second-ne0 c = let x = (c.sections-x.ensures _ (c.read-plant.ensures _)).refused c.if-second-ne0.true c.read-p.result in
-    subst (ScheduleIndexed (edition_of c.args.ed) c.args.file.now) (sym (c.refused-then-second-ne0.ensures _)) (by-sections _ c.args.file.now c.read-p.ensures c.if-first-ne0.false x)
+pub returns-in_err-checked : goal.returns-in_err-checked
+returns-in_err-checked c = let p = err_from_is_err_and c.from_residual-in_err-checked.result c.from_residual-in_err-checked.ensures.1 in
+    let a = standing _ c.args.file.now c.in_ok-parts.ensures c.of.ensures c.of-es.ensures c.of-s.ensures in
+    let n = c.in_ok-count.ensures.laid _ refl in
+    rw (p.1, p.2) (by_last _ c.args.file.now a (c.in_ok-plant.ensures _) c.in_ok-count.ensures.answers n (c.read-4.ensures (edition_of c.args.ed) (_, n)) c.in_ok-read.was
+    (c.in_err-checked.ensures _))
 
 pub returns : goal.returns
-returns c = let x = (c.sections-x.ensures _ (c.read-plant.ensures _)).found c.if-second-ne0.false c.read-p.result in
-    subst (ScheduleIndexed (edition_of c.args.ed) c.args.file.now) (sym (same_index c.found.ensures c.found-2.ensures))
-    (by-sections _ c.args.file.now c.read-p.ensures c.if-first-ne0.false x)
+returns c = let a = standing _ c.args.file.now c.in_ok-parts.ensures c.of.ensures c.of-es.ensures c.of-s.ensures in
+    let n = c.in_ok-count.ensures.laid _ refl in
+    all-passed _ c.args.file.now a (c.in_ok-plant.ensures _) c.in_ok-count.ensures.answers n (c.read-4.ensures (edition_of c.args.ed) (_, n)) c.in_ok-read.was (c.in_ok-checked.ensures _)

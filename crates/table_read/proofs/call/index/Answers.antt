@@ -1,45 +1,26 @@
-use mathlib.Core.Path.{◌∙◌}
-use Rattle.table_read.proofs.TableStages.{by_parts, parts-stand, by-sections}
+use Rattle.edition.specs.Editions.{edition_of}
+use Rattle.paper.proofs.PassedOn.{passed_on}
+use Rattle.table_read.specs.TableIndex.{table_index}
+use Rattle.table_read.proofs.TableStages.{by_parts, parts-stand, sections-lent, by-sections}
 use Rattle.table_read.proofs.call.index.Goals as goal
 
-pub returns-then-first-ne0 : goal.returns-then-first-ne0
-returns-then-first-ne0 c = c.refused.ensures ∙ by_parts _ _ c.read-p.ensures c.if-first-ne0.true
+pub returns-in_err-p : goal.returns-in_err-p
+returns-in_err-p c = let a = c.args in
+    passed_on (table_index (edition_of a.ed) a.table.now) c.from_residual.result c.in_err-p.field-0.0 c.from_residual.ensures.1 (by_parts _ _ c.in_err-p.ensures)
 
-pub slice_bounds-sections-count : goal.slice_bounds-sections-count
-slice_bounds-sections-count c = (parts-stand _ _ c.read-p.ensures c.if-first-ne0.false).variables.ordered
+pub of-requires : goal.of-requires
+of-requires c = (parts-stand (edition_of c.args.ed) _ c.in_ok-p.ensures).variables.inside
 
-pub slice_bounds-sections-start : goal.slice_bounds-sections-start
-slice_bounds-sections-start c = (parts-stand _ _ c.read-p.ensures c.if-first-ne0.false).variables.ordered
+pub of-requires-2 : goal.of-requires-2
+of-requires-2 c = (parts-stand (edition_of c.args.ed) _ c.in_ok-p.ensures).equations.inside
 
-pub slice_bounds-sections-end : goal.slice_bounds-sections-end
-slice_bounds-sections-end c = (parts-stand _ _ c.read-p.ensures c.if-first-ne0.false).variables.inside
+pub of-requires-3 : goal.of-requires-3
+of-requires-3 c = (parts-stand (edition_of c.args.ed) _ c.in_ok-p.ensures).actions.inside
 
-pub slice_bounds-sections-count-2 : goal.slice_bounds-sections-count-2
-slice_bounds-sections-count-2 c = (parts-stand _ _ c.read-p.ensures c.if-first-ne0.false).equations.ordered
-
-pub slice_bounds-sections-start-2 : goal.slice_bounds-sections-start-2
-slice_bounds-sections-start-2 c = (parts-stand _ _ c.read-p.ensures c.if-first-ne0.false).equations.ordered
-
-pub slice_bounds-sections-end-2 : goal.slice_bounds-sections-end-2
-slice_bounds-sections-end-2 c = (parts-stand _ _ c.read-p.ensures c.if-first-ne0.false).equations.inside
-
-pub slice_bounds-sections-count-3 : goal.slice_bounds-sections-count-3
-slice_bounds-sections-count-3 c = (parts-stand _ _ c.read-p.ensures c.if-first-ne0.false).actions.ordered
-
-pub slice_bounds-sections-start-3 : goal.slice_bounds-sections-start-3
-slice_bounds-sections-start-3 c = (parts-stand _ _ c.read-p.ensures c.if-first-ne0.false).actions.ordered
-
-pub slice_bounds-sections-end-3 : goal.slice_bounds-sections-end-3
-slice_bounds-sections-end-3 c = (parts-stand _ _ c.read-p.ensures c.if-first-ne0.false).actions.inside
-
-pub slice_bounds-sections-count-4 : goal.slice_bounds-sections-count-4
-slice_bounds-sections-count-4 c = (parts-stand _ _ c.read-p.ensures c.if-first-ne0.false).locations.ordered
-
-pub slice_bounds-sections-start-4 : goal.slice_bounds-sections-start-4
-slice_bounds-sections-start-4 c = (parts-stand _ _ c.read-p.ensures c.if-first-ne0.false).locations.ordered
-
-pub slice_bounds-sections-end-4 : goal.slice_bounds-sections-end-4
-slice_bounds-sections-end-4 c = (parts-stand _ _ c.read-p.ensures c.if-first-ne0.false).locations.inside
+pub of-requires-4 : goal.of-requires-4
+of-requires-4 c = (parts-stand (edition_of c.args.ed) _ c.in_ok-p.ensures).locations.inside
 
 pub returns : goal.returns
-returns c = c.sections.ensures ∙ by-sections _ _ c.read-p.ensures c.if-first-ne0.false
+returns c = let ed = edition_of c.args.ed in
+    let t = c.args.table.now in
+    by-sections ed t c.in_ok-p.ensures (sections-lent ed t c.in_ok-p.ensures c.of.ensures c.of-2.ensures c.of-3.ensures c.of-4.ensures) c.sections.ensures

@@ -17,6 +17,6 @@ returns c = λ ed f t e small j.
     let ends : length x.actions.ends ≡ 256 = search rules in
     let places : length x.locations.places ≡ 1024 = search rules in
     rw c.put_locations.ensures (table-lent ed f small e j
-    (filled-still _ x.locations.places x.parts.locations i (omega (arith, modes)) (omega (arith, kinds)) (omega (arith, starts)) (omega (arith, ends)))
-    (location-in _ x.locations.places x.parts.locations i.long (omega (arith, places)))
+    (filled-still _ x.locations.places x.parts.locations.start i (omega (arith, modes)) (omega (arith, kinds)) (omega (arith, starts)) (omega (arith, ends)))
+    (location-in _ x.locations.places x.parts.locations.start i.long (omega (arith, places)))
     c.ranges-2.ensures)

@@ -1,41 +1,45 @@
--- One law of TableStages for each return. r1 to r5: where the answers of the five readers stand.
-use mathlib.Core.Path.{sym, ◌∙◌}
-use native.Mathlib.Omega.{arith}
+-- One law of TableStages for each return.
 use Rattle.edition.specs.Editions.{edition_of}
-use Rattle.table_read.proofs.TableStages.{by-plant, few-variables, counts-full, counts-room, equations-there, by-switches, by-actions, by-operands, by-locations, all-passed}
+use Rattle.paper.proofs.PassedOn.{passed_on}
+use Rattle.table_read.specs.TableIndex.{index_of}
+use Rattle.table_read.specs.TableParts.{sections_from}
+use Rattle.table_read.proofs.TableStages.{by-plant, few-variables, counts-room, equations-there, by-switches, by-actions, by-operands, by-locations, all-passed}
 use Rattle.table_read.proofs.call.sections.Goals as goal
 
-pub returns-then-plant-ne0 : goal.returns-then-plant-ne0
-returns-then-plant-ne0 c = c.refused.ensures ∙ by-plant _ _ _ _ _ _ (c.read-plant.ensures _) c.if-plant-ne0.true
-
-pub read-requires : goal.read-requires
-read-requires c = let p = c.read-plant.ensures (edition_of c.args.ed) in
-    let z = c.if-plant-ne0.false in
-    (equations-there _ _ _ p z, omega (arith, few-variables _ _ _ p z))
-
-pub returns-then-not-read : goal.returns-then-not-read
-returns-then-not-read c = c.refused-then-not-read.ensures ∙ by-switches _ _ _ _ _ _ (c.read-plant.ensures _) c.if-plant-ne0.false (c.read.ensures _) c.if-not-read.true
-
-pub returns-then-actions-ne0 : goal.returns-then-actions-ne0
-returns-then-actions-ne0 c = c.refused-then-actions-ne0.ensures ∙ by-actions _ _ _ _ _ _ (c.read-plant.ensures _) c.if-plant-ne0.false (c.read.ensures _) c.if-not-read.false
-    c.read-actions.ensures c.if-actions-ne0.true
-
-pub slice_bounds-read-end : goal.slice_bounds-read-end
-slice_bounds-read-end c = sym (counts-full _ _ _ (c.read-plant.ensures (edition_of c.args.ed)) c.if-plant-ne0.false)
+pub returns-in_default : goal.returns-in_default
+returns-in_default c = let ed = edition_of c.args.ed in
+    by-plant ed _ _ _ _ _ (c.in_default.ensures ed)
 
 pub read-requires-2 : goal.read-requires-2
-read-requires-2 c = let p = c.read-plant.ensures (edition_of c.args.ed) in
-    let z = c.if-plant-ne0.false in
-    (c.read-actions.ensures, c.if-actions-ne0.false, few-variables _ _ _ p z, counts-room _ _ _ p z)
+read-requires-2 c = let ed = edition_of c.args.ed in
+    (equations-there ed _ _ (c.in-Ok.ensures ed), few-variables ed _ _ (c.in-Ok.ensures ed))
+
+pub returns-then-not-read : goal.returns-then-not-read
+returns-then-not-read c = let ed = edition_of c.args.ed in
+    by-switches ed _ _ _ _ _ (c.in-Ok.ensures ed) (c.read-2.ensures ed) c.if-not-read.true
+
+pub returns-in_err-actions : goal.returns-in_err-actions
+returns-in_err-actions c = let a = c.args in
+    let ed = edition_of a.ed in
+    passed_on (index_of ed a.parts (sections_from a.vs.now a.es.now a.ops.now a.locs.now)) c.from_residual.result c.in_err-actions.field-0.0 c.from_residual.ensures.1
+    (by-actions ed a.parts a.vs.now a.es.now a.ops.now a.locs.now (c.in-Ok.ensures ed) (c.read-2.ensures ed) c.if-not-read.false c.in_err-actions.ensures)
+
+pub read-requires-4 : goal.read-requires-4
+read-requires-4 c = let ed = edition_of c.args.ed in
+    (c.in_ok-actions.ensures, few-variables ed _ _ (c.in-Ok.ensures ed), counts-room ed _ _ (c.in-Ok.ensures ed))
 
 pub returns-then-not-read-2 : goal.returns-then-not-read-2
-returns-then-not-read-2 c = c.refused-then-not-read-2.ensures ∙ by-operands _ _ _ _ _ _ (c.read-plant.ensures _) c.if-plant-ne0.false (c.read.ensures _) c.if-not-read.false
-    c.read-actions.ensures c.if-actions-ne0.false c.read-2.ensures c.if-not-read-2.true
+returns-then-not-read-2 c = let ed = edition_of c.args.ed in
+    by-operands ed _ _ _ _ _ (c.in-Ok.ensures ed) (c.read-2.ensures ed) c.if-not-read.false c.in_ok-actions.ensures c.read-4.ensures c.if-not-read-2.true
 
-pub returns-then-locations-ne0 : goal.returns-then-locations-ne0
-returns-then-locations-ne0 c = c.refused-then-locations-ne0.ensures ∙ by-locations _ _ _ _ _ _ (c.read-plant.ensures _) c.if-plant-ne0.false (c.read.ensures _) c.if-not-read.false
-    c.read-actions.ensures c.if-actions-ne0.false c.read-2.ensures c.if-not-read-2.false c.read-locations.ensures c.if-locations-ne0.true
+pub returns-in_err-locations : goal.returns-in_err-locations
+returns-in_err-locations c = let a = c.args in
+    let ed = edition_of a.ed in
+    passed_on (index_of ed a.parts (sections_from a.vs.now a.es.now a.ops.now a.locs.now)) c.from_residual-in_err-locations.result c.in_err-locations.field-0.0
+    c.from_residual-in_err-locations.ensures.1
+    (by-locations ed a.parts a.vs.now a.es.now a.ops.now a.locs.now (c.in-Ok.ensures ed) (c.read-2.ensures ed) c.if-not-read.false c.in_ok-actions.ensures
+    c.read-4.ensures c.if-not-read-2.false c.in_err-locations.ensures)
 
 pub returns : goal.returns
-returns c = all-passed _ _ _ _ _ _ (c.read-plant.ensures _) c.if-plant-ne0.false (c.read.ensures _) c.if-not-read.false
-    c.read-actions.ensures c.if-actions-ne0.false c.read-2.ensures c.if-not-read-2.false c.read-locations.ensures c.if-locations-ne0.false
+returns c = let ed = edition_of c.args.ed in
+    all-passed ed _ _ _ _ _ (c.in-Ok.ensures ed) (c.read-2.ensures ed) c.if-not-read.false c.in_ok-actions.ensures c.read-4.ensures c.if-not-read-2.false c.in_ok-locations.ensures

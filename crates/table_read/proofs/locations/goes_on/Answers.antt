@@ -8,6 +8,6 @@ pub returns-then-t-n : goal.returns-then-t-n
 unfolding is_going_on FINISHED
 returns-then-t-n c = rw (lt-ltb _ _ c.if-t-n.true) refl
 
-pub returns : goal.returns
+pub returns-else-t-n : goal.returns-else-t-n
 unfolding is_going_on FINISHED
-returns c = rw (le-ltb _ _ c.if-t-n.false) refl
+returns-else-t-n c = rw (le-ltb _ _ c.if-t-n.false) refl

@@ -1,4 +1,3 @@
-use mathlib.Core.Path.{refl}
 use native.Mathlib.Omega.{arith}
 use Rattle.codec.proofs.Widths.{number_small}
 use Rattle.edition.specs.Editions.{edition_of}
@@ -10,34 +9,27 @@ use Rattle.table_read.proofs.locations.location.Goals as goal
 pub returns-then-s-at : goal.returns-then-s-at
 returns-then-s-at c = location-none _ _ _ _ _ (omega arith)
 
-pub overflow_cast-c : goal.overflow_cast-c
-overflow_cast-c c = omega (arith, c.type_inv.s c.args.at)
-
 pub returns-then-c-lt1 : goal.returns-then-c-lt1
 returns-then-c-lt1 c = location-empty _ _ _ _ _ (omega arith) (omega arith)
 
-pub loop-i-init : goal.loop-i-init
-loop-i-init c = (omega arith, omega arith, entries-start _ _ _ _ _ (omega arith))
+pub loop-init : goal.loop-init
+loop-init c = entries-start _ _ _ _ _ (omega arith)
 
-pub entry-q-requires : goal.entry-q-requires
-entry-q-requires c = c.loop-i.invariant.2.took.inside
+pub entry-requires : goal.entry-requires
+entry-requires c = c.loop.invariant.took.inside
 
-pub returns-then-q-eq0 : goal.returns-then-q-eq0
-returns-then-q-eq0 c = location-stop _ _ _ _ _ (omega arith) c.loop-i.invariant.2 c.loop-i-test.true (not_found (c.entry-q.ensures _ (like-says _)) c.if-q-eq0.true)
+pub returns-in_err-q : goal.returns-in_err-q
+returns-in_err-q c = rw c.from_residual.ensures (location-stop _ _ _ _ _ (omega arith) c.loop.invariant (omega (arith, c.loop-test.true)) (not_found (c.in_err-q.ensures _ (like-says _))))
 
 pub number-low-requires : goal.number-low-requires
-number-low-requires c = omega (arith, entry-inside _ (found (c.entry-q.ensures _ (like-says _)) c.if-q-eq0.false))
+number-low-requires c = omega (arith, entry-inside _ (found (c.in_ok-q.ensures _ (like-says _))))
 
 pub overflow_add-low : goal.overflow_add-low
 overflow_add-low c = let a = c.args in
-    omega (arith, number_small (edition_of a.ed).width a.s.now c.loop-i.p (λ i. omega (arith, c.type_inv.s i)), c.number-low.ensures)
+    omega (arith, number_small (edition_of a.ed).width a.s.now c.loop.p (λ i. omega (arith, c.type_inv.s i)), c.number-low.ensures)
 
-pub overflow_add-i : goal.overflow_add-i
-overflow_add-i c = omega (arith, c.type_inv.s c.args.at)
-
-pub loop-i-preserved : goal.loop-i-preserved
-loop-i-preserved c = let e = found (c.entry-q.ensures _ (like-says _)) c.if-q-eq0.false in
-    (omega arith, omega arith, entries_next _ _ _ _ _ c.loop-i.invariant.2 e c.number-low.ensures)
+pub loop-preserved : goal.loop-preserved
+loop-preserved c = entries_next _ _ _ _ _ c.loop.invariant (found (c.in_ok-q.ensures _ (like-says _))) c.number-low.ensures
 
 pub returns : goal.returns
-returns c = location-ok _ _ _ _ _ (omega arith) c.loop-i.invariant.2 c.loop-i.invariant.1 (omega arith) refl (omega arith)
+returns c = location-ok _ _ _ _ _ (omega arith) {c = c.from-c.result} c.loop.invariant (omega arith) c.from-c.ensures (omega arith)

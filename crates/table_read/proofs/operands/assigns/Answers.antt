@@ -8,17 +8,14 @@ use Rattle.table_read.proofs.operands.assigns.Goals as goal
 pub returns-then-b-lt1 : goal.returns-then-b-lt1
 returns-then-b-lt1 c = λ ed cs. assigns-nothing ed _ cs _ c.if-b-lt1.true
 
-pub overflow_cast-b : goal.overflow_cast-b
-overflow_cast-b c = omega (arith, c.type_inv.b 0)
-
-pub returns-then-b-variables : goal.returns-then-b-variables
-returns-then-b-variables c = λ ed cs.
+pub returns-then-from-variables : goal.returns-then-from-variables
+returns-then-from-variables c = λ ed cs.
     let a = c.args in
-    let i : a.variables ≤ get_or a.b.now 0 0 = omega arith in
+    let i : a.variables ≤ get_or a.b.now 0 0 = omega (arith, c.from.ensures) in
     assigns-missing ed _ cs _ (omega arith) i
 
 pub returns : goal.returns
 returns c = λ ed cs.
     let a = c.args in
-    let i : get_or a.b.now 0 0 < a.variables = omega arith in
+    let i : get_or a.b.now 0 0 < a.variables = omega (arith, c.from.ensures) in
     assigns-known ed _ cs _ (omega arith) i (c.number_reads.ensures ed)

@@ -1,5 +1,6 @@
 -- By the kind: always a node, never one, or as the law of its payload's form says (NodeForms).
-use mathlib.Core.Path.{refl}
+use mathlib.Core.Path.{refl, ap, ◌∙◌}
+use mathlib.Core.Bool.{not}
 use Rattle.std.proofs.Common.{rules}
 use borrow.Author.Tests.{ne_eqb}
 use Rattle.semantics.specs.Bytes.{is_some}
@@ -29,11 +30,11 @@ returns-in-5 c = rw c.in-5.is refl
 
 pub returns-in-6 : goal.returns-in-6
 unfolding kind_of node_of
-returns-in-6 c = rw c.in-6.is (rest-form _ c.args.b.now)
+returns-in-6 c = rw c.in-6.is (ap not c.is_empty.ensures ∙ rest-form _ c.args.b.now)
 
 pub returns-in-7 : goal.returns-in-7
 unfolding kind_of node_of
-returns-in-7 c = rw c.in-7.is (rest-form _ c.args.b.now)
+returns-in-7 c = rw c.in-7.is (ap not c.is_empty-in-7.ensures ∙ rest-form _ c.args.b.now)
 
 pub returns-in-8 : goal.returns-in-8
 unfolding kind_of node_of
@@ -41,7 +42,7 @@ returns-in-8 c = rw c.in-8.is (two-form _ c.args.b.now)
 
 pub returns-in-9 : goal.returns-in-9
 unfolding kind_of node_of
-returns-in-9 c = rw c.in-9.is (no-form _ c.args.b.now)
+returns-in-9 c = rw c.in-9.is (c.is_empty-in-9.ensures ∙ no-form _ c.args.b.now)
 
 pub returns-in_default : goal.returns-in_default
 unfolding kind_of node_of is_some

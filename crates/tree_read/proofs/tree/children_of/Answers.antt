@@ -1,18 +1,25 @@
+use Rattle.std.proofs.Common.{rules}
 use native.Mathlib.Omega.{arith}
-use Rattle.tree_read.proofs.ChildCounts.{said, count-inside, count-given}
+use Rattle.tree_read.proofs.ChildCounts.{said, count-inside, count-given, no_child-given}
 use Rattle.tree_read.proofs.tree.children_of.Goals as goal
 
 pub bounds-s-start : goal.bounds-s-start
-bounds-s-start c = count-inside c.requires.1 c.if-k-le-PARALLEL.true
+bounds-s-start c = count-inside c.requires.1 (omega (arith, c.in-1.is))
 
-pub returns-then-k-le-PARALLEL : goal.returns-then-k-le-PARALLEL
-returns-then-k-le-PARALLEL c = λ x m. count-given m c.if-k-le-PARALLEL.true
+pub bounds-s-start-in-2 : goal.bounds-s-start-in-2
+bounds-s-start-in-2 c = count-inside c.requires.1 (omega (arith, c.in-2.is))
 
-pub returns-then-k-eq-WHILE : goal.returns-then-k-eq-WHILE
-returns-then-k-eq-WHILE c = λ x m. (said m).one c.if-k-eq-WHILE.true
+pub returns-in-1 : goal.returns-in-1
+returns-in-1 c = λ x m. count-given m (omega (arith, c.in-1.is))
 
-pub returns-then-k-eq-IF : goal.returns-then-k-eq-IF
-returns-then-k-eq-IF c = λ x m. (said m).two c.if-k-eq-IF.true
+pub returns-in-2 : goal.returns-in-2
+returns-in-2 c = λ x m. count-given m (omega (arith, c.in-2.is))
 
-pub returns : goal.returns
-returns c = λ x m. (said m).no_child (omega (arith, c.if-k-le-PARALLEL.false, c.if-k-eq-WHILE.false, c.if-k-eq-IF.false))
+pub returns-in-3 : goal.returns-in-3
+returns-in-3 c = λ x m. (said m).one c.in-3.is
+
+pub returns-in-4 : goal.returns-in-4
+returns-in-4 c = λ x m. (said m).two c.in-4.is
+
+pub returns-in_default : goal.returns-in_default
+returns-in_default c = λ x m. no_child-given m (search rules) (search rules) (search rules) (search rules)

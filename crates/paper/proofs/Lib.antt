@@ -1,0 +1,3 @@
+-- Laws of what a call answers.
+pub mod Answered
+pub mod PassedOn

@@ -1,0 +1,5 @@
+use Rattle.program.proofs.Rows.{row_at}
+use Rattle.program.proofs.Program.start.Goals as goal
+
+pub returns : goal.returns
+returns c = row_at 512 c.args.self.now.index.now c.args.n 0

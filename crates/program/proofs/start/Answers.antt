@@ -1,5 +1,0 @@
-use Rattle.program.proofs.Rows.{row_at}
-use Rattle.program.proofs.start.Goals as goal
-
-pub returns : goal.returns
-returns c = row_at 512 c.args.ix.now c.args.n 0

@@ -1,9 +1,0 @@
-use mathlib.Core.Path.{◌∙◌}
-use lib.IntN.{pos}
-use mir.Syntax.{w32}
-use mir.ValLaws.{to_z-of_z}
-use Rattle.program.proofs.Rows.{row_at}
-use Rattle.program.proofs.steady.Goals as goal
-
-pub returns : goal.returns
-returns c = to_z-of_z w32 _ (record { sfits = c.result-1.given }) ∙ row_at 64 c.args.rs.now c.args.v (pos 0)
