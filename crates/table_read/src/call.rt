@@ -56,16 +56,25 @@ fn sections(
     if !plant::truths::read(es, variables) {
         return Err(Refusal::TablePlant);
     }
-    let actions = actions::read(ops, ed)?;
-    if !operands::read(ops, actions, variables, selectors, &plant.modes, ed) {
+    // what was read is lent: it is copied once, into the index
+    let operations = actions::read(ops, ed);
+    let actions = match &operations {
+        Ok(actions) => actions,
+        Err(why) => return Err(*why),
+    };
+    if !operands::read(ops, *actions, variables, selectors, &plant.modes, ed) {
         return Err(Refusal::TableActions);
     }
-    let locations = locations::read(locs, &actions.kinds, ed)?;
+    let places = locations::read(locs, &actions.kinds, ed);
+    let locations = match &places {
+        Ok(locations) => locations,
+        Err(why) => return Err(*why),
+    };
     Ok(TableIndex {
         parts,
         plant,
-        actions,
-        locations,
+        actions: *actions,
+        locations: *locations,
     })
 }
 
@@ -86,7 +95,12 @@ pub fn index(table: &[u8], ed: Edition) -> Result<TableIndex, Refusal>
 pub fn read(table: &[u8]) -> Result<TableRead, Refusal>
     ensures { told result ≡ read_table_of edition1 table.now }
 {
-    let x = index(table, Edition::First)?;
+    let read = index(table, Edition::First);
+    // lent: the index by value would be copied
+    let x = match &read {
+        Ok(x) => x,
+        Err(why) => return Err(*why),
+    };
     Ok(TableRead {
         variables: x.plant.variables,
         selectors: x.plant.selectors,
@@ -96,19 +110,26 @@ pub fn read(table: &[u8]) -> Result<TableRead, Refusal>
 }
 
 // an index as a run looks things up in it, with places in the whole table: its rows are put, and its ranges and rates given
-pub fn program(x: TableIndex, index: &mut [usize; ENTRIES]) -> [i32; RANGES]
+pub fn program(x: &TableIndex, index: &mut [usize; ENTRIES]) -> [i32; RANGES]
     requires { length index.old ≡ 2048 }
-    ensures { TablePrograms x index.new result }
+    ensures { TablePrograms x.now index.new result }
 {
+    let plant = x.plant;
+    // as slices, whose lengths the proof is told
+    let _offsets: &[usize] = &x.plant.mode_offsets;
+    let kinds: &[u8] = &x.actions.kinds;
+    let starts: &[usize] = &x.actions.starts;
+    let ends: &[usize] = &x.actions.ends;
+    let places: &[usize] = &x.locations.places;
     fill::put_index(
         index,
-        x.plant,
-        &x.actions.kinds,
-        &x.actions.starts,
-        &x.actions.ends,
+        plant,
+        kinds,
+        starts,
+        ends,
         x.parts.equations.start,
         x.parts.actions.start,
     );
-    fill::put_locations(index, &x.locations.places, x.parts.locations.start);
-    fill::ranges(x.plant)
+    fill::put_locations(index, places, x.parts.locations.start);
+    fill::ranges(plant)
 }
