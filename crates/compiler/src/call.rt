@@ -65,9 +65,9 @@ fn table_length(q: Parts, list: usize, rows: usize, ed: Edition) -> usize
 }
 
 // what the table is made of
-fn made(x: &ScheduleIndex, m: Size, ed: Edition) -> Plan
-    requires { Ready (edition_of ed) x.now m }
-    ensures { (f : List ℕ) → Found (edition_of ed) f x.now m → Planned (edition_of ed) f result }
+fn made(x: ScheduleIndex, m: Size, ed: Edition) -> Plan
+    requires { Ready (edition_of ed) x m }
+    ensures { (f : List ℕ) → Found (edition_of ed) f x m → Planned (edition_of ed) f result }
 {
     let acts = schedule_read::actions::kinds(&x.nodes.kinds, x.nodes.count);
     let actions = Actions {
@@ -80,7 +80,7 @@ fn made(x: &ScheduleIndex, m: Size, ed: Edition) -> Plan
     let size = row_bytes(m.locations, m.entries, ed);
     Plan {
         length: table_length(x.parts, list.at, size, ed),
-        index: *x,
+        index: x,
         acts,
         list,
         rows: Spot {
@@ -94,11 +94,7 @@ fn made(x: &ScheduleIndex, m: Size, ed: Edition) -> Plan
 fn planned(file: &[u8], ed: Edition) -> Result<Plan, Refusal>
     ensures { PlanOf (edition_of ed) file.now result }
 {
-    let read = schedule_read::call::index(file, ed);
-    let x = match &read {
-        Ok(x) => x,
-        Err(why) => return Err(*why),
-    };
+    let x = schedule_read::call::index(file, ed)?;
     let Ok(m) = sizes::of(&x.nodes.kinds, &x.subtrees) else {
         return Err(Refusal::Locations);
     };
@@ -141,17 +137,12 @@ fn write(file: &[u8], table: &mut [u8], p: &Plan, comparisons: &mut u64, ed: Edi
 pub fn compile(file: &[u8], table: &mut [u8]) -> Result<Compiled, Refusal>
     ensures { told result table.new ≡ calls.compile edition1 file.now table.old }
 {
-    let plan = planned(file, Edition::First);
-    // lent, as the index in `planned` is: by value it would be copied
-    let p = match &plan {
-        Ok(p) => p,
-        Err(why) => return Err(*why),
-    };
+    let p = planned(file, Edition::First)?;
     if table.len() < p.length {
         return Err(Refusal::TableRoom);
     }
     let mut comparisons = 0;
-    let length = write(file, table, p, &mut comparisons, Edition::First);
+    let length = write(file, table, &p, &mut comparisons, Edition::First);
     Ok(Compiled {
         length,
         comparisons,
@@ -162,8 +153,5 @@ pub fn compile(file: &[u8], table: &mut [u8]) -> Result<Compiled, Refusal>
 pub fn measure(file: &[u8]) -> Result<usize, Refusal>
     ensures { judged_of result ≡ answered length (judge_table_of edition1 file.now) }
 {
-    match &planned(file, Edition::First) {
-        Ok(p) => Ok(p.length),
-        Err(why) => Err(*why),
-    }
+    Ok(planned(file, Edition::First)?.length)
 }

@@ -20,12 +20,7 @@ pub struct TableSize {
 pub fn of(file: &[u8]) -> Result<TableSize, Refusal>
     ensures { told_size result ≡ size edition1 file.now }
 {
-    let read = schedule_read::call::index(file, Edition::First);
-    // lent: the index by value would be copied
-    let x = match &read {
-        Ok(x) => x,
-        Err(why) => return Err(*why),
-    };
+    let x = schedule_read::call::index(file, Edition::First)?;
     match sizes::of(&x.nodes.kinds, &x.subtrees) {
         Ok(m) => Ok(TableSize {
             locations: m.locations,

@@ -51,7 +51,7 @@ fn ahead(
 
 // The same of a table that was read, and of the start that it is run from.
 fn lend(
-    x: &TableIndex,
+    x: TableIndex,
     start: Admitted,
     table: &[u8],
     a: Event,
@@ -59,8 +59,8 @@ fn lend(
     c: Event,
     ed: Edition,
 ) -> Answers
-    requires { Admitting (edition_of ed) table.now x.now start }
-    ensures { AnswersStart (edition_of ed) table.now x.now start a b c result }
+    requires { Admitting (edition_of ed) table.now x start }
+    ensures { AnswersStart (edition_of ed) table.now x start a b c result }
 {
     let mut index = [0usize; program::ENTRIES];
     let ranges = table_read::call::program(x, &mut index);
@@ -87,12 +87,7 @@ pub fn three(table: &[u8], start: &[u8], a: Event, b: Event, c: Event) -> Result
     ensures { answered numbers_of (judged_of result) ≡ three_answers edition1 table.now start.now a b c }
 {
     let ed = Edition::First;
-    let read = table_read::call::index(table, ed);
-    // lent: the index by value would be copied
-    let x = match &read {
-        Ok(x) => x,
-        Err(why) => return Err(*why),
-    };
+    let x = table_read::call::index(table, ed)?;
     // no events and no records: 20 alone is judged
     let asked = start_read::admission::admit(x.plant, start, 0, 0, ed)?;
     Ok(lend(x, asked, table, a, b, c, ed))

@@ -54,14 +54,9 @@ pub fn run(file: &[u8], start: &[u8], events: &[u8], records: &mut [u8]) -> Resu
     ensures { ran_with result records.new ≡ rule_run_of edition1 file.now start.now events.now records.old }
 {
     let ed = Edition::First;
-    let read = schedule_read::call::index(file, ed);
-    // lent: the index by value would be copied
-    let ix = match &read {
-        Ok(ix) => ix,
-        Err(why) => return Err(*why),
-    };
+    let ix = schedule_read::call::index(file, ed)?;
     let asked = start_read::admission::admit(ix.plant, start, events.len(), records.len(), ed)?;
-    Ok(lend(ix, asked, file, events, records, ed))
+    Ok(lend(&ix, asked, file, events, records, ed))
 }
 
 // 1 to 11, 34, 12, 20 to 22 in order: of a run with so many event bytes and a record buffer of so many bytes
@@ -70,11 +65,7 @@ pub fn check(file: &[u8], start: &[u8], events: usize, room: usize) -> Result<()
         → judged_of result ≡ answered passed (judge_run edition1 (rule_program edition1 file.now) start.now es d) }
 {
     let ed = Edition::First;
-    let read = schedule_read::call::index(file, ed);
-    let x = match &read {
-        Ok(x) => x,
-        Err(why) => return Err(*why),
-    };
+    let x = schedule_read::call::index(file, ed)?;
     start_read::admission::admit(x.plant, start, events, room, ed)?;
     Ok(())
 }

@@ -68,7 +68,7 @@ fn sections(
     let places = locations::read(locs, &actions.kinds, ed);
     let locations = match &places {
         Ok(locations) => locations,
-        Err(why) => return Err(*why),
+        Err(refusal) => return Err(*refusal),
     };
     Ok(TableIndex {
         parts,
@@ -99,7 +99,7 @@ pub fn read(table: &[u8]) -> Result<TableRead, Refusal>
     // lent: the index by value would be copied
     let x = match &read {
         Ok(x) => x,
-        Err(why) => return Err(*why),
+        Err(unread) => return Err(*unread),
     };
     Ok(TableRead {
         variables: x.plant.variables,
@@ -110,26 +110,19 @@ pub fn read(table: &[u8]) -> Result<TableRead, Refusal>
 }
 
 // an index as a run looks things up in it, with places in the whole table: its rows are put, and its ranges and rates given
-pub fn program(x: &TableIndex, index: &mut [usize; ENTRIES]) -> [i32; RANGES]
+pub fn program(x: TableIndex, index: &mut [usize; ENTRIES]) -> [i32; RANGES]
     requires { length index.old ≡ 2048 }
-    ensures { TablePrograms x.now index.new result }
+    ensures { TablePrograms x index.new result }
 {
-    let plant = x.plant;
-    // as slices, whose lengths the proof is told
-    let _offsets: &[usize] = &x.plant.mode_offsets;
-    let kinds: &[u8] = &x.actions.kinds;
-    let starts: &[usize] = &x.actions.starts;
-    let ends: &[usize] = &x.actions.ends;
-    let places: &[usize] = &x.locations.places;
     fill::put_index(
         index,
-        plant,
-        kinds,
-        starts,
-        ends,
+        x.plant,
+        &x.actions.kinds,
+        &x.actions.starts,
+        &x.actions.ends,
         x.parts.equations.start,
         x.parts.actions.start,
     );
-    fill::put_locations(index, places, x.parts.locations.start);
-    fill::ranges(plant)
+    fill::put_locations(index, &x.locations.places, x.parts.locations.start);
+    fill::ranges(x.plant)
 }

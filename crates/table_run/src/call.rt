@@ -16,14 +16,14 @@ use table_read::call::TableIndex;
 
 // The events of an admitted run, over what the reader lends of the table.
 fn lend(
-    ix: &TableIndex,
+    ix: TableIndex,
     asked: Admitted,
     table: &[u8],
     events: &[u8],
     records: &mut [u8],
     ed: Edition,
 ) -> Counts
-    requires { Read (edition_of ed) table.now ix.now × Admitting (edition_of ed) table.now asked events.now records.old }
+    requires { Read (edition_of ed) table.now ix × Admitting (edition_of ed) table.now asked events.now records.old }
     ensures { Carried (edition_of ed) table.now asked events.now records.old result records.new }
 {
     let mut index = [0usize; program::ENTRIES];
@@ -49,12 +49,7 @@ pub fn run(table: &[u8], start: &[u8], events: &[u8], records: &mut [u8]) -> Res
     ensures { ran_with result records.new ≡ table_run_of edition1 table.now start.now events.now records.old }
 {
     let ed = Edition::First;
-    let read = table_read::call::index(table, ed);
-    // lent: the index by value would be copied
-    let ix = match &read {
-        Ok(ix) => ix,
-        Err(why) => return Err(*why),
-    };
+    let ix = table_read::call::index(table, ed)?;
     let asked = start_read::admission::admit(ix.plant, start, events.len(), records.len(), ed)?;
     Ok(lend(ix, asked, table, events, records, ed))
 }

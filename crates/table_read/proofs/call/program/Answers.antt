@@ -9,7 +9,7 @@ use Rattle.table_read.proofs.call.program.Goals as goal
 
 pub returns : goal.returns
 returns c = λ ed f t e small j.
-    let x = c.args.x.now in
+    let x = c.args.x in
     let i = c.put_index.ensures in
     let modes : length x.plant.mode_offsets ≡ 128 = search rules in
     let kinds : length x.actions.kinds ≡ 256 = search rules in
