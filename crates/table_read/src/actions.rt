@@ -12,6 +12,9 @@ ghost use Rattle.table_read.specs.ActionIndex.{node_of, action_index};
 use edition::{Edition, NODES};
 use paper::refusals::Refusal;
 
+// why an action section is refused
+const WRONG: Refusal = Refusal::TableActions;
+
 // how many actions there are; by node, the kind of its action and where the operand starts and ends, or 0, 0 and 0:
 // three arrays, since each is lent by itself, the kinds to the reader of the locations, all to the rows of a run's index
 #[derive(Clone, Copy)]
@@ -102,7 +105,7 @@ pub fn read(s: &[u8], ed: Edition) -> Result<Actions, Refusal>
     ensures { judged_of result ≡ answered (action_index (edition_of ed) s.now) (judge_actions (edition_of ed) s.now) }
 {
     let Some(n) = count(s, ed) else {
-        return Err(Refusal::TableActions);
+        return Err(WRONG);
     };
     let w = edition::width(ed);
     let mut kinds = [0u8; NODES];
@@ -112,7 +115,7 @@ pub fn read(s: &[u8], ed: Edition) -> Result<Actions, Refusal>
     let mut p = w;
     for _ in 0..n {
         let Some(q) = next(s, p, low, ed) else {
-            return Err(Refusal::TableActions);
+            return Err(WRONG);
         };
         let node = codec::number(s, p + w, ed);
         let kind = p + w + w;
@@ -123,7 +126,7 @@ pub fn read(s: &[u8], ed: Edition) -> Result<Actions, Refusal>
         p = q;
     }
     if p < s.len() {
-        return Err(Refusal::TableActions);
+        return Err(WRONG);
     }
     Ok(Actions {
         count: n,

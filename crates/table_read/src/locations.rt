@@ -11,6 +11,9 @@ ghost use Rattle.table_read.specs.LocationIndex.{entry_node, FitsKind, location_
 use edition::Edition;
 use paper::refusals::Refusal;
 
+// why a location section is refused
+const WRONG: Refusal = Refusal::TableLocations;
+
 // how many locations there are; the place of each, and then 0
 #[derive(Clone, Copy)]
 pub struct Locations {
@@ -108,19 +111,19 @@ pub fn read(s: &[u8], kinds: &[u8], ed: Edition) -> Result<Locations, Refusal>
     ensures { (l : List NodeAction) → KindsSay l kinds.now → judged_of result ≡ answered (location_index (edition_of ed) s.now) (judge_locations (edition_of ed) l s.now) }
 {
     let Some(n) = count(s) else {
-        return Err(Refusal::TableLocations);
+        return Err(WRONG);
     };
     let mut places = [0usize; paper::LOCATIONS];
     let mut p = 2;
     for i in 0..n {
         let Some(q) = location(s, p, n, kinds, ed) else {
-            return Err(Refusal::TableLocations);
+            return Err(WRONG);
         };
         places[i] = p;
         p = q;
     }
     if p < s.len() {
-        return Err(Refusal::TableLocations);
+        return Err(WRONG);
     }
     Ok(Locations { count: n, places })
 }
