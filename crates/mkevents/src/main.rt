@@ -43,7 +43,10 @@ fn argument(rt: &impl Env, err: &impl Print, i: usize, name: &str, most: u64) ->
         let _ = println!(err; "mkevents: {name} is longer than 4096 bytes");
         return None;
     };
-    told(err, &word[..n], name, most).ok()
+    match told(err, &word[..n], name, most) {
+        Ok(number) => Some(number),
+        Err(_) => None,
+    }
 }
 
 fn write(rt: &impl Print, err: &impl Print, seed: u32, count: u64) {
