@@ -26,9 +26,9 @@
  *    else reads what the call writes to.
  *
  * Stack, as measured on the largest plants, the deepest trees and the deepest
- * expressions: zimtleiter_table_run 119,100 bytes, zimtleiter_compile 98,800,
- * zimtleiter_read_table 85,100, zimtleiter_rule_run 79,900,
- * zimtleiter_size 32,600, zimtleiter_read_schedule 24,400, zimtleiter_practice
+ * expressions: zimtleiter_compile 98,800 bytes, zimtleiter_table_run 94,200,
+ * zimtleiter_rule_run 79,900, zimtleiter_read_table 60,300,
+ * zimtleiter_size 28,200, zimtleiter_read_schedule 20,100, zimtleiter_practice
  * under 100. 128 KiB are room for any of them.
  *
  * Schedule files, tables, starting values, events and records are those of

@@ -5,9 +5,9 @@ use Prim.Native.Nat.{ℕ, ◌+◌, ◌-◌, ◌≤◌, ◌<◌}
 use native.Mathlib.Nat.{add_assoc, add-zero, zero-add}
 use native.Mathlib.Numerals.{add-one}
 use native.Mathlib.Omega.{arith}
-use lib.ListN.{length, take, drop, set, length-append, length-drop, take-append-drop}
+use lib.ListN.{length, get_or, take, drop, set, length-append, length-drop, take-append-drop}
 use borrow.Rule.Slice.PartMut.{put_mid}
-use lib.Seq.{length-take-le, take_at, drop-append-add, drop-drop, set_split}
+use lib.Seq.{length-take-le, take_at, drop-append-add, drop-drop, set_split, take-suc}
 use Rattle.semantics.specs.Bytes.{overwrite}
 use Rattle.codec.specs.Writing.{put, Wrote}
 
@@ -61,6 +61,10 @@ wrote-length {d} {e} {i} {bs} w h = ap length w.is ∙ length-put d i bs h
 -- what was written at the front
 pub wrote-front : {d e bs : List ℕ} → Wrote d 0 bs e → e ≡ overwrite bs d
 wrote-front {d} {e} {bs} w = w.is ∙ put_front d bs
+
+-- the first j of s, and one more
+pub take_more : (s : List ℕ) (j : ℕ) → j < length s → take j s ++ (get_or s j 0 ∷ []) ≡ take (j + 1) s
+take_more s j h = sym (ap (λ (n : ℕ). take n s) (add-one j) ∙ take-suc s j 0 h)
 
 -- what stands in the place of a part of the buffer
 pub put-part : (d : List ℕ) (i k : ℕ) (xs ys : List ℕ) → ys ≡ xs → k ≡ i + length xs → Wrote d i xs (put_mid i (k - i) d ys)

@@ -129,12 +129,14 @@ pub fn put_signed(d: &mut [u8], i: usize, z: i32) -> usize
     put_slice(d, i, &z.to_be_bytes())
 }
 
-// the bytes of a slice at a place; the next place
+// the bytes of a slice at a place; the next place. Byte by byte, which LLVM makes one memcpy of: `copy_from_slice` calls memmove, which a program that links the library would have to bring
 pub fn put_slice(d: &mut [u8], i: usize, s: &[u8]) -> usize
     requires { i + length s.now ≤ length d.old }
     ensures { (result ≡ i + length s.now) × Wrote d.old i s.now d.new }
 {
-    let end = i + s.len();
-    d[i..end].copy_from_slice(s);
-    end
+    let mut at = i;
+    for &b in s {
+        at = put1(d, at, b);
+    }
+    at
 }

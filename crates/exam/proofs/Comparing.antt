@@ -3,12 +3,14 @@ use mathlib.Core.Path.{◌≡◌, refl, ap}
 use mathlib.Core.Bool.{true, false, ◌&&◌}
 use mathlib.Core.List.{List, [], ◌∷◌}
 use Prim.Native.Nat.{ℕ, ◌≤◌}
+use borrow.Author.Tests.{ne_eqb}
 use lib.Dec.{eqb}
 use lib.Pointwise.{pointwise}
 use native.Mathlib.Omega.{arith}
 use lib.ListN.{length, take, length-take}
 use lib.Seq.{take_all}
 use Rattle.std.proofs.Common.{Ok}
+use Rattle.semantics.specs.Calls.{Ran}
 use Rattle.schedules.specs.Exam.{equal_bytes, equal_counts, same_numbers, agreed}
 use Rattle.records.specs.Reported.{told, ran_with}
 use Rattle.records.specs.declared.Counts.{Counts}
@@ -22,6 +24,10 @@ bytes-same (x ∷ xs) [] = refl
 bytes-same (x ∷ xs) (y ∷ ys) = ap (λ q. eqb x y && q) (bytes-same xs ys)
 
 -- ---- the tests one after the other
+pub refusals-differ : (n : ℕ) (r t : Ran) → (r.refusal ≡ t.refusal → ⊥) → false ≡ agreed n r t
+unfolding agreed same_numbers
+refusals-differ n r t h = rw (ne_eqb _ _ h) refl
+
 module _ (n : ℕ) (r t : Counts) (a b : List ℕ) where
   pub counts-differ : equal_counts (told r) (told t) ≡ false → false ≡ agreed n (ran_with (Ok r) a) (ran_with (Ok t) b)
   unfolding agreed same_numbers ran_with

@@ -2,6 +2,8 @@
 #![tactic(auto)]
 
 ghost use Rattle.std.specs.Prelude.{◌≡◌, ◌≤◌, IfSome};
+ghost use Rattle.decimal.specs.Decimal.{decimal_in};
+ghost use Rattle.decimal.specs.Parsing.{parsed_of};
 
 use decimal::Misread;
 use std::env::Env;
@@ -15,7 +17,24 @@ const SEED_MOST: u64 = 4294967295;
 // a count has 64 bits; the call's own limit is far below
 const COUNT_MOST: u64 = 18446744073709551615;
 
-// the number that argument i is; where it is none up to `most`, a line on standard error
+// the number that the bytes of an argument are; where they are none up to `most`, a line on standard error
+fn told(err: &impl Print, s: &[u8], name: &str, most: u64) -> Result<u64, Misread>
+    ensures { result ≡ parsed_of most (decimal_in s.now) }
+{
+    let number = decimal::read(s, most);
+    match number {
+        Ok(_) => {}
+        Err(Misread::NotDecimal) => {
+            let _ = println!(err; "mkevents: {name} is no decimal number");
+        }
+        Err(Misread::TooLarge) => {
+            let _ = println!(err; "mkevents: {name} is above {most}");
+        }
+    }
+    number
+}
+
+// the same of argument i, which may have as many bytes as the buffer
 fn argument(rt: &impl Env, err: &impl Print, i: usize, name: &str, most: u64) -> Option<u64>
     ensures { IfSome result (λ n. n ≤ most) }
 {
@@ -24,16 +43,9 @@ fn argument(rt: &impl Env, err: &impl Print, i: usize, name: &str, most: u64) ->
         let _ = println!(err; "mkevents: {name} is longer than 4096 bytes");
         return None;
     };
-    match decimal::read(&word[..n], most) {
+    match told(err, &word[..n], name, most) {
         Ok(number) => Some(number),
-        Err(Misread::NotDecimal) => {
-            let _ = println!(err; "mkevents: {name} is no decimal number");
-            None
-        }
-        Err(Misread::TooLarge) => {
-            let _ = println!(err; "mkevents: {name} is above {most}");
-            None
-        }
+        Err(_) => None,
     }
 }
 

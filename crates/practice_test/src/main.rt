@@ -39,13 +39,28 @@ impl Case {
     }
 }
 
+// a digit of the lower half of a byte
+fn digit(b: u8) -> u8 {
+    let n = b % 16;
+    if n < 10 { b'0' + n } else { b'a' - 10 + n }
+}
+
+// so many bytes are written at once: a call of the formatter for each takes four times as long
+const PART: usize = 512;
+
 #[derive(Drop)]
 struct Hexadecimal<'a>(&'a [u8]);
 
 impl fmt::Display for Hexadecimal<'_> {
     fn fmt<W: fmt::Write>(&self, f: &mut fmt::Formatter<W>) -> fmt::Result {
-        for b in self.0 {
-            write!(f, "{b:02x}")?;
+        for part in self.0.chunks(PART) {
+            let mut digits = [0; 2 * PART];
+            let n = part.len().min(PART);
+            for i in 0..n {
+                digits[2 * i] = digit(part[i] / 16);
+                digits[2 * i + 1] = digit(part[i]);
+            }
+            f.write_str(std::str::from_utf8(&digits[..2 * n]).unwrap_or(""))?;
         }
         Ok(())
     }

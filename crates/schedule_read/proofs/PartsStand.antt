@@ -15,7 +15,7 @@ use Rattle.semantics.specs.Bytes.{broken, read, and_then, ◌>>=◌, give, secti
 use Rattle.semantics.specs.Editions.{Edition}
 use Rattle.semantics.specs.Refusals.{refused, accepted, ensure, need, ◌>>◌}
 use Rattle.semantics.proofs.Facts.{and_left}
-use Rattle.semantics.proofs.Judging.{refused-not-accepted, accepted-is, passed-ensure}
+use Rattle.semantics.proofs.Judging.{refused-not-accepted, accepted-is, refused-is, passed-ensure}
 use Rattle.semantics.proofs.Readers.{read-value, read-rest, split, given, whole-read}
 use Rattle.schedules.specs.FileSections.{FileSections, read_file_sections, file_sections_in}
 use Rattle.schedules.specs.Files.{file_header, file_length, judge_file_layout}
@@ -262,6 +262,17 @@ accepted-parts ed f e =
     let a = passed-ensure 1 _ _ e in
     let b = passed-ensure 2 _ _ a.1 in
     sections-stand ed f (record { header = a.0; length_field = b.0 }) (needed 3 _ b.1)
+
+-- no refusal of the layout is 0
+pub layout-number : (ed : Edition) (f : List ℕ) {n : ℕ} → judge_file_layout ed f ≡ refused n → 1 ≤ n
+unfolding judge_file_layout ensure need ◌>>◌
+layout-number ed f h = go (file_header ed f) (file_length f) (file_sections_in (drop 3 f)) h
+  where
+    go : (a b : Bool) (o : Math.Option FileSections) {n : ℕ} → (ensure 1 a >> (ensure 2 b >> need 3 o)) ≡ refused n → 1 ≤ n
+    go true true (some s) h = refused-not-accepted (sym h)
+    go true true none h = let i = refused-is h in omega arith
+    go true false o h = let i = refused-is h in omega arith
+    go false b o h = let i = refused-is h in omega arith
 
 -- as the code has them
 pub parts-stand : (ed : Edition) (f : List ℕ) {p : Parts} → accepted p ≡ answered parts_in (judge_file_layout ed f) → Accepted ed f p

@@ -67,18 +67,16 @@ pub fn index(file: &[u8], ed: Edition) -> Result<ScheduleIndex, Refusal>
     let es = parts.equations.of(file);
     let s = parts.schedule.of(file);
     let plant = plant::sections::read(parts.variables.of(file), es)?;
-    let mut kinds = [0u8; NODES];
-    let mut starts = [0usize; NODES];
-    let mut ends = [0usize; NODES];
-    let mut subtrees = [0usize; NODES];
-    let count = nodes::read(s, &mut kinds, &mut starts, &mut ends, ed)?;
-    tree::read(s, &kinds, &starts, count, &mut subtrees)?;
-    let nodes = Nodes {
-        count,
-        kinds,
-        starts,
-        ends,
+    let mut nodes = Nodes {
+        count: 0,
+        kinds: [0; NODES],
+        starts: [0; NODES],
+        ends: [0; NODES],
     };
+    let mut subtrees = [0; NODES];
+    let count = nodes::read(s, &mut nodes.kinds, &mut nodes.starts, &mut nodes.ends, ed)?;
+    nodes.count = count;
+    tree::read(s, &nodes.kinds, &nodes.starts, count, &mut subtrees)?;
     checked(es, s, &nodes, &plant)?;
     Ok(ScheduleIndex {
         parts,

@@ -1,17 +1,19 @@
 // The action section of a table (18, but for the operands), and where each node's operand stands.
-ghost use Rattle.std.specs.Prelude.{◌≡◌, ◌≤◌, length, ok_or};
+ghost use Rattle.std.specs.Prelude.{◌≡◌, ◌≤◌, length};
 ghost use Rattle.semantics.specs.Bytes.{is_some};
 ghost use Rattle.edition.specs.Editions.{edition_of};
 ghost use Rattle.semantics.specs.Tables.{node_exists};
 ghost use Rattle.semantics.specs.TableFile.{action_kind, action_of_kind, read_action, read_action_count};
 ghost use Rattle.semantics.specs.Tables.{judge_actions};
 ghost use Rattle.paper.specs.Refusals.{judged_of, answered};
-ghost use Rattle.paper.specs.declared.refusals.Refusal.TheVariants.{TableActions};
 ghost use Rattle.table_read.specs.Ends.{Ends, EndsWith, follows, number_read};
 ghost use Rattle.table_read.specs.ActionIndex.{node_of, action_index};
 
 use edition::{Edition, NODES};
 use paper::refusals::Refusal;
+
+// why an action section is refused
+const WRONG: Refusal = Refusal::TableActions;
 
 // how many actions there are; by node, the kind of its action and where the operand starts and ends, or 0, 0 and 0:
 // three arrays, since each is lent by itself, the kinds to the reader of the locations, all to the rows of a run's index
@@ -99,10 +101,12 @@ fn count(s: &[u8], ed: Edition) -> Option<usize>
 }
 
 // where they stand, one after the other, with numbers that rise
-fn stand(s: &[u8], ed: Edition) -> Option<Actions>
-    ensures { judged_of (ok_or result TableActions) ≡ answered (action_index (edition_of ed) s.now) (judge_actions (edition_of ed) s.now) }
+pub fn read(s: &[u8], ed: Edition) -> Result<Actions, Refusal>
+    ensures { judged_of result ≡ answered (action_index (edition_of ed) s.now) (judge_actions (edition_of ed) s.now) }
 {
-    let n = count(s, ed)?;
+    let Some(n) = count(s, ed) else {
+        return Err(WRONG);
+    };
     let w = edition::width(ed);
     let mut kinds = [0u8; NODES];
     let mut starts = [0usize; NODES];
@@ -110,7 +114,9 @@ fn stand(s: &[u8], ed: Edition) -> Option<Actions>
     let mut low = 0;
     let mut p = w;
     for _ in 0..n {
-        let q = next(s, p, low, ed)?;
+        let Some(q) = next(s, p, low, ed) else {
+            return Err(WRONG);
+        };
         let node = codec::number(s, p + w, ed);
         let kind = p + w + w;
         kinds[node] = s[kind];
@@ -120,18 +126,12 @@ fn stand(s: &[u8], ed: Edition) -> Option<Actions>
         p = q;
     }
     if p < s.len() {
-        return None;
+        return Err(WRONG);
     }
-    Some(Actions {
+    Ok(Actions {
         count: n,
         kinds,
         starts,
         ends,
     })
-}
-
-pub fn read(s: &[u8], ed: Edition) -> Result<Actions, Refusal>
-    ensures { judged_of result ≡ answered (action_index (edition_of ed) s.now) (judge_actions (edition_of ed) s.now) }
-{
-    stand(s, ed).ok_or(Refusal::TableActions)
 }

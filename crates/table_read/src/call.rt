@@ -56,16 +56,25 @@ fn sections(
     if !plant::truths::read(es, variables) {
         return Err(Refusal::TablePlant);
     }
-    let actions = actions::read(ops, ed)?;
-    if !operands::read(ops, actions, variables, selectors, &plant.modes, ed) {
+    // what was read is lent: it is copied once, into the index
+    let operations = actions::read(ops, ed);
+    let actions = match &operations {
+        Ok(actions) => actions,
+        Err(why) => return Err(*why),
+    };
+    if !operands::read(ops, *actions, variables, selectors, &plant.modes, ed) {
         return Err(Refusal::TableActions);
     }
-    let locations = locations::read(locs, &actions.kinds, ed)?;
+    let places = locations::read(locs, &actions.kinds, ed);
+    let locations = match &places {
+        Ok(locations) => locations,
+        Err(refusal) => return Err(*refusal),
+    };
     Ok(TableIndex {
         parts,
         plant,
-        actions,
-        locations,
+        actions: *actions,
+        locations: *locations,
     })
 }
 
@@ -86,7 +95,12 @@ pub fn index(table: &[u8], ed: Edition) -> Result<TableIndex, Refusal>
 pub fn read(table: &[u8]) -> Result<TableRead, Refusal>
     ensures { told result ≡ read_table_of edition1 table.now }
 {
-    let x = index(table, Edition::First)?;
+    let read = index(table, Edition::First);
+    // lent: the index by value would be copied
+    let x = match &read {
+        Ok(x) => x,
+        Err(unread) => return Err(*unread),
+    };
     Ok(TableRead {
         variables: x.plant.variables,
         selectors: x.plant.selectors,

@@ -1,16 +1,18 @@
 // The location section of a table (19), and where each location stands.
-ghost use Rattle.std.specs.Prelude.{◌≡◌, List, ◌≤◌, length, ok_or};
+ghost use Rattle.std.specs.Prelude.{◌≡◌, List, ◌≤◌, length};
 ghost use Rattle.edition.specs.Editions.{edition_of};
 ghost use Rattle.semantics.specs.TableFile.{NodeAction, read_entry, read_location, read_location_count};
 ghost use Rattle.semantics.specs.Tables.{is_going_on, entry_fits, location_fits, judge_locations};
 ghost use Rattle.paper.specs.Refusals.{judged_of, answered};
-ghost use Rattle.paper.specs.declared.refusals.Refusal.TheVariants.{TableLocations};
 ghost use Rattle.table_read.specs.Ends.{EndsWith, follows, number_read};
 ghost use Rattle.table_read.specs.ActionIndex.{KindsSay};
 ghost use Rattle.table_read.specs.LocationIndex.{entry_node, FitsKind, location_index};
 
 use edition::Edition;
 use paper::refusals::Refusal;
+
+// why a location section is refused
+const WRONG: Refusal = Refusal::TableLocations;
 
 // how many locations there are; the place of each, and then 0
 #[derive(Clone, Copy)]
@@ -104,27 +106,24 @@ fn count(s: &[u8]) -> Option<usize>
     Some(n)
 }
 
-// where they stand, one after the other
-fn stand(s: &[u8], kinds: &[u8], ed: Edition) -> Option<Locations>
-    ensures { (l : List NodeAction) → KindsSay l kinds.now → judged_of (ok_or result TableLocations) ≡ answered (location_index (edition_of ed) s.now) (judge_locations (edition_of ed) l s.now) }
+// where they stand, one after the other; kinds: of each node's action, 0 where there is none
+pub fn read(s: &[u8], kinds: &[u8], ed: Edition) -> Result<Locations, Refusal>
+    ensures { (l : List NodeAction) → KindsSay l kinds.now → judged_of result ≡ answered (location_index (edition_of ed) s.now) (judge_locations (edition_of ed) l s.now) }
 {
-    let n = count(s)?;
+    let Some(n) = count(s) else {
+        return Err(WRONG);
+    };
     let mut places = [0usize; paper::LOCATIONS];
     let mut p = 2;
     for i in 0..n {
-        let q = location(s, p, n, kinds, ed)?;
+        let Some(q) = location(s, p, n, kinds, ed) else {
+            return Err(WRONG);
+        };
         places[i] = p;
         p = q;
     }
     if p < s.len() {
-        return None;
+        return Err(WRONG);
     }
-    Some(Locations { count: n, places })
-}
-
-// kinds: of each node's action, 0 where there is none
-pub fn read(s: &[u8], kinds: &[u8], ed: Edition) -> Result<Locations, Refusal>
-    ensures { (l : List NodeAction) → KindsSay l kinds.now → judged_of result ≡ answered (location_index (edition_of ed) s.now) (judge_locations (edition_of ed) l s.now) }
-{
-    stand(s, kinds, ed).ok_or(Refusal::TableLocations)
+    Ok(Locations { count: n, places })
 }
