@@ -3,8 +3,6 @@
 // Its functions promise nothing but to end and to be safe.
 #![tactic(auto)]
 
-use std::fmt;
-
 // the most bytes that are lent: those of 10,000 events and some behind them
 const MOST_BYTES: usize = 30100;
 
@@ -45,25 +43,18 @@ fn digit(b: u8) -> u8 {
     if n < 10 { b'0' + n } else { b'a' - 10 + n }
 }
 
-// so many bytes are written at once: a call of the formatter for each takes four times as long
-const PART: usize = 512;
+// two digits for each byte, and the line's end
+const LINE: usize = 2 * MOST_BYTES + 1;
 
-#[derive(Drop)]
-struct Hexadecimal<'a>(&'a [u8]);
-
-impl fmt::Display for Hexadecimal<'_> {
-    fn fmt<W: fmt::Write>(&self, f: &mut fmt::Formatter<W>) -> fmt::Result {
-        for part in self.0.chunks(PART) {
-            let mut digits = [0; 2 * PART];
-            let n = part.len().min(PART);
-            for i in 0..n {
-                digits[2 * i] = digit(part[i] / 16);
-                digits[2 * i + 1] = digit(part[i]);
-            }
-            f.write_str(std::str::from_utf8(&digits[..2 * n]).unwrap_or(""))?;
-        }
-        Ok(())
+// the bytes in hexadecimal digits, as one line. A call of the formatter for each byte takes nine times as long
+fn hexadecimal(out: &impl Print, bytes: &[u8]) {
+    let mut line = [b'\n'; LINE];
+    let n = bytes.len().min(MOST_BYTES);
+    for i in 0..n {
+        line[2 * i] = digit(bytes[i] / 16);
+        line[2 * i + 1] = digit(bytes[i]);
     }
+    let _ = out.write_all(&line[..2 * n + 1]);
 }
 
 // the two lines of a case; none where its bytes are none, or its room is more than can be lent
@@ -76,7 +67,7 @@ fn shown(out: &impl Print, bytes: &[u8]) -> Option<()> {
         Err(why) => (u8::from(why), 0),
     };
     let _ = println!(out; "seed {seed}, count {count}, room {room}: {refusal}, {length}");
-    let _ = println!(out; "{}", Hexadecimal(events));
+    hexadecimal(out, events);
     Some(())
 }
 
